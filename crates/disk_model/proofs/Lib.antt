@@ -1,0 +1,3 @@
+pub mod Chosen
+mod Examples
+pub mod Kept

@@ -1,0 +1,24 @@
+-- What a disk in memory says of itself beyond what each disk says (profile).
+use Rattle.std.specs.Prelude.{◌≡◌, ℕ, ◌+◌, ◌-◌, ◌^◌, min, List, Result, OnOk, OnErr}
+use Rattle.disk_model.specs.declared.DiskFault.{DiskFault}
+use Rattle.disk_model.specs.declared.memory.MemDisk.{MemDisk}
+use Rattle.disk_model.specs.Disk.{Event}
+use Rattle.disk_model.specs.Memory.{log_of}
+
+-- what has happened to it
+abbrev pub events : MemDisk → List Event
+events disk = log_of disk.moments.items
+
+-- what it holds
+abbrev pub held : MemDisk → List ℕ
+held disk = disk.octets.items
+
+-- how many faults it has told
+abbrev pub faults_told : MemDisk → ℕ
+faults_told disk = disk.faults
+
+-- One call that may be refused memory. A refused one changes nothing and is counted, and no other is.
+pub record IsRefusedWhole (old new : MemDisk) (result : Result (Unit {0}) DiskFault) : Type 0 where
+  pub ok : OnOk result (faults_told new ≡ faults_told old)
+  pub err : OnErr result (faults_told new ≡ min (faults_told old + 1) (2 ^ 64 - 1))
+  pub unchanged : OnErr result (events new ≡ events old)

@@ -1,0 +1,88 @@
+//! Disks, as a journal sees them: what a read gives, and what a stop at any moment may leave.
+//!
+//! May touch nothing but memory: a real file joins as one more implementation of [`Disk`].
+//! The crates above use the contract of [`Disk`] alone: content, images, moments, honesty, faults.
+//! The whole model is `specs/Disk.antt`; what proofs above it use is `specs/Moments.antt`.
+#![tactic(auto)]
+
+ghost use Rattle.std.specs.Prelude.{◌≡◌, ◌+◌, ◌≤◌, ◌↔◌, ℕ, List, length, OnOk, slice_range};
+ghost use Rattle.disk_model.specs.Disk.{Event, content, Image, Writes, Cuts, Syncs, CountsFaults};
+
+use thiserror::Error;
+
+mod choice;
+mod fuse;
+mod memory;
+mod moment;
+mod octets;
+#[cfg(test)]
+mod tests;
+
+pub use choice::Choice;
+pub use fuse::FuseDisk;
+pub use memory::MemDisk;
+/// Memory was refused.
+pub use std::alloc::AllocError as NoMemory;
+
+/// A disk refused a call. What a write or a cut that failed has left is told by [`Disk`].
+#[derive(Clone, Copy, Debug, PartialEq, Eq, Error)]
+#[error("the disk failed")]
+pub struct DiskFault;
+
+/// A disk of octets. A stop may come between any two calls and within each.
+///
+/// The rules on what has happened to it bind an honest disk. Of another one it is only told that it answers, how long
+/// it says that it is, that a read that succeeded fills its slice, and that its count of faults rises with each fault.
+pub trait Disk {
+    /// Whether it keeps the disk model. No call changes it.
+    ghost honest: { Self → Type 0 };
+
+    /// What has happened to it, the newest first: content, images and moments are functions of this list.
+    ghost log: { Self → List Event };
+
+    /// Its length in octets, as it tells it.
+    ghost size: { Self → ℕ };
+
+    /// How many faults it has told.
+    ghost told: { Self → ℕ };
+
+    /// The length in octets.
+    fn len(&self) -> u64
+        ensures size { result ≡ size self.now }
+        ensures content { honest self.now → result ≡ length (content (log self.now)) };
+
+    /// Fills the slice with the octets from this offset on. A read changes nothing.
+    fn read_at(&mut self, at: u64, into: &mut [u8]) -> Result<(), DiskFault>
+        requires { at + length into.old ≤ size self.old }
+        ensures honest { honest self.old ↔ honest self.new }
+        ensures read { honest self.old → OnOk result (into.new ≡ slice_range (content (log self.old)) at (at + length into.old)) }
+        ensures log { honest self.old → log self.new ≡ log self.old }
+        ensures cause { CountsFaults (told self.old) (told self.new) result };
+
+    /// Writes these octets at this offset, at most at the end. One that failed may have happened in part.
+    fn write_at(&mut self, at: u64, from: &[u8]) -> Result<(), DiskFault>
+        requires { at ≤ size self.old }
+        ensures honest { honest self.old ↔ honest self.new }
+        ensures log { honest self.old → Writes at from.now (log self.old) result (log self.new) }
+        ensures cause { CountsFaults (told self.old) (told self.new) result };
+
+    /// Cuts it to this length. One that failed may have happened or not.
+    fn cut(&mut self, len: u64) -> Result<(), DiskFault>
+        requires { len ≤ size self.old }
+        ensures honest { honest self.old ↔ honest self.new }
+        ensures log { honest self.old → Cuts len (log self.old) result (log self.new) }
+        ensures cause { CountsFaults (told self.old) (told self.new) result };
+
+    /// Makes the content the only image. One that failed changes nothing.
+    fn sync(&mut self) -> Result<(), DiskFault>
+        ensures honest { honest self.old ↔ honest self.new }
+        ensures log { honest self.old → Syncs (log self.old) result (log self.new) }
+        ensures cause { CountsFaults (told self.old) (told self.new) result };
+
+    /// How many faults it has told. At the greatest `u64` the count stays, and a fault is told without a rise.
+    fn faults(&self) -> u64
+        ensures { result ≡ told self.now };
+
+    /// The content is one of the images.
+    ghost content_is_image: { (disk : Self) → honest disk → Image (log disk) (content (log disk)) };
+}

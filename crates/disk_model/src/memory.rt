@@ -1,0 +1,233 @@
+// A disk in memory. It keeps what happened to it, and so each moment that it had.
+ghost use Rattle.std.specs.Prelude.{◌≡◌, ◌+◌, ◌-◌, ◌^◌, ◌≤◌, ℕ, List, [], ◌∷◌, ◌++◌, length, min, false, take, vec_capacity, vec_len, IfOk, OnOk, OnErr};
+ghost use Rattle.std.specs.List.{All, AllWithin};
+ghost use Rattle.disk_model.specs.Disk.{content, Image, Event};
+ghost use Rattle.disk_model.specs.Disk.Event.{Wrote, WasCut, Synced, Made};
+ghost use Rattle.disk_model.specs.Choice.{chosen_image, pending};
+ghost use Rattle.disk_model.specs.Memory.{event_of, logged, log_of, is_settling, IsSettled};
+
+use crate::choice::Choice;
+use crate::moment::Moment;
+use crate::octets::overwrite;
+use crate::{Disk, DiskFault, NoMemory};
+use std::alloc::Global;
+
+/// A disk in memory. It is honest, and it keeps each thing that happened to it, so that any of its images can be made.
+#[derive(Drop)]
+pub struct MemDisk {
+    alloc: Global,
+    octets: Vec<u8>,
+    moments: Vec<Moment>,
+    faults: u64,
+    ghost content_is: { octets.items ≡ content (log_of moments.items) },
+}
+
+// Adds a moment, or changes nothing.
+#[tactic(auto, using(crate::proofs::Kept::logged_push))]
+fn keep(moments: &mut Vec<Moment>, moment: Moment) -> Result<(), NoMemory>
+    ensures ok { OnOk result (log_of moments.new.items ≡ event_of moment ∷ log_of moments.old.items) }
+    ensures err { OnErr result (moments.new.items ≡ moments.old.items) }
+    ensures full { OnErr result (vec_capacity moments.old ≤ vec_len moments.old) }
+{
+    moments.push(moment)?;
+    Ok(())
+}
+
+// How many moments there are up to the last that left one image, or none.
+fn settled_count(moments: &[Moment]) -> usize
+    ensures within { result ≤ length moments.now }
+    ensures settled { IsSettled (log_of (take result moments.now)) }
+    ensures rest { AllWithin (λ moment. is_settling moment ≡ false) moments.now result (length moments.now) }
+{
+    let mut count = 0;
+    for (i, moment) in moments.iter().enumerate() {
+        if moment.is_settling() {
+            count = i + 1;
+        }
+    }
+    count
+}
+
+// The content after these moments.
+fn content_after(alloc: Global, moments: &[Moment]) -> Result<Vec<u8>, NoMemory>
+    ensures { IfOk result (λ octets. octets.items ≡ content (log_of moments.now)) }
+{
+    let mut octets = Vec::new(alloc);
+    for moment in moments {
+        moment.redo(&mut octets)?;
+    }
+    Ok(octets)
+}
+
+// Does to an image what the choice has for each of these operations, which are all since the last sync.
+fn leave_each(image: &mut Vec<u8>, waiting: &[Moment], choice: Choice) -> Result<(), NoMemory>
+    requires { All (λ moment. is_settling moment ≡ false) waiting.now }
+    ensures { OnOk result ((log : List Event) → pending log ≡ 0 → image.old.items ≡ chosen_image choice log → image.new.items ≡ chosen_image choice (logged log waiting.now)) }
+{
+    for (number, moment) in waiting.iter().enumerate() {
+        moment.leave(image, choice, number)?;
+    }
+    Ok(())
+}
+
+// The image that this choice names after these moments.
+fn image_after(alloc: Global, moments: &[Moment], choice: Choice) -> Result<Vec<u8>, NoMemory>
+    ensures { IfOk result (λ image. image.items ≡ chosen_image choice (log_of moments.now)) }
+{
+    let (settled, waiting) = moments.split_at(settled_count(moments));
+    let mut image = content_after(alloc, settled)?;
+    leave_each(&mut image, waiting, choice)?;
+    Ok(image)
+}
+
+impl Disk for MemDisk {
+    ghost use Rattle.std.specs.Prelude.{IsOk, slice_range};
+    ghost use Rattle.disk_model.specs.Disk.{Writes, Cuts, Syncs, CountsFaults};
+    ghost use Rattle.disk_model.specs.InMemory.{events, held, faults_told, IsRefusedWhole};
+    ghost use Rattle.disk_model.specs.MemoryLaws.{content_among_images};
+
+    ghost honest = { λ _. Unit {0} };
+
+    ghost log = { λ m. log_of m.moments.items };
+
+    ghost size = { λ m. length m.octets.items };
+
+    ghost told = { λ m. m.faults };
+
+    ghost content_is_image = { λ m _. content_among_images m.moments.items };
+
+    fn len(&self) -> u64 {
+        self.octets.len() as u64
+    }
+
+    /// Never fails.
+    fn read_at(&mut self, at: u64, into: &mut [u8]) -> Result<(), DiskFault>
+        requires { at + length into.old ≤ length (held self.old) }
+        ensures read { OnOk result (into.new ≡ slice_range (content (events self.old)) at (at + length into.old)) }
+        ensures log { events self.new ≡ events self.old }
+        ensures cause { CountsFaults (faults_told self.old) (faults_told self.new) result }
+        ensures succeeds { IsOk result }
+        ensures unchanged { self.new ≡ self.old }
+    {
+        let from = at as usize;
+        into.copy_from_slice(&self.octets[from..from + into.len()]);
+        Ok(())
+    }
+
+    /// Fails where memory is refused.
+    fn write_at(&mut self, at: u64, from: &[u8]) -> Result<(), DiskFault>
+        requires { at ≤ length (held self.old) }
+        ensures log { Writes at from.now (events self.old) result (events self.new) }
+        ensures cause { CountsFaults (faults_told self.old) (faults_told self.new) result }
+        ensures refused { IsRefusedWhole self.old self.new result }
+    {
+        match self.try_write(at, from) {
+            Ok(()) => Ok(()),
+            Err(_) => Err(self.fault()),
+        }
+    }
+
+    /// Fails where memory is refused.
+    fn cut(&mut self, len: u64) -> Result<(), DiskFault>
+        requires { len ≤ length (held self.old) }
+        ensures log { Cuts len (events self.old) result (events self.new) }
+        ensures cause { CountsFaults (faults_told self.old) (faults_told self.new) result }
+        ensures refused { IsRefusedWhole self.old self.new result }
+    {
+        match self.try_cut(len) {
+            Ok(()) => Ok(()),
+            Err(_) => Err(self.fault()),
+        }
+    }
+
+    /// Fails where memory is refused.
+    fn sync(&mut self) -> Result<(), DiskFault>
+        ensures log { Syncs (events self.old) result (events self.new) }
+        ensures cause { CountsFaults (faults_told self.old) (faults_told self.new) result }
+        ensures refused { IsRefusedWhole self.old self.new result }
+    {
+        match keep(&mut self.moments, Moment::Sync) {
+            Ok(()) => Ok(()),
+            Err(_) => Err(self.fault()),
+        }
+    }
+
+    fn faults(&self) -> u64 {
+        self.faults
+    }
+}
+
+impl MemDisk {
+    /// An empty disk, to which nothing has happened.
+    pub fn new(alloc: Global) -> Self
+        ensures log { ⟦<MemDisk as Disk>⟧.log result ≡ [] }
+        ensures told { ⟦<MemDisk as Disk>⟧.told result ≡ 0 }
+    {
+        MemDisk {
+            alloc,
+            octets: Vec::new(alloc),
+            moments: Vec::new(alloc),
+            faults: 0,
+        }
+    }
+
+    // A disk with these octets, which are its only image.
+    fn holding(alloc: Global, octets: Vec<u8>) -> Result<Self, NoMemory>
+        ensures log { IfOk result (λ disk. ⟦<MemDisk as Disk>⟧.log disk ≡ Made octets.items ∷ []) }
+        ensures told { IfOk result (λ disk. ⟦<MemDisk as Disk>⟧.told disk ≡ 0) }
+    {
+        let first = Moment::Began(Vec::from_slice(alloc, &octets)?);
+        let mut disk = MemDisk::new(alloc);
+        keep(&mut disk.moments, first)?;
+        disk.octets = octets;
+        Ok(disk)
+    }
+
+    /// A disk that holds what a stop at this moment may leave, by this choice, and nothing besides. This one stays.
+    ///
+    /// It costs as much as all that was ever written to this disk. `NoMemory` comes where memory for the new disk is refused.
+    #[tactic(auto, using(crate::proofs::Chosen::chosen_is_image))]
+    pub fn image(&self, choice: Choice) -> Result<MemDisk, NoMemory>
+        ensures chosen { IfOk result (λ left. ⟦<MemDisk as Disk>⟧.log left ≡ Made (chosen_image choice (⟦<MemDisk as Disk>⟧.log self.now)) ∷ []) }
+        ensures image { Image (⟦<MemDisk as Disk>⟧.log self.now) (chosen_image choice (⟦<MemDisk as Disk>⟧.log self.now)) }
+        ensures told { IfOk result (λ left. ⟦<MemDisk as Disk>⟧.told left ≡ 0) }
+    {
+        let octets = image_after(self.alloc, &self.moments, choice)?;
+        MemDisk::holding(self.alloc, octets)
+    }
+
+    // Counts a fault.
+    fn fault(&mut self) -> DiskFault
+        ensures faults { self.new.faults ≡ min (self.old.faults + 1) (2 ^ 64 - 1) }
+        ensures later { self.old.faults ≤ self.new.faults }
+        ensures moments { self.new.moments ≡ self.old.moments }
+    {
+        self.faults = self.faults.saturating_add(1);
+        DiskFault
+    }
+
+    // All that may be refused comes before the first change.
+    fn try_write(&mut self, at: u64, from: &[u8]) -> Result<(), NoMemory>
+        requires { at ≤ length self.old.octets.items }
+        ensures ok { OnOk result (log_of self.new.moments.items ≡ Wrote at from.now ∷ log_of self.old.moments.items) }
+        ensures err { OnErr result (log_of self.new.moments.items ≡ log_of self.old.moments.items) }
+        ensures faults { self.new.faults ≡ self.old.faults }
+    {
+        let octets = Vec::from_slice(self.alloc, from)?;
+        self.moments.reserve(1)?;
+        overwrite(&mut self.octets, at as usize, from)?;
+        keep(&mut self.moments, Moment::Write { at, octets })?;
+        Ok(())
+    }
+
+    fn try_cut(&mut self, len: u64) -> Result<(), NoMemory>
+        requires { len ≤ length self.old.octets.items }
+        ensures ok { OnOk result (log_of self.new.moments.items ≡ WasCut len ∷ log_of self.old.moments.items) }
+        ensures err { OnErr result (log_of self.new.moments.items ≡ log_of self.old.moments.items) }
+        ensures faults { self.new.faults ≡ self.old.faults }
+    {
+        keep(&mut self.moments, Moment::Cut { len })?;
+        self.octets.truncate(len as usize);
+        Ok(())
+    }
+}
