@@ -1,0 +1,5 @@
+pub mod Line
+pub mod LineLaws
+pub mod Names
+pub mod WordLaws
+pub mod Words

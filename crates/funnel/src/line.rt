@@ -1,0 +1,158 @@
+// Funnel lines.
+ghost use Rattle.std.specs.Prelude.{◌≡◌, ◌↔◌, ℕ, List, IfOk, IsErrOf, IsTrue, Contains, MatchResult};
+ghost use Rattle.funnel.specs.Line.{IsFunnelLine, HasFault, without_cr};
+ghost use Rattle.funnel.specs.LineLaws.{HasParts, HasPeers, IsFaultOf};
+ghost use Rattle.funnel.specs.Names.{is_msg_id, is_token};
+
+use crate::names::{MsgId, PeerName, Token, is_msg_id, is_token};
+use crate::words::next_word;
+use std::alloc::{AllocError, Global};
+use thiserror::Error;
+
+/// Why a funnel line is not good. The first that holds is told, `TooLong` before the others.
+#[derive(Clone, Copy, Debug, PartialEq, Eq, Error)]
+pub enum LineFault {
+    /// It has no word.
+    #[error("NoToken")]
+    NoToken,
+    /// Its first word is no token.
+    #[error("BadToken")]
+    BadToken,
+    /// Its second word is no message-id, or is missing.
+    #[error("BadId")]
+    BadId,
+    /// It has over 8,192 octets before its LF, a CR among them.
+    #[error("TooLong")]
+    TooLong,
+    /// Memory was refused.
+    #[error("NoMemory")]
+    NoMemory,
+}
+
+impl From<AllocError> for LineFault {
+    ghost use Rattle.std.specs.Prelude.{◌≡◌};
+    ghost use Rattle.funnel.specs.declared.line.LineFault.TheVariants.{NoMemory};
+
+    ghost from_gives = { λ _ fault. fault ≡ NoMemory };
+
+    fn from(_refused: AllocError) -> LineFault {
+        LineFault::NoMemory
+    }
+}
+
+/// A good funnel line: an article and the peers that are to have it (innfeed(8)).
+#[derive(Debug, Drop)]
+pub struct FunnelLine {
+    /// Where the article lies.
+    pub token: Token,
+    /// The article's message-id.
+    pub id: MsgId,
+    /// The names of peers, as written: in order, a name as often as it stands there.
+    pub peers: Vec<PeerName>,
+}
+
+impl FunnelLine {
+    /// Whether the line names this peer. A line owes its article once to each configured peer that it names.
+    pub fn names(&self, peer: &PeerName) -> bool
+        ensures { IsTrue result ↔ Contains self.now.peers.items peer.now }
+    {
+        self.peers.iter().any(|named| named.bytes() == peer.bytes())
+    }
+}
+
+/// Reads a funnel line, the octets before its LF. One CR at its end is dropped.
+///
+/// # Errors
+/// The first fault that the line has, `TooLong` first; `NoMemory` only for a good line.
+pub fn read_line(alloc: Global, line: &[u8]) -> Result<FunnelLine, LineFault>
+    ensures good { IfOk result (λ l. IsFunnelLine line.now l.token l.id l.peers.items) }
+    ensures too_long { IsErrOf result LineFault.TooLong ↔ HasFault line.now LineFault.TooLong }
+    ensures no_token { IsErrOf result LineFault.NoToken ↔ HasFault line.now LineFault.NoToken }
+    ensures bad_token { IsErrOf result LineFault.BadToken ↔ HasFault line.now LineFault.BadToken }
+    ensures bad_id { IsErrOf result LineFault.BadId ↔ HasFault line.now LineFault.BadId }
+    ensures no_memory { IsErrOf result LineFault.NoMemory → (token id : List ℕ) × (peers : List (List ℕ)) × IsFunnelLine line.now token id peers }
+{
+    let parts = Parts::cut(line)?;
+    let line = parts.keep(alloc)?;
+    Ok(line)
+}
+
+/// A line has one reading: one token, one message-id, one list of peers.
+pub fn reads_once()
+    ensures { (line token id token' id' : List ℕ) (peers peers' : List (List ℕ)) → IsFunnelLine line token id peers → IsFunnelLine line token' id' peers'
+        → (token ≡ token') × (id ≡ id') × (peers ≡ peers') }
+{}
+
+// The most octets before the LF.
+const LONGEST_LINE: usize = 8192;
+
+// A good line, cut where its parts end.
+#[derive(Clone, Copy)]
+struct Parts<'a> {
+    token: &'a [u8],
+    id: &'a [u8],
+    others: &'a [u8],
+}
+
+impl<'a> Parts<'a> {
+    // Cuts a line, or tells its first fault. Allocates nothing.
+    fn cut(line: &'a [u8]) -> Result<Self, LineFault>
+        ensures { MatchResult result (λ p. HasParts line.now p.token.now p.id.now p.others.now) (λ fault. IsFaultOf line.now fault) }
+    {
+        if line.len() > LONGEST_LINE {
+            return Err(LineFault::TooLong);
+        }
+        let Some((token, behind)) = next_word(without_cr(line)) else {
+            return Err(LineFault::NoToken);
+        };
+        if !is_token(token) {
+            return Err(LineFault::BadToken);
+        }
+        let Some((id, others)) = next_word(behind) else {
+            return Err(LineFault::BadId);
+        };
+        if !is_msg_id(id) {
+            return Err(LineFault::BadId);
+        }
+        Ok(Parts { token, id, others })
+    }
+
+    // Copies the parts; of the other words it keeps those that are names of peers.
+    fn keep(&self, alloc: Global) -> Result<FunnelLine, AllocError>
+        requires token { IsTrue (is_token self.now.token.now) }
+        requires id { IsTrue (is_msg_id self.now.id.now) }
+        ensures token { IfOk result (λ l. l.token ≡ self.now.token.now) }
+        ensures id { IfOk result (λ l. l.id ≡ self.now.id.now) }
+        ensures peers { IfOk result (λ l. HasPeers self.now.others.now l.peers.items) }
+    {
+        let token = Token::from_octets(alloc, self.token)?;
+        let id = MsgId::from_octets(alloc, self.id)?;
+        let peers = read_peers(alloc, self.others)?;
+        Ok(FunnelLine { token, id, peers })
+    }
+}
+
+// Drops one CR at the end.
+fn without_cr(line: &[u8]) -> &[u8]
+    ensures { result.now ≡ without_cr line.now }
+{
+    match line {
+        [text @ .., b'\r'] => text,
+        _ => line,
+    }
+}
+
+// The words that are names of peers, as written.
+fn read_peers(alloc: Global, text: &[u8]) -> Result<Vec<PeerName>, AllocError>
+    ensures { IfOk result (λ peers. HasPeers text.now peers.items) }
+{
+    let mut peers = Vec::new(alloc);
+    let mut left = text;
+    while let Some((word, behind)) = next_word(left) {
+        if let Some(peer) = PeerName::read(alloc, word)? {
+            peers.push(peer)?;
+        }
+        left = behind;
+    }
+    Ok(peers)
+}

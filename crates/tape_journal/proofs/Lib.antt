@@ -1,0 +1,5 @@
+pub mod Ending
+pub mod Gates
+pub mod Lists
+pub mod Reading
+pub mod Rows

@@ -1,0 +1,7 @@
+pub mod Head
+pub mod Journal
+pub mod Kept
+pub mod Segment
+pub mod SegmentLaws
+pub mod Stage
+pub mod Words

@@ -1,0 +1,218 @@
+// A journal of payloads.
+ghost use Rattle.std.specs.Prelude.{◌≡◌, ◌+◌, ◌-◌, ◌^◌, ◌<◌, ◌≤◌, ℕ, List};
+ghost use Rattle.disk_model.specs.Disk.{content};
+ghost use Rattle.tape_journal.specs.Segment.{IsDamagedAt, Reads};
+ghost use Rattle.tape_journal.specs.declared.fault.OpenFault.TheVariants.{Damaged};
+
+use crate::append::{add_records, are_short, length_of, staging_of};
+use crate::read::{payloads_of, record_at};
+use crate::repair::repair;
+use crate::{AppendFault, OpenFault, ReadFault};
+use disk_model::Disk;
+use std::alloc::Global;
+
+// The longest segment, in octets, with its end gate.
+const MAX_LEN: u64 = 4294967296;
+
+/// A disk on which no journal was opened, handed back as the call left it.
+#[derive(Drop)]
+pub struct Refused<D: Disk> {
+    /// The disk.
+    pub disk: D,
+    /// Why it was refused.
+    pub fault: OpenFault,
+    ghost damaged: { D.honest disk → (at : ℕ) → fault ≡ Damaged at → (payloads : List (List ℕ)) → Reads (content (D.log disk)) payloads → ⊥ },
+}
+
+/// A journal of payloads on a disk of its own: a segment whose records have open gates, with a closed gate behind.
+#[derive(Drop)]
+pub struct Journal<D: Disk> {
+    pub(crate) alloc: Global,
+    pub(crate) disk: D,
+    pub(crate) end: u64,
+    pub(crate) broken: bool,
+    ghost fits: { end < 2 ^ 64 - 1 },
+}
+
+ghost use Rattle.tape_journal.specs.Words.{read_fault};
+
+// The fault of a reading where a record is to stand.
+fn read_fault_of(fault: OpenFault) -> ReadFault
+    ensures { result ≡ read_fault fault }
+{
+    match fault {
+        OpenFault::Damaged { .. } | OpenFault::Disk => ReadFault::Disk,
+        OpenFault::NoMemory => ReadFault::NoMemory,
+    }
+}
+
+impl<D: Disk> Journal<D> {
+    ghost use Rattle.std.specs.Prelude.{◌≢◌, ◌↔◌, [], ◌∷◌, ◌++◌, length, min, drop, MatchResult, IfOk, IfErr, OnOk, OnErr, IsOk, IsErrOf};
+    ghost use Rattle.disk_model.specs.Disk.{Leaves, AfterSync};
+    ghost use Rattle.tape_journal.specs.Words.{octets_of};
+    ghost use Rattle.tape_journal.specs.Segment.{ReadsFrom, AllShort, IsRecord, records, longest_segment};
+    ghost use Rattle.tape_journal.specs.Stage.{Staged};
+    ghost use Rattle.tape_journal.specs.Journal.{disk_of, end_of, IsBroken, Holds, IsOpened, IsRefused, appending};
+
+    /// Reads the payloads of a disk, front to back, and repairs its end: what stands behind the end gate is cut off.
+    ///
+    /// # Errors
+    /// The first that the reading meets: `Damaged` at the offset where the content has no reading, `Disk`, `NoMemory`;
+    /// then `Disk` of the repair. The disk is handed back.
+    pub fn open(alloc: Global, mut disk: D) -> Result<(Journal<D>, Vec<Vec<u8>>), Refused<D>>
+        ensures ok { D.honest disk → IfOk result (λ r. IsOpened (D.log disk) r.0 (octets_of r.1.items)) }
+        ensures err { D.honest disk → IfErr result (λ e. IsRefused (D.log disk) e) }
+
+        // It doesn't give up by itself: each fault has its cause.
+        ensures damaged { D.honest disk → IfErr result (λ e. (at : ℕ) → e.fault ≡ OpenFault.Damaged at → IsDamagedAt (content (D.log disk)) at × (D.log e.disk ≡ D.log disk)) }
+        ensures memory { D.honest disk → IfErr result (λ e. e.fault ≡ OpenFault.NoMemory → D.log e.disk ≡ D.log disk) }
+        ensures cause { D.honest disk → IfErr result (λ e. e.fault ≡ OpenFault.Disk → min (D.told disk + 1) (2 ^ 64 - 1) ≤ D.told e.disk) }
+
+        ensures works { IfOk result (λ r. IsBroken r.0 → ⊥) }
+        ensures honest { MatchResult result (λ r. D.honest disk ↔ D.honest (disk_of r.0)) (λ e. D.honest disk ↔ D.honest e.disk) }
+        ensures later { MatchResult result (λ r. D.told disk ≤ D.told (disk_of r.0)) (λ e. D.told disk ≤ D.told e.disk) }
+    {
+        match payloads_of(alloc, &mut disk) {
+            Err(fault) => Err(Refused { disk, fault }),
+            Ok((payloads, end)) => match repair(&mut disk, end) {
+                Err(_) => Err(Refused {
+                    disk,
+                    fault: OpenFault::Disk,
+                }),
+                Ok(()) => Ok((
+                    Journal {
+                        alloc,
+                        disk,
+                        end,
+                        broken: false,
+                    },
+                    payloads,
+                )),
+            },
+        }
+    }
+
+    // The length of the records to add, where they are not refused at once.
+    fn room_for(&self, payloads: &[Vec<u8>]) -> Result<u64, AppendFault>
+        ensures broken { IsErrOf result AppendFault.Broken ↔ IsBroken self.now }
+        ensures too_long { IsErrOf result AppendFault.PayloadTooLong ↔ ((IsBroken self.now → ⊥) × (AllShort (octets_of payloads.now) → ⊥)) }
+        ensures full { IsErrOf result AppendFault.TapeFull ↔ ((IsBroken self.now → ⊥) × AllShort (octets_of payloads.now) × (payloads.now ≢ []) × (longest_segment < end_of self.now + 1 + length (records (octets_of payloads.now)))) }
+        ensures empty_ok { payloads.now ≡ [] → (IsBroken self.now → ⊥) → IsOk result }
+        ensures others { IfErr result (λ e. (e ≢ AppendFault.Disk) × (e ≢ AppendFault.NoMemory)) }
+        ensures ok { IfOk result (λ added. (IsBroken self.now → ⊥) × AllShort (octets_of payloads.now) × (added ≡ length (records (octets_of payloads.now))) × (payloads.now ≢ [] → end_of self.now + 1 + added ≤ longest_segment)) }
+    {
+        if self.broken {
+            return Err(AppendFault::Broken);
+        }
+        if payloads.is_empty() {
+            return Ok(0);
+        }
+        if !are_short(payloads) {
+            return Err(AppendFault::PayloadTooLong);
+        }
+        let added = length_of(payloads);
+        if self.end.saturating_add(1).saturating_add(added) > MAX_LEN {
+            return Err(AppendFault::TapeFull);
+        }
+        Ok(added)
+    }
+
+    /// Adds payloads behind the others. At `Ok` they are acknowledged: no stop takes them away. An empty list makes no
+    /// disk call.
+    ///
+    /// # Errors
+    /// Tried in this order: `Broken` after a `Disk`; `PayloadTooLong`, over 16,777,216 octets; `TapeFull`, the length
+    /// with the end gate would pass 4,294,967,296; `NoMemory`; these change nothing. `Disk`: a call failed, the journal
+    /// is broken from then on, and its disk is to be opened again.
+    pub fn append_all(&mut self, payloads: &[Vec<u8>]) -> Result<(), AppendFault>
+        ensures ok { (all : List (List ℕ)) → Holds self.old all → OnOk result (Holds self.new (all ++ octets_of payloads.now)) }
+
+        // The calls that it makes.
+        ensures calls { (all : List (List ℕ)) → Holds self.old all → payloads.now ≢ [] → OnOk result (D.log (disk_of self.new) ≡ appending (end_of self.old) (octets_of payloads.now) (D.log (disk_of self.old))) }
+        ensures empty { payloads.now ≡ [] → self.new ≡ self.old }
+        ensures empty_ok { payloads.now ≡ [] → (IsBroken self.old → ⊥) → IsOk result }
+
+        // A stop at any moment of the call leaves the first of the payloads, with all from before the call.
+        ensures moments { (all : List (List ℕ)) → Holds self.old all → Leaves (ReadsFrom (length all) (all ++ octets_of payloads.now)) (D.log (disk_of self.old)) (D.log (disk_of self.new)) }
+
+        // After its first sync that succeeded the images differ in the new gates alone.
+        ensures gates { (all : List (List ℕ)) → Holds self.old all → AfterSync (Staged all (octets_of payloads.now)) (D.log (disk_of self.old)) (D.log (disk_of self.new)) }
+
+        ensures broken { IsErrOf result AppendFault.Broken ↔ IsBroken self.old }
+        ensures too_long { IsErrOf result AppendFault.PayloadTooLong ↔ ((IsBroken self.old → ⊥) × (AllShort (octets_of payloads.now) → ⊥)) }
+        ensures full { IsErrOf result AppendFault.TapeFull ↔ ((IsBroken self.old → ⊥) × AllShort (octets_of payloads.now) × (payloads.now ≢ []) × (longest_segment < end_of self.old + 1 + length (records (octets_of payloads.now)))) }
+        ensures refused { IfErr result (λ e. e ≢ AppendFault.Disk → self.new ≡ self.old) }
+        ensures unchanged { OnErr result ((IsBroken self.new → ⊥) → self.new ≡ self.old) }
+        ensures failed { IsErrOf result AppendFault.Disk → IsBroken self.new }
+        ensures works { OnOk result (IsBroken self.new → ⊥) }
+        ensures cause { (all : List (List ℕ)) → Holds self.old all → IsErrOf result AppendFault.Disk → min (D.told (disk_of self.old) + 1) (2 ^ 64 - 1) ≤ D.told (disk_of self.new) }
+        ensures end { MatchResult result (λ _. end_of self.new ≡ end_of self.old + length (records (octets_of payloads.now))) (λ _. end_of self.new ≡ end_of self.old) }
+        ensures honest { D.honest (disk_of self.old) ↔ D.honest (disk_of self.new) }
+        ensures later { D.told (disk_of self.old) ≤ D.told (disk_of self.new) }
+    {
+        let added = self.room_for(payloads)?;
+        if payloads.is_empty() {
+            return Ok(());
+        }
+        let staged = staging_of(self.alloc, payloads)?;
+        match add_records(&mut self.disk, self.end, &staged, payloads) {
+            Ok(()) => {
+                self.end += added;
+                Ok(())
+            }
+            Err(_) => {
+                self.broken = true;
+                Err(AppendFault::Disk)
+            }
+        }
+    }
+
+    /// Reads back the payload whose record's gate stands at this offset.
+    ///
+    /// # Errors
+    /// `Broken` after a `Disk` of `append_all`; `NoMemory`; `Disk` where a read failed, or where no open record stands
+    /// there, which an honest disk never gives at the offset of a payload's gate. None of them breaks the journal.
+    pub fn payload_at(&mut self, offset: u64) -> Result<Vec<u8>, ReadFault>
+        ensures payload { (front more : List (List ℕ)) (payload : List ℕ) → Holds self.old (front ++ payload ∷ more) → offset ≡ length (records front) → IfOk result (λ v. v.items ≡ payload) }
+        ensures cause { (front more : List (List ℕ)) (payload : List ℕ) → Holds self.old (front ++ payload ∷ more) → offset ≡ length (records front) → IsErrOf result ReadFault.Disk → min (D.told (disk_of self.old) + 1) (2 ^ 64 - 1) ≤ D.told (disk_of self.new) }
+
+        // At any offset an honest disk gives the payload of a whole open record, or none.
+        ensures record { D.honest (disk_of self.old) → IfOk result (λ v. IsRecord v.items (drop offset (content (D.log (disk_of self.old))))) }
+
+        ensures broken { IsErrOf result ReadFault.Broken ↔ IsBroken self.old }
+        ensures stays { (all : List (List ℕ)) → Holds self.old all → Holds self.new all }
+        ensures log { D.honest (disk_of self.old) → D.log (disk_of self.new) ≡ D.log (disk_of self.old) }
+        ensures end { end_of self.new ≡ end_of self.old }
+        ensures works { IsBroken self.old ↔ IsBroken self.new }
+        ensures honest { D.honest (disk_of self.old) ↔ D.honest (disk_of self.new) }
+        ensures later { D.told (disk_of self.old) ≤ D.told (disk_of self.new) }
+    {
+        if self.broken {
+            return Err(ReadFault::Broken);
+        }
+        let len = self.disk.len();
+        if offset >= len {
+            return Err(ReadFault::Disk);
+        }
+        match record_at(self.alloc, &mut self.disk, offset, len) {
+            Ok(Some(payload)) => Ok(payload),
+            Ok(None) => Err(ReadFault::Disk),
+            Err(fault) => Err(read_fault_of(fault)),
+        }
+    }
+
+    /// The length in octets, with the end gate.
+    pub fn bytes(&self) -> u64
+        ensures { result ≡ end_of self.now + 1 }
+    {
+        self.end + 1
+    }
+
+    /// The disk beneath.
+    pub fn into_disk(self) -> D
+        ensures { result ≡ disk_of self }
+    {
+        let Journal { disk, .. } = self;
+        disk
+    }
+}

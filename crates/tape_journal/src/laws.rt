@@ -1,0 +1,22 @@
+//! Laws of segments, each the contract of a function that does nothing.
+ghost use Rattle.std.specs.Prelude.{◌≡◌, ◌<◌, ℕ, List};
+ghost use Rattle.std.specs.List.{All};
+ghost use Rattle.tape_journal.specs.Segment.{Reads, IsDamagedAt, ReadsOrDamaged};
+
+/// A segment has one list of payloads at most.
+#[tactic(auto, using(crate::specs::SegmentLaws::reads_once))]
+pub fn reads_once()
+    ensures { (segment : List ℕ) (one other : List (List ℕ)) → Reads segment one → Reads segment other → one ≡ other }
+{}
+
+/// No segment that has payloads is damaged, and none is damaged at two places.
+pub fn read_or_damaged()
+    ensures one { (segment : List ℕ) (payloads : List (List ℕ)) (at : ℕ) → Reads segment payloads → IsDamagedAt segment at → ⊥ }
+    ensures once { (segment : List ℕ) (one other : ℕ) → IsDamagedAt segment one → IsDamagedAt segment other → one ≡ other }
+{}
+
+/// Each list of octets has payloads as a segment, or is damaged at some place.
+#[tactic(auto, using(crate::specs::SegmentLaws::one_of_both))]
+pub fn one_of_both()
+    ensures { (segment : List ℕ) → All (λ o. o < 256) segment → ReadsOrDamaged segment }
+{}

@@ -1,0 +1,152 @@
+// Reading a segment, front to back.
+ghost use Rattle.std.specs.Prelude.{◌≡◌, ◌+◌, ◌-◌, ◌^◌, ◌<◌, ◌≤◌, ◌↔◌, ℕ, List, length, min, take, drop, IfOk, OnOk, IsErrOf, MatchOption, IfSome};
+ghost use Rattle.std.specs.Int.{to_be_bytes, from_be_bytes, w32};
+ghost use Rattle.disk_model.specs.Disk.{content, CountsFaults};
+ghost use Rattle.tape_journal.specs.Head.{IsHead, FitsHead};
+ghost use Rattle.tape_journal.specs.Segment.{Ends, IsRecord, IsCutShort, IsDamagedAt, HasPayloads};
+ghost use Rattle.tape_journal.specs.Words.{octets_of};
+
+use crate::OpenFault;
+use disk_model::{Disk, DiskFault};
+use std::alloc::Global;
+
+pub(crate) const OPEN: u8 = 0xa5;
+
+pub(crate) const MAX_PAYLOAD: u32 = 16777216;
+
+// How many octets stand before a payload: the gate and the payload's length.
+const HEAD_LEN: u64 = 5;
+
+// What stands where a record or the end of a segment is to stand.
+#[derive(Clone, Copy)]
+pub(crate) enum Head {
+    End,
+    CutShort,
+    // A record whose payload has this many octets.
+    Record(u32),
+}
+
+// Fills a slice from an offset on, which may lie behind the end of a disk that doesn't keep the model.
+fn fill<D: Disk>(disk: &mut D, at: u64, into: &mut [u8]) -> Result<(), DiskFault>
+    ensures honest { D.honest disk.old ↔ D.honest disk.new }
+    ensures log { D.honest disk.old → D.log disk.new ≡ D.log disk.old }
+    ensures octets { D.honest disk.old → OnOk result (into.new ≡ take (length into.old) (drop at (content (D.log disk.old)))) }
+    ensures later { D.told disk.old ≤ D.told disk.new }
+    ensures cause { D.honest disk.old → at + length into.old ≤ length (content (D.log disk.old)) → CountsFaults (D.told disk.old) (D.told disk.new) result }
+{
+    let len = disk.len();
+    if at > len || into.len() as u64 > len - at {
+        return Err(DiskFault);
+    }
+    disk.read_at(at, into)
+}
+
+// This many octets from an offset on.
+fn octets_at<D: Disk>(
+    alloc: Global,
+    disk: &mut D,
+    at: u64,
+    count: usize,
+) -> Result<Vec<u8>, OpenFault>
+    ensures honest { D.honest disk.old ↔ D.honest disk.new }
+    ensures log { D.honest disk.old → D.log disk.new ≡ D.log disk.old }
+    ensures octets { D.honest disk.old → IfOk result (λ v. v.items ≡ take count (drop at (content (D.log disk.old)))) }
+    ensures length { IfOk result (λ v. length v.items ≡ count) }
+    ensures later { D.told disk.old ≤ D.told disk.new }
+    ensures damaged { (e : ℕ) → IsErrOf result (OpenFault.Damaged e) → ⊥ }
+    ensures cause { D.honest disk.old → at + count ≤ length (content (D.log disk.old)) → IsErrOf result OpenFault.Disk → min (D.told disk.old + 1) (2 ^ 64 - 1) ≤ D.told disk.new }
+{
+    let mut octets = vec![in alloc; 0u8; count]?;
+    fill(disk, at, &mut octets)?;
+    Ok(octets)
+}
+
+// The number that four octets tell.
+fn number_of(octets: &[u8]) -> u32
+    requires { length octets.now ≡ 4 }
+    ensures value { result ≡ from_be_bytes w32 octets.now }
+    ensures octets { to_be_bytes w32 result ≡ octets.now }
+{
+    u32::from_be_bytes([octets[0], octets[1], octets[2], octets[3]])
+}
+
+// What a segment is that begins with these octets, and has so many: its first five, or all of them.
+fn head_of(octets: &[u8], left: u64) -> Head
+    requires some { 0 < left }
+    requires first { length octets.now ≡ min left 5 }
+    ensures is { (rest : List ℕ) → length rest ≡ left → octets.now ≡ take 5 rest → IsHead result rest }
+    ensures fits { FitsHead result left }
+{
+    if octets[0] != OPEN || left == 1 {
+        return Head::End;
+    }
+    if left < HEAD_LEN {
+        return Head::CutShort;
+    }
+    let size = number_of(&octets[1..]);
+    if size > MAX_PAYLOAD || u64::from(size) > left - HEAD_LEN {
+        return Head::CutShort;
+    }
+    Head::Record(size)
+}
+
+// The record at an offset before the segment's end, or None where the segment ends there.
+pub(crate) fn record_at<D: Disk>(
+    alloc: Global,
+    disk: &mut D,
+    at: u64,
+    len: u64,
+) -> Result<Option<Vec<u8>>, OpenFault>
+    requires { at < len }
+    ensures honest { D.honest disk.old ↔ D.honest disk.new }
+    ensures log { D.honest disk.old → D.log disk.new ≡ D.log disk.old }
+    ensures within { IfOk result (λ o. IfSome o (λ p. at + 5 + length p.items ≤ len)) }
+    ensures reads { D.honest disk.old → len ≡ length (content (D.log disk.old)) → IfOk result (λ o. MatchOption o (Ends (drop at (content (D.log disk.old)))) (λ p. IsRecord p.items (drop at (content (D.log disk.old))))) }
+    ensures damaged { D.honest disk.old → len ≡ length (content (D.log disk.old)) → (e : ℕ) → IsErrOf result (OpenFault.Damaged e) → (e ≡ at) × IsCutShort (drop at (content (D.log disk.old))) }
+    ensures later { D.told disk.old ≤ D.told disk.new }
+    ensures cause { D.honest disk.old → len ≡ length (content (D.log disk.old)) → IsErrOf result OpenFault.Disk → min (D.told disk.old + 1) (2 ^ 64 - 1) ≤ D.told disk.new }
+{
+    let left = len - at;
+    let mut octets = [0u8; 5];
+    let first = &mut octets[..left.min(HEAD_LEN) as usize];
+    fill(disk, at, first)?;
+    match head_of(first, left) {
+        Head::End => Ok(None),
+        Head::CutShort => Err(OpenFault::Damaged { at }),
+        Head::Record(size) => {
+            let payload = octets_at(alloc, disk, at + HEAD_LEN, size as usize)?;
+            Ok(Some(payload))
+        }
+    }
+}
+
+// The payloads, front to back, and where the segment ends.
+pub(crate) fn payloads_of<D: Disk>(
+    alloc: Global,
+    disk: &mut D,
+) -> Result<(Vec<Vec<u8>>, u64), OpenFault>
+    ensures honest { D.honest disk.old ↔ D.honest disk.new }
+    ensures log { D.honest disk.old → D.log disk.new ≡ D.log disk.old }
+    ensures reads { D.honest disk.old → IfOk result (λ r. HasPayloads (content (D.log disk.old)) (octets_of r.0.items) r.1) }
+    ensures end { IfOk result (λ r. r.1 < 2 ^ 64 - 1) }
+    ensures damaged { D.honest disk.old → (e : ℕ) → IsErrOf result (OpenFault.Damaged e) → IsDamagedAt (content (D.log disk.old)) e }
+    ensures later { D.told disk.old ≤ D.told disk.new }
+    ensures cause { D.honest disk.old → IsErrOf result OpenFault.Disk → min (D.told disk.old + 1) (2 ^ 64 - 1) ≤ D.told disk.new }
+{
+    let len = disk.len();
+    let mut payloads = Vec::new(alloc);
+    if len == 0 {
+        return Ok((payloads, 0));
+    }
+    let mut end = 0;
+    while end < len {
+        match record_at(alloc, disk, end, len)? {
+            None => return Ok((payloads, end)),
+            Some(payload) => {
+                end += HEAD_LEN + payload.len() as u64;
+                payloads.push(payload)?;
+            }
+        }
+    }
+    Err(OpenFault::Damaged { at: end })
+}
