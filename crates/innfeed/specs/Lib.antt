@@ -1,0 +1,4 @@
+pub mod Drill
+pub mod Exit
+pub mod Report
+pub mod Tape

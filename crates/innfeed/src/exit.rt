@@ -1,0 +1,34 @@
+// How the program ends.
+ghost use Rattle.std.specs.Prelude.{◌≡◌};
+
+/// How the program ends, as administrators' scripts see it.
+#[derive(Clone, Copy, Debug, PartialEq, Eq)]
+pub enum Exit {
+    /// All is done: status 0.
+    Done,
+    /// The script breaks its rules, or a step of it was refused: status 1.
+    Refused,
+    /// The words of the command line are none that it knows: status 2.
+    Usage,
+    /// Standard input could not be read, or standard output not be written: status 4.
+    Unreadable,
+    /// Memory was refused: status 5.
+    NoMemory,
+}
+
+impl Exit {
+    ghost use Rattle.innfeed.specs.Exit.{status_of};
+
+    /// The exit status.
+    pub fn status(self) -> u8
+        ensures { result ≡ status_of self }
+    {
+        match self {
+            Exit::Done => 0,
+            Exit::Refused => 1,
+            Exit::Usage => 2,
+            Exit::Unreadable => 4,
+            Exit::NoMemory => 5,
+        }
+    }
+}

@@ -1,0 +1,191 @@
+// Drills, whole: what each script prints and how it ends.
+use crate::drill::run_script;
+use crate::exit::Exit;
+use std::alloc::{AllocError, Global};
+use std::test::Fail;
+
+// A script, what it prints, and how it ends.
+#[derive(Clone, Copy)]
+struct Row {
+    script: &'static str,
+    printed: &'static str,
+    exit: Exit,
+}
+
+const EMPTY: Row = Row {
+    script: "",
+    printed: "end 0\n",
+    exit: Exit::Done,
+};
+
+const TWO_PEERS: Row = Row {
+    script: "peer p\n\
+        peer q\n\
+        line a/1 <x@y> p q p\n\
+        flush\n\
+        stop\n\
+        restart\n",
+    printed: "1 p new q new\n\
+        taken 1\n\
+        stopped\n\
+        p mark 1 owes 1\n\
+        q mark 1 owes 1\n\
+        p taken 1 answered 0 dropped 0 owed 1 bytes 10\n\
+        q taken 1 answered 0 dropped 0 owed 1 bytes 10\n\
+        end 4\n",
+    exit: Exit::Done,
+};
+
+const BAD_LINES: Row = Row {
+    script: "peer p\n\
+        line\n\
+        line a/1\n\
+        line a/1 <xxxxxxxxxxxxxxxxxxxxxxxxxxxxxxxxxxxxxxxxxxxxxxxxxxxxxxxxxxxxxxxxxxxxxxxxxxxxxxxxxxxxxxxxxxxxxxxxxxxxxxxxxxxxxxxxxxxxxxxxxxxxxxxxxxxxxxxxxxxxxxxxxxxxxxxxxxxxxxxxxxxxxxxxxxxxxxxxxxxxxxxxxxxxxxxxxxxxxxxxxxxxxxxxxxxxxxxxxxxxxxxxxxxxxxxxxxxxxxxxxxxxxxx@y> p\n\
+        line a/1 <xxxxxxxxxxxxxxxxxxxxxxxxxxxxxxxxxxxxxxxxxxxxxxxxxxxxxxxxxxxxxxxxxxxxxxxxxxxxxxxxxxxxxxxxxxxxxxxxxxxxxxxxxxxxxxxxxxxxxxxxxxxxxxxxxxxxxxxxxxxxxxxxxxxxxxxxxxxxxxxxxxxxxxxxxxxxxxxxxxxxxxxxxxxxxxxxxxxxxxxxxxxxxxxxxxxxxxxxxxxxxxxxxxxxxxxxxxxxxxxxxxxxxx@y> p\n\
+        line /a <x@y> p\n\
+        line a/../b <x@y> p\n\
+        line a/2 <x@y> nobody\n",
+    printed: "1 bad NoToken\n\
+        2 bad BadId\n\
+        3 bad BadId\n\
+        4 p new\n\
+        5 bad BadToken\n\
+        6 bad BadToken\n\
+        7\n\
+        p taken 1 answered 0 dropped 0 owed 1 bytes 255\n\
+        end 7\n",
+    exit: Exit::Done,
+};
+
+const RESTART_WHILE_RUNNING: Row = Row {
+    script: "restart\n",
+    printed: "step 1: Running\n",
+    exit: Exit::Refused,
+};
+
+const LINE_WHILE_STOPPED: Row = Row {
+    script: "stop\n\
+        line\n",
+    printed: "stopped\n\
+        step 2: Stopped\n",
+    exit: Exit::Refused,
+};
+
+fn run(alloc: Global, script: &[u8]) -> Result<(Vec<u8>, Exit), Fail> {
+    let mut printed = Vec::new(alloc);
+    let mut reader = script;
+    let exit = run_script(alloc, &mut reader, &mut printed)?;
+    Ok((printed, exit))
+}
+
+#[test]
+fn rows(rt: HostRuntime) -> Result<(), Fail> {
+    for row in [
+        EMPTY,
+        TWO_PEERS,
+        BAD_LINES,
+        RESTART_WHILE_RUNNING,
+        LINE_WHILE_STOPPED,
+    ] {
+        let (printed, exit) = run(rt.alloc(), row.script.as_bytes())?;
+        assert_eq!(rt;
+            printed.as_slice(),
+            row.printed.as_bytes(),
+            "{}",
+            row.script
+        );
+        assert_eq!(rt; exit, row.exit, "{}", row.script);
+    }
+    Ok(())
+}
+
+// The place of the first line that breaks the rules is printed alone, whatever the steps before it would do.
+#[test]
+fn broken_scripts(rt: HostRuntime) -> Result<(), Fail> {
+    for (script, printed) in [
+        ("flush", "script 1\n"),
+        ("restart\nnonsense\n", "script 2\n"),
+        ("# a comment\n\n\r\n \n", "script 4\n"),
+        ("peer p\npeer p\n", "script 2\n"),
+        ("flush\npeer p\n", "script 2\n"),
+        ("peer .p\n", "script 1\n"),
+        ("peer p \n", "script 1\n"),
+        ("peer\n", "script 1\n"),
+        ("flush \n", "script 1\n"),
+        (" flush\n", "script 1\n"),
+        ("flush now\n", "script 1\n"),
+        ("stop p 1 0\n", "script 1\n"),
+        ("begin\n", "script 1\n"),
+        ("Line\n", "script 1\n"),
+    ] {
+        let (got, exit) = run(rt.alloc(), script.as_bytes())?;
+        assert_eq!(rt; got.as_slice(), printed.as_bytes(), "{script}");
+        assert_eq!(rt; exit, Exit::Refused, "{script}");
+    }
+    Ok(())
+}
+
+// A comment, an empty line and a CR before LF say nothing; `line` alone is the empty line, and its text keeps its blanks.
+#[test]
+fn quiet_lines(rt: HostRuntime) -> Result<(), Fail> {
+    let script =
+        b"# peers\r\npeer b\npeer a\n\n\r\nline  a/1 <x@y> b a b .c\r\nline \nflush\r\n#end\n";
+    let printed = b"1 a new b new\n2 bad NoToken\ntaken 2\n\
+        a taken 1 answered 0 dropped 0 owed 1 bytes 10\n\
+        b taken 1 answered 0 dropped 0 owed 1 bytes 10\nend 3\n";
+    let (got, exit) = run(rt.alloc(), script)?;
+    assert_eq!(rt; got.as_slice(), printed.as_slice());
+    assert_eq!(rt; exit, Exit::Done);
+    Ok(())
+}
+
+// Lines that were not flushed are gone after a stop, and come again under the same numbers.
+#[test]
+fn lines_come_again(rt: HostRuntime) -> Result<(), Fail> {
+    let script =
+        b"peer p\nline a/1 <x@y> p\nflush\nline a/2 <z@y> p\nstop\nrestart\nline a/2 <z@y> p\nstop\n";
+    let printed = b"1 p new\ntaken 1\n2 p new\nstopped\np mark 1 owes 1\n2 p new\nstopped\nend 7\n";
+    let (got, exit) = run(rt.alloc(), script)?;
+    assert_eq!(rt; got.as_slice(), printed.as_slice());
+    assert_eq!(rt; exit, Exit::Done);
+    Ok(())
+}
+
+// `line ` and this many letters.
+fn add_long_line(script: &mut Vec<u8>, letters: usize) -> Result<(), AllocError> {
+    script.extend_from_slice(b"line ")?;
+    for _ in 0..letters {
+        script.push(b'x')?;
+    }
+    script.push(b'\n')?;
+    Ok(())
+}
+
+#[test]
+fn long_lines(rt: HostRuntime) -> Result<(), Fail> {
+    let mut script = Vec::new(rt.alloc());
+    add_long_line(&mut script, 8193)?;
+    add_long_line(&mut script, 8192)?;
+    let (got, exit) = run(rt.alloc(), &script)?;
+    assert_eq!(rt;
+        got.as_slice(),
+        b"1 bad TooLong\n2 bad BadToken\nend 2\n".as_slice()
+    );
+    assert_eq!(rt; exit, Exit::Done);
+    Ok(())
+}
+
+// With 65,536 notes pending the next is refused, and the step that is refused prints nothing.
+#[test]
+fn pending_full(rt: HostRuntime) -> Result<(), Fail> {
+    let mut script = Vec::from_slice(rt.alloc(), b"peer p\npeer q\n")?;
+    for _ in 0..65536 {
+        script.extend_from_slice(b"line a <x@y> q\n")?;
+    }
+    script.extend_from_slice(b"line a <x@y> p q\n")?;
+    let (got, exit) = run(rt.alloc(), &script)?;
+    let end = b"65536 q new\nstep 65537: Tape PendingFull\n";
+    assert!(rt; got.ends_with(end));
+    assert_eq!(rt; exit, Exit::Refused);
+    Ok(())
+}

@@ -1,0 +1,5 @@
+pub mod Applied
+pub mod Debts
+pub mod Replayed
+mod Rows
+pub mod Spellings

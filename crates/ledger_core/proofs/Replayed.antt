@@ -1,0 +1,131 @@
+-- What payloads leave, from one to the next.
+use Rattle.std.proofs.Common.{◌≡◌, ℕ, zero, suc, ◌<◌, ◌+◌, List, [], ◌∷◌, ◌++◌, length, get_or, take, Some, Result, Err, refl, sym, ap, ◌∙◌, subst, arith}
+use Rattle.std.specs.Prelude.{Vec, slice_get}
+use Rattle.std.specs.declared.alloc.Global.{Global}
+use Rattle.std.proofs.lemmas.List.{get_or-map, length-map, take_more}
+use Rattle.std.proofs.lemmas.Option.{get_or_from_slice_get}
+use Rattle.ledger_core.specs.declared.ledger.Ledger.{Ledger}
+use Rattle.ledger_core.specs.declared.ledger.ReplayFault.{ReplayFault}
+use Rattle.ledger_core.specs.declared.ledger.ReplayFault.TheVariants.{Refused, NoMemory}
+use Rattle.ledger_core.specs.declared.note.Note.{Note}
+use Rattle.ledger_core.specs.Laws.{AllLegal-append, AllLegal-back, after-append}
+use Rattle.ledger_core.specs.Note.{AreNotes, IsNote}
+use Rattle.ledger_core.specs.Replay.{Leaves, SpellsNoLegal, StopsAt}
+use Rattle.ledger_core.specs.Spelling.{spelling, spellings}
+use Rattle.ledger_core.specs.SpellingLaws.{AreNotes-append, AreNotes-front, AreNotes-back, spellings-append}
+use Rattle.ledger_core.specs.Words.{octets_of}
+use Rattle.ledger_core.specs.State.{State, AllLegal, IsLegal, after, start, step}
+use Rattle.ledger_core.proofs.Spellings.{same-note}
+
+pub octets-at : (payloads : List (Vec ℕ Global)) (index : ℕ) (payload : Vec ℕ Global) → index < length payloads → payload ≡ get_or payloads index payload
+    → get_or (octets_of payloads) index [] ≡ payload.items
+octets-at payloads index payload within e =
+    get_or-map (λ (v : Vec ℕ Global). v.items) payloads index payload [] within ∙ ap (λ (v : Vec ℕ Global). v.items) (sym e)
+
+pub octets-len : (payloads : List (Vec ℕ Global)) → length (octets_of payloads) ≡ length payloads
+octets-len payloads = length-map payloads (λ (v : Vec ℕ Global). v.items)
+
+-- a list of notes has one list of spellings, and no other list has it
+same-notes : (one other : List Note) → AreNotes one → AreNotes other → spellings one ≡ spellings other → one ≡ other
+same-notes [] [] a b e = refl
+same-notes [] (note ∷ other) a b e = cc
+same-notes (note ∷ one) [] a b e = cc
+same-notes (note ∷ one) (second ∷ other) a b e =
+    let s : spelling note ≡ spelling second = cc in
+    let r : spellings one ≡ spellings other = cc in
+    let first : note ≡ second = same-note note second a.0 b.0 s in
+    let rest : one ≡ other = same-notes one other a.1 b.1 r in
+    cc
+
+pub leaves-none : Leaves [] start
+leaves-none = ([], tt, refl, tt, refl)
+
+-- one payload more
+pub leaves-more : (payloads : List (List ℕ)) (index : ℕ) (state new : State) (note : Note) → index < length payloads
+    → Leaves (take index payloads) state → IsNote note → get_or payloads index [] ≡ spelling note → IsLegal state note → new ≡ step state note
+    → Leaves (take (index + 1) payloads) new
+leaves-more payloads index state new note within before is_note spelled legal stepped =
+    let notes = before.0 in
+    let here : IsLegal (after start notes) note = subst (λ s. IsLegal s note) before.4 legal in (
+      notes ++ note ∷ [],
+      AreNotes-append notes (note ∷ []) before.1 (is_note, tt),
+      take_more payloads index [] within ∙ ap (λ xs. xs ++ get_or payloads index [] ∷ []) before.2 ∙ ap (λ x. spellings notes ++ x ∷ []) spelled
+          ∙ sym (spellings-append notes (note ∷ [])),
+      AllLegal-append start notes (note ∷ []) before.3 (here, tt),
+      stepped ∙ ap (λ s. step s note) before.4 ∙ sym (after-append start notes (note ∷ [])),
+    )
+
+-- payloads leave one state
+pub leaves-one : (payloads : List (List ℕ)) (state other : State) → Leaves payloads state → Leaves payloads other → state ≡ other
+leaves-one payloads state other a b =
+    a.4 ∙ ap (after start) (same-notes a.0 b.0 a.1 b.1 (sym a.2 ∙ b.2)) ∙ sym b.4
+
+pub stops : (payloads : List (List ℕ)) (index : ℕ) (state : State) → index < length payloads → Leaves (take index payloads) state
+    → SpellsNoLegal state (get_or payloads index []) → StopsAt payloads index
+stops payloads index state within before none = (
+  within,
+  (
+    before.0,
+    before.1,
+    before.3,
+    before.2,
+    λ note is_note found legal. none note is_note (sym (get_or_from_slice_get payloads index (spelling note) [] found))
+        (subst (λ s. IsLegal s note) (sym before.4) legal),
+  ),
+)
+
+record Splits (notes : List Note) (index : ℕ) : Type 0 where
+  front : List Note
+  note : Note
+  back : List Note
+  whole : notes ≡ front ++ note ∷ back
+  before : take index (spellings notes) ≡ spellings front
+  here : slice_get (spellings notes) index ≡ Some (spelling note)
+
+split : (notes : List Note) (index : ℕ) → index < length (spellings notes) → Splits notes index
+split [] index within = absurd (omega arith)
+split (first ∷ notes) zero within = record { front = []; note = first; back = notes; whole = refl; before = refl; here = refl }
+split (first ∷ notes) (suc index) within =
+    let rest = split notes index (omega arith) in
+    record {
+      front = first ∷ rest.front;
+      note = rest.note;
+      back = rest.back;
+      whole = ap (λ ns. first ∷ ns) rest.whole;
+      before = ap (λ ss. spelling first ∷ ss) rest.before;
+      here = rest.here;
+    }
+
+-- where reading stops the payloads are no list of legal notes
+pub never : (payloads : List (List ℕ)) (index : ℕ) (state : State) → StopsAt payloads index → Leaves payloads state → ⊥
+never payloads index state stop whole =
+    let parts = split whole.0 index (subst (λ ps. index < length ps) whole.2 stop.0) in
+    let notes = subst AreNotes parts.whole whole.1 in
+    let legal = subst (AllLegal start) parts.whole whole.3 in
+    let seen = stop.1 in
+    let same : seen.0 ≡ parts.front =
+    same-notes seen.0 parts.front seen.1 (AreNotes-front parts.front (parts.note ∷ parts.back) notes)
+    (sym seen.3 ∙ ap (take index) whole.2 ∙ parts.before)
+    in
+    seen.4 parts.note (AreNotes-back parts.front (parts.note ∷ parts.back) notes).0 (ap (λ ps. slice_get ps index) whole.2 ∙ parts.here)
+    (subst (λ ns. IsLegal (after start ns) parts.note) (sym same) (AllLegal-back start parts.front (parts.note ∷ parts.back) legal).0)
+
+pub err-apart : {fault other : ReplayFault} → ◌≡◌ {A = Result Ledger ReplayFault} (Err fault) (Err other) → fault ≡ other
+err-apart e = cc
+
+-- a fault at this index is a refusal of its payload, or a want of memory
+pub fault-all : (payloads : List (List ℕ)) (index : ℕ) (state : State) (fault : ReplayFault) → index < length payloads
+    → Leaves (take index payloads) state
+    → ((place : ℕ) → fault ≡ Refused place → (place ≡ index) × SpellsNoLegal state (get_or payloads index []))
+    → (other : State) → Leaves payloads other → fault ≡ NoMemory
+fault-all payloads index state NoMemory within before refused other whole = refl
+fault-all payloads index state (Refused place) within before refused other whole =
+    absurd (never payloads index other (stops payloads index state within before (refused place refl).1) whole)
+
+pub fault-stops : (payloads : List (List ℕ)) (index : ℕ) (state : State) (fault : ReplayFault) → index < length payloads
+    → Leaves (take index payloads) state
+    → ((place : ℕ) → fault ≡ Refused place → (place ≡ index) × SpellsNoLegal state (get_or payloads index []))
+    → (place : ℕ) → fault ≡ Refused place → StopsAt payloads place
+fault-stops payloads index state fault within before refused place e =
+    let said = refused place e in
+    subst (StopsAt payloads) (sym said.0) (stops payloads index state within before said.1)

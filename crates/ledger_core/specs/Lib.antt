@@ -1,0 +1,10 @@
+pub mod Codes
+pub mod Laws
+pub mod Ledger
+pub mod Note
+pub mod Reading
+pub mod Replay
+pub mod Spelling
+pub mod SpellingLaws
+pub mod State
+pub mod Words

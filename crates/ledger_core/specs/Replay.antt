@@ -1,0 +1,22 @@
+-- What payloads leave that are read from the first to the last.
+use Rattle.std.specs.Prelude.{◌≡◌, ◌<◌, ℕ, List, Some, length, take, slice_get}
+use Rattle.ledger_core.specs.declared.note.Note.{Note}
+use Rattle.ledger_core.specs.Note.{AreNotes, IsNote}
+use Rattle.ledger_core.specs.Spelling.{spelling, spellings}
+use Rattle.ledger_core.specs.State.{State, AllLegal, IsLegal, after, start}
+
+-- these payloads are a list of legal notes, which leaves this state
+abbrev pub Leaves : List (List ℕ) → State → Type 0
+Leaves payloads state =
+    (notes : List Note) × AreNotes notes × (payloads ≡ spellings notes) × AllLegal start notes × (state ≡ after start notes)
+
+-- no note that is legal in this state is spelled so
+abbrev pub SpellsNoLegal : State → List ℕ → Type 0
+SpellsNoLegal state octets = (note : Note) → IsNote note → spelling note ≡ octets → IsLegal state note → ⊥
+
+-- the payloads before this index are a list of legal notes, and the one at it is no note that is legal behind them
+abbrev pub StopsAt : List (List ℕ) → ℕ → Type 0
+StopsAt payloads index =
+    (index < length payloads)
+    × ((notes : List Note) × AreNotes notes × AllLegal start notes × (take index payloads ≡ spellings notes)
+    × ((note : Note) → IsNote note → slice_get payloads index ≡ Some (spelling note) → IsLegal (after start notes) note → ⊥))

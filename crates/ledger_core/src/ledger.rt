@@ -1,0 +1,305 @@
+// Ledgers.
+ghost use Rattle.std.specs.Prelude.{◌≡◌, ◌+◌, ◌≤◌, ℕ, IfNone, IfOk, IfSome, IsErrOf, IsTrue, MatchResult, OnErr, OnOk, ◌↔◌, length};
+ghost use Rattle.std.specs.List.{All, Contains};
+ghost use Rattle.std.specs.List.Sorted.{IsStrictlyIncreasing};
+ghost use Rattle.ledger_core.specs.State.{line_octets, numbers_of, octets_of_debts, without};
+
+use crate::codec::decode;
+use crate::note::Note;
+use funnel::{MsgId, Token};
+use std::alloc::{AllocError, AllocFailed, Global};
+use std::collections::BTreeMap;
+use thiserror::Error;
+
+/// Why a note is refused. The ledger stays as it was.
+#[derive(Clone, Copy, Debug, PartialEq, Eq, Error)]
+pub enum LedgerFault {
+    /// An Owe or a Seen of a number at or below the mark.
+    #[error("OldNumber")]
+    OldNumber,
+    /// A Final or a Drop of a number that is not owed.
+    #[error("NotOwed")]
+    NotOwed,
+    /// A count, or the octets that are owed, would pass the greatest u64.
+    #[error("CountFull")]
+    CountFull,
+    /// Memory was refused.
+    #[error("NoMemory")]
+    NoMemory,
+}
+
+impl From<AllocError> for LedgerFault {
+    ghost use Rattle.std.specs.Prelude.{◌≡◌};
+    ghost use Rattle.ledger_core.specs.declared.ledger.LedgerFault.TheVariants.{NoMemory};
+
+    ghost from_gives = { λ _ e. e ≡ NoMemory };
+
+    fn from(_e: AllocError) -> LedgerFault {
+        LedgerFault::NoMemory
+    }
+}
+
+impl<T: Drop> From<AllocFailed<T>> for LedgerFault {
+    ghost use Rattle.std.specs.Prelude.{◌≡◌};
+    ghost use Rattle.ledger_core.specs.declared.ledger.LedgerFault.TheVariants.{NoMemory};
+
+    ghost from_gives = { λ _ e. e ≡ NoMemory };
+
+    fn from(_e: AllocFailed<T>) -> LedgerFault {
+        LedgerFault::NoMemory
+    }
+}
+
+/// Why payloads are no list of legal notes.
+#[derive(Clone, Copy, Debug, PartialEq, Eq, Error)]
+pub enum ReplayFault {
+    /// The payload at this index, from 0, is no note, or its note is refused by the ledger that those before it leave.
+    #[error("Refused {index}")]
+    Refused { index: usize },
+    /// Memory was refused.
+    #[error("NoMemory")]
+    NoMemory,
+}
+
+impl From<AllocError> for ReplayFault {
+    ghost use Rattle.std.specs.Prelude.{◌≡◌};
+    ghost use Rattle.ledger_core.specs.declared.ledger.ReplayFault.TheVariants.{NoMemory};
+
+    ghost from_gives = { λ _ e. e ≡ NoMemory };
+
+    fn from(_e: AllocError) -> ReplayFault {
+        ReplayFault::NoMemory
+    }
+}
+
+/// What a ledger counts. taken = owed + answered + dropped.
+#[derive(Clone, Copy, Debug, PartialEq, Eq)]
+pub struct Totals {
+    /// The debts that were ever owed.
+    pub taken: u64,
+    /// The debts that were answered for good.
+    pub answered: u64,
+    /// The debts that were dropped.
+    pub dropped: u64,
+    /// The debts that are owed.
+    pub owed: u64,
+    /// The sum over the debts that are owed of the octets of token and message-id, and 2.
+    pub owed_bytes: u64,
+}
+
+/// What one peer is owed, and how many debts were taken, answered and dropped.
+/// The cost of a call is logarithmic in what is owed, memory is linear in it.
+#[derive(Drop)]
+pub struct Ledger {
+    debts: BTreeMap<u64, (Token, MsgId)>,
+    mark: u64,
+    taken: u64,
+    answered: u64,
+    dropped: u64,
+    owed_bytes: u64,
+    ghost counted: { taken ≡ answered + dropped + length debts.entries },
+    ghost summed: { owed_bytes ≡ octets_of_debts debts.entries },
+    ghost marked: { All (λ number. number ≤ mark) (numbers_of debts.entries) },
+}
+
+impl Ledger {
+    ghost use Rattle.ledger_core.specs.declared.note.FinalCode.{FinalCode};
+    ghost use Rattle.ledger_core.specs.declared.note.Cause.{Cause};
+    ghost use Rattle.ledger_core.specs.declared.note.Note.{Note};
+    ghost use Rattle.ledger_core.specs.Note.{IsNote, IsOwe};
+    ghost use Rattle.ledger_core.specs.Replay.{Leaves, SpellsNoLegal, StopsAt};
+    ghost use Rattle.ledger_core.specs.Spelling.{spelling};
+    ghost use Rattle.ledger_core.specs.State.{State, IsLegal, IsOld, IsOwed, LacksDebt, Overflows, numbers, start, step};
+    ghost use Rattle.ledger_core.specs.Words.{octets_of};
+    ghost use Rattle.ledger_core.specs.Ledger.{IsApplied, state_of, totals_of};
+
+    /// The ledger of no note.
+    pub fn new(alloc: Global) -> Self
+        ensures { state_of result ≡ start }
+    {
+        Ledger {
+            debts: BTreeMap::new(alloc),
+            mark: 0,
+            taken: 0,
+            answered: 0,
+            dropped: 0,
+            owed_bytes: 0,
+        }
+    }
+
+    /// The greatest number that was noted, 0 at first.
+    pub fn mark(&self) -> u64
+        ensures { result ≡ (state_of self.now).mark }
+    {
+        self.mark
+    }
+
+    /// What was taken, answered and dropped, and what is owed.
+    pub fn totals(&self) -> Totals
+        ensures counts { result ≡ totals_of (state_of self.now) }
+        ensures sum { result.taken ≡ result.owed + result.answered + result.dropped }
+    {
+        Totals {
+            taken: self.taken,
+            answered: self.answered,
+            dropped: self.dropped,
+            owed: self.debts.len() as u64,
+            owed_bytes: self.owed_bytes,
+        }
+    }
+
+    /// Whether the debt of this number is owed.
+    pub fn owes(&self, number: u64) -> bool
+        ensures { IsTrue result ↔ IsOwed (state_of self.now) number }
+    {
+        self.debts.contains_key(&number)
+    }
+
+    /// The numbers that are owed, rising.
+    ///
+    /// # Errors
+    /// `NoMemory` where memory was refused.
+    pub fn numbers(&self, alloc: Global) -> Result<Vec<u64>, AllocError>
+        ensures items { IfOk result (λ v. v.items ≡ numbers (state_of self.now)) }
+        ensures rising { IfOk result (λ v. IsStrictlyIncreasing v.items) }
+        ensures marked { IfOk result (λ v. All (λ number. number ≤ (state_of self.now).mark) v.items) }
+    {
+        self.debts.keys().copied().collect(alloc)
+    }
+
+    /// Takes a note.
+    ///
+    /// # Errors
+    /// Tried in this order; the ledger stays as it was after each.
+    /// - `OldNumber` for an Owe or a Seen of a number at or below the mark.
+    /// - `NotOwed` for a Final or a Drop of a number that is not owed.
+    /// - `CountFull` where a count, or the octets that are owed, would pass the greatest u64.
+    /// - `NoMemory` for an Owe where memory was refused. Final, Drop and Seen take none.
+    pub fn apply(&mut self, note: &Note) -> Result<(), LedgerFault>
+        ensures ok { OnOk result (IsLegal (state_of self.old) note.now × (state_of self.new ≡ step (state_of self.old) note.now)) }
+        ensures old_number { IsErrOf result LedgerFault.OldNumber ↔ IsOld (state_of self.old) note.now }
+        ensures not_owed { IsErrOf result LedgerFault.NotOwed ↔ LacksDebt (state_of self.old) note.now }
+        ensures count_full { IsErrOf result LedgerFault.CountFull ↔ Overflows (state_of self.old) note.now }
+        ensures no_memory { IsErrOf result LedgerFault.NoMemory → IsOwe note.now × IsLegal (state_of self.old) note.now }
+        ensures unchanged { OnErr result (state_of self.new ≡ state_of self.old) }
+    {
+        match note {
+            Note::Owe { number, token, id } => self.owe(*number, token, id),
+            Note::Final { number, .. } => self.answer(*number),
+            Note::Drop { number, .. } => self.discard(*number),
+            Note::Seen { number } => self.see(*number),
+        }
+    }
+
+    /// The ledger that these payloads leave, each the spelling of a note that is legal in its turn.
+    ///
+    /// # Errors
+    /// - `Refused` with the index of the first payload that is no note, or whose note is not legal behind those before it.
+    /// - `NoMemory` where memory was refused.
+    pub fn replay(alloc: Global, payloads: &[Vec<u8>]) -> Result<Ledger, ReplayFault>
+        // What is read is a list of legal notes, and the ledger is its fold.
+        ensures fold { IfOk result (λ ledger. Leaves (octets_of payloads.now) (state_of ledger)) }
+        // Each list of legal notes is read, unless memory is refused.
+        ensures all { (state : State) → Leaves (octets_of payloads.now) state
+            → MatchResult result (λ ledger. state_of ledger ≡ state) (λ fault. fault ≡ ReplayFault.NoMemory) }
+        // The first payload that is no legal note.
+        ensures refused { (index : ℕ) → IsErrOf result (ReplayFault.Refused index) → StopsAt (octets_of payloads.now) index }
+    {
+        let mut ledger = Ledger::new(alloc);
+        for (index, payload) in payloads.iter().enumerate() {
+            ledger.apply_payload(alloc, index, payload)?;
+        }
+        Ok(ledger)
+    }
+
+    // Takes the note that the payload at this index spells.
+    fn apply_payload(
+        &mut self,
+        alloc: Global,
+        index: usize,
+        payload: &[u8],
+    ) -> Result<(), ReplayFault>
+        ensures ok { OnOk result ((note : Note) × IsNote note × (payload.now ≡ spelling note) × IsLegal (state_of self.old) note × (state_of self.new ≡ step (state_of self.old) note)) }
+        ensures refused { (place : ℕ) → IsErrOf result (ReplayFault.Refused place) → (place ≡ index) × SpellsNoLegal (state_of self.old) payload.now }
+    {
+        let Some(note) = decode(alloc, payload)? else {
+            return Err(ReplayFault::Refused { index });
+        };
+        match self.apply(&note) {
+            Ok(()) => Ok(()),
+            Err(LedgerFault::NoMemory) => Err(ReplayFault::NoMemory),
+            Err(_) => Err(ReplayFault::Refused { index }),
+        }
+    }
+
+    fn owe(&mut self, number: u64, token: &Token, id: &MsgId) -> Result<(), LedgerFault>
+        ensures { IsApplied result (state_of self.old) (state_of self.new) (Note.Owe number token.now id.now) }
+    {
+        if number <= self.mark {
+            return Err(LedgerFault::OldNumber);
+        }
+        let Some(taken) = self.taken.checked_add(1) else {
+            return Err(LedgerFault::CountFull);
+        };
+        let Some(owed_bytes) = self.owed_bytes.checked_add(line_octets(token, id)) else {
+            return Err(LedgerFault::CountFull);
+        };
+        let debt = (token.clone()?, id.clone()?);
+        self.debts.insert(number, debt)?;
+        self.mark = number;
+        self.taken = taken;
+        self.owed_bytes = owed_bytes;
+        Ok(())
+    }
+
+    fn answer(&mut self, number: u64) -> Result<(), LedgerFault>
+        ensures { (code : FinalCode) → IsApplied result (state_of self.old) (state_of self.new) (Note.Final number code) }
+    {
+        let Some(octets) = remove_debt(&mut self.debts, number) else {
+            return Err(LedgerFault::NotOwed);
+        };
+        self.owed_bytes -= octets;
+        self.answered += 1;
+        Ok(())
+    }
+
+    fn discard(&mut self, number: u64) -> Result<(), LedgerFault>
+        ensures { (cause : Cause) → IsApplied result (state_of self.old) (state_of self.new) (Note.Drop number cause) }
+    {
+        let Some(octets) = remove_debt(&mut self.debts, number) else {
+            return Err(LedgerFault::NotOwed);
+        };
+        self.owed_bytes -= octets;
+        self.dropped += 1;
+        Ok(())
+    }
+
+    fn see(&mut self, last: u64) -> Result<(), LedgerFault>
+        ensures { IsApplied result (state_of self.old) (state_of self.new) (Note.Seen last) }
+    {
+        if last <= self.mark {
+            return Err(LedgerFault::OldNumber);
+        }
+        self.mark = last;
+        Ok(())
+    }
+}
+
+// The octets of a line that names this article alone.
+fn line_octets(token: &Token, id: &MsgId) -> u64
+    ensures { result ≡ line_octets token.now id.now }
+{
+    token.bytes().len() as u64 + id.bytes().len() as u64 + 2
+}
+
+// Takes out the debt of this number, and gives its octets.
+fn remove_debt(debts: &mut BTreeMap<u64, (Token, MsgId)>, number: u64) -> Option<u64>
+    ensures none { IfNone result ((Contains (numbers_of debts.old.entries) number → ⊥) × (debts.new.entries ≡ debts.old.entries)) }
+    ensures owed { IfSome result (λ octets. Contains (numbers_of debts.old.entries) number) }
+    ensures left { IfSome result (λ octets. debts.new.entries ≡ without number debts.old.entries) }
+    ensures octets { IfSome result (λ octets. octets_of_debts debts.new.entries + octets ≡ octets_of_debts debts.old.entries) }
+    ensures count { IfSome result (λ octets. length debts.new.entries + 1 ≡ length debts.old.entries) }
+{
+    let (token, id) = debts.remove(&number)?;
+    Some(line_octets(&token, &id))
+}
