@@ -1,1 +1,3 @@
+mod CutRows
+mod Cuts
 mod Rows

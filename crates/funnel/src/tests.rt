@@ -1,7 +1,7 @@
 // Worked lines and names.
 ghost use Rattle.std.specs.Prelude.{◌<◌};
 
-use crate::{LineFault, MsgId, PeerName, Token, read_line};
+use crate::{LineCutter, LineFault, MsgId, PeerName, Token, read_line};
 use std::alloc::{AllocError, Global};
 use std::test::Fail;
 
@@ -78,4 +78,71 @@ fn reads_names(rt: HostRuntime) -> Result<(), Fail> {
     assert_eq!(rt; name.bytes(), b"one.example".as_slice());
     assert!(rt; PeerName::read(rt.alloc(), b".x")?.is_none());
     Ok(())
+}
+
+#[test]
+fn cuts_a_line_that_comes_in_pieces(rt: HostRuntime) -> Result<(), Fail> {
+    let mut cutter = LineCutter::new(rt.alloc());
+    assert!(rt; cutter.next().is_none());
+    cutter.feed(b"ab")?;
+    assert!(rt; cutter.next().is_none());
+    cutter.feed(b"c\nd")?;
+    assert!(rt; gives_only(&mut cutter, [b"abc".as_slice()].as_slice()));
+    cutter.feed(b"\n")?;
+    assert!(rt; gives_only(&mut cutter, [b"d".as_slice()].as_slice()));
+    Ok(())
+}
+
+#[test]
+fn cuts_the_same_lines_from_any_pieces(rt: HostRuntime) -> Result<(), Fail> {
+    let empty = b"".as_slice();
+    for (text, lines) in [
+        (empty, [].as_slice()),
+        (b"\n".as_slice(), [empty].as_slice()),
+        (b"\n\nab\n\n", [empty, empty, b"ab", empty].as_slice()),
+        (b"ab\r\nc\r", [b"ab\r".as_slice()].as_slice()),
+        (b"ab\ncde\nf", [b"ab".as_slice(), b"cde"].as_slice()),
+    ] {
+        for place in 0..text.len() + 1 {
+            let (front, back) = text.split_at(place);
+            let mut cutter = LineCutter::new(rt.alloc());
+            cutter.feed(front)?;
+            cutter.feed(back)?;
+            assert!(rt; gives_only(&mut cutter, lines));
+        }
+        let mut cutter = LineCutter::new(rt.alloc());
+        for octet in text {
+            cutter.feed([*octet].as_slice())?;
+        }
+        assert!(rt; gives_only(&mut cutter, lines));
+    }
+    Ok(())
+}
+
+#[test]
+fn clips_a_long_line(rt: HostRuntime) -> Result<(), Fail> {
+    let long = vec![in rt.alloc(); b'a'; 9000]?;
+    let kept = vec![in rt.alloc(); b'a'; 8193]?;
+    let mut cutter = LineCutter::new(rt.alloc());
+    cutter.feed(&long)?;
+    cutter.feed(b"\nb\n")?;
+    cutter.feed(&long)?;
+    cutter.feed(&long)?;
+    cutter.feed(b"\n")?;
+    let lines = [kept.as_slice(), b"b".as_slice(), kept.as_slice()];
+    assert!(rt; gives_only(&mut cutter, lines.as_slice()));
+    Ok(())
+}
+
+// Whether the cutter gives these lines, in order, and no more.
+fn gives_only(cutter: &mut LineCutter, lines: &[&[u8]]) -> bool {
+    for line in lines {
+        let Some(octets) = cutter.next() else {
+            return false;
+        };
+        if octets.as_slice() != *line {
+            return false;
+        }
+    }
+    cutter.next().is_none()
 }

@@ -1,0 +1,5 @@
+pub mod Due
+pub mod Failed
+pub mod Tree
+pub mod TreeFalls
+pub mod Wait

@@ -1,0 +1,61 @@
+// The waits of one place that is tried again after it failed.
+ghost use Rattle.std.specs.Prelude.{◌≡◌, ℕ, ◌+◌};
+ghost use Rattle.deferral.specs.Wait.{wait_after};
+ghost use Rattle.deferral.specs.Failed.{Failed};
+
+/// How long one place waits before it is tried again, by how often it has failed in a row.
+///
+/// All waits are in seconds. The first is `first`, each further one is twice the one before, and none is above `most`,
+/// also where `first` is.
+#[derive(Clone, Copy, Debug, PartialEq, Eq)]
+pub struct Backoff {
+    first: u64,
+    most: u64,
+    wait: u64,
+}
+
+impl Backoff {
+    /// A place that has not failed.
+    pub fn new(first: u64, most: u64) -> Self
+        ensures failures { Failed result 0 }
+        ensures first { result.first ≡ first }
+        ensures most { result.most ≡ most }
+    {
+        Backoff {
+            first,
+            most,
+            wait: 0,
+        }
+    }
+
+    /// A try has failed.
+    pub fn failed(&mut self)
+        ensures failures { (failures : ℕ) → Failed self.old failures → Failed self.new (failures + 1) }
+        ensures first { self.new.first ≡ self.old.first }
+        ensures most { self.new.most ≡ self.old.most }
+    {
+        let next = if self.wait == 0 {
+            self.first
+        } else {
+            self.wait.saturating_mul(2)
+        };
+        self.wait = next.min(self.most);
+    }
+
+    /// A try has gone well: the failures in a row are over.
+    pub fn opened(&mut self)
+        ensures failures { Failed self.new 0 }
+        ensures first { self.new.first ≡ self.old.first }
+        ensures most { self.new.most ≡ self.old.most }
+    {
+        self.wait = 0;
+    }
+
+    /// The seconds to wait before the next try: none where no try has failed since the last that went well.
+    pub fn wait(&self) -> u64
+        ensures { (failures : ℕ) → Failed self.now failures → result ≡ wait_after self.now.first self.now.most failures }
+    {
+        let Self { wait, .. } = *self;
+        wait
+    }
+}

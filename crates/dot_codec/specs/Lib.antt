@@ -1,0 +1,4 @@
+pub mod Block
+pub mod Fault
+pub mod Lines
+pub mod Scan

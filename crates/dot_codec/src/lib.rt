@@ -1,0 +1,19 @@
+//! Article texts as multi-line blocks (RFC 3977, section 3.1.1), and back: lines, doubled dots, the dot that ends a block.
+//!
+//! May touch nothing but memory; it stands on `bytes` for the block and on `memchr` for the search for line ends.
+//! The crates above use `to_block`, whose block is `written` of the text's lines, `is_sendable`, and `from_block`, which
+//! reads exactly the read forms of lines and else names the first fault (`specs/Lines.antt`, `specs/Block.antt`,
+//! `specs/Fault.antt`); the laws on these words are in `laws`.
+#![tactic(auto)]
+
+mod fault;
+pub mod laws;
+mod read;
+mod scan;
+#[cfg(test)]
+mod tests;
+mod write;
+
+pub use fault::{BlockFault, BlockRefusal};
+pub use read::from_block;
+pub use write::{is_sendable, to_block};

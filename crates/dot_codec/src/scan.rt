@@ -1,0 +1,86 @@
+// The run of octets up to the next NUL, LF or CR.
+ghost use Rattle.std.specs.Prelude.{◌≡◌, ◌≤◌, ◌⊎◌, ◌++◌, ◌∷◌, [], length, take, drop};
+ghost use Rattle.dot_codec.specs.Lines.{IsLine};
+ghost use Rattle.dot_codec.specs.Scan.{EndsRun, IsRun, IsStop};
+
+use memchr::{memchr, memchr2};
+
+/// What ends a run of octets that a line may have.
+#[derive(Clone, Copy, Debug, PartialEq, Eq)]
+pub(crate) enum Stop {
+    /// The octets end.
+    End,
+    Nul,
+    Lf,
+    CrLf,
+    /// A CR that no LF follows.
+    Cr,
+}
+
+/// A run of octets that a line may have, what ends it, and what stands behind that.
+#[derive(Clone, Copy, Debug)]
+pub(crate) struct Run<'t> {
+    pub(crate) octets: &'t [u8],
+    pub(crate) stop: Stop,
+    pub(crate) rest: &'t [u8],
+}
+
+/// A line without its end, and what stands behind that.
+#[derive(Clone, Copy, Debug)]
+pub(crate) struct Line<'t> {
+    pub(crate) octets: &'t [u8],
+    pub(crate) rest: &'t [u8],
+}
+
+// The first run, which may be empty.
+#[inline]
+pub(crate) fn first_run(octets: &[u8]) -> Run<'_>
+    ensures { IsRun octets.now result.octets.now result.stop result.rest.now }
+{
+    let (run, tail) = octets.split_at(run_len(octets));
+    let (stop, rest) = stop_of(tail);
+    Run {
+        octets: run,
+        stop,
+        rest,
+    }
+}
+
+// How long the first run is. The search for LF comes first, and one CR before it is taken off, since the search for two
+// octets is slow only where it finds one.
+#[inline]
+fn run_len(octets: &[u8]) -> usize
+    ensures within { result ≤ length octets.now }
+    ensures run { IsLine (take result octets.now) }
+    ensures end { EndsRun (drop result octets.now) }
+{
+    let lf = memchr(b'\n', octets).unwrap_or(octets.len());
+    let line = without_cr(&octets[..lf]);
+    memchr2(b'\0', b'\r', line).unwrap_or(line.len())
+}
+
+// A line without one CR at its end.
+#[inline]
+fn without_cr(line: &[u8]) -> &[u8]
+    ensures { (line.now ≡ result.now) ⊎ (line.now ≡ result.now ++ 13 ∷ []) }
+{
+    match line {
+        [front @ .., b'\r'] => front,
+        _ => line,
+    }
+}
+
+// What ends a run here, and what stands behind it.
+#[inline]
+fn stop_of(tail: &[u8]) -> (Stop, &[u8])
+    requires { EndsRun tail.now }
+    ensures { IsStop result.0 tail.now result.1.now }
+{
+    match tail {
+        [] => (Stop::End, tail),
+        [b'\0', rest @ ..] => (Stop::Nul, rest),
+        [b'\n', rest @ ..] => (Stop::Lf, rest),
+        [b'\r', b'\n', rest @ ..] => (Stop::CrLf, rest),
+        [_, rest @ ..] => (Stop::Cr, rest),
+    }
+}

@@ -1,0 +1,14 @@
+-- The peers' values have the names that were declared.
+use Rattle.std.proofs.Common.{map, ap, sym, ◌∙◌}
+use Rattle.feed_conf.specs.ReaderView.{declared_view, place_of}
+use Rattle.feed_conf.specs.Settings.{Settings, settings_of}
+use Rattle.feed_conf.specs.TableView.{uses_view}
+use Rattle.feed_conf.proofs.Lookups.{names-kept}
+use Rattle.feed_conf.proofs.settings.make_conf.Goals as goal
+
+pub invariant_of-result : goal.invariant_of-result
+invariant_of-result c =
+    let uses = uses_view c.deref.result.now in
+    let peers = map declared_view c.args.reader.peers.items in
+    let same = (c.in_ok-peers.ensures uses c.in_ok-table.ensures).0 ∙ ap (λ z. map (settings_of uses) (map declared_view z)) c.deref-2.ensures.value in
+    record { named = λ octets. c.requires octets ∙ ap (place_of octets) (sym (ap (map (λ (peer : Settings). peer.name)) same ∙ names-kept uses peers)) }

@@ -1,0 +1,16 @@
+-- The octets before the first that is not blank are a gap.
+use Rattle.std.proofs.Common.{drop, subst, sym, ap, ◌∙◌}
+use Rattle.feed_conf.specs.Tokens.{is_blank}
+use Rattle.feed_conf.specs.Scan.{StopsAt, tokens_of}
+use Rattle.feed_conf.proofs.Scans.{IsFront, front-found, after-blanks}
+use Rattle.feed_conf.proofs.token.skip_blanks.Goals as goal
+
+pub returns-clause-same : goal.returns-clause-same
+returns-clause-same c =
+    let front = front-found is_blank c.args.line.now _ _ c.find_solid.ensures c.unwrap_or-start.ensures in
+    after-blanks c.args.line.now c.unwrap_or-start.result front ∙ ap tokens_of (sym c.split_at.ensures.back)
+
+pub returns-clause-first : goal.returns-clause-first
+returns-clause-first c =
+    let front = front-found is_blank c.args.line.now _ _ c.find_solid.ensures c.unwrap_or-start.ensures in
+    subst (StopsAt is_blank) (sym c.split_at.ensures.back) front.stops

@@ -1,0 +1,27 @@
+-- What a configuration stands for.
+use Rattle.std.specs.Prelude.{◌≡◌, ◌≢◌, ℕ, List, map, Option, Result, Ok, Err, MatchResult}
+use Rattle.std.specs.List.{find}
+use Rattle.std.specs.Str.{bytes_eq}
+use Rattle.feed_conf.specs.ReaderView.{report_view}
+use Rattle.feed_conf.specs.Settings.{Settings, Outcome}
+use Rattle.feed_conf.specs.PeerView.{settings_view}
+use Rattle.feed_conf.specs.declared.conf.Conf.{Conf}
+use Rattle.feed_conf.specs.declared.fault.ConfFault.{ConfFault}
+use Rattle.feed_conf.specs.declared.fault.ConfFaultKind.TheVariants.{NoMemory}
+
+abbrev pub conf_view : Conf → Outcome
+conf_view conf = record {
+  news_spool = conf.news_spool.items;
+  backlog_directory = conf.backlog_directory.items;
+  status_file = conf.status_file.items;
+  peers = map settings_view conf.peers.items;
+  reports = map report_view conf.ignored.items;
+}
+
+-- the values of the first peer of this name
+abbrev pub find_settings : List ℕ → List Settings → Option Settings
+find_settings name peers = find (λ (peer : Settings). bytes_eq name peer.name) peers
+
+-- what is made is what is to be made, memory aside
+abbrev pub Makes : Result Outcome ConfFault → Result Conf ConfFault → Type 0
+Makes wanted made = MatchResult made (λ conf. wanted ≡ Ok (conf_view conf)) (λ fault. fault.kind ≢ NoMemory → wanted ≡ Err fault)

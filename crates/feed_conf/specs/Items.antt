@@ -1,0 +1,101 @@
+-- What the lines of settings say (profile).
+use Rattle.std.specs.Prelude.{◌==◌, ◌+◌, ℕ, Bool, true, false, List, [], ◌∷◌, length, Option, None, Some, position, take, drop, codes, if◌then◌else◌}
+use Rattle.std.specs.Str.{bytes_eq}
+use Rattle.feed_conf.specs.Tokens.{Token, Word, Quoted, Open, Close, Unclosed}
+use Rattle.feed_conf.specs.Scan.{tokens_of}
+use Rattle.feed_conf.specs.declared.fault.ConfFaultKind.{ConfFaultKind}
+use Rattle.feed_conf.specs.declared.fault.ConfFaultKind.TheVariants.{NoValue, Unbalanced}
+
+-- one thing that a line says
+pub data Item : Type 0 where
+  -- The word `peer` and the name behind it, which is empty where none stands there; and whether `{` follows.
+  Peer : List ℕ → Bool → Item
+  -- a group is opened
+  Group : Item
+  -- the innermost block is closed
+  Closes : Item
+  -- a key, and its value where it has one
+  Uses : List ℕ → Option (List ℕ) → Item
+  -- the line cannot be read on
+  Stops : ConfFaultKind → Item
+
+-- what a word is where a new item may begin
+pub data Sort : Type 0 where
+  PeerWord : Sort
+  GroupWord : Sort
+  -- what stands before the first colon, and behind it
+  Pair : List ℕ → List ℕ → Sort
+  Plain : Sort
+
+abbrev pub split_pair : Option ℕ → List ℕ → Sort
+split_pair None word = Plain
+split_pair (Some colon) word = Pair (take colon word) (drop (colon + 1) word)
+
+abbrev pub sort_of : List ℕ → Sort
+sort_of word =
+    if bytes_eq word (codes "peer") then PeerWord else (
+    if bytes_eq word (codes "group") then GroupWord else
+    split_pair (position (λ octet. octet == 58) word) word)
+
+-- what a line has begun
+pub data Begun : Type 0 where
+  Nothing : Begun
+  -- the word `peer`; then its name too
+  PeerBegun : Begun
+  PeerNamed : List ℕ → Begun
+  -- the word `group`; then its name too
+  GroupBegun : Begun
+  GroupNamed : Begun
+  -- a key whose word ends at the colon
+  KeyBegun : List ℕ → Begun
+
+-- what a word is where nothing is begun; the rest of the line goes on from what it begins
+abbrev pub word_items : Sort → (Begun → List Item) → List Item
+word_items PeerWord next = next PeerBegun
+word_items GroupWord next = next GroupBegun
+word_items (Pair key []) next = next (KeyBegun key)
+word_items (Pair key (octet ∷ value)) next = Uses key (Some (octet ∷ value)) ∷ next Nothing
+word_items Plain next = Stops NoValue ∷ []
+
+-- What the tokens of a line say behind what it has begun.
+abbrev pub items : List Token → Begun → List Item
+items [] Nothing = []
+items (Word word ∷ rest) Nothing = word_items (sort_of word) (items rest)
+items (Quoted octets ∷ rest) Nothing = Stops NoValue ∷ []
+items (Open ∷ rest) Nothing = Stops Unbalanced ∷ []
+items (Close ∷ rest) Nothing = Closes ∷ items rest Nothing
+items (Unclosed ∷ rest) Nothing = Stops Unbalanced ∷ []
+items [] PeerBegun = Peer [] false ∷ []
+items (Word name ∷ rest) PeerBegun = items rest (PeerNamed name)
+items (Quoted octets ∷ rest) PeerBegun = Peer [] false ∷ []
+items (Open ∷ rest) PeerBegun = Peer [] false ∷ []
+items (Close ∷ rest) PeerBegun = Peer [] false ∷ []
+items (Unclosed ∷ rest) PeerBegun = Stops Unbalanced ∷ []
+items [] (PeerNamed name) = Peer name false ∷ []
+items (Word word ∷ rest) (PeerNamed name) = Peer name false ∷ []
+items (Quoted octets ∷ rest) (PeerNamed name) = Peer name false ∷ []
+items (Open ∷ rest) (PeerNamed name) = Peer name true ∷ items rest Nothing
+items (Close ∷ rest) (PeerNamed name) = Peer name false ∷ []
+items (Unclosed ∷ rest) (PeerNamed name) = Peer name false ∷ []
+items [] GroupBegun = Stops Unbalanced ∷ []
+items (Word name ∷ rest) GroupBegun = items rest GroupNamed
+items (Quoted octets ∷ rest) GroupBegun = Stops Unbalanced ∷ []
+items (Open ∷ rest) GroupBegun = Stops Unbalanced ∷ []
+items (Close ∷ rest) GroupBegun = Stops Unbalanced ∷ []
+items (Unclosed ∷ rest) GroupBegun = Stops Unbalanced ∷ []
+items [] GroupNamed = Stops Unbalanced ∷ []
+items (Word word ∷ rest) GroupNamed = Stops Unbalanced ∷ []
+items (Quoted octets ∷ rest) GroupNamed = Stops Unbalanced ∷ []
+items (Open ∷ rest) GroupNamed = Group ∷ items rest Nothing
+items (Close ∷ rest) GroupNamed = Stops Unbalanced ∷ []
+items (Unclosed ∷ rest) GroupNamed = Stops Unbalanced ∷ []
+items [] (KeyBegun key) = Uses key None ∷ []
+items (Word word ∷ rest) (KeyBegun key) = Uses key (Some word) ∷ items rest Nothing
+items (Quoted octets ∷ rest) (KeyBegun key) = Uses key (Some octets) ∷ items rest Nothing
+items (Open ∷ rest) (KeyBegun key) = Uses key None ∷ Stops Unbalanced ∷ []
+items (Close ∷ rest) (KeyBegun key) = Uses key None ∷ Closes ∷ items rest Nothing
+items (Unclosed ∷ rest) (KeyBegun key) = Stops Unbalanced ∷ []
+
+-- what a line says
+abbrev pub items_of : List ℕ → List Item
+items_of line = items (tokens_of line) Nothing

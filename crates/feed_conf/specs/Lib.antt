@@ -1,0 +1,14 @@
+pub mod Tokens
+pub mod Scan
+pub mod View
+pub mod Values
+pub mod ValueView
+pub mod Items
+pub mod ItemView
+pub mod Keys
+pub mod Reading
+pub mod ReaderView
+pub mod Settings
+pub mod TableView
+pub mod PeerView
+pub mod ConfView

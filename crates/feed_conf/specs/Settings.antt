@@ -1,0 +1,136 @@
+-- The values of a peer, from the uses of keys (profile).
+use Rattle.std.specs.Prelude.{◌==◌, ◌&&◌, ◌*◌, ◌/◌, ℕ, Bool, true, false, List, [], ◌∷◌, nat_lt, map, Option, None, Some, Result, Ok, Err, unwrap_or, if◌then◌else◌}
+use Rattle.std.specs.List.{find}
+use Rattle.feed_conf.specs.Tokens.{Token}
+use Rattle.feed_conf.specs.Keys.{row_of}
+use Rattle.feed_conf.specs.Values.{Value, TextOf, SwitchOf, NumberOf}
+use Rattle.feed_conf.specs.Reading.{Use, Declared, Report, State, reading}
+use Rattle.feed_conf.specs.declared.key.Key.{Key}
+use Rattle.feed_conf.specs.declared.key.Key.TheVariants.{IpName, PortNumber, Streaming, MaxConnections, MaxQueueSize, NoCheckHigh, NoCheckLow, NoCheckFilter, ResponseTimeout, InitialReconnectTime, MaxReconnectTime, DropDeferred, BacklogLimit, BacklogLimitHighwater, BacklogFactor, NewsSpool, BacklogDirectory, StatusFile}
+use Rattle.feed_conf.specs.declared.reader.OpenBlock.{OpenBlock}
+use Rattle.feed_conf.specs.declared.fault.ConfFault.{ConfFault}
+use Rattle.feed_conf.specs.declared.fault.ConfFaultKind.TheVariants.{LowAboveHigh}
+
+-- the later of two values, where there is one
+abbrev pub later : Option Value → Option Value → Option Value
+later None earlier = earlier
+later (Some value) earlier = Some value
+
+-- the value of a use, where it is one of this key in this block; a key is known by its place in the table
+abbrev pub value_at : ℕ → ℕ → Use → Option Value
+value_at block place entry = if entry.block == block && (row_of entry.key).place == place then Some entry.value else None
+
+-- the value of the last use in a block
+abbrev pub last_value : ℕ → ℕ → List Use → Option Value
+last_value block place [] = None
+last_value block place (entry ∷ uses) = later (last_value block place uses) (value_at block place entry)
+
+-- The value along blocks, from the outermost in, of which an inner one goes before an outer one.
+abbrev pub value_along : ℕ → List Use → List OpenBlock → Option Value → Option Value
+value_along place uses [] outer = outer
+value_along place uses (block ∷ inner) outer = value_along place uses inner (later (last_value block.number place uses) outer)
+
+-- The value of a key at a peer: the last use in its own block, else in its innermost group, and so outward, else in the scope of the
+-- file, which is block 0, else the default.
+abbrev pub value_of : List Use → Declared → Key → Value
+value_of uses peer key =
+    unwrap_or (value_along (row_of key).place uses peer.path (last_value 0 (row_of key).place uses)) ((row_of key).default peer.name)
+
+-- the value of a key of the file
+abbrev pub value_in_file : List Use → Key → Value
+value_in_file uses key = unwrap_or (last_value 0 (row_of key).place uses) ((row_of key).default [])
+
+-- what a value holds (each key has values of one kind alone)
+abbrev pub number : Value → ℕ
+number (TextOf octets) = 0
+number (SwitchOf on) = 0
+number (NumberOf n) = n
+
+abbrev pub switch : Value → Bool
+switch (TextOf octets) = false
+switch (SwitchOf on) = on
+switch (NumberOf number) = false
+
+abbrev pub text : Value → List ℕ
+text (TextOf octets) = octets
+text (SwitchOf on) = []
+text (NumberOf number) = []
+
+-- The high water of a backlog: as it is written, or where that is 0 the limit times the factor, rounded down. A factor is in hundredths.
+abbrev pub high_water : ℕ → ℕ → ℕ → ℕ
+high_water written limit factor = if written == 0 then limit * factor / 100 else written
+
+-- the values of a peer: shares in hundredths of a per cent, times in seconds, the backlog in octets
+pub record Settings : Type 0 where
+  pub name : List ℕ
+  pub ip_name : List ℕ
+  pub port : ℕ
+  pub streaming : Bool
+  pub max_connections : ℕ
+  pub max_queue : ℕ
+  pub check_high : ℕ
+  pub check_low : ℕ
+  pub check_filter : ℕ
+  pub response_timeout : ℕ
+  pub first_wait : ℕ
+  pub most_wait : ℕ
+  pub drop_deferred : Bool
+  pub backlog_limit : ℕ
+  pub backlog_high : ℕ
+
+abbrev pub settings_of : List Use → Declared → Settings
+settings_of uses peer =
+    let value = value_of uses peer in
+    record {
+      name = peer.name;
+      ip_name = text (value IpName);
+      port = number (value PortNumber);
+      streaming = switch (value Streaming);
+      max_connections = number (value MaxConnections);
+      max_queue = number (value MaxQueueSize);
+      check_high = number (value NoCheckHigh);
+      check_low = number (value NoCheckLow);
+      check_filter = number (value NoCheckFilter);
+      response_timeout = number (value ResponseTimeout);
+      first_wait = number (value InitialReconnectTime);
+      most_wait = number (value MaxReconnectTime);
+      drop_deferred = switch (value DropDeferred);
+      backlog_limit = number (value BacklogLimit);
+      backlog_high = high_water (number (value BacklogLimitHighwater)) (number (value BacklogLimit)) (number (value BacklogFactor));
+    }
+
+-- a peer whose low share is above its high share
+abbrev pub is_low_above_high : List Use → Declared → Bool
+is_low_above_high uses peer = nat_lt (number (value_of uses peer NoCheckHigh)) (number (value_of uses peer NoCheckLow))
+
+-- what settings say
+pub record Outcome : Type 0 where
+  pub news_spool : List ℕ
+  pub backlog_directory : List ℕ
+  pub status_file : List ℕ
+  -- the peers in the order of their words
+  pub peers : List Settings
+  -- what is ignored or limited, in reading order
+  pub reports : List Report
+
+abbrev pub outcome_of : State → Outcome
+outcome_of state = record {
+  news_spool = text (value_in_file state.uses NewsSpool);
+  backlog_directory = text (value_in_file state.uses BacklogDirectory);
+  status_file = text (value_in_file state.uses StatusFile);
+  peers = map (settings_of state.uses) state.peers;
+  reports = state.reports;
+}
+
+-- after the whole text the first peer whose shares are crossed is a fault, at the line of its word
+abbrev pub judged_by : Option Declared → State → Result Outcome ConfFault
+judged_by None state = Ok (outcome_of state)
+judged_by (Some peer) state = Err (record { line = peer.line; kind = LowAboveHigh })
+
+abbrev pub judged : Result State ConfFault → Result Outcome ConfFault
+judged (Ok state) = judged_by (find (is_low_above_high state.uses) state.peers) state
+judged (Err fault) = Err fault
+
+-- what lines with these tokens say, or their first fault
+abbrev pub meaning : List (List Token) → Result Outcome ConfFault
+meaning lines = judged (reading lines)

@@ -1,0 +1,23 @@
+-- What a table of values and the configuration stand for.
+use Rattle.std.specs.Prelude.{◌≡◌, ◌≢◌, ℕ, List, map, Option, Result, Ok, Err, MatchResult}
+use Rattle.std.specs.Option.{option_map}
+use Rattle.std.specs.BTreeMap.{get}
+use Rattle.std.specs.Ordering.{nat_cmp, ordering_then}
+use Rattle.std.specs.declared.cmp.Ordering.{Ordering}
+use Rattle.feed_conf.specs.Reading.{Use}
+use Rattle.feed_conf.specs.ReaderView.{use_view, declared_view, report_view}
+use Rattle.feed_conf.specs.ValueView.{value_view}
+use Rattle.feed_conf.specs.Settings.{last_value}
+use Rattle.feed_conf.specs.declared.reader.Use.{Use as HeldUse}
+use Rattle.feed_conf.specs.declared.table.Table.{Table}
+
+-- the order of places in a table
+abbrev pub place_cmp : ℕ × ℕ → ℕ × ℕ → Ordering
+place_cmp one other = ordering_then (nat_cmp one.0 other.0) (nat_cmp one.1 other.1)
+
+abbrev pub uses_view : List HeldUse → List Use
+uses_view uses = map use_view uses
+
+-- the table holds the value of the last use of each key in each block
+abbrev pub IsTableOf : Table → List Use → Type 0
+IsTableOf table uses = (block place : ℕ) → option_map value_view (get place_cmp table.values (block, place)) ≡ last_value block place uses

@@ -1,0 +1,121 @@
+// What settings say.
+ghost use Rattle.std.specs.Prelude.{map};
+ghost use Rattle.feed_conf.specs.PeerView.{FindsNames, settings_view};
+
+use crate::reader::text_of;
+use funnel::PeerName;
+use std::collections::BTreeMap;
+
+/// A use of a key that was ignored or limited.
+#[derive(Debug, Drop)]
+pub struct Ignored {
+    /// The line, from 1 up.
+    pub line: u64,
+    /// The key, as it is written.
+    pub key: Vec<u8>,
+    /// Whether the value was limited; else the use was ignored.
+    pub limited: bool,
+}
+
+/// The values of a peer. Times are in seconds.
+#[derive(Debug, Drop)]
+pub struct PeerConf {
+    /// Its name.
+    pub name: PeerName,
+    /// The host that is connected to.
+    pub ip_name: Vec<u8>,
+    /// The port.
+    pub port: u64,
+    /// Whether streaming is tried.
+    pub streaming: bool,
+    /// The most connections at a time.
+    pub max_connections: u64,
+    /// The most articles that a connection holds.
+    pub max_queue: u64,
+    /// The share of wanted articles from which on CHECK is left out, in hundredths of a per cent.
+    pub check_high: u64,
+    /// The share below which CHECK is sent again, in hundredths of a per cent.
+    pub check_low: u64,
+    /// How many answers the share is taken over.
+    pub check_filter: u64,
+    /// How long an answer is waited for.
+    pub response_timeout: u64,
+    /// The first wait before a connection is tried again.
+    pub first_wait: u64,
+    /// The longest such wait.
+    pub most_wait: u64,
+    /// Whether deferred articles are dropped.
+    pub drop_deferred: bool,
+    /// The backlog's limit, in octets; 0 for none.
+    pub backlog_limit: u64,
+    /// The backlog's high water, in octets.
+    pub backlog_high: u64,
+}
+
+/// What settings say.
+#[derive(Debug, Drop)]
+pub struct Conf {
+    pub(crate) news_spool: Vec<u8>,
+    pub(crate) backlog_directory: Vec<u8>,
+    pub(crate) status_file: Vec<u8>,
+    pub(crate) peers: Vec<PeerConf>,
+    pub(crate) ignored: Vec<Ignored>,
+    // The place of each peer by its name.
+    pub(crate) names: BTreeMap<String, usize>,
+    ghost named: { FindsNames names (map settings_view peers.items) },
+}
+
+impl Conf {
+    ghost use Rattle.std.specs.Prelude.{◌≡◌, map};
+    ghost use Rattle.std.specs.List.{find};
+    ghost use Rattle.std.specs.Option.{option_copied, option_map};
+    ghost use Rattle.std.specs.Str.{bytes_eq};
+    ghost use Rattle.feed_conf.specs.ReaderView.{report_view};
+    ghost use Rattle.feed_conf.specs.PeerView.{settings_view};
+    ghost use Rattle.feed_conf.specs.ConfView.{conf_view, find_settings};
+
+    /// The values of the peer of this name, where it is declared.
+    pub fn peer(&self, name: &PeerName) -> Option<&PeerConf>
+        ensures { option_map settings_view (option_copied result) ≡ find_settings name.now (conf_view self.now).peers }
+    {
+        match self.names.get(text_of(name)) {
+            None => None,
+            Some(place) => self.peers.get(*place),
+        }
+    }
+
+    /// The values of all peers, in the order of their words.
+    pub fn peers(&self) -> &[PeerConf]
+        ensures { map settings_view result.now ≡ (conf_view self.now).peers }
+    {
+        &self.peers
+    }
+
+    /// What was ignored or limited, in reading order.
+    pub fn ignored(&self) -> &[Ignored]
+        ensures { map report_view result.now ≡ (conf_view self.now).reports }
+    {
+        &self.ignored
+    }
+
+    /// The folder of the articles.
+    pub fn news_spool(&self) -> &[u8]
+        ensures { result.now ≡ (conf_view self.now).news_spool }
+    {
+        &self.news_spool
+    }
+
+    /// The folder of the backlog tapes.
+    pub fn backlog_directory(&self) -> &[u8]
+        ensures { result.now ≡ (conf_view self.now).backlog_directory }
+    {
+        &self.backlog_directory
+    }
+
+    /// The file of the status report.
+    pub fn status_file(&self) -> &[u8]
+        ensures { result.now ≡ (conf_view self.now).status_file }
+    {
+        &self.status_file
+    }
+}

@@ -1,0 +1,162 @@
+// What the lines of settings say.
+ghost use Rattle.std.specs.Prelude.{◌≡◌, ◌∷◌, ◌==◌, ◌<◌, [], List, ℕ, ◌≤◌, IfSome, MatchOption, codes, length, position};
+ghost use Rattle.std.specs.Str.{bytes_eq};
+ghost use Rattle.feed_conf.specs.Items.{sort_of, split_pair, word_items, items, items_of, PeerBegun, PeerNamed, GroupBegun, GroupNamed, KeyBegun};
+ghost use Rattle.feed_conf.specs.Scan.{tokens_of};
+ghost use Rattle.feed_conf.specs.ItemView.{item_view, sort_view};
+
+use crate::fault::ConfFaultKind;
+use crate::token::{Token, next_token};
+
+/// One thing that a line says.
+#[derive(Clone, Copy, Debug)]
+pub(crate) enum Item<'t> {
+    /// The word `peer` and the name behind it, which is empty where none stands there; and whether `{` follows.
+    Peer(&'t [u8], bool),
+    /// A group is opened.
+    Group,
+    /// The innermost block is closed.
+    Closes,
+    /// A key, and its value where it has one.
+    Uses(&'t [u8], Option<&'t [u8]>),
+    /// The line cannot be read on.
+    Stops(ConfFaultKind),
+}
+
+// What a word is where a new item may begin.
+#[derive(Clone, Copy, Debug)]
+enum Sort<'t> {
+    PeerWord,
+    GroupWord,
+    // What stands before the first colon, and behind it.
+    Pair(&'t [u8], &'t [u8]),
+    Plain,
+}
+
+// Where the first colon stands.
+fn colon(word: &[u8]) -> Option<usize>
+    ensures { result ≡ position (λ octet. octet == 58) word.now }
+{
+    word.iter().position(|octet| *octet == b':')
+}
+
+// The key and the value that a colon parts.
+fn split_pair(word: &[u8]) -> Sort<'_>
+    ensures { split_pair (position (λ octet. octet == 58) word.now) word.now ≡ sort_view result }
+{
+    match colon(word) {
+        None => Sort::Plain,
+        Some(at) => {
+            let key = word.split_at(at).0;
+            let value = word.split_at(at + 1).1;
+            Sort::Pair(key, value)
+        }
+    }
+}
+
+// Whether two texts are the same.
+pub(crate) fn is_text(octets: &[u8], text: &[u8]) -> bool
+    ensures { result ≡ bytes_eq octets.now text.now }
+{
+    octets == text
+}
+
+// What a word is where a new item may begin.
+fn sort_word(word: &[u8]) -> Sort<'_>
+    ensures { sort_of word.now ≡ sort_view result }
+{
+    if is_text(word, b"peer") {
+        return Sort::PeerWord;
+    }
+    if is_text(word, b"group") {
+        return Sort::GroupWord;
+    }
+    split_pair(word)
+}
+
+// What stands behind the name of a peer.
+fn peer_named<'t>(name: &'t [u8], line: &'t [u8]) -> (Item<'t>, &'t [u8])
+    ensures items { items (tokens_of line.now) (PeerNamed name.now) ≡ item_view result.0 ∷ items_of result.1.now }
+    ensures within { length result.1.now ≤ length line.now }
+{
+    match next_token(line) {
+        Some((Token::Open, rest)) => (Item::Peer(name, true), rest),
+        _ => (Item::Peer(name, false), &[]),
+    }
+}
+
+// What stands behind the word `peer`.
+fn peer_begun(line: &[u8]) -> (Item<'_>, &[u8])
+    ensures items { items (tokens_of line.now) PeerBegun ≡ item_view result.0 ∷ items_of result.1.now }
+    ensures within { length result.1.now ≤ length line.now }
+{
+    match next_token(line) {
+        Some((Token::Word(name), rest)) => peer_named(name, rest),
+        Some((Token::Unclosed, _)) => (Item::Stops(ConfFaultKind::Unbalanced), &[]),
+        _ => (Item::Peer(&[], false), &[]),
+    }
+}
+
+// What stands behind the name of a group.
+fn group_named(line: &[u8]) -> (Item<'_>, &[u8])
+    ensures items { items (tokens_of line.now) GroupNamed ≡ item_view result.0 ∷ items_of result.1.now }
+    ensures within { length result.1.now ≤ length line.now }
+{
+    match next_token(line) {
+        Some((Token::Open, rest)) => (Item::Group, rest),
+        _ => (Item::Stops(ConfFaultKind::Unbalanced), &[]),
+    }
+}
+
+// What stands behind the word `group`.
+fn group_begun(line: &[u8]) -> (Item<'_>, &[u8])
+    ensures items { items (tokens_of line.now) GroupBegun ≡ item_view result.0 ∷ items_of result.1.now }
+    ensures within { length result.1.now ≤ length line.now }
+{
+    match next_token(line) {
+        Some((Token::Word(_), rest)) => group_named(rest),
+        _ => (Item::Stops(ConfFaultKind::Unbalanced), &[]),
+    }
+}
+
+// What stands behind a key whose word ends at the colon.
+fn key_begun<'t>(key: &'t [u8], line: &'t [u8]) -> (Item<'t>, &'t [u8])
+    ensures items { items (tokens_of line.now) (KeyBegun key.now) ≡ item_view result.0 ∷ items_of result.1.now }
+    ensures within { length result.1.now ≤ length line.now }
+{
+    match next_token(line) {
+        Some((Token::Word(value), rest)) => (Item::Uses(key, Some(value)), rest),
+        Some((Token::Quoted(value), rest)) => (Item::Uses(key, Some(value)), rest),
+        Some((Token::Unclosed, _)) => (Item::Stops(ConfFaultKind::Unbalanced), &[]),
+        _ => (Item::Uses(key, None), line),
+    }
+}
+
+// What a word begins that stands where a new item may.
+fn word_begun<'t>(word: &'t [u8], line: &'t [u8]) -> (Item<'t>, &'t [u8])
+    ensures items { word_items (sort_of word.now) (items (tokens_of line.now)) ≡ item_view result.0 ∷ items_of result.1.now }
+    ensures within { length result.1.now ≤ length line.now }
+{
+    match sort_word(word) {
+        Sort::PeerWord => peer_begun(line),
+        Sort::GroupWord => group_begun(line),
+        Sort::Pair(key, []) => key_begun(key, line),
+        Sort::Pair(key, value) => (Item::Uses(key, Some(value)), line),
+        Sort::Plain => (Item::Stops(ConfFaultKind::NoValue), &[]),
+    }
+}
+
+/// The first thing that a line says and what stands behind it, or `None` where it says nothing more.
+pub(crate) fn next_item(line: &[u8]) -> Option<(Item<'_>, &[u8])>
+    ensures items { MatchOption result (items_of line.now ≡ []) (λ r. items_of line.now ≡ item_view r.0 ∷ items_of r.1.now) }
+    ensures shorter { IfSome result (λ r. length r.1.now < length line.now) }
+{
+    match next_token(line) {
+        None => None,
+        Some((Token::Word(word), rest)) => Some(word_begun(word, rest)),
+        Some((Token::Quoted(_), _)) => Some((Item::Stops(ConfFaultKind::NoValue), &[])),
+        Some((Token::Close, rest)) => Some((Item::Closes, rest)),
+        Some((Token::Open, _)) => Some((Item::Stops(ConfFaultKind::Unbalanced), &[])),
+        Some((Token::Unclosed, _)) => Some((Item::Stops(ConfFaultKind::Unbalanced), &[])),
+    }
+}

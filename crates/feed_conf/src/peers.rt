@@ -1,0 +1,102 @@
+// The values of peers, looked up.
+ghost use Rattle.std.specs.Prelude.{◌≡◌, ◌++◌, ◌∷◌, [], IfErr, IfOk, IfSome, List, MatchResult, map};
+ghost use Rattle.feed_conf.specs.declared.fault.ConfFaultKind.TheVariants.{NoMemory};
+ghost use Rattle.feed_conf.specs.Reading.{Use};
+ghost use Rattle.feed_conf.specs.ReaderView.{declared_view};
+ghost use Rattle.feed_conf.specs.Settings.{high_water, settings_of};
+ghost use Rattle.feed_conf.specs.TableView.{IsTableOf};
+ghost use Rattle.feed_conf.specs.PeerView.{Judges, settings_view};
+
+use crate::conf::PeerConf;
+use crate::fault::{ConfFault, ConfFaultKind};
+use crate::key::Key;
+use crate::reader::Declared;
+use crate::table::Table;
+use std::alloc::Global;
+
+// The high water of a backlog. `None` where the product passes the greatest u64, which the bounds of both keys rule out.
+fn high_water(written: u64, limit: u64, factor: u64) -> Option<u64>
+    ensures { IfSome result (λ n. n ≡ high_water written limit factor) }
+{
+    if written == 0 {
+        let product = limit.checked_mul(factor)?;
+        Some(product / 100)
+    } else {
+        Some(written)
+    }
+}
+
+// The values of a peer.
+fn peer_conf(alloc: Global, table: &Table<'_>, peer: &Declared) -> Result<PeerConf, ConfFaultKind>
+    ensures value { (uses : List Use) → IsTableOf table.now uses → IfOk result (λ conf. settings_view conf ≡ settings_of uses (declared_view peer.now)) }
+    ensures fault { IfErr result (λ kind. kind ≡ NoMemory) }
+{
+    let written = table.number(peer, Key::BacklogLimitHighwater);
+    let backlog_limit = table.number(peer, Key::BacklogLimit);
+    let factor = table.number(peer, Key::BacklogFactor);
+    let Some(backlog_high) = high_water(written, backlog_limit, factor) else {
+        return Err(ConfFaultKind::NoMemory);
+    };
+    let name = peer.name.clone()?;
+    let ip_name = table.text(alloc, peer, Key::IpName)?;
+    Ok(PeerConf {
+        name,
+        ip_name,
+        port: table.number(peer, Key::PortNumber),
+        streaming: table.switch(peer, Key::Streaming),
+        max_connections: table.number(peer, Key::MaxConnections),
+        max_queue: table.number(peer, Key::MaxQueueSize),
+        check_high: table.number(peer, Key::NoCheckHigh),
+        check_low: table.number(peer, Key::NoCheckLow),
+        check_filter: table.number(peer, Key::NoCheckFilter),
+        response_timeout: table.number(peer, Key::ResponseTimeout),
+        first_wait: table.number(peer, Key::InitialReconnectTime),
+        most_wait: table.number(peer, Key::MaxReconnectTime),
+        drop_deferred: table.switch(peer, Key::DropDeferred),
+        backlog_limit,
+        backlog_high,
+    })
+}
+
+// The values of peers, and one's more.
+fn add_conf(mut confs: Vec<PeerConf>, conf: PeerConf) -> Result<Vec<PeerConf>, ConfFaultKind>
+    ensures { MatchResult result (λ more. more.items ≡ confs.items ++ conf ∷ []) (λ kind. kind ≡ NoMemory) }
+{
+    confs.push(conf)?;
+    Ok(confs)
+}
+
+// The values of all peers, unless one's shares are crossed.
+pub(crate) fn peer_confs(
+    alloc: Global,
+    table: &Table<'_>,
+    peers: &[Declared],
+) -> Result<Vec<PeerConf>, ConfFault>
+    ensures { (uses : List Use) → IsTableOf table.now uses → Judges uses (map declared_view peers.now) result }
+{
+    let mut confs = Vec::new(alloc);
+    for peer in peers {
+        match peer_conf(alloc, table, peer) {
+            Err(kind) => return Err(ConfFault {
+                line: peer.line,
+                kind,
+            }),
+            Ok(conf) => {
+                if conf.check_high < conf.check_low {
+                    return Err(ConfFault {
+                        line: peer.line,
+                        kind: ConfFaultKind::LowAboveHigh,
+                    });
+                }
+                match add_conf(confs, conf) {
+                    Ok(more) => confs = more,
+                    Err(kind) => return Err(ConfFault {
+                        line: peer.line,
+                        kind,
+                    }),
+                }
+            }
+        }
+    }
+    Ok(confs)
+}

@@ -1,0 +1,60 @@
+// Reads settings whole.
+ghost use Rattle.std.specs.Prelude.{◌≡◌, List, Ok};
+ghost use Rattle.feed_conf.specs.Tokens.{Token};
+ghost use Rattle.feed_conf.specs.Reading.{HaveTokens, lines_of};
+ghost use Rattle.feed_conf.specs.ReaderView.{IsNamed, reader_view};
+ghost use Rattle.feed_conf.specs.Settings.{judged, meaning};
+ghost use Rattle.feed_conf.specs.ConfView.{Makes};
+
+use crate::conf::Conf;
+use crate::fault::ConfFault;
+use crate::key::Key;
+use crate::peers::peer_confs;
+use crate::read::read_text;
+use crate::reader::Reader;
+use crate::table::table_of;
+use std::alloc::Global;
+
+// Looks up the values of what was read.
+fn make_conf(alloc: Global, reader: Reader<'_>) -> Result<Conf, ConfFault>
+    requires { IsNamed reader }
+    ensures { Makes (judged (Ok (reader_view reader.entry))) result }
+{
+    let table = table_of(alloc, &reader.uses)?;
+    let peers = peer_confs(alloc, &table, &reader.peers)?;
+    let news_spool = table.file_text(alloc, Key::NewsSpool)?;
+    let backlog_directory = table.file_text(alloc, Key::BacklogDirectory)?;
+    let status_file = table.file_text(alloc, Key::StatusFile)?;
+    let Reader {
+        alloc: _,
+        around: _,
+        opened: _,
+        uses: _,
+        peers: _,
+        ignored,
+        names,
+    } = reader;
+    Ok(Conf {
+        news_spool,
+        backlog_directory,
+        status_file,
+        peers,
+        ignored,
+        names,
+    })
+}
+
+/// Reads settings (innfeed.conf(5), this profile).
+///
+/// # Errors
+/// The first fault in reading order; a peer whose shares are crossed is one only where the whole text has no other, at the line of
+/// its word, the first such peer. `NoMemory` where memory was refused.
+pub fn read_conf(alloc: Global, text: &[u8]) -> Result<Conf, ConfFault>
+    ensures meaning { (lines : List (List Token)) → HaveTokens (lines_of text.now) lines → Makes (meaning lines) result }
+    ensures tokens { (lines : List (List Token)) × HaveTokens (lines_of text.now) lines }
+{
+    match read_text(alloc, text) {
+        Ok(reader) => make_conf(alloc, reader),
+        Err(fault) => Err(fault),
+    }
+}

@@ -1,0 +1,113 @@
+// The values of keys by the blocks that they stand in.
+ghost use Rattle.std.specs.Prelude.{◌≡◌, List, IfOk};
+ghost use Rattle.std.specs.Option.{option_map};
+ghost use Rattle.feed_conf.specs.Keys.{row_of};
+ghost use Rattle.feed_conf.specs.Reading.{Use as Noted};
+ghost use Rattle.feed_conf.specs.ReaderView.{declared_view};
+ghost use Rattle.feed_conf.specs.Settings.{last_value, number, switch, text, value_along, value_in_file, value_of};
+ghost use Rattle.feed_conf.specs.TableView.{IsTableOf, uses_view};
+ghost use Rattle.feed_conf.specs.ValueView.{value_view};
+
+use crate::key::Key;
+use crate::reader::{Declared, OpenBlock, Use};
+use crate::value::Value;
+use std::alloc::{AllocError, Global};
+use std::collections::BTreeMap;
+
+/// The value of each key's last use in each block, by the block's number and the key's place.
+#[derive(Debug, Drop)]
+pub(crate) struct Table<'t> {
+    values: BTreeMap<(usize, usize), Value<'t>>,
+}
+
+/// The table of these uses.
+///
+/// # Errors
+/// Memory was refused.
+pub(crate) fn table_of<'t>(alloc: Global, uses: &[Use<'t>]) -> Result<Table<'t>, AllocError>
+    ensures { IfOk result (λ table. IsTableOf table (uses_view uses.now)) }
+{
+    let mut values = BTreeMap::new(alloc);
+    for held in uses {
+        let place = (held.block, held.key.place());
+        let value = held.value;
+        values.insert(place, value)?;
+    }
+    Ok(Table { values })
+}
+
+impl<'t> Table<'t> {
+    // The value of a key's last use in a block.
+    fn last_value(&self, block: usize, key: Key) -> Option<Value<'t>>
+        ensures { (uses : List Noted) → IsTableOf self.now uses → option_map value_view result ≡ last_value block (row_of key).place uses }
+    {
+        self.values.get(&(block, key.place())).copied()
+    }
+
+    // The value of a key along blocks, from the outermost in.
+    fn value_along(&self, path: &[OpenBlock], key: Key) -> Option<Value<'t>>
+        ensures { (uses : List Noted) → IsTableOf self.now uses → option_map value_view result ≡ value_along (row_of key).place uses path.now (last_value 0 (row_of key).place uses) }
+    {
+        let mut found = self.last_value(0, key);
+        for block in path {
+            match self.last_value(block.number, key) {
+                None => {}
+                Some(value) => found = Some(value),
+            }
+        }
+        found
+    }
+
+    // The number that a key has at a peer.
+    pub(crate) fn number(&self, peer: &Declared, key: Key) -> u64
+        ensures { (uses : List Noted) → IsTableOf self.now uses → result ≡ number (value_of uses (declared_view peer.now) key) }
+    {
+        let value = self.value_along(&peer.path, key);
+        match value.unwrap_or(key.default_value(peer.name.bytes())) {
+            Value::Number(number) => number,
+            Value::Text(_) => 0,
+            Value::Switch(_) => 0,
+        }
+    }
+
+    // The boolean that a key has at a peer.
+    pub(crate) fn switch(&self, peer: &Declared, key: Key) -> bool
+        ensures { (uses : List Noted) → IsTableOf self.now uses → result ≡ switch (value_of uses (declared_view peer.now) key) }
+    {
+        let value = self.value_along(&peer.path, key);
+        match value.unwrap_or(key.default_value(peer.name.bytes())) {
+            Value::Switch(on) => on,
+            Value::Text(_) => false,
+            Value::Number(_) => false,
+        }
+    }
+
+    // The text that a key has at a peer.
+    pub(crate) fn text(
+        &self,
+        alloc: Global,
+        peer: &Declared,
+        key: Key,
+    ) -> Result<Vec<u8>, AllocError>
+        ensures { (uses : List Noted) → IsTableOf self.now uses → IfOk result (λ v. v.items ≡ text (value_of uses (declared_view peer.now) key)) }
+    {
+        let value = self.value_along(&peer.path, key);
+        match value.unwrap_or(key.default_value(peer.name.bytes())) {
+            Value::Text(octets) => Vec::from_slice(alloc, octets),
+            Value::Switch(_) => Ok(Vec::new(alloc)),
+            Value::Number(_) => Ok(Vec::new(alloc)),
+        }
+    }
+
+    // The text that a key has in the scope of the file.
+    pub(crate) fn file_text(&self, alloc: Global, key: Key) -> Result<Vec<u8>, AllocError>
+        ensures { (uses : List Noted) → IsTableOf self.now uses → IfOk result (λ v. v.items ≡ text (value_in_file uses key)) }
+    {
+        let value = self.last_value(0, key);
+        match value.unwrap_or(key.default_value(&[])) {
+            Value::Text(octets) => Vec::from_slice(alloc, octets),
+            Value::Switch(_) => Ok(Vec::new(alloc)),
+            Value::Number(_) => Ok(Vec::new(alloc)),
+        }
+    }
+}

@@ -1,0 +1,118 @@
+-- What the answer of a call says of the octets that wait, and what they say of it.
+use Rattle.std.proofs.Common.{◌≡◌, ◌≢◌, ◌⊎◌, ℕ, Option, Some, None, Result, Ok, Err, List, [], ◌∷◌, ◌++◌, sym, ◌∙◌, refl, inl, inr, subst}
+use Rattle.std.specs.Prelude.{◌↔◌}
+use Rattle.std.proofs.lemmas.List.{append-nil}
+use Rattle.reply_reader.specs.Reply.{IsNoReply, IsReplyLine}
+use Rattle.reply_reader.specs.Stream.{AtWork, BeginsWithNoReply, BeginsWithReply, Broken, Given, Held, IsFaulty, IsShort, IsTooLong, LacksEnd, Reads, StandsFor, Working}
+use Rattle.reply_reader.specs.Told.{NextIs, given_of, told}
+use Rattle.reply_reader.specs.declared.fault.ReplyFault.{ReplyFault}
+use Rattle.reply_reader.specs.declared.fault.ReplyFault.TheVariants.{TooLong, NoCode, NoMemory, Failed}
+use Rattle.reply_reader.specs.declared.line.Reply.{Reply}
+use Rattle.reply_reader.proofs.Ends.{first-once, part-is-not-long, short-is-not-long, whole-has-end}
+use Rattle.reply_reader.proofs.Lines.{line-apart}
+use Rattle.reply_reader.proofs.Readings.{reads-reply}
+
+-- octets that begin with a whole line do not wait for an LF
+whole-is-no-part : (unread line rest : List ℕ) → unread ≡ line ++ 10 ∷ rest → IsShort unread → ⊥
+whole-is-no-part unread line rest e part = whole-has-end line rest (subst (λ o. LacksEnd o) e part.line)
+
+reply-is-no-part : (unread rest : List ℕ) (given : Given) → BeginsWithReply unread given rest → IsShort unread → ⊥
+reply-is-no-part unread rest given (line, e, this) part = whole-is-no-part unread line rest e part
+
+reply-is-not-long : (unread rest : List ℕ) (given : Given) → BeginsWithReply unread given rest → IsTooLong unread → ⊥
+reply-is-not-long unread rest given (line, e, this) long = short-is-not-long unread line rest e this.0 long
+
+no-reply-is-no-part : (unread : List ℕ) → BeginsWithNoReply unread → IsShort unread → ⊥
+no-reply-is-no-part unread (line, rest, e, short, none) part = whole-is-no-part unread line rest e part
+
+no-reply-is-not-long : (unread : List ℕ) → BeginsWithNoReply unread → IsTooLong unread → ⊥
+no-reply-is-not-long unread (line, rest, e, short, none) long = short-is-not-long unread line rest e short long
+
+reply-is-no-no-reply : (unread rest : List ℕ) (given : Given) → BeginsWithReply unread given rest → BeginsWithNoReply unread → ⊥
+reply-is-no-no-reply unread rest given (line, e, this) (line', rest', f, short, none) =
+    let cut = first-once line line' rest rest' this.0.line short.line (sym e ∙ f) in
+    let reads : IsReplyLine line' given.code given.id given.text = subst (λ l. IsReplyLine l given.code given.id given.text) cut.0 this.1 in
+    line-apart line' given.code given.id given.text reads none
+
+module _ (unread rest : List ℕ) where
+  none-from : (r : Result (Option Reply) ReplyFault) → NextIs unread rest r → IsShort unread → r ≡ Ok None
+  none-from (Ok (Some reply)) n part = absurd (reply-is-no-part unread rest _ n part)
+  none-from (Ok None) n part = refl
+  none-from (Err TooLong) n part = absurd (part-is-not-long unread part n)
+  none-from (Err NoCode) n part = absurd (no-reply-is-no-part unread n part)
+  none-from (Err NoMemory) (same, given, behind, whole) part = absurd (reply-is-no-part unread behind given whole part)
+  none-from (Err Failed) n part = absurd n
+
+  -- nothing is given exactly where no whole line waits
+  pub none-iff : (r : Result (Option Reply) ReplyFault) → NextIs unread rest r → (r ≡ Ok None) ↔ IsShort unread
+  none-iff r n = (λ e. let m : NextIs unread rest (Ok None) = subst (λ s. NextIs unread rest s) e n in m.0, none-from r n)
+
+  long-from : (r : Result (Option Reply) ReplyFault) → NextIs unread rest r → IsTooLong unread → r ≡ Err TooLong
+  long-from (Ok (Some reply)) n long = absurd (reply-is-not-long unread rest _ n long)
+  long-from (Ok None) n long = absurd (part-is-not-long unread n.0 long)
+  long-from (Err TooLong) n long = refl
+  long-from (Err NoCode) n long = absurd (no-reply-is-not-long unread n long)
+  long-from (Err NoMemory) (same, given, behind, whole) long = absurd (reply-is-not-long unread behind given whole long)
+  long-from (Err Failed) n long = absurd n
+
+  -- the first line is told too long exactly where it is
+  pub long-iff : (r : Result (Option Reply) ReplyFault) → NextIs unread rest r → (r ≡ Err TooLong) ↔ IsTooLong unread
+  long-iff r n = (λ e. subst (λ s. NextIs unread rest s) e n, long-from r n)
+
+  no-code-from : (r : Result (Option Reply) ReplyFault) → NextIs unread rest r → BeginsWithNoReply unread → r ≡ Err NoCode
+  no-code-from (Ok (Some reply)) n none = absurd (reply-is-no-no-reply unread rest _ n none)
+  no-code-from (Ok None) n none = absurd (no-reply-is-no-part unread none n.0)
+  no-code-from (Err TooLong) n none = absurd (no-reply-is-not-long unread none n)
+  no-code-from (Err NoCode) n none = refl
+  no-code-from (Err NoMemory) (same, given, behind, whole) none = absurd (reply-is-no-no-reply unread behind given whole none)
+  no-code-from (Err Failed) n none = absurd n
+
+  -- the first line is told to have no code exactly where it has none
+  pub no-code-iff : (r : Result (Option Reply) ReplyFault) → NextIs unread rest r → (r ≡ Err NoCode) ↔ BeginsWithNoReply unread
+  no-code-iff r n = (λ e. subst (λ s. NextIs unread rest s) e n, no-code-from r n)
+
+  -- a reader at work stands for what it gave
+  pub gives-more : (next : Option Reply) → NextIs unread rest (Ok next) → (fed : List ℕ) (given : List Given) → Reads fed given unread → Reads fed (given ++ told (Ok next)) rest
+  gives-more None n fed given r =
+      subst (λ g. Reads fed g rest) (sym (append-nil given)) (subst (λ u. Reads fed given u) (sym n.1) r)
+  gives-more (Some reply) n fed given r = reads-reply fed unread rest given (given_of reply) r n
+
+  -- a fault that is told stands there
+  pub told-fault : (fault : ReplyFault) → fault ≢ NoMemory → NextIs unread rest (Err fault) → IsFaulty unread
+  told-fault TooLong other n = inl n
+  told-fault NoCode other n = inr n
+  told-fault NoMemory other n = absurd (other refl)
+  told-fault Failed other n = absurd n
+
+  pub breaks-at : (fault : ReplyFault) → fault ≢ NoMemory → NextIs unread rest (Err fault) → (fed : List ℕ) (given : List Given) → Reads fed given unread
+      → StandsFor Broken fed (given ++ [])
+  breaks-at fault other n fed given r =
+      (unread, subst (λ g. Reads fed g unread) (sym (append-nil given)) r, told-fault fault other n)
+
+-- the same, of a reader that holds these octets
+module _ (held : Held) (unread rest : List ℕ) (is : held ≡ Working unread) where
+  pub at-none : (r : Result (Option Reply) ReplyFault) → NextIs unread rest r → (r ≡ Ok None) ↔ AtWork held IsShort
+  at-none r n = subst (λ h. (r ≡ Ok None) ↔ AtWork h IsShort) (sym is) (none-iff unread rest r n)
+
+  pub at-long : (r : Result (Option Reply) ReplyFault) → NextIs unread rest r → (r ≡ Err TooLong) ↔ AtWork held IsTooLong
+  at-long r n = subst (λ h. (r ≡ Err TooLong) ↔ AtWork h IsTooLong) (sym is) (long-iff unread rest r n)
+
+  pub at-no-code : (r : Result (Option Reply) ReplyFault) → NextIs unread rest r → (r ≡ Err NoCode) ↔ AtWork held BeginsWithNoReply
+  at-no-code r n = subst (λ h. (r ≡ Err NoCode) ↔ AtWork h BeginsWithNoReply) (sym is) (no-code-iff unread rest r n)
+
+  reads-of : (fed : List ℕ) (given : List Given) → StandsFor held fed given → Reads fed given unread
+  reads-of fed given s = subst (λ h. StandsFor h fed given) is s
+
+  pub at-given : (next : Option Reply) → NextIs unread rest (Ok next) → (fed : List ℕ) (given : List Given) → StandsFor held fed given → Reads fed (given ++ told (Ok next)) rest
+  at-given next n fed given s = gives-more unread rest next n fed given (reads-of fed given s)
+
+  pub at-broken : (fault : ReplyFault) → fault ≢ NoMemory → NextIs unread rest (Err fault) → (fed : List ℕ) (given : List Given) → StandsFor held fed given → StandsFor Broken fed (given ++ [])
+  at-broken fault other n fed given s = breaks-at unread rest fault other n fed given (reads-of fed given s)
+
+-- a call that reads a whole line
+module _ (unread line rest : List ℕ) (parts : unread ≡ line ++ 10 ∷ rest) (short : IsShort line) where
+  pub line-fails : (fault : ReplyFault) → ((fault ≡ NoCode) ⊎ ((fault ≡ NoMemory) × ((code : ℕ) × (id : Option (List ℕ)) × (text : List ℕ) × IsReplyLine line code id text)))
+      → (fault ≡ NoCode → IsNoReply line) → (same : List ℕ) → same ≡ unread → NextIs unread same (Err fault)
+  line-fails fault (inl is) none same e = subst (λ f. NextIs unread same (Err f)) (sym is) (line, rest, parts, short, none is)
+  line-fails fault (inr (is, (code, id, text, reads))) none same e =
+      subst (λ f. NextIs unread same (Err f)) (sym is) (e, record { code = code; id = id; text = text }, rest, (line, parts, (short, reads)))

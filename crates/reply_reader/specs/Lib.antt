@@ -1,0 +1,5 @@
+pub mod Reply
+pub mod Search
+pub mod Stage
+pub mod Stream
+pub mod Told

@@ -1,0 +1,78 @@
+-- What a reader of reply lines stands for: the octets that it was fed, and the replies that it gave (RFC 3977, section 3.1).
+use Rattle.std.specs.Prelude.{◌≡◌, ◌≢◌, ◌<◌, ◌⊎◌, ℕ, Option, List, [], ◌∷◌, ◌++◌, length}
+use Rattle.std.specs.List.{All, AllZip, flat_map}
+use Rattle.reply_reader.specs.Reply.{IsReplyLine, IsNoReply}
+
+-- what a reply says, as plain data: its code, the message-id behind it, and its text
+pub record Given : Type 0 where
+  pub code : ℕ
+  pub id : Option (List ℕ)
+  pub text : List ℕ
+
+-- the longest reply line, in octets with its end (profile)
+abbrev pub longest_reply : ℕ
+longest_reply = 2048
+
+-- no LF stands among the octets
+abbrev pub LacksEnd : List ℕ → Type 0
+LacksEnd octets = All (λ octet. octet ≢ 10) octets
+
+-- octets that may stand before an LF, or that wait for one: no LF, and short enough for one to follow
+pub record IsShort (octets : List ℕ) : Type 0 where
+  pub line : LacksEnd octets
+  pub short : length octets < longest_reply
+
+-- these lines, each with its LF
+abbrev pub ended : List (List ℕ) → List ℕ
+ended lines = flat_map (λ line. line ++ 10 ∷ []) lines
+
+-- the line is short enough, and a reply line that says this
+abbrev pub IsAnswer : List ℕ → Given → Type 0
+IsAnswer line given = IsShort line × IsReplyLine line given.code given.id given.text
+
+-- The octets fed are the lines of the replies given, one for each and in order, and behind them what is unread.
+pub record Reads (fed : List ℕ) (given : List Given) (unread : List ℕ) : Type 0 where
+  pub lines : List (List ℕ)
+  pub whole : fed ≡ ended lines ++ unread
+  pub answers : AllZip IsAnswer lines given
+
+-- the octets begin with a whole reply line that says this, and behind its LF stands the rest
+abbrev pub BeginsWithReply : List ℕ → Given → List ℕ → Type 0
+BeginsWithReply unread given rest = (line : List ℕ) × (unread ≡ line ++ 10 ∷ rest) × IsAnswer line given
+
+-- the octets begin with a whole line that is short enough, and no reply line
+abbrev pub BeginsWithNoReply : List ℕ → Type 0
+BeginsWithNoReply unread = (line rest : List ℕ) × (unread ≡ line ++ 10 ∷ rest) × IsShort line × IsNoReply line
+
+-- the octets begin with as many without an LF as a whole line has at most, so that their first line is too long
+abbrev pub IsTooLong : List ℕ → Type 0
+IsTooLong unread = (front rest : List ℕ) × (unread ≡ front ++ rest) × (length front ≡ longest_reply) × LacksEnd front
+
+-- the octets begin with a fault, after which nothing is read
+abbrev pub IsFaulty : List ℕ → Type 0
+IsFaulty unread = IsTooLong unread ⊎ BeginsWithNoReply unread
+
+-- what a reader holds: octets that wait to be read, or nothing, since it has told a fault
+pub data Held : Type 0 where
+  Working : (unread : List ℕ) → Held
+  Broken : Held
+
+-- a reader works, and of the octets that wait this holds
+abbrev pub AtWork : Held → (List ℕ → Type 0) → Type 0
+AtWork (Working unread) P = P unread
+AtWork Broken P = ⊥
+
+-- what a reader holds after it was fed
+abbrev pub after_feed : Held → List ℕ → Held
+after_feed (Working unread) piece = Working (unread ++ piece)
+after_feed Broken piece = Broken
+
+-- The reader may have been fed these octets, and have given these replies: what it holds is unread of them, or a fault
+-- stands behind those replies.
+abbrev pub StandsFor : Held → List ℕ → List Given → Type 0
+StandsFor (Working unread) fed given = Reads fed given unread
+StandsFor Broken fed given = (unread : List ℕ) × Reads fed given unread × IsFaulty unread
+
+-- the same, of a reader that has told the fault
+abbrev pub StandsFailed : Held → List ℕ → List Given → Type 0
+StandsFailed held fed given = (held ≡ Broken) × StandsFor held fed given

@@ -1,0 +1,20 @@
+//! Reply lines of a news server (RFC 3977, sections 3.1 and 3.2), read from pieces of any size.
+//!
+//! May touch nothing but memory; it stands on `funnel` for message-ids and on `memchr` for the search for line ends.
+//! The crates above use `ReplyReader`: whatever octets it was fed and replies it gave, each call leaves it standing for
+//! those and the call's own (`specs/Stream.antt`, over the reply lines of `specs/Reply.antt`); `laws` has the laws on these words.
+#![tactic(auto)]
+
+mod fault;
+pub mod laws;
+mod line;
+mod reader;
+#[cfg(test)]
+mod tests;
+mod unread;
+
+pub use fault::ReplyFault;
+pub use line::Reply;
+pub use reader::{LONGEST_REPLY, ReplyReader};
+/// Memory was refused.
+pub use std::alloc::AllocError as NoMemory;

@@ -1,0 +1,134 @@
+// One reply line.
+ghost use Rattle.std.specs.Prelude.{◌≡◌, ◌↔◌, ◌≤◌, ◌⊎◌, ℕ, List, Option, length, IfOk, IfErr, IfSome, IfNone, IsErrOf, MatchOption};
+ghost use Rattle.std.specs.List.{prefix_len};
+ghost use Rattle.funnel.specs.Line.{without_cr};
+ghost use Rattle.funnel.specs.Words.{IsGap, is_blank};
+ghost use Rattle.funnel.specs.WordLaws.{IsFirstWord, is_solid};
+ghost use Rattle.reply_reader.specs.Reply.{BeginsWithCode, HasId, IsNoReply, IsReplyLine, IsText};
+
+use crate::fault::ReplyFault;
+use funnel::MsgId;
+use std::alloc::{AllocError, Global};
+
+/// A reply of a news server (RFC 3977, section 3.2).
+#[derive(Debug, Drop)]
+pub struct Reply {
+    /// The number of the three digits that the line begins with, 0 to 999.
+    pub code: u16,
+    /// The first word behind the digits, where it is a message-id.
+    pub id: Option<MsgId>,
+    /// What stands behind the digits, without one space where it begins with one.
+    pub text: Vec<u8>,
+}
+
+// Reads a reply line, without its LF.
+pub(crate) fn read_reply(alloc: Global, line: &[u8]) -> Result<Reply, ReplyFault>
+    ensures reply { IfOk result (λ reply. IsReplyLine line.now reply.code reply.id reply.text.items) }
+    ensures no_code { IsErrOf result ReplyFault.NoCode ↔ IsNoReply line.now }
+    ensures no_memory { IfErr result (λ fault. (fault ≡ ReplyFault.NoCode) ⊎ ((fault ≡ ReplyFault.NoMemory) × ((code : ℕ) × (id : Option (List ℕ)) × (text : List ℕ) × IsReplyLine line.now code id text))) }
+{
+    let Some(coded) = read_code(body_of(line)) else {
+        return Err(ReplyFault::NoCode);
+    };
+    let id = read_id(alloc, coded.rest)?;
+    let text = Vec::from_slice(alloc, text_of(coded.rest))?;
+    Ok(Reply {
+        code: coded.code,
+        id,
+        text,
+    })
+}
+
+// The line without the one CR that may stand last.
+fn body_of(line: &[u8]) -> &[u8]
+    ensures { result.now ≡ without_cr line.now }
+{
+    match line {
+        [body @ .., b'\r'] => body,
+        _ => line,
+    }
+}
+
+// What stands behind the code, without one space where it begins with one.
+fn text_of(rest: &[u8]) -> &[u8]
+    ensures { IsText rest.now result.now }
+{
+    match rest {
+        [b' ', text @ ..] => text,
+        _ => rest,
+    }
+}
+
+// A code, and what stands behind it.
+#[derive(Drop)]
+struct Coded<'a> {
+    code: u16,
+    rest: &'a [u8],
+}
+
+// The code that the octets begin with; `None` where they do not begin with three digits.
+fn read_code(octets: &[u8]) -> Option<Coded<'_>>
+    ensures some { IfSome result (λ coded. BeginsWithCode octets.now coded.code coded.rest.now) }
+    ensures none { IfNone result ((code : ℕ) (rest : List ℕ) → BeginsWithCode octets.now code rest → ⊥) }
+{
+    match octets {
+        [
+            first @ b'0'..=b'9',
+            second @ b'0'..=b'9',
+            third @ b'0'..=b'9',
+            rest @ ..,
+        ] => {
+            let hundreds = u16::from(*first - b'0');
+            let tens = u16::from(*second - b'0');
+            let ones = u16::from(*third - b'0');
+            Some(Coded {
+                code: 100 * hundreds + 10 * tens + ones,
+                rest,
+            })
+        }
+        _ => None,
+    }
+}
+
+// The first word, where it is a message-id.
+fn read_id(alloc: Global, rest: &[u8]) -> Result<Option<MsgId>, AllocError>
+    ensures { IfOk result (λ id. HasId rest.now id) }
+{
+    match first_word(rest) {
+        Some(word) => MsgId::read(alloc, word),
+        None => Ok(None),
+    }
+}
+
+// The first word, a longest run of octets other than space and tab.
+fn first_word(octets: &[u8]) -> Option<&[u8]>
+    ensures { MatchOption result (IsGap octets.now) (λ word. (rest : List ℕ) × IsFirstWord octets.now word.now rest) }
+{
+    let octets = &octets[gap_len(octets)..];
+    if octets.is_empty() {
+        return None;
+    }
+    Some(&octets[..word_len(octets)])
+}
+
+// How many blanks stand first.
+fn gap_len(octets: &[u8]) -> usize
+    ensures value { result ≡ prefix_len is_blank octets.now }
+    ensures bound { result ≤ length octets.now }
+{
+    octets.iter().take_while(|octet| is_blank(**octet)).count()
+}
+
+// How many octets stand before the first blank.
+fn word_len(octets: &[u8]) -> usize
+    ensures value { result ≡ prefix_len is_solid octets.now }
+    ensures bound { result ≤ length octets.now }
+{
+    octets.iter().take_while(|octet| !is_blank(**octet)).count()
+}
+
+fn is_blank(octet: u8) -> bool
+    ensures { result ≡ is_blank octet }
+{
+    octet == b' ' || octet == b'\t'
+}

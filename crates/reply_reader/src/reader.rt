@@ -1,0 +1,126 @@
+// Replies from pieces of any size.
+ghost use Rattle.std.specs.Prelude.{◌≡◌, ◌≢◌, ◌≤◌, ◌↔◌, ◌++◌, [], ℕ, List, IfOk, IfSome, IsOk, IsErrOf, IsTrue, OnOk, OnErr};
+ghost use Rattle.reply_reader.specs.Stream.{AtWork, BeginsWithNoReply, BeginsWithReply, Broken, Given, IsShort, IsTooLong, StandsFailed, StandsFor, Working, after_feed, longest_reply};
+ghost use Rattle.reply_reader.specs.Told.{NextIs, given_of, told};
+
+use crate::NoMemory;
+use crate::fault::ReplyFault;
+use crate::line::{Reply, read_reply};
+use crate::unread::Unread;
+use std::alloc::Global;
+use std::marker::Model;
+
+/// The longest reply line, in octets with its end, CR and LF.
+pub const LONGEST_REPLY: usize = 2048;
+
+/// A reader of reply lines, fed in pieces of any size (RFC 3977, section 3.1).
+#[derive(Debug, Drop)]
+pub struct ReplyReader {
+    stage: Stage,
+}
+
+#[derive(Debug, Drop)]
+enum Stage {
+    Working(Unread),
+    /// A fault was told.
+    Broken,
+}
+
+impl Model for ReplyReader {
+    ghost use Rattle.reply_reader.specs.Stream.{Held};
+
+    ghost Value = { Held };
+
+    ghost use Rattle.reply_reader.specs.Stage.{held_of};
+
+    ghost view = { λ reader. held_of reader.stage };
+}
+
+impl ReplyReader {
+    /// A reader that was fed nothing. It allocates nothing yet, and later from `alloc`.
+    pub fn new(alloc: Global) -> Self
+        ensures holds { result ≡ Working [] }
+        ensures stands { StandsFor result [] [] }
+    {
+        ReplyReader {
+            stage: Stage::Working(Unread::new(alloc)),
+        }
+    }
+
+    /// Takes in more octets. After a fault that [`ReplyReader::next`] told it drops them, and takes no memory.
+    ///
+    /// # Errors
+    /// `NoMemory` where memory was refused: the reader is unchanged, and the octets are not taken in.
+    pub fn feed(&mut self, piece: &[u8]) -> Result<(), NoMemory>
+        ensures fed { OnOk result (self.new ≡ after_feed self.old piece.now) }
+        ensures stands { OnOk result ((fed : List ℕ) (given : List Given) → StandsFor self.old fed given → StandsFor self.new (fed ++ piece.now) given) }
+        ensures refused { OnErr result (self.new ≡ self.old) }
+        ensures broken { self.old ≡ Broken → IsOk result }
+    {
+        match &mut self.stage {
+            Stage::Working(unread) => unread.feed(piece),
+            Stage::Broken => Ok(()),
+        }
+    }
+
+    /// Reads the first unread line; `None` where no whole line is unread.
+    ///
+    /// # Errors
+    /// [`ReplyFault::TooLong`] where 2,048 octets without an LF stand unread first, whole line or not, and else
+    /// [`ReplyFault::NoCode`] where the first unread line is whole and does not begin with three digits; after either
+    /// each call gives [`ReplyFault::Failed`]. [`ReplyFault::NoMemory`] where it is a reply line and memory was refused:
+    /// the reader is unchanged.
+    pub fn next(&mut self) -> Result<Option<Reply>, ReplyFault>
+        ensures stands { (fed : List ℕ) (given : List Given) → StandsFor self.old fed given → StandsFor self.new fed (given ++ told result) }
+        ensures reply { IfOk result (λ next. IfSome next (λ reply. AtWork self.old (λ unread. (rest : List ℕ) × BeginsWithReply unread (given_of reply) rest × (self.new ≡ Working rest)))) }
+        ensures none { (result ≡ Ok None) ↔ AtWork self.old IsShort }
+        ensures too_long { IsErrOf result ReplyFault.TooLong ↔ AtWork self.old IsTooLong }
+        ensures no_code { IsErrOf result ReplyFault.NoCode ↔ AtWork self.old BeginsWithNoReply }
+        ensures no_memory { IsErrOf result ReplyFault.NoMemory → AtWork self.old (λ unread. (given : Given) × (rest : List ℕ) × BeginsWithReply unread given rest) }
+        ensures failed { IsErrOf result ReplyFault.Failed ↔ (self.old ≡ Broken) }
+        ensures waits { result ≡ Ok None → self.new ≡ self.old }
+        ensures refused { IsErrOf result ReplyFault.NoMemory → self.new ≡ self.old }
+        ensures told_fault { (fault : ReplyFault) (fed : List ℕ) (given : List Given) → IsErrOf result fault → fault ≢ ReplyFault.NoMemory → StandsFor self.old fed given → StandsFailed self.new fed given }
+        ensures breaks { (fault : ReplyFault) → IsErrOf result fault → fault ≢ ReplyFault.NoMemory → self.new ≡ Broken }
+    {
+        match &mut self.stage {
+            Stage::Working(unread) => match next_reply(unread) {
+                Ok(next) => Ok(next),
+                Err(fault) => match fault {
+                    ReplyFault::NoMemory => Err(fault),
+                    _ => {
+                        self.stage = Stage::Broken;
+                        Err(fault)
+                    }
+                },
+            },
+            Stage::Broken => Err(ReplyFault::Failed),
+        }
+    }
+}
+
+// Reads the first line of the octets that wait, and lets go of it.
+fn next_reply(unread: &mut Unread) -> Result<Option<Reply>, ReplyFault>
+    ensures { NextIs unread.old unread.new result }
+{
+    let Some(end) = unread.first_end() else {
+        return if is_too_many(unread.len()) {
+            Err(ReplyFault::TooLong)
+        } else {
+            Ok(None)
+        };
+    };
+    if is_too_many(end) {
+        return Err(ReplyFault::TooLong);
+    }
+    let reply = read_reply(unread.alloc(), unread.front(end))?;
+    unread.skip(end + 1);
+    Ok(Some(reply))
+}
+
+// Whether these are too many octets to stand before an LF.
+fn is_too_many(len: usize) -> bool
+    ensures { IsTrue result ↔ (longest_reply ≤ len) }
+{
+    len >= LONGEST_REPLY
+}

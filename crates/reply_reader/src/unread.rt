@@ -1,0 +1,107 @@
+// The octets that were fed and are not read yet.
+ghost use Rattle.std.specs.Prelude.{◌≡◌, ◌≤◌, ◌++◌, [], ℕ, List, length, take, drop, OnOk, OnErr, MatchOption};
+ghost use Rattle.reply_reader.specs.Search.{EndsAt, IsSearched};
+ghost use Rattle.reply_reader.specs.Stream.{LacksEnd};
+
+use memchr::memchr;
+use std::alloc::{AllocError, Global};
+use std::marker::Model;
+
+/// The octets that were fed and are not read yet, each searched once for an LF.
+#[derive(Debug, Drop)]
+pub(crate) struct Unread {
+    octets: Vec<u8>,
+    /// The place of the first unread octet.
+    first: usize,
+    /// No LF stands from `first` up to this place.
+    searched: usize,
+}
+
+impl Model for Unread {
+    ghost Value = { List ℕ };
+
+    ghost view = { λ unread. drop unread.first unread.octets.items };
+
+    ghost invariant = { λ unread. IsSearched unread.octets.items unread.first unread.searched };
+}
+
+impl Unread {
+    pub(crate) fn new(alloc: Global) -> Self
+        ensures { result ≡ [] }
+    {
+        Unread {
+            octets: Vec::new(alloc),
+            first: 0,
+            searched: 0,
+        }
+    }
+
+    // The allocator of the octets.
+    pub(crate) fn alloc(&self) -> Global {
+        *self.octets.allocator()
+    }
+
+    // How many octets wait.
+    pub(crate) fn len(&self) -> usize
+        ensures { result ≡ length self.now }
+    {
+        self.octets.len() - self.first
+    }
+
+    // Takes in more octets, and gives up the room of those that are read.
+    pub(crate) fn feed(&mut self, piece: &[u8]) -> Result<(), AllocError>
+        ensures fed { OnOk result (self.new ≡ self.old ++ piece.now) }
+        ensures refused { OnErr result (self.new ≡ self.old) }
+    {
+        self.compact();
+        self.octets.extend_from_slice(piece)
+    }
+
+    // Moves the unread octets to the front of the room.
+    fn compact(&mut self)
+        ensures { self.new ≡ self.old }
+    {
+        if self.first == 0 {
+            return;
+        }
+        let len = self.len();
+        self.octets.copy_within(self.first.., 0);
+        self.octets.truncate(len);
+        self.searched -= self.first;
+        self.first = 0;
+    }
+
+    // The place of the first LF, counted from the first octet.
+    pub(crate) fn first_end(&mut self) -> Option<usize>
+        ensures same { self.new ≡ self.old }
+        ensures place { MatchOption result (LacksEnd self.old) (λ place. EndsAt self.old place) }
+    {
+        match memchr(b'\n', &self.octets[self.searched..]) {
+            Some(place) => {
+                self.searched += place;
+                Some(self.searched - self.first)
+            }
+            None => {
+                self.searched = self.octets.len();
+                None
+            }
+        }
+    }
+
+    // The first octets.
+    pub(crate) fn front(&self, len: usize) -> &[u8]
+        requires { len ≤ length self.now }
+        ensures { result.now ≡ take len self.now }
+    {
+        &self.octets[self.first..self.first + len]
+    }
+
+    // Lets go of the first octets, which were read.
+    pub(crate) fn skip(&mut self, len: usize)
+        requires { len ≤ length self.old }
+        ensures { self.new ≡ drop len self.old }
+    {
+        self.first += len;
+        self.searched = self.searched.max(self.first);
+    }
+}
