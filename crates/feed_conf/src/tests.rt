@@ -29,13 +29,21 @@ fn is_peer(peer: &PeerConf, name: &[u8], streaming: bool, connections: u64) -> b
 fn reads_the_example(rt: HostRuntime) -> Result<(), Fail> {
     let conf = read_conf(rt.alloc(), EXAMPLE)?;
     assert_eq!(rt; conf.peers().len(), 3);
-    assert!(rt; is_peer(&conf.peers()[0], b"one.example", true, 4));
-    assert!(rt; is_peer(&conf.peers()[1], b"two", false, 6));
-    assert!(rt; is_peer(&conf.peers()[2], b"three", false, 2));
+    assert!(rt;
+        is_peer(
+            conf.peers().first().ok_or("a peer")?,
+            b"one.example",
+            true,
+            4
+        )
+    );
+    assert!(rt; is_peer(conf.peers().get(1).ok_or("a peer")?, b"two", false, 6));
+    assert!(rt; is_peer(conf.peers().get(2).ok_or("a peer")?, b"three", false, 2));
     assert_eq!(rt; conf.ignored().len(), 1);
-    assert_eq!(rt; conf.ignored()[0].line, 10);
-    assert_eq!(rt; conf.ignored()[0].key.as_slice(), b"colour".as_slice());
-    assert!(rt; !conf.ignored()[0].limited);
+    let report = conf.ignored().first().ok_or("a report")?;
+    assert_eq!(rt; report.line, 10);
+    assert_eq!(rt; report.key.as_slice(), b"colour".as_slice());
+    assert!(rt; !report.limited);
     Ok(())
 }
 
@@ -63,7 +71,7 @@ fn finds_peers_by_name(rt: HostRuntime) -> Result<(), Fail> {
 fn has_defaults(rt: HostRuntime) -> Result<(), Fail> {
     let conf = read_conf(rt.alloc(), b"peer p { }")?;
     assert_eq!(rt; conf.peers().len(), 1);
-    let peer = &conf.peers()[0];
+    let peer = conf.peers().first().ok_or("a peer")?;
     assert_eq!(rt; peer.ip_name.as_slice(), b"p".as_slice());
     assert_eq!(rt; peer.port, 119);
     assert!(rt; peer.streaming);
@@ -183,15 +191,17 @@ fn reads_quotes_and_limits(rt: HostRuntime) -> Result<(), Fail> {
         b"peer p { ip-name:\"a #b\" status-file: }\nno-check-high: 100.009 max-connections: 0 no-check-filter: 1000.9";
     let conf = read_conf(rt.alloc(), text)?;
     assert_eq!(rt; conf.peers().len(), 1);
-    let peer = &conf.peers()[0];
+    let peer = conf.peers().first().ok_or("a peer")?;
     assert_eq!(rt; peer.ip_name.as_slice(), b"a #b".as_slice());
     assert_eq!(rt; peer.check_high, 10000);
     assert_eq!(rt; peer.check_filter, 1000);
     assert_eq!(rt; peer.max_connections, 64);
     assert_eq!(rt; conf.ignored().len(), 2);
-    assert_eq!(rt; conf.ignored()[0].key.as_slice(), b"status-file".as_slice());
-    assert!(rt; !conf.ignored()[0].limited);
-    assert_eq!(rt; conf.ignored()[1].line, 2);
-    assert!(rt; conf.ignored()[1].limited);
+    let ignored = conf.ignored().first().ok_or("a report")?;
+    assert_eq!(rt; ignored.key.as_slice(), b"status-file".as_slice());
+    assert!(rt; !ignored.limited);
+    let limited = conf.ignored().get(1).ok_or("a report")?;
+    assert_eq!(rt; limited.line, 2);
+    assert!(rt; limited.limited);
     Ok(())
 }

@@ -5,27 +5,18 @@ use std::alloc::{AllocError, Global};
 use std::test::Fail;
 
 // A script, what it prints, and how it ends.
-#[derive(Clone, Copy)]
-struct Row {
-    script: &'static str,
-    printed: &'static str,
-    exit: Exit,
-}
+type Row = (&'static str, &'static str, Exit);
 
-const EMPTY: Row = Row {
-    script: "",
-    printed: "end 0\n",
-    exit: Exit::Done,
-};
+const EMPTY: Row = ("", "end 0\n", Exit::Done);
 
-const TWO_PEERS: Row = Row {
-    script: "peer p\n\
+const TWO_PEERS: Row = (
+    "peer p\n\
         peer q\n\
         line a/1 <x@y> p q p\n\
         flush\n\
         stop\n\
         restart\n",
-    printed: "1 p new q new\n\
+    "1 p new q new\n\
         taken 1\n\
         stopped\n\
         p mark 1 owes 1\n\
@@ -33,11 +24,11 @@ const TWO_PEERS: Row = Row {
         p taken 1 answered 0 dropped 0 owed 1 bytes 10\n\
         q taken 1 answered 0 dropped 0 owed 1 bytes 10\n\
         end 4\n",
-    exit: Exit::Done,
-};
+    Exit::Done,
+);
 
-const BAD_LINES: Row = Row {
-    script: "peer p\n\
+const BAD_LINES: Row = (
+    "peer p\n\
         line\n\
         line a/1\n\
         line a/1 <xxxxxxxxxxxxxxxxxxxxxxxxxxxxxxxxxxxxxxxxxxxxxxxxxxxxxxxxxxxxxxxxxxxxxxxxxxxxxxxxxxxxxxxxxxxxxxxxxxxxxxxxxxxxxxxxxxxxxxxxxxxxxxxxxxxxxxxxxxxxxxxxxxxxxxxxxxxxxxxxxxxxxxxxxxxxxxxxxxxxxxxxxxxxxxxxxxxxxxxxxxxxxxxxxxxxxxxxxxxxxxxxxxxxxxxxxxxxxxxxxxxxxxx@y> p\n\
@@ -45,7 +36,7 @@ const BAD_LINES: Row = Row {
         line /a <x@y> p\n\
         line a/../b <x@y> p\n\
         line a/2 <x@y> nobody\n",
-    printed: "1 bad NoToken\n\
+    "1 bad NoToken\n\
         2 bad BadId\n\
         3 bad BadId\n\
         4 p new\n\
@@ -54,22 +45,18 @@ const BAD_LINES: Row = Row {
         7\n\
         p taken 1 answered 0 dropped 0 owed 1 bytes 255\n\
         end 7\n",
-    exit: Exit::Done,
-};
+    Exit::Done,
+);
 
-const RESTART_WHILE_RUNNING: Row = Row {
-    script: "restart\n",
-    printed: "step 1: Running\n",
-    exit: Exit::Refused,
-};
+const RESTART_WHILE_RUNNING: Row = ("restart\n", "step 1: Running\n", Exit::Refused);
 
-const LINE_WHILE_STOPPED: Row = Row {
-    script: "stop\n\
+const LINE_WHILE_STOPPED: Row = (
+    "stop\n\
         line\n",
-    printed: "stopped\n\
+    "stopped\n\
         step 2: Stopped\n",
-    exit: Exit::Refused,
-};
+    Exit::Refused,
+);
 
 fn run(alloc: Global, script: &[u8]) -> Result<(Vec<u8>, Exit), Fail> {
     let mut printed = Vec::new(alloc);
@@ -80,21 +67,16 @@ fn run(alloc: Global, script: &[u8]) -> Result<(Vec<u8>, Exit), Fail> {
 
 #[test]
 fn rows(rt: HostRuntime) -> Result<(), Fail> {
-    for row in [
+    for (script, printed, exit) in [
         EMPTY,
         TWO_PEERS,
         BAD_LINES,
         RESTART_WHILE_RUNNING,
         LINE_WHILE_STOPPED,
     ] {
-        let (printed, exit) = run(rt.alloc(), row.script.as_bytes())?;
-        assert_eq!(rt;
-            printed.as_slice(),
-            row.printed.as_bytes(),
-            "{}",
-            row.script
-        );
-        assert_eq!(rt; exit, row.exit, "{}", row.script);
+        let (got, end) = run(rt.alloc(), script.as_bytes())?;
+        assert_eq!(rt; got.as_slice(), printed.as_bytes(), "{script}");
+        assert_eq!(rt; end, exit, "{script}");
     }
     Ok(())
 }
