@@ -1,7 +1,7 @@
 // The waits of one place that is tried again after it failed.
 ghost use Rattle.std.specs.Prelude.{◌≡◌, ℕ, ◌+◌};
 ghost use Rattle.deferral.specs.Wait.{wait_after};
-ghost use Rattle.deferral.specs.Failed.{Failed};
+ghost use Rattle.deferral.specs.Failed.{Failed, first_wait_of, most_wait_of};
 
 /// How long one place waits before it is tried again, by how often it has failed in a row.
 ///
@@ -15,11 +15,11 @@ pub struct Backoff {
 }
 
 impl Backoff {
-    /// A place that has not failed.
+    /// A place that has not failed, with its first wait and the most that it waits.
     pub fn new(first: u64, most: u64) -> Self
         ensures failures { Failed result 0 }
-        ensures first { result.first ≡ first }
-        ensures most { result.most ≡ most }
+        ensures first { first_wait_of result ≡ first }
+        ensures most { most_wait_of result ≡ most }
     {
         Backoff {
             first,
@@ -31,8 +31,8 @@ impl Backoff {
     /// A try has failed.
     pub fn failed(&mut self)
         ensures failures { (failures : ℕ) → Failed self.old failures → Failed self.new (failures + 1) }
-        ensures first { self.new.first ≡ self.old.first }
-        ensures most { self.new.most ≡ self.old.most }
+        ensures first { first_wait_of self.new ≡ first_wait_of self.old }
+        ensures most { most_wait_of self.new ≡ most_wait_of self.old }
     {
         let next = if self.wait == 0 {
             self.first
@@ -45,15 +45,15 @@ impl Backoff {
     /// A try has gone well: the failures in a row are over.
     pub fn opened(&mut self)
         ensures failures { Failed self.new 0 }
-        ensures first { self.new.first ≡ self.old.first }
-        ensures most { self.new.most ≡ self.old.most }
+        ensures first { first_wait_of self.new ≡ first_wait_of self.old }
+        ensures most { most_wait_of self.new ≡ most_wait_of self.old }
     {
         self.wait = 0;
     }
 
     /// The seconds to wait before the next try: none where no try has failed since the last that went well.
     pub fn wait(&self) -> u64
-        ensures { (failures : ℕ) → Failed self.now failures → result ≡ wait_after self.now.first self.now.most failures }
+        ensures { (failures : ℕ) → Failed self.now failures → result ≡ wait_after (first_wait_of self.now) (most_wait_of self.now) failures }
     {
         let Self { wait, .. } = *self;
         wait

@@ -1,15 +1,17 @@
 // Numbers that wait for a moment.
-ghost use Rattle.std.specs.Prelude.{◌≡◌, ℕ, ◌↔◌, [], None, IsSome, IsTrue, IfNone, IfSome, OnErr, OnOk};
-ghost use Rattle.deferral.specs.Due.{IsDue, IsLeastDue, IsRising, added, due_of, removed};
+ghost use Rattle.std.specs.Prelude.{◌≡◌, ℕ, ◌≤◌, ◌↔◌, [], None, Some, IsSome, IsTrue, IfNone, IfSome, OnErr, OnOk};
+ghost use Rattle.deferral.specs.Due.{IsDue, IsLeastDue, IsLeastDueFrom, IsRising, added, changed, due_of, removed};
 
 use crate::tree::{Entry, Tree};
 use std::alloc::{AllocError, Global};
 use std::marker::Model;
 
-/// Numbers that wait, each for a moment of its own, in seconds of the caller's clock.
+/// Numbers that wait, each for a moment of its own, in seconds of the caller's clock, or for none: such a number is due at no
+/// moment and keeps its room, so that it takes no memory to give it a moment again.
 ///
-/// Contracts see it as the list of its numbers with their moments, by strictly rising numbers.
-/// A call takes at most as many steps as a number has bits, whatever numbers wait, and memory is linear in how many wait.
+/// Contracts see it as the list of its numbers, each with its moment or none, by strictly rising numbers.
+/// A call takes at most a constant times as many steps as a number has bits, whatever numbers wait, and memory is linear in
+/// how many wait.
 #[derive(Drop)]
 pub struct Later {
     alloc: Global,
@@ -17,9 +19,9 @@ pub struct Later {
 }
 
 impl Model for Later {
-    ghost use Rattle.std.specs.Prelude.{ℕ, List};
+    ghost use Rattle.std.specs.Prelude.{ℕ, List, Option};
 
-    ghost Value = { List (ℕ × ℕ) };
+    ghost Value = { List (ℕ × Option ℕ) };
 
     ghost use Rattle.deferral.specs.Due.{IsRising};
     ghost use Rattle.deferral.specs.Tree.{waiting_of};
@@ -37,7 +39,7 @@ impl Later {
         Later { alloc, tree: None }
     }
 
-    /// Whether this number waits.
+    /// Whether this number waits, for a moment or for none.
     pub fn contains(&self, number: u64) -> bool
         ensures found { IsTrue result ↔ IsSome (due_of self.now number) }
         ensures rising { IsRising self.now }
@@ -54,10 +56,13 @@ impl Later {
     /// `NoMemory` where memory was refused; what waits stays as it was.
     pub fn put(&mut self, number: u64, due: u64) -> Result<(), AllocError>
         requires { due_of self.old number ≡ None }
-        ensures ok { OnOk result (self.new ≡ added self.old number due) }
+        ensures ok { OnOk result (self.new ≡ added self.old number (Some due)) }
         ensures err { OnErr result (self.new ≡ self.old) }
     {
-        let entry = Entry { number, due };
+        let entry = Entry {
+            number,
+            due: Some(due),
+        };
         match &mut self.tree {
             None => {
                 self.tree = Some(Tree::Leaf(entry));
@@ -75,7 +80,30 @@ impl Later {
     {
         match &self.tree {
             None => None,
-            Some(tree) => tree.due_least(now),
+            Some(tree) => tree.due_from(0, now),
+        }
+    }
+
+    /// The least of the numbers at or above the first whose moment is at or before this one.
+    pub fn due_from(&self, first: u64, now: u64) -> Option<u64>
+        ensures some { IfSome result (λ number. IsLeastDueFrom self.now first now number) }
+        ensures none { IfNone result ((number : ℕ) → first ≤ number → IsDue self.now now number → ⊥) }
+        ensures rising { IsRising self.now }
+    {
+        match &self.tree {
+            None => None,
+            Some(tree) => tree.due_from(first, now),
+        }
+    }
+
+    /// Has a number that waits wait for this moment from now on, or for none, and says whether it waits. Takes no memory.
+    pub fn set(&mut self, number: u64, due: Option<u64>) -> bool
+        ensures was { IsTrue result ↔ IsSome (due_of self.old number) }
+        ensures new { self.new ≡ changed self.old number due }
+    {
+        match &mut self.tree {
+            None => false,
+            Some(tree) => tree.set(number, due),
         }
     }
 

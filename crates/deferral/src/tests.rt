@@ -12,10 +12,13 @@ fn put_new(later: &mut Later, number: u64, due: u64) -> Result<(), AllocError> {
     later.put(number, due)
 }
 
-/// The least number that is due, found by looking at each.
-fn plain_least(plain: &BTreeMap<u64, u64>, now: u64) -> Option<u64> {
+/// The least number at or above the first that is due, found by looking at each.
+fn plain_least(plain: &BTreeMap<u64, Option<u64>>, first: u64, now: u64) -> Option<u64> {
     for (number, due) in plain {
-        if *due <= now {
+        if let Some(due) = *due
+            && first <= *number
+            && due <= now
+        {
             return Some(*number);
         }
     }
@@ -64,25 +67,74 @@ fn waits_no_more_once_removed(rt: HostRuntime) -> Result<(), Fail> {
     Ok(())
 }
 
-/// One step of the mix: a number is put or removed, and the least due is asked.
+#[test]
+fn due_at_no_moment_until_one_is_set(rt: HostRuntime) -> Result<(), Fail> {
+    let mut later = Later::new(rt.alloc());
+    assert_eq!(rt; later.set(7, None), false);
+    put_new(&mut later, 7, 10)?;
+    assert_eq!(rt; later.set(8, Some(0)), false);
+    assert_eq!(rt; later.contains(8), false);
+    assert_eq!(rt; later.set(7, None), true);
+    assert_eq!(rt; later.contains(7), true);
+    assert_eq!(rt; later.due_least(u64::MAX), None);
+    put_new(&mut later, 9, u64::MAX)?;
+    assert_eq!(rt; later.due_least(u64::MAX - 1), None);
+    assert_eq!(rt; later.due_least(u64::MAX), Some(9));
+    assert_eq!(rt; later.set(7, Some(20)), true);
+    assert_eq!(rt; later.due_least(19), None);
+    assert_eq!(rt; later.due_least(20), Some(7));
+    assert_eq!(rt; later.set(9, None), true);
+    assert_eq!(rt; later.remove(7), true);
+    assert_eq!(rt; later.due_least(u64::MAX), None);
+    assert_eq!(rt; later.remove(9), true);
+    assert_eq!(rt; later.set(9, Some(0)), false);
+    Ok(())
+}
+
+#[test]
+fn the_least_from_a_number_on(rt: HostRuntime) -> Result<(), Fail> {
+    let mut later = Later::new(rt.alloc());
+    assert_eq!(rt; later.due_from(0, u64::MAX), None);
+    for number in [3, 5, 6, u64::MAX] {
+        put_new(&mut later, number, 10)?;
+    }
+    later.set(6, None);
+    assert_eq!(rt; later.due_from(0, 10), Some(3));
+    assert_eq!(rt; later.due_from(3, 10), Some(3));
+    assert_eq!(rt; later.due_from(4, 10), Some(5));
+    assert_eq!(rt; later.due_from(6, 10), Some(u64::MAX));
+    assert_eq!(rt; later.due_from(u64::MAX, 10), Some(u64::MAX));
+    assert_eq!(rt; later.due_from(4, 9), None);
+    later.remove(u64::MAX);
+    assert_eq!(rt; later.due_from(6, 10), None);
+    Ok(())
+}
+
+/// One step of the mix: a number is put, removed or given another moment or none, and the least due is asked.
 fn step(
     rt: &impl Abort,
     alloc: Global,
     later: &mut Later,
-    plain: &mut BTreeMap<u64, u64>,
+    plain: &mut BTreeMap<u64, Option<u64>>,
     random: u64,
 ) -> Result<(), Fail> {
     let number = random >> 32 & 0x8000_00ff;
     let due = random >> 20 & 63;
     let now = random >> 10 & 63;
+    let first = random >> 26 & 0x8000_00ff;
     if random >> 8 & 3 == 0 {
         assert_eq!(rt; later.remove(number), plain.remove(&number).is_some());
     } else if !plain.contains_key(&number) {
-        plain.insert(number, due)?;
+        plain.insert(number, Some(due))?;
         put_new(later, number, due)?;
+    } else {
+        let moment = if due % 4 == 0 { None } else { Some(due) };
+        plain.insert(number, moment)?;
+        assert_eq!(rt; later.set(number, moment), true);
     }
     assert_eq!(rt; later.contains(number), plain.contains_key(&number));
-    assert_eq!(rt; later.due_least(now), plain_least(plain, now));
+    assert_eq!(rt; later.due_least(now), plain_least(plain, 0, now));
+    assert_eq!(rt; later.due_from(first, now), plain_least(plain, first, now));
     Ok(())
 }
 

@@ -1,25 +1,26 @@
 // A binary tree over the bits of the numbers, no deeper than a number has bits, in which a number is found by its value
 // and by its moment. The numbers stand in the leaves. Each fork is over the highest bit in which its numbers differ.
-ghost use Rattle.std.specs.Prelude.{◌≡◌, ℕ, [], ◌∷◌, ◌≤◌, ◌<◌, ◌↔◌, ◌++◌, ◌⊎◌, true, false, IsSome, IsTrue, IfNone, IfSome, OnErr, OnOk};
-ghost use Rattle.deferral.specs.Due.{AllNumbers, IsDue, IsLeastDue, Waiting, added, due_of, removed};
+ghost use Rattle.std.specs.Prelude.{◌≡◌, ℕ, [], ◌∷◌, ◌≤◌, ◌<◌, ◌↔◌, ◌++◌, ◌⊎◌, true, false, IsSome, IsTrue, IfNone, IfSome, OnErr, OnOk, Option};
+ghost use Rattle.deferral.specs.Due.{AllNumbers, IsDue, IsLeastDueFrom, Waiting, added, changed, due_of, removed};
+ghost use Rattle.deferral.specs.Tree.{IsBy, earlier};
 
 use std::alloc::{AllocError, Global};
 use std::marker::Model;
 use std::mem;
 
-/// A number with the moment for which it waits.
+/// A number with the moment for which it waits, or none: then it is due at no moment.
 #[derive(Clone, Copy)]
 pub struct Entry {
     pub number: u64,
-    pub due: u64,
+    pub due: Option<u64>,
 }
 
-/// The first and the last number of a tree, and the earliest of its moments.
+/// The first and the last number of a tree, and the earliest of its moments, none where no number has one.
 #[derive(Clone, Copy)]
 pub struct Bounds {
     pub first: u64,
     pub last: u64,
-    pub least: u64,
+    pub least: Option<u64>,
 }
 
 /// One number, or a fork.
@@ -41,9 +42,9 @@ pub struct Fork {
 }
 
 impl Model for Fork {
-    ghost use Rattle.std.specs.Prelude.{ℕ, List};
+    ghost use Rattle.std.specs.Prelude.{ℕ, List, Option};
 
-    ghost Value = { List (ℕ × ℕ) × List (ℕ × ℕ) };
+    ghost Value = { List (ℕ × Option ℕ) × List (ℕ × Option ℕ) };
 
     ghost use Rattle.deferral.specs.Tree.{IsFork, sides};
 
@@ -60,6 +61,27 @@ impl Model for Fork {
     ghost size_decreases = { sides_fall };
 }
 
+/// The earlier of two moments, where none is later than each.
+fn earlier_of(one: Option<u64>, other: Option<u64>) -> Option<u64>
+    ensures { result ≡ earlier one other }
+{
+    match (one, other) {
+        (None, due) => due,
+        (due, None) => due,
+        (Some(one), Some(other)) => Some(one.min(other)),
+    }
+}
+
+/// Whether it is a moment, at or before now.
+fn is_by(due: Option<u64>, now: u64) -> bool
+    ensures { IsTrue result ↔ IsBy due now }
+{
+    match due {
+        None => false,
+        Some(due) => due <= now,
+    }
+}
+
 impl Bounds {
     ghost use Rattle.deferral.specs.Tree.{IsBoundsOf};
 
@@ -70,7 +92,7 @@ impl Bounds {
         Bounds {
             first: self.first.min(other.first),
             last: self.last.max(other.last),
-            least: self.least.min(other.least),
+            least: earlier_of(self.least, other.least),
         }
     }
 }
@@ -101,7 +123,7 @@ fn split_between(low: u64, high: u64) -> u64
 }
 
 impl Fork {
-    ghost use Rattle.deferral.specs.Tree.{both, is_only, least_due, waiting_in};
+    ghost use Rattle.deferral.specs.Tree.{both, is_only, waiting_in};
 
     /// A fork of two trees at this split.
     fn of(split: u64, left: Tree, right: Tree) -> Self
@@ -130,19 +152,16 @@ impl Fork {
         }
     }
 
-    /// The least number whose moment is at or before this one.
-    #[cycle(due_least)]
-    fn due_least(&self, now: u64) -> Option<u64>
-        ensures some { IfSome result (λ number. IsLeastDue (both self.now) now number) }
-        ensures none { IfNone result (now < least_due (both self.now)) }
+    /// The least number at or above the first whose moment is at or before now.
+    #[cycle(due_from)]
+    fn due_from(&self, first: u64, now: u64) -> Option<u64>
+        ensures some { IfSome result (λ number. IsLeastDueFrom (both self.now) first now number) }
+        ensures none { IfNone result ((number : ℕ) → first ≤ number → IsDue (both self.now) now number → ⊥) }
     {
-        let left_is_due = self.left.bounds().least <= now;
-        if now < self.bounds.least {
-            None
-        } else if left_is_due {
-            self.left.due_least(now)
+        if let Some(number) = self.left.due_from(first, now) {
+            Some(number)
         } else {
-            self.right.due_least(now)
+            self.right.due_from(first, now)
         }
     }
 
@@ -181,6 +200,22 @@ impl Fork {
         was
     }
 
+    /// Gives a number another moment, or none, on its side of the split; says whether it has the number.
+    #[cycle(set)]
+    fn set(&mut self, number: u64, due: Option<u64>) -> bool
+        ensures was { IsTrue result ↔ IsSome (due_of (both self.old) number) }
+        ensures new { both self.new ≡ changed (both self.old) number due }
+    {
+        let was = if number < self.split {
+            self.left.set(number, due)
+        } else {
+            self.right.set(number, due)
+        };
+        let told = self.left.bounds().joined(self.right.bounds());
+        self.bounds = told;
+        was
+    }
+
     /// What is left of a fork in which this number is alone on one side.
     fn other_side(self, number: u64) -> Tree
         requires { (is_only number self.0 ≡ true) ⊎ (is_only number self.1 ≡ true) }
@@ -198,7 +233,7 @@ impl Fork {
 }
 
 impl Tree {
-    ghost use Rattle.deferral.specs.Tree.{IsBeside, IsBoundsOf, IsForked, IsHalf, both, is_only, least_due, waiting_in};
+    ghost use Rattle.deferral.specs.Tree.{IsBeside, IsBoundsOf, IsForked, IsHalf, both, is_only, waiting_in};
 
     /// What it tells of its numbers.
     pub fn bounds(&self) -> Bounds
@@ -235,21 +270,21 @@ impl Tree {
         }
     }
 
-    /// The least number whose moment is at or before this one.
-    #[cycle(due_least)]
-    pub fn due_least(&self, now: u64) -> Option<u64>
-        ensures some { IfSome result (λ number. IsLeastDue (waiting_in self.now) now number) }
-        ensures none { IfNone result (now < least_due (waiting_in self.now)) }
+    /// The least number at or above the first whose moment is at or before now.
+    #[cycle(due_from)]
+    pub fn due_from(&self, first: u64, now: u64) -> Option<u64>
+        ensures some { IfSome result (λ number. IsLeastDueFrom (waiting_in self.now) first now number) }
+        ensures none { IfNone result ((number : ℕ) → first ≤ number → IsDue (waiting_in self.now) now number → ⊥) }
     {
+        // A tree whose bounds rule it out is left at once. Any other has such a number, unless the first is within its bounds,
+        // and of those there is one at each depth at most.
+        let Bounds { last, least, .. } = self.bounds();
+        if last < first || !is_by(least, now) {
+            return None;
+        }
         match self {
-            Tree::Leaf(entry) => {
-                if entry.due <= now {
-                    Some(entry.number)
-                } else {
-                    None
-                }
-            }
-            Tree::Fork(fork) => fork.due_least(now),
+            Tree::Leaf(entry) => Some(entry.number),
+            Tree::Fork(fork) => fork.due_from(first, now),
         }
     }
 
@@ -317,7 +352,7 @@ impl Tree {
         ensures had { IsSome (due_of (waiting_in self.old) number) }
         ensures new { waiting_in self.new ≡ removed (waiting_in self.old) number }
     {
-        let placeholder = Tree::Leaf(Entry { number, due: 0 });
+        let placeholder = Tree::Leaf(Entry { number, due: None });
         match mem::replace(self, placeholder) {
             Tree::Leaf(_) => unreachable!(),
             Tree::Fork(fork) => *self = Box::into_inner(fork).other_side(number),
@@ -341,6 +376,24 @@ impl Tree {
                     fork.remove(number)
                 }
             }
+        }
+    }
+
+    /// Gives a number another moment, or none; says whether the tree has it.
+    #[cycle(set)]
+    pub fn set(&mut self, number: u64, due: Option<u64>) -> bool
+        ensures was { IsTrue result ↔ IsSome (due_of (waiting_in self.old) number) }
+        ensures new { waiting_in self.new ≡ changed (waiting_in self.old) number due }
+    {
+        match self {
+            Tree::Leaf(entry) => {
+                let has = entry.number == number;
+                if has {
+                    entry.due = due;
+                }
+                has
+            }
+            Tree::Fork(fork) => fork.set(number, due),
         }
     }
 }

@@ -9,33 +9,7 @@ use Rattle.std.proofs.lemmas.List.Concat.{flat_map-append}
 use Rattle.std.proofs.lemmas.List.Elements.{All-append, All-cons, All-head, All-nil, All-push, All-tail}
 use Rattle.std.specs.declared.vec.Vec.{Vec}
 use Rattle.funnel.specs.Stream.{BeginsWithLine, Held, IsUnended, Splits, StandsFor, clipped, ended}
-
-head : (octet : ℕ) (octets : List ℕ) → IsUnended (octet ∷ octets) → octet ≢ 10
-head octet octets unended = All-head (λ o. o ≢ 10) octet octets unended
-
-tail : (octet : ℕ) (octets : List ℕ) → IsUnended (octet ∷ octets) → IsUnended octets
-tail octet octets unended = All-tail (λ o. o ≢ 10) octet octets unended
-
--- octets have one first line, and one rest behind it
-first-once : (a b x y : List ℕ) → IsUnended a → IsUnended b → a ++ 10 ∷ x ≡ b ++ 10 ∷ y → (a ≡ b) × (x ≡ y)
-first-once [] [] x y p q e = (refl, cc)
-first-once [] (o ∷ b) x y p q e = let same : o ≡ 10 = cc in absurd (head o b q same)
-first-once (o ∷ a) [] x y p q e = let same : o ≡ 10 = cc in absurd (head o a p same)
-first-once (o ∷ a) (c ∷ b) x y p q e =
-    let same : o ≡ c = cc in
-    let behind : a ++ 10 ∷ x ≡ b ++ 10 ∷ y = cc in
-    let cut = first-once a b x y (tail o a p) (tail c b q) behind in
-    let others : a ≡ b = cut.0 in
-    (cc, cut.1)
-
--- a whole line has its LF
-whole-has-end : (line behind : List ℕ) → IsUnended (line ++ 10 ∷ behind) → ⊥
-whole-has-end [] behind p = head 10 behind p refl
-whole-has-end (o ∷ line) behind p = whole-has-end line behind (tail o (line ++ 10 ∷ behind) p)
-
--- the first of some lines
-first-line : (line : List ℕ) (lines : List (List ℕ)) (rest : List ℕ) → ended (line ∷ lines) ++ rest ≡ line ++ 10 ∷ (ended lines ++ rest)
-first-line line lines rest = append_assoc (line ++ 10 ∷ []) (ended lines) rest ∙ append_assoc line (10 ∷ []) (ended lines ++ rest)
+use Rattle.funnel.specs.StreamLaws.{ended_first, ended_push, first_line_once, whole_line_ends}
 
 each-head : (line : List ℕ) (lines : List (List ℕ)) → All IsUnended (line ∷ lines) → IsUnended line
 each-head line lines each = All-head (λ l. IsUnended l) line lines each
@@ -46,11 +20,11 @@ each-tail line lines each = All-tail (λ l. IsUnended l) line lines each
 -- octets have one list of lines and one rest
 pub lines-once : (a b : List (List ℕ)) (r s : List ℕ) → All IsUnended a → All IsUnended b → IsUnended r → IsUnended s → ended a ++ r ≡ ended b ++ s → (a ≡ b) × (r ≡ s)
 lines-once [] [] r s p q u v e = (refl, e)
-lines-once [] (line ∷ b) r s p q u v e = absurd (whole-has-end line (ended b ++ s) (subst (λ o. IsUnended o) (e ∙ first-line line b s) u))
-lines-once (line ∷ a) [] r s p q u v e = absurd (whole-has-end line (ended a ++ r) (subst (λ o. IsUnended o) (sym e ∙ first-line line a r) v))
+lines-once [] (line ∷ b) r s p q u v e = absurd (whole_line_ends line (ended b ++ s) (subst (λ o. IsUnended o) (e ∙ ended_first line b s) u))
+lines-once (line ∷ a) [] r s p q u v e = absurd (whole_line_ends line (ended a ++ r) (subst (λ o. IsUnended o) (sym e ∙ ended_first line a r) v))
 lines-once (line ∷ a) (other ∷ b) r s p q u v e =
     let cut =
-    first-once line other (ended a ++ r) (ended b ++ s) (each-head line a p) (each-head other b q) (sym (first-line line a r) ∙ e ∙ first-line other b s)
+    first_line_once line other (ended a ++ r) (ended b ++ s) (each-head line a p) (each-head other b q) (sym (ended_first line a r) ∙ e ∙ ended_first other b s)
     in
     let first : line ≡ other = cut.0 in
     let later = lines-once a b r s (each-tail line a p) (each-tail other b q) u v cut.1 in
@@ -71,7 +45,7 @@ splits-ended : (fed end behind : List ℕ) (lines more : List (List ℕ)) (rest 
 splits-ended fed end behind lines more rest last s unended t =
     let line = rest ++ end in
     let parts : rest ++ (end ++ 10 ∷ behind) ≡ ended (line ∷ more) ++ last =
-    sym (append_assoc rest end (10 ∷ behind)) ∙ ap (λ octets. line ++ 10 ∷ octets) t.whole ∙ sym (first-line line more last)
+    sym (append_assoc rest end (10 ∷ behind)) ∙ ap (λ octets. line ++ 10 ∷ octets) t.whole ∙ sym (ended_first line more last)
     in
     let all : ended (lines ++ line ∷ more) ≡ ended lines ++ ended (line ∷ more) = flat_map-append (λ l. l ++ 10 ∷ []) lines (line ∷ more) in
     record {
@@ -167,18 +141,12 @@ cut-none octets = record { lines = []; whole = refl; each = All-nil (λ l. IsUne
 
 pub cut-more : (octets left line behind : List ℕ) (kept more : List (List ℕ)) → CutTo octets left kept → BeginsWithLine left line behind → more ≡ kept ++ clipped line ∷ []
     → CutTo octets behind more
-cut-more octets left line behind kept more c (parts, unended) holds =
-    let last : ended (line ∷ []) ≡ line ++ 10 ∷ [] = append-nil (line ++ 10 ∷ []) in
-    let all : ended (c.lines ++ line ∷ []) ≡ ended c.lines ++ (line ++ 10 ∷ []) =
-    flat_map-append (λ l. l ++ 10 ∷ []) c.lines (line ∷ []) ∙ ap (λ l. ended c.lines ++ l) last
-    in
-    let first : left ≡ (line ++ 10 ∷ []) ++ behind = parts ∙ sym (append_assoc line (10 ∷ []) behind) in
-    record {
-      lines = c.lines ++ line ∷ [];
-      whole = c.whole ∙ ap (λ l. ended c.lines ++ l) first ∙ sym (append_assoc (ended c.lines) (line ++ 10 ∷ []) behind) ∙ ap (λ l. l ++ behind) (sym all);
-      each = All-push (λ l. IsUnended l) c.lines line c.each unended;
-      holds = holds ∙ ap (λ ls. ls ++ clipped line ∷ []) c.holds ∙ sym (map_push clipped c.lines line);
-    }
+cut-more octets left line behind kept more c (parts, unended) holds = record {
+  lines = c.lines ++ line ∷ [];
+  whole = ended_push octets left line behind c.lines c.whole parts;
+  each = All-push (λ l. IsUnended l) c.lines line c.each unended;
+  holds = holds ∙ ap (λ ls. ls ++ clipped line ∷ []) c.holds ∙ sym (map_push clipped c.lines line);
+}
 
 -- a cutter that was fed these octets alone
 pub stands-cut : (held : Held) (octets left : List ℕ) → CutTo octets left held.lines → IsUnended left → held.rest ≡ clipped left → StandsFor held octets []

@@ -5,8 +5,8 @@ use Rattle.funnel.specs.declared.line.LineFault.{LineFault}
 use Rattle.funnel.specs.declared.line.LineFault.TheVariants.{NoToken, BadToken, BadId, TooLong, NoMemory}
 use Rattle.funnel.specs.Line.{IsFunnelLine, HasFault, LacksId, longest_line, without_cr}
 use Rattle.funnel.specs.Names.{is_msg_id, is_token, is_peer_name}
-use Rattle.funnel.specs.Words.{HasWords, IsGap}
-use Rattle.funnel.specs.WordLaws.{IsFirstWord, has_words, words_from_first, words_once}
+use Rattle.funnel.specs.Words.{HasWords, IsFirstWord, IsGap}
+use Rattle.funnel.specs.WordLaws.{has_words, words_from_first, words_once}
 
 -- The line's own fault: it has it, and it is no want of memory.
 pub record IsFaultOf (line : List ℕ) (fault : LineFault) : Type 0 where

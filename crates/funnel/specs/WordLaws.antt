@@ -4,19 +4,11 @@ use Rattle.std.specs.List.{list_all, prefix_len}
 use Rattle.std.proofs.Common.{zero, suc, sym, inl, inr, ◌∙◌, ap, subst, arith, one-add, length-append, append-nil}
 use Rattle.std.proofs.lemmas.Bool.{cases_lt, and_parts, and_from, not_from_true}
 use Rattle.std.proofs.lemmas.List.{append_assoc, take-append-drop, take_at, drop_at, length-drop, drop_all, take_all}
-use Rattle.funnel.specs.Words.{is_blank, IsGap, IsWord, EndsWord, HasWords}
+use Rattle.funnel.specs.Words.{is_blank, IsGap, IsWord, EndsWord, IsFirstWord, HasWords}
 
 -- neither space nor tab
 abbrev pub is_solid : ℕ → Bool
 is_solid octet = not (is_blank octet)
-
--- The text begins with this word, but for blanks before it, and behind the word stands this rest.
-pub record IsFirstWord (text word rest : List ℕ) : Type 0 where
-  pub gap : List ℕ
-  pub parts : text ≡ gap ++ word ++ rest
-  pub blank : IsGap gap
-  pub whole : IsWord word
-  pub ends : EndsWord rest
 
 -- the first octet, if there is one, fails
 abbrev pub Stops : (ℕ → Bool) → List ℕ → Type 0

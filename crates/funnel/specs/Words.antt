@@ -20,6 +20,14 @@ abbrev pub EndsWord : List ℕ → Type 0
 EndsWord [] = Unit {0}
 EndsWord (octet ∷ rest) = IsTrue (is_blank octet)
 
+-- The text begins with this word, but for blanks before it, and behind the word stands this rest.
+pub record IsFirstWord (text word rest : List ℕ) : Type 0 where
+  pub gap : List ℕ
+  pub parts : text ≡ gap ++ word ++ rest
+  pub blank : IsGap gap
+  pub whole : IsWord word
+  pub ends : EndsWord rest
+
 -- the line has these words, in order, and blanks alone besides
 abbrev pub HasWords : List ℕ → List (List ℕ) → Type 0
 HasWords line [] = IsGap line

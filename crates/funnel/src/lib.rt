@@ -2,8 +2,9 @@
 //!
 //! May touch nothing but memory; it stands on `memchr` for the search for line ends.
 //! The crates above use the three names as lists of octets that keep their form (`specs/Names.antt`), `read_line`, which
-//! reads a line exactly where `specs/Line.antt` has it and else names the first fault, and `LineCutter`, which gives the
-//! lines of what it was fed however that was cut (`specs/Stream.antt`).
+//! reads a line exactly where `specs/Line.antt` has it and else names the first fault, `LineCutter`, which gives the
+//! lines of what it was fed however that was cut (`specs/Stream.antt`), and `next_word`, which takes the words of any text
+//! one by one (`specs/Words.antt`).
 #![tactic(auto)]
 
 mod cutter;
@@ -14,6 +15,8 @@ mod tests;
 mod words;
 
 pub use cutter::{LineCutter, splits_once};
-pub use line::{FunnelLine, LineFault, read_line, reads_once};
+pub use line::{FunnelLine, LineFault, read_line, reads_once, without_cr};
 pub use names::{MsgId, PeerName, Token};
+/// Memory was refused.
 pub use std::alloc::AllocError as NoMemory;
+pub use words::next_word;

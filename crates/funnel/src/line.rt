@@ -132,8 +132,10 @@ impl<'a> Parts<'a> {
     }
 }
 
-// Drops one CR at the end.
-fn without_cr(line: &[u8]) -> &[u8]
+/// A line without the one CR that may stand last: of two CRs at its end the first stays.
+///
+/// The line is what stands before its LF, so that one CR there belongs to the line's end (RFC 3977, section 3.1).
+pub fn without_cr(line: &[u8]) -> &[u8]
     ensures { result.now ≡ without_cr line.now }
 {
     match line {

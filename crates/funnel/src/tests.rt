@@ -1,7 +1,7 @@
 // Worked lines and names.
 ghost use Rattle.std.specs.Prelude.{◌<◌};
 
-use crate::{LineCutter, LineFault, MsgId, PeerName, Token, read_line};
+use crate::{LineCutter, LineFault, MsgId, PeerName, Token, next_word, read_line, without_cr};
 use std::alloc::{AllocError, Global};
 use std::test::Fail;
 
@@ -78,6 +78,25 @@ fn reads_names(rt: HostRuntime) -> Result<(), Fail> {
     assert_eq!(rt; name.bytes(), b"one.example".as_slice());
     assert!(rt; PeerName::read(rt.alloc(), b".x")?.is_none());
     Ok(())
+}
+
+#[test]
+fn takes_the_words_of_a_text_one_by_one(rt: HostRuntime) -> Result<(), Fail> {
+    let (word, behind) = next_word(b" \ta b\t").ok_or("a word")?;
+    assert_eq!(rt; word, b"a".as_slice());
+    assert_eq!(rt; behind, b" b\t".as_slice());
+    let (word, behind) = next_word(behind).ok_or("a second word")?;
+    assert_eq!(rt; word, b"b".as_slice());
+    assert_eq!(rt; behind, b"\t".as_slice());
+    assert!(rt; next_word(behind).is_none());
+    Ok(())
+}
+
+#[test]
+fn drops_one_cr_at_the_end(rt: HostRuntime) {
+    assert_eq!(rt; without_cr(b"a\r\r"), b"a\r".as_slice());
+    assert_eq!(rt; without_cr(b"a\rb"), b"a\rb".as_slice());
+    assert_eq!(rt; without_cr(b""), b"".as_slice());
 }
 
 #[test]

@@ -1,43 +1,22 @@
 -- The first LF of some octets.
-use Rattle.std.proofs.Common.{◌≡◌, ◌≢◌, ◌+◌, ◌-◌, ◌≤◌, ◌<◌, ℕ, List, [], ◌∷◌, ◌++◌, length, get_or, take, drop, sym, ◌∙◌, ap, refl, arith, subst, length-append, append_assoc}
+use Rattle.std.proofs.Common.{◌≡◌, ◌≢◌, ◌+◌, ◌-◌, ◌≤◌, ◌<◌, ℕ, List, [], ◌∷◌, ◌++◌, length, get_or, take, drop, sym, ◌∙◌, ap, arith, subst, length-append, append_assoc}
 use Rattle.std.proofs.Common.{None, Some, inl, inr}
 use Rattle.std.proofs.lemmas.Bool.{cases_lt, eq-eqb, eqb-true}
 use Rattle.std.proofs.lemmas.List.{take-append-drop, length-take, length-take-le, length-drop, get_or-take, get_or-drop, drop_at, drop_more, take_at, take_rest}
-use Rattle.std.proofs.lemmas.List.Elements.{All-head, All-tail, All-from_get_or, All-take}
+use Rattle.std.proofs.lemmas.List.Elements.{All-from_get_or, All-take}
+use Rattle.funnel.specs.Stream.{IsUnended}
+use Rattle.funnel.specs.StreamLaws.{unended_head, unended_tail}
 use Rattle.memchr.specs.Find.{IsFirstByte, Passes, is_byte}
 use Rattle.reply_reader.specs.Search.{EndsAt, IsSearched}
-use Rattle.reply_reader.specs.Stream.{IsShort, IsTooLong, LacksEnd, longest_reply}
-
-head : (octet : ℕ) (octets : List ℕ) → LacksEnd (octet ∷ octets) → octet ≢ 10
-head octet octets lacks = All-head (λ o. o ≢ 10) octet octets lacks
-
-tail : (octet : ℕ) (octets : List ℕ) → LacksEnd (octet ∷ octets) → LacksEnd octets
-tail octet octets lacks = All-tail (λ o. o ≢ 10) octet octets lacks
-
--- octets have one first line and one rest
-pub first-once : (a b x y : List ℕ) → LacksEnd a → LacksEnd b → a ++ 10 ∷ x ≡ b ++ 10 ∷ y → (a ≡ b) × (x ≡ y)
-first-once [] [] x y p q e = (refl, cc)
-first-once [] (o ∷ b) x y p q e = let same : o ≡ 10 = cc in absurd (head o b q same)
-first-once (o ∷ a) [] x y p q e = let same : o ≡ 10 = cc in absurd (head o a p same)
-first-once (o ∷ a) (c ∷ b) x y p q e =
-    let same : o ≡ c = cc in
-    let behind : a ++ 10 ∷ x ≡ b ++ 10 ∷ y = cc in
-    let rest = first-once a b x y (tail o a p) (tail c b q) behind in
-    let others : a ≡ b = rest.0 in
-    (cc, rest.1)
-
--- a whole line has its LF
-pub whole-has-end : (line rest : List ℕ) → LacksEnd (line ++ 10 ∷ rest) → ⊥
-whole-has-end [] rest p = head 10 rest p refl
-whole-has-end (o ∷ line) rest p = whole-has-end line rest (tail o (line ++ 10 ∷ rest) p)
+use Rattle.reply_reader.specs.Stream.{IsShort, IsTooLong, longest_reply}
 
 -- octets without LF that reach past the first line have its LF
-pub past-has-end : (front back line rest : List ℕ) → front ++ back ≡ line ++ 10 ∷ rest → length line < length front → LacksEnd front → ⊥
+pub past-has-end : (front back line rest : List ℕ) → front ++ back ≡ line ++ 10 ∷ rest → length line < length front → IsUnended front → ⊥
 past-has-end [] back line rest e longer p = absurd (omega (arith, longer))
-past-has-end (o ∷ front) back [] rest e longer p = let same : o ≡ 10 = cc in head o front p same
+past-has-end (o ∷ front) back [] rest e longer p = let same : o ≡ 10 = cc in unended_head o front p same
 past-has-end (o ∷ front) back (c ∷ line) rest e longer p =
     let behind : front ++ back ≡ line ++ 10 ∷ rest = cc in
-    past-has-end front back line rest behind (omega (arith, longer)) (tail o front p)
+    past-has-end front back line rest behind (omega (arith, longer)) (unended_tail o front p)
 
 -- a first line that is short is no longer one
 pub short-is-not-long : (unread line rest : List ℕ) → unread ≡ line ++ 10 ∷ rest → IsShort line → IsTooLong unread → ⊥
@@ -49,7 +28,7 @@ pub part-is-not-long : (unread : List ℕ) → IsShort unread → IsTooLong unre
 part-is-not-long unread short (front, back, parts, len, lacks) = omega (arith, short.short, len, ap length parts, length-append front back)
 
 -- the front of enough octets is too long, where no LF stands in it
-pub long-front : (unread : List ℕ) → longest_reply ≤ length unread → LacksEnd unread → IsTooLong unread
+pub long-front : (unread : List ℕ) → longest_reply ≤ length unread → IsUnended unread → IsTooLong unread
 long-front unread long lacks =
     (take longest_reply unread, drop longest_reply unread, sym (take-append-drop longest_reply unread), length-take-le longest_reply unread long, All-take (λ o. o ≢ 10) longest_reply unread lacks)
 
@@ -101,7 +80,7 @@ module _ (octets whole hay : List ℕ) (first searched : ℕ) (so_far : IsSearch
       (omega (arith, none.high, so_far.high, hay-length), sym (hay-at place) ∙ eqb-true (get_or hay place 0) 10 here)
 
 -- the octets that are unread, up to where the search came
-lacks-to : (octets : List ℕ) (first searched : ℕ) → IsSearched octets first searched → LacksEnd (take (searched - first) (drop first octets))
+lacks-to : (octets : List ℕ) (first searched : ℕ) → IsSearched octets first searched → IsUnended (take (searched - first) (drop first octets))
 lacks-to octets first searched so_far =
     let n : ℕ = searched - first in
     All-from_get_or (λ o. o ≢ 10) (take (searched - first) (drop first octets)) 0 (λ k below is.
@@ -127,10 +106,10 @@ ends-at octets unread first searched view so_far within here =
     )
 
 -- where the search came to the end
-pub lacks-end : (octets unread : List ℕ) (first : ℕ) → drop first octets ≡ unread → IsSearched octets first (length octets) → LacksEnd unread
+pub lacks-end : (octets unread : List ℕ) (first : ℕ) → drop first octets ≡ unread → IsSearched octets first (length octets) → IsUnended unread
 lacks-end octets unread first view so_far =
     let whole : take (length octets - first) (drop first octets) ≡ unread = take_rest octets first ∙ view in
-    subst (λ l. LacksEnd l) whole (lacks-to octets first (length octets) so_far)
+    subst (λ l. IsUnended l) whole (lacks-to octets first (length octets) so_far)
 
 -- the first line, cut off at its LF
 pub whole-line : (unread line rest : List ℕ) (place : ℕ) → EndsAt unread place → place < longest_reply → line ≡ take place unread → rest ≡ drop (place + 1) unread
@@ -141,5 +120,5 @@ whole-line unread line rest place (front, back, parts, lacks, is) short line-is 
     let len : length (front ++ 10 ∷ []) ≡ place + 1 = omega (arith, length-append front (10 ∷ []), is) in
     let behind : rest ≡ back = rest-is ∙ ap (λ u. drop (place + 1) u) split ∙ drop_at (front ++ 10 ∷ []) back (place + 1) len in (
       parts ∙ ap (λ l. l ++ 10 ∷ back) (sym first) ∙ ap (λ r. line ++ 10 ∷ r) (sym behind),
-      record { line = subst (λ l. LacksEnd l) (sym first) lacks; short = omega (arith, ap length first, is, short) },
+      record { line = subst (λ l. IsUnended l) (sym first) lacks; short = omega (arith, ap length first, is, short) },
     )

@@ -2,19 +2,21 @@
 use Rattle.std.proofs.Common.{◌≡◌, ◌≢◌, ◌⊎◌, ℕ, Option, Some, None, Result, Ok, Err, List, [], ◌∷◌, ◌++◌, sym, ◌∙◌, refl, inl, inr, subst}
 use Rattle.std.specs.Prelude.{◌↔◌}
 use Rattle.std.proofs.lemmas.List.{append-nil}
+use Rattle.funnel.specs.Stream.{IsUnended}
+use Rattle.funnel.specs.StreamLaws.{first_line_once, whole_line_ends}
 use Rattle.reply_reader.specs.Reply.{IsNoReply, IsReplyLine}
-use Rattle.reply_reader.specs.Stream.{AtWork, BeginsWithNoReply, BeginsWithReply, Broken, Given, Held, IsFaulty, IsShort, IsTooLong, LacksEnd, Reads, StandsFor, Working}
+use Rattle.reply_reader.specs.Stream.{AtWork, BeginsWithNoReply, BeginsWithReply, Broken, Given, Held, IsFaulty, IsShort, IsTooLong, Reads, StandsFor, Working}
 use Rattle.reply_reader.specs.Told.{NextIs, given_of, told}
 use Rattle.reply_reader.specs.declared.fault.ReplyFault.{ReplyFault}
 use Rattle.reply_reader.specs.declared.fault.ReplyFault.TheVariants.{TooLong, NoCode, NoMemory, Failed}
 use Rattle.reply_reader.specs.declared.line.Reply.{Reply}
-use Rattle.reply_reader.proofs.Ends.{first-once, part-is-not-long, short-is-not-long, whole-has-end}
+use Rattle.reply_reader.proofs.Ends.{part-is-not-long, short-is-not-long}
 use Rattle.reply_reader.proofs.Lines.{line-apart}
 use Rattle.reply_reader.proofs.Readings.{reads-reply}
 
 -- octets that begin with a whole line do not wait for an LF
 whole-is-no-part : (unread line rest : List ℕ) → unread ≡ line ++ 10 ∷ rest → IsShort unread → ⊥
-whole-is-no-part unread line rest e part = whole-has-end line rest (subst (λ o. LacksEnd o) e part.line)
+whole-is-no-part unread line rest e part = whole_line_ends line rest (subst (λ o. IsUnended o) e part.line)
 
 reply-is-no-part : (unread rest : List ℕ) (given : Given) → BeginsWithReply unread given rest → IsShort unread → ⊥
 reply-is-no-part unread rest given (line, e, this) part = whole-is-no-part unread line rest e part
@@ -30,7 +32,7 @@ no-reply-is-not-long unread (line, rest, e, short, none) long = short-is-not-lon
 
 reply-is-no-no-reply : (unread rest : List ℕ) (given : Given) → BeginsWithReply unread given rest → BeginsWithNoReply unread → ⊥
 reply-is-no-no-reply unread rest given (line, e, this) (line', rest', f, short, none) =
-    let cut = first-once line line' rest rest' this.0.line short.line (sym e ∙ f) in
+    let cut = first_line_once line line' rest rest' this.0.line short.line (sym e ∙ f) in
     let reads : IsReplyLine line' given.code given.id given.text = subst (λ l. IsReplyLine l given.code given.id given.text) cut.0 this.1 in
     line-apart line' given.code given.id given.text reads none
 

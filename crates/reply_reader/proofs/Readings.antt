@@ -1,11 +1,10 @@
 -- Two readings of the same octets agree.
 use Rattle.std.proofs.Common.{◌≡◌, ◌⊎◌, ℕ, Option, List, [], ◌∷◌, ◌++◌, length, take, sym, ◌∙◌, ap, refl, inl, inr, subst, append_assoc}
 use Rattle.std.specs.List.{AllZip}
-use Rattle.std.proofs.lemmas.List.{append-nil}
-use Rattle.std.proofs.lemmas.List.Concat.{flat_map-append}
+use Rattle.funnel.specs.Stream.{IsUnended, ended}
+use Rattle.funnel.specs.StreamLaws.{ended_first, ended_push, first_line_once, whole_line_ends}
 use Rattle.reply_reader.specs.Reply.{IsReplyLine}
-use Rattle.reply_reader.specs.Stream.{BeginsWithNoReply, BeginsWithReply, Given, IsAnswer, IsFaulty, IsTooLong, LacksEnd, Held, Reads, StandsFor, Broken, Working, after_feed, ended}
-use Rattle.reply_reader.proofs.Ends.{first-once, whole-has-end}
+use Rattle.reply_reader.specs.Stream.{BeginsWithNoReply, BeginsWithReply, Given, IsAnswer, IsFaulty, IsTooLong, Held, Reads, StandsFor, Broken, Working, after_feed}
 use Rattle.reply_reader.proofs.Lines.{line-once}
 
 -- a reading of nothing
@@ -44,13 +43,7 @@ answers-push (l ∷ lines) (g ∷ given) line more all this = (all.0, answers-pu
 pub reads-reply : (fed unread rest : List ℕ) (given : List Given) (more : Given) → Reads fed given unread → BeginsWithReply unread more rest → Reads fed (given ++ more ∷ []) rest
 reads-reply fed unread rest given more r (line, parts, this) = record {
   lines = r.lines ++ line ∷ [];
-  whole =
-      let last : ended (line ∷ []) ≡ line ++ 10 ∷ [] = append-nil (line ++ 10 ∷ []) in
-      let lines : ended (r.lines ++ line ∷ []) ≡ ended r.lines ++ (line ++ 10 ∷ []) =
-      flat_map-append (λ l. l ++ 10 ∷ []) r.lines (line ∷ []) ∙ ap (λ l. ended r.lines ++ l) last
-      in
-      let behind : unread ≡ (line ++ 10 ∷ []) ++ rest = parts ∙ sym (append_assoc line (10 ∷ []) rest) in
-      r.whole ∙ ap (λ u. ended r.lines ++ u) behind ∙ sym (append_assoc (ended r.lines) (line ++ 10 ∷ []) rest) ∙ ap (λ l. l ++ rest) (sym lines);
+  whole = ended_push fed unread line rest r.lines r.whole parts;
   answers = answers-push r.lines given line more r.answers this;
 }
 
@@ -62,11 +55,6 @@ answer-once line line' a b e p q =
     let moved : IsReplyLine line b.code b.id b.text = subst (λ l. IsReplyLine l b.code b.id b.text) (sym e) q.1 in
     let same = line-once line a.code b.code a.id b.id a.text b.text p.1 moved in
     ap (λ code. made code a.id a.text) same.0 ∙ ap (λ id. made b.code id a.text) same.1 ∙ ap (λ text. made b.code b.id text) same.2
-
--- the first line of ended lines
-first-line : (line : List ℕ) (lines : List (List ℕ)) (unread : List ℕ) → ended (line ∷ lines) ++ unread ≡ line ++ 10 ∷ (ended lines ++ unread)
-first-line line lines unread =
-    append_assoc (line ++ 10 ∷ []) (ended lines) unread ∙ append_assoc line (10 ∷ []) (ended lines ++ unread)
 
 begin-step : (x y : Given) (a b : List Given) → x ≡ y → (a ≡ take (length a) b) ⊎ (b ≡ take (length b) a)
     → ((x ∷ a) ≡ take (length (x ∷ a)) (y ∷ b)) ⊎ ((y ∷ b) ≡ take (length (y ∷ b)) (x ∷ a))
@@ -83,24 +71,24 @@ one-begins (line ∷ k) [] (x ∷ a) [] u v p q e = inr refl
 one-begins (line ∷ k) [] (x ∷ a) (y ∷ b) u v p q e = absurd q
 one-begins (line ∷ k) (line' ∷ l) (x ∷ a) [] u v p q e = absurd q
 one-begins (line ∷ k) (line' ∷ l) (x ∷ a) (y ∷ b) u v p q e =
-    let cut = first-once line line' (ended k ++ u) (ended l ++ v) p.0.0.line q.0.0.line (sym (first-line line k u) ∙ e ∙ first-line line' l v) in
+    let cut = first_line_once line line' (ended k ++ u) (ended l ++ v) p.0.0.line q.0.0.line (sym (ended_first line k u) ∙ e ∙ ended_first line' l v) in
     begin-step x y a b (answer-once line line' x y cut.0 p.0 q.0) (one-begins k l a b u v p.1 q.1 cut.1)
 
 -- of two readings that leave no whole line, both are the same
-pub both-same : (k l : List (List ℕ)) (a b : List Given) (u v : List ℕ) → AllZip IsAnswer k a → AllZip IsAnswer l b → LacksEnd u → LacksEnd v → ended k ++ u ≡ ended l ++ v
+pub both-same : (k l : List (List ℕ)) (a b : List Given) (u v : List ℕ) → AllZip IsAnswer k a → AllZip IsAnswer l b → IsUnended u → IsUnended v → ended k ++ u ≡ ended l ++ v
     → (a ≡ b) × (u ≡ v)
 both-same [] [] [] [] u v p q s t e = (refl, e)
 both-same [] [] [] (y ∷ b) u v p q s t e = absurd q
 both-same [] l (x ∷ a) b u v p q s t e = absurd p
 both-same [] (line ∷ l) [] [] u v p q s t e = absurd q
 both-same [] (line ∷ l) [] (y ∷ b) u v p q s t e =
-    absurd (whole-has-end line (ended l ++ v) (subst (λ o. LacksEnd o) (e ∙ first-line line l v) s))
+    absurd (whole_line_ends line (ended l ++ v) (subst (λ o. IsUnended o) (e ∙ ended_first line l v) s))
 both-same (line ∷ k) l [] b u v p q s t e = absurd p
 both-same (line ∷ k) [] (x ∷ a) b u v p q s t e =
-    absurd (whole-has-end line (ended k ++ u) (subst (λ o. LacksEnd o) (sym e ∙ first-line line k u) t))
+    absurd (whole_line_ends line (ended k ++ u) (subst (λ o. IsUnended o) (sym e ∙ ended_first line k u) t))
 both-same (line ∷ k) (line' ∷ l) (x ∷ a) [] u v p q s t e = absurd q
 both-same (line ∷ k) (line' ∷ l) (x ∷ a) (y ∷ b) u v p q s t e =
-    let cut = first-once line line' (ended k ++ u) (ended l ++ v) p.0.0.line q.0.0.line (sym (first-line line k u) ∙ e ∙ first-line line' l v) in
+    let cut = first_line_once line line' (ended k ++ u) (ended l ++ v) p.0.0.line q.0.0.line (sym (ended_first line k u) ∙ e ∙ ended_first line' l v) in
     let first : x ≡ y = answer-once line line' x y cut.0 p.0 q.0 in
     let rest = both-same k l a b u v p.1 q.1 s t cut.1 in
     let others : a ≡ b = rest.0 in

@@ -2,9 +2,10 @@
 use Rattle.std.specs.Prelude.{◌≡◌, ◌≢◌, ℕ, Some, None, List, [], ◌∷◌, ◌++◌, codes, refl}
 use Rattle.std.proofs.Common.{arith, lit<, lit≤, inl, inr}
 use Rattle.std.proofs.lemmas.List.Elements.{All-from_recursion}
+use Rattle.funnel.specs.Stream.{IsUnended}
 use Rattle.funnel.specs.Words.{HasWords}
 use Rattle.reply_reader.specs.Reply.{BeginsWithCode, IsNoReply, IsReplyLine}
-use Rattle.reply_reader.specs.Stream.{LacksEnd, Reads, StandsFor, Broken}
+use Rattle.reply_reader.specs.Stream.{Reads, StandsFor, Broken}
 
 text_words : HasWords (codes " ok") (codes "ok" ∷ [])
 text_words = (codes " ", [], refl, refl, record { some = lit< tt; solid = refl }, tt, refl)
@@ -71,10 +72,10 @@ third_is_space code rest p =
 two_digits : IsNoReply (codes "20 x")
 two_digits = third_is_space
 
-code_octets : LacksEnd (codes "200")
+code_octets : IsUnended (codes "200")
 code_octets = All-from_recursion (λ octet. octet ≢ 10) (codes "200") (λ e. cc, (λ e. cc, (λ e. cc, tt)))
 
-rest_octets : LacksEnd (codes "20 x")
+rest_octets : IsUnended (codes "20 x")
 rest_octets = All-from_recursion (λ octet. octet ≢ 10) (codes "20 x") (λ e. cc, (λ e. cc, (λ e. cc, (λ e. cc, tt))))
 
 -- a reply and a half

@@ -1,6 +1,6 @@
 -- The search for the first LF of the octets that a reader holds.
 use Rattle.std.specs.Prelude.{◌≡◌, ◌≢◌, ◌<◌, ◌≤◌, ℕ, List, ◌∷◌, ◌++◌, length, slice_index}
-use Rattle.reply_reader.specs.Stream.{LacksEnd}
+use Rattle.funnel.specs.Stream.{IsUnended}
 
 -- of octets that are unread from `first` on, no LF stands before `searched`
 pub record IsSearched (octets : List ℕ) (first searched : ℕ) : Type 0 where
@@ -10,4 +10,4 @@ pub record IsSearched (octets : List ℕ) (first searched : ℕ) : Type 0 where
 
 -- the first LF of the octets stands at this place
 abbrev pub EndsAt : List ℕ → ℕ → Type 0
-EndsAt octets place = (line rest : List ℕ) × (octets ≡ line ++ 10 ∷ rest) × LacksEnd line × (place ≡ length line)
+EndsAt octets place = (line rest : List ℕ) × (octets ≡ line ++ 10 ∷ rest) × IsUnended line × (place ≡ length line)

@@ -1,6 +1,7 @@
 -- What a reader of reply lines stands for: the octets that it was fed, and the replies that it gave (RFC 3977, section 3.1).
-use Rattle.std.specs.Prelude.{◌≡◌, ◌≢◌, ◌<◌, ◌⊎◌, ℕ, Option, List, [], ◌∷◌, ◌++◌, length}
-use Rattle.std.specs.List.{All, AllZip, flat_map}
+use Rattle.std.specs.Prelude.{◌≡◌, ◌<◌, ◌⊎◌, ℕ, Option, List, ◌∷◌, ◌++◌, length}
+use Rattle.std.specs.List.{AllZip}
+use Rattle.funnel.specs.Stream.{IsUnended, ended}
 use Rattle.reply_reader.specs.Reply.{IsReplyLine, IsNoReply}
 
 -- what a reply says, as plain data: its code, the message-id behind it, and its text
@@ -13,18 +14,10 @@ pub record Given : Type 0 where
 abbrev pub longest_reply : ℕ
 longest_reply = 2048
 
--- no LF stands among the octets
-abbrev pub LacksEnd : List ℕ → Type 0
-LacksEnd octets = All (λ octet. octet ≢ 10) octets
-
 -- octets that may stand before an LF, or that wait for one: no LF, and short enough for one to follow
 pub record IsShort (octets : List ℕ) : Type 0 where
-  pub line : LacksEnd octets
+  pub line : IsUnended octets
   pub short : length octets < longest_reply
-
--- these lines, each with its LF
-abbrev pub ended : List (List ℕ) → List ℕ
-ended lines = flat_map (λ line. line ++ 10 ∷ []) lines
 
 -- the line is short enough, and a reply line that says this
 abbrev pub IsAnswer : List ℕ → Given → Type 0
@@ -46,7 +39,7 @@ BeginsWithNoReply unread = (line rest : List ℕ) × (unread ≡ line ++ 10 ∷ 
 
 -- the octets begin with as many without an LF as a whole line has at most, so that their first line is too long
 abbrev pub IsTooLong : List ℕ → Type 0
-IsTooLong unread = (front rest : List ℕ) × (unread ≡ front ++ rest) × (length front ≡ longest_reply) × LacksEnd front
+IsTooLong unread = (front rest : List ℕ) × (unread ≡ front ++ rest) × (length front ≡ longest_reply) × IsUnended front
 
 -- the octets begin with a fault, after which nothing is read
 abbrev pub IsFaulty : List ℕ → Type 0

@@ -1,13 +1,9 @@
 // One reply line.
-ghost use Rattle.std.specs.Prelude.{◌≡◌, ◌↔◌, ◌≤◌, ◌⊎◌, ℕ, List, Option, length, IfOk, IfErr, IfSome, IfNone, IsErrOf, MatchOption};
-ghost use Rattle.std.specs.List.{prefix_len};
-ghost use Rattle.funnel.specs.Line.{without_cr};
-ghost use Rattle.funnel.specs.Words.{IsGap, is_blank};
-ghost use Rattle.funnel.specs.WordLaws.{IsFirstWord, is_solid};
+ghost use Rattle.std.specs.Prelude.{◌≡◌, ◌↔◌, ◌⊎◌, ℕ, List, Option, IfOk, IfErr, IfSome, IfNone, IsErrOf};
 ghost use Rattle.reply_reader.specs.Reply.{BeginsWithCode, HasId, IsNoReply, IsReplyLine, IsText};
 
 use crate::fault::ReplyFault;
-use funnel::MsgId;
+use funnel::{MsgId, next_word, without_cr};
 use std::alloc::{AllocError, Global};
 
 /// A reply of a news server (RFC 3977, section 3.2).
@@ -27,7 +23,7 @@ pub(crate) fn read_reply(alloc: Global, line: &[u8]) -> Result<Reply, ReplyFault
     ensures no_code { IsErrOf result ReplyFault.NoCode ↔ IsNoReply line.now }
     ensures no_memory { IfErr result (λ fault. (fault ≡ ReplyFault.NoCode) ⊎ ((fault ≡ ReplyFault.NoMemory) × ((code : ℕ) × (id : Option (List ℕ)) × (text : List ℕ) × IsReplyLine line.now code id text))) }
 {
-    let Some(coded) = read_code(body_of(line)) else {
+    let Some(coded) = read_code(without_cr(line)) else {
         return Err(ReplyFault::NoCode);
     };
     let id = read_id(alloc, coded.rest)?;
@@ -37,16 +33,6 @@ pub(crate) fn read_reply(alloc: Global, line: &[u8]) -> Result<Reply, ReplyFault
         id,
         text,
     })
-}
-
-// The line without the one CR that may stand last.
-fn body_of(line: &[u8]) -> &[u8]
-    ensures { result.now ≡ without_cr line.now }
-{
-    match line {
-        [body @ .., b'\r'] => body,
-        _ => line,
-    }
 }
 
 // What stands behind the code, without one space where it begins with one.
@@ -94,41 +80,8 @@ fn read_code(octets: &[u8]) -> Option<Coded<'_>>
 fn read_id(alloc: Global, rest: &[u8]) -> Result<Option<MsgId>, AllocError>
     ensures { IfOk result (λ id. HasId rest.now id) }
 {
-    match first_word(rest) {
-        Some(word) => MsgId::read(alloc, word),
+    match next_word(rest) {
+        Some((word, _)) => MsgId::read(alloc, word),
         None => Ok(None),
     }
-}
-
-// The first word, a longest run of octets other than space and tab.
-fn first_word(octets: &[u8]) -> Option<&[u8]>
-    ensures { MatchOption result (IsGap octets.now) (λ word. (rest : List ℕ) × IsFirstWord octets.now word.now rest) }
-{
-    let octets = &octets[gap_len(octets)..];
-    if octets.is_empty() {
-        return None;
-    }
-    Some(&octets[..word_len(octets)])
-}
-
-// How many blanks stand first.
-fn gap_len(octets: &[u8]) -> usize
-    ensures value { result ≡ prefix_len is_blank octets.now }
-    ensures bound { result ≤ length octets.now }
-{
-    octets.iter().take_while(|octet| is_blank(**octet)).count()
-}
-
-// How many octets stand before the first blank.
-fn word_len(octets: &[u8]) -> usize
-    ensures value { result ≡ prefix_len is_solid octets.now }
-    ensures bound { result ≤ length octets.now }
-{
-    octets.iter().take_while(|octet| !is_blank(**octet)).count()
-}
-
-fn is_blank(octet: u8) -> bool
-    ensures { result ≡ is_blank octet }
-{
-    octet == b' ' || octet == b'\t'
 }

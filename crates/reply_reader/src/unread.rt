@@ -1,7 +1,7 @@
 // The octets that were fed and are not read yet.
 ghost use Rattle.std.specs.Prelude.{◌≡◌, ◌≤◌, ◌++◌, [], ℕ, List, length, take, drop, OnOk, OnErr, MatchOption};
+ghost use Rattle.funnel.specs.Stream.{IsUnended};
 ghost use Rattle.reply_reader.specs.Search.{EndsAt, IsSearched};
-ghost use Rattle.reply_reader.specs.Stream.{LacksEnd};
 
 use memchr::memchr;
 use std::alloc::{AllocError, Global};
@@ -74,7 +74,7 @@ impl Unread {
     // The place of the first LF, counted from the first octet.
     pub(crate) fn first_end(&mut self) -> Option<usize>
         ensures same { self.new ≡ self.old }
-        ensures place { MatchOption result (LacksEnd self.old) (λ place. EndsAt self.old place) }
+        ensures place { MatchOption result (IsUnended self.old) (λ place. EndsAt self.old place) }
     {
         match memchr(b'\n', &self.octets[self.searched..]) {
             Some(place) => {

@@ -3,7 +3,7 @@ use Rattle.std.proofs.Common.{◌≡◌, ℕ, true, false, List, [], ◌∷◌, 
 use Rattle.std.proofs.lemmas.Bool.{false_from_ne_true, false≢true}
 use Rattle.funnel.specs.LineLaws.{HasPeers, peers_first, peers_passed, peers_none}
 use Rattle.funnel.specs.Names.{is_peer_name}
-use Rattle.funnel.specs.WordLaws.{IsFirstWord}
+use Rattle.funnel.specs.Words.{IsFirstWord}
 use Rattle.funnel.proofs.line.read_peers.Goals as goal
 
 pushed : (text left word behind peer : List ℕ) (so_far next others : List (List ℕ)) → ((more : List (List ℕ)) → HasPeers left more → HasPeers text (so_far ++ more))

@@ -3,8 +3,8 @@ use Rattle.std.proofs.Common.{◌≡◌, ◌<◌, ◌-◌, ◌==◌, ℕ, Bool, 
 use Rattle.std.proofs.lemmas.Bool.{eqb-true, eqb-false}
 use Rattle.std.proofs.lemmas.List.{take_rest}
 use Rattle.std.specs.List.{prefix_len}
-use Rattle.funnel.specs.Words.{is_blank, IsGap}
-use Rattle.funnel.specs.WordLaws.{is_solid, IsFirstWord, behind_gap, gap_alone, first_word_of}
+use Rattle.funnel.specs.Words.{is_blank, IsFirstWord, IsGap}
+use Rattle.funnel.specs.WordLaws.{is_solid, behind_gap, gap_alone, first_word_of}
 use Rattle.funnel.proofs.words.next_word.Goals as goal
 
 -- `&text[gap..]`

@@ -3,7 +3,8 @@ use Rattle.std.proofs.Common.{◌≡◌, ℕ, false, List, ◌∷◌, Option, So
 use Rattle.std.specs.Prelude.{IfOk, IfSome, IsSome, IsTrue, ◌↔◌}
 use Rattle.std.proofs.lemmas.Bool.{cases_Bool}
 use Rattle.funnel.specs.Names.{is_msg_id}
-use Rattle.funnel.specs.WordLaws.{IsFirstWord, has_words, words_from_first}
+use Rattle.funnel.specs.Words.{IsFirstWord}
+use Rattle.funnel.specs.WordLaws.{has_words, words_from_first}
 use Rattle.reply_reader.specs.Reply.{HasId}
 use Rattle.reply_reader.proofs.line.read_id.Goals as goal
 
@@ -26,5 +27,4 @@ id_read rest word behind (Err e) first found value = tt
 
 pub returns-in-Some : goal.returns-in-Some
 returns-in-Some c =
-    let first = c.in-Some.ensures in
-    id_read c.args.rest.now c.in-Some.word.now first.0 c.read.result first.1 c.read.ensures.found c.read.ensures.value
+    id_read c.args.rest.now c.in-Some.word.now c.in-Some.field-0-1.now c.read.result c.in-Some.ensures.word c.read.ensures.found c.read.ensures.value

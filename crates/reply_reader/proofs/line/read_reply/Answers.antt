@@ -14,9 +14,9 @@ reads line body code rest is begins =
     let r = line-of-code line code rest (subst (λ b. BeginsWithCode b code rest) is begins) in (code, r.0, r.1, r.2)
 
 pub returns-in_default-clause-no_code : goal.returns-in_default-clause-no_code
-returns-in_default-clause-no_code c = (λ e. no-code c.args.line.now c.body_of.result.now c.body_of.ensures c.in_default.ensures.none, λ h. refl)
+returns-in_default-clause-no_code c = (λ e. no-code c.args.line.now c.without_cr.result.now c.without_cr.ensures c.in_default.ensures.none, λ h. refl)
 
 pub returns-in_err-id-clause-no_memory : goal.returns-in_err-id-clause-no_memory
 returns-in_err-id-clause-no_memory c =
     let p = err_from_is_err_and c.from_residual.result c.from_residual.ensures.1 in
-    rw (p.1, p.2) (inr (refl, reads c.args.line.now c.body_of.result.now c.in-Some.coded.code c.in-Some.coded.rest.now c.body_of.ensures c.in-Some.ensures.some))
+    rw (p.1, p.2) (inr (refl, reads c.args.line.now c.without_cr.result.now c.in-Some.coded.code c.in-Some.coded.rest.now c.without_cr.ensures c.in-Some.ensures.some))

@@ -1,5 +1,8 @@
-use Rattle.deferral.proofs.Moments.{none_at_all}
+use Rattle.deferral.proofs.Moments.{least_of_all, none_of_all}
 use Rattle.deferral.proofs.later.Later.due_least.Goals as goal
 
+pub returns-in-Some-clause-some : goal.returns-in-Some-clause-some
+returns-in-Some-clause-some c = rw (← c.self.view_is, c.in-Some.is) (least_of_all c.args.now c.due_from.result _ c.due_from.ensures.some)
+
 pub returns-in-Some-clause-none : goal.returns-in-Some-clause-none
-returns-in-Some-clause-none c = rw (← c.self.view_is, c.in-Some.is) (none_at_all c.args.now c.due_least.result _ c.due_least.ensures.none)
+returns-in-Some-clause-none c = rw (← c.self.view_is, c.in-Some.is) (none_of_all c.args.now c.due_from.result _ c.due_from.ensures.none)

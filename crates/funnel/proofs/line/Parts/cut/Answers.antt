@@ -1,7 +1,7 @@
 -- The two faults that a word has, of the line's text without its CR.
 use Rattle.std.proofs.Common.{sym, ◌∙◌, subst}
 use Rattle.funnel.specs.LineLaws.{token_fault, id_fault}
-use Rattle.funnel.specs.WordLaws.{IsFirstWord}
+use Rattle.funnel.specs.Words.{IsFirstWord}
 use Rattle.funnel.proofs.line.Parts.cut.Goals as goal
 
 pub returns-then-not-is_token : goal.returns-then-not-is_token
