@@ -1,12 +1,14 @@
 -- Debts by rising numbers: what adding one and taking one out leave.
-use Rattle.std.proofs.Common.{◌≡◌, ℕ, ◌<◌, ◌≤◌, ◌+◌, Bool, true, false, cond, not, ◌==◌, List, [], ◌∷◌, ◌++◌, Some, None, refl, sym, ap, ◌∙◌, arith}
+use Rattle.std.proofs.Common.{◌≡◌, ℕ, ◌<◌, ◌≤◌, ◌+◌, Bool, true, false, cond, not, ◌==◌, List, [], ◌∷◌, ◌++◌, Option, Some, None, refl, sym, ap, ◌∙◌, arith}
+use Rattle.std.proofs.lemmas.Bool.{eqb-true}
 use Rattle.std.proofs.lemmas.Bool.Decides.{nat_tests}
 use Rattle.std.proofs.lemmas.List.Elements.{All-head, All-tail}
 use Rattle.std.proofs.lemmas.List.Sums.{sum_by-cons, sum_by_push}
 use Rattle.std.proofs.lemmas.Map.{NonePasses, none_passes_from_lookup}
 use Rattle.std.proofs.lemmas.Map.Entries.{sum_by-remove_entry}
 use Rattle.std.specs.BTreeMap.{insert_entry, is_at}
-use Rattle.std.specs.List.{All, sum_by}
+use Rattle.std.specs.List.{All, find, sum_by}
+use Rattle.std.specs.Prelude.{option_map}
 use Rattle.std.specs.Map.{lookup, remove_entry, values_of}
 use Rattle.std.specs.Ordering.{nat_cmp}
 use Rattle.ledger_core.specs.State.{Owing, line_octets, numbers_of, octets_of_debts, without}
@@ -86,3 +88,19 @@ octets-removed number debts left token id e found =
     let whole = sum_by-remove_entry f (is_at (nat_cmp number)) debts in
     let part : sum_by f (values_of (remove_entry (is_at (nat_cmp number)) debts)) + line_octets token id ≡ sum_by f (values_of debts) = rw found at whole in
     ap (λ n. n + line_octets token id) (ap octets_of_debts e ∙ octets-values (remove_entry (is_at (nat_cmp number)) debts)) ∙ part ∙ sym (octets-values debts)
+
+-- ---- looking a debt up
+
+found-step : (number : ℕ) (b : Bool) (debt : Owing) (rest : Option Owing) (other : Option (List ℕ × List ℕ)) → (debt.0 == number) ≡ b
+    → rest ≡ option_map (λ (texts : List ℕ × List ℕ). (number, texts)) other
+    → cond b (Some debt) rest ≡ option_map (λ (texts : List ℕ × List ℕ). (number, texts)) (cond b (Some debt.1) other)
+found-step number true debt rest other e same = ap (λ (n : ℕ). Some (n, debt.1)) (eqb-true debt.0 number e)
+found-step number false debt rest other e same = same
+
+-- the debt of a number is the texts that are looked up by it
+pub found : (number : ℕ) (debts : List Owing)
+    → find (λ (debt : Owing). debt.0 == number) debts ≡ option_map (λ (texts : List ℕ × List ℕ). (number, texts)) (lookup (is_at (nat_cmp number)) debts)
+found number [] = refl
+found number (debt ∷ debts) =
+    found-step number (debt.0 == number) debt (find (λ (d : Owing). d.0 == number) debts) (lookup (is_at (nat_cmp number)) debts) refl (found number debts)
+    ∙ ap (λ (b : Bool). option_map (λ (texts : List ℕ × List ℕ). (number, texts)) (cond b (Some debt.1) (lookup (is_at (nat_cmp number)) debts))) (sym (tests number debt.0))

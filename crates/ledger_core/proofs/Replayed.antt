@@ -1,6 +1,6 @@
 -- What payloads leave, from one to the next.
-use Rattle.std.proofs.Common.{◌≡◌, ℕ, zero, suc, ◌<◌, ◌+◌, List, [], ◌∷◌, ◌++◌, length, get_or, take, Some, Result, Err, refl, sym, ap, ◌∙◌, subst, arith}
-use Rattle.std.specs.Prelude.{Vec, slice_get}
+use Rattle.std.proofs.Common.{◌≡◌, ℕ, ◌<◌, ◌+◌, List, [], ◌∷◌, ◌++◌, length, get_or, take, Result, Err, refl, sym, ap, ◌∙◌, subst}
+use Rattle.std.specs.Prelude.{Vec}
 use Rattle.std.specs.declared.alloc.Global.{Global}
 use Rattle.std.proofs.lemmas.List.{get_or-map, length-map, take_more}
 use Rattle.std.proofs.lemmas.Option.{get_or_from_slice_get}
@@ -8,14 +8,15 @@ use Rattle.ledger_core.specs.declared.ledger.Ledger.{Ledger}
 use Rattle.ledger_core.specs.declared.ledger.ReplayFault.{ReplayFault}
 use Rattle.ledger_core.specs.declared.ledger.ReplayFault.TheVariants.{Refused, NoMemory}
 use Rattle.ledger_core.specs.declared.note.Note.{Note}
-use Rattle.ledger_core.specs.Laws.{AllLegal-append, AllLegal-back, after-append}
-use Rattle.ledger_core.specs.Note.{AreNotes, IsNote}
+use Rattle.ledger_core.specs.Laws.{AllLegal-append, after-append}
+use Rattle.ledger_core.specs.Note.{IsNote}
 use Rattle.ledger_core.specs.Replay.{Leaves, SpellsNoLegal, StopsAt}
 use Rattle.ledger_core.specs.Spelling.{spelling, spellings}
-use Rattle.ledger_core.specs.SpellingLaws.{AreNotes-append, AreNotes-front, AreNotes-back, spellings-append}
+use Rattle.ledger_core.specs.SpellingLaws.{AreNotes-append, spellings-append}
 use Rattle.ledger_core.specs.Words.{octets_of}
-use Rattle.ledger_core.specs.State.{State, AllLegal, IsLegal, after, start, step}
-use Rattle.ledger_core.proofs.Spellings.{same-note}
+use Rattle.ledger_core.specs.State.{State, IsLegal, after, start, step}
+use Rattle.ledger_core.specs.ReplayLaws.{never}
+use Rattle.ledger_core.specs.SpellingLaws.{same-notes}
 
 pub octets-at : (payloads : List (Vec ℕ Global)) (index : ℕ) (payload : Vec ℕ Global) → index < length payloads → payload ≡ get_or payloads index payload
     → get_or (octets_of payloads) index [] ≡ payload.items
@@ -24,18 +25,6 @@ octets-at payloads index payload within e =
 
 pub octets-len : (payloads : List (Vec ℕ Global)) → length (octets_of payloads) ≡ length payloads
 octets-len payloads = length-map payloads (λ (v : Vec ℕ Global). v.items)
-
--- a list of notes has one list of spellings, and no other list has it
-same-notes : (one other : List Note) → AreNotes one → AreNotes other → spellings one ≡ spellings other → one ≡ other
-same-notes [] [] a b e = refl
-same-notes [] (note ∷ other) a b e = cc
-same-notes (note ∷ one) [] a b e = cc
-same-notes (note ∷ one) (second ∷ other) a b e =
-    let s : spelling note ≡ spelling second = cc in
-    let r : spellings one ≡ spellings other = cc in
-    let first : note ≡ second = same-note note second a.0 b.0 s in
-    let rest : one ≡ other = same-notes one other a.1 b.1 r in
-    cc
 
 pub leaves-none : Leaves [] start
 leaves-none = ([], tt, refl, tt, refl)
@@ -73,42 +62,6 @@ stops payloads index state within before none = (
         (subst (λ s. IsLegal s note) (sym before.4) legal),
   ),
 )
-
-record Splits (notes : List Note) (index : ℕ) : Type 0 where
-  front : List Note
-  note : Note
-  back : List Note
-  whole : notes ≡ front ++ note ∷ back
-  before : take index (spellings notes) ≡ spellings front
-  here : slice_get (spellings notes) index ≡ Some (spelling note)
-
-split : (notes : List Note) (index : ℕ) → index < length (spellings notes) → Splits notes index
-split [] index within = absurd (omega arith)
-split (first ∷ notes) zero within = record { front = []; note = first; back = notes; whole = refl; before = refl; here = refl }
-split (first ∷ notes) (suc index) within =
-    let rest = split notes index (omega arith) in
-    record {
-      front = first ∷ rest.front;
-      note = rest.note;
-      back = rest.back;
-      whole = ap (λ ns. first ∷ ns) rest.whole;
-      before = ap (λ ss. spelling first ∷ ss) rest.before;
-      here = rest.here;
-    }
-
--- where reading stops the payloads are no list of legal notes
-pub never : (payloads : List (List ℕ)) (index : ℕ) (state : State) → StopsAt payloads index → Leaves payloads state → ⊥
-never payloads index state stop whole =
-    let parts = split whole.0 index (subst (λ ps. index < length ps) whole.2 stop.0) in
-    let notes = subst AreNotes parts.whole whole.1 in
-    let legal = subst (AllLegal start) parts.whole whole.3 in
-    let seen = stop.1 in
-    let same : seen.0 ≡ parts.front =
-    same-notes seen.0 parts.front seen.1 (AreNotes-front parts.front (parts.note ∷ parts.back) notes)
-    (sym seen.3 ∙ ap (take index) whole.2 ∙ parts.before)
-    in
-    seen.4 parts.note (AreNotes-back parts.front (parts.note ∷ parts.back) notes).0 (ap (λ ps. slice_get ps index) whole.2 ∙ parts.here)
-    (subst (λ ns. IsLegal (after start ns) parts.note) (sym same) (AllLegal-back start parts.front (parts.note ∷ parts.back) legal).0)
 
 pub err-apart : {fault other : ReplayFault} → ◌≡◌ {A = Result Ledger ReplayFault} (Err fault) (Err other) → fault ≡ other
 err-apart e = cc

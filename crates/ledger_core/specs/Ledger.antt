@@ -1,5 +1,5 @@
 -- What a ledger stands for, and what applying a note does to it.
-use Rattle.std.specs.Prelude.{◌≡◌, ◌↔◌, Result, IsErrOf, OnErr, OnOk, length}
+use Rattle.std.specs.Prelude.{◌≡◌, ◌↔◌, Result, IsErrOf, IsOk, OnErr, OnOk, length}
 use Rattle.ledger_core.specs.declared.ledger.Ledger.{Ledger}
 use Rattle.ledger_core.specs.declared.ledger.LedgerFault.{LedgerFault}
 use Rattle.ledger_core.specs.declared.ledger.LedgerFault.TheVariants.{OldNumber, NotOwed, CountFull, NoMemory}
@@ -26,3 +26,11 @@ pub record IsApplied (result : Result (Unit {0}) LedgerFault) (old new : State) 
   pub count_full : IsErrOf result CountFull ↔ Overflows old note
   pub no_memory : IsErrOf result NoMemory → IsOwe note × IsLegal old note
   pub unchanged : OnErr result (new ≡ old)
+
+-- A note is judged so: good where it is legal, refused for its own reason otherwise.
+pub record IsJudged (result : Result (Unit {0}) LedgerFault) (state : State) (note : Note) : Type 0 where
+  pub ok : IsOk result ↔ IsLegal state note
+  pub old_number : IsErrOf result OldNumber ↔ IsOld state note
+  pub not_owed : IsErrOf result NotOwed ↔ LacksDebt state note
+  pub count_full : IsErrOf result CountFull ↔ Overflows state note
+  pub memory : IsErrOf result NoMemory → ⊥

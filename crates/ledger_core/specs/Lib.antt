@@ -4,6 +4,7 @@ pub mod Ledger
 pub mod Note
 pub mod Reading
 pub mod Replay
+pub mod ReplayLaws
 pub mod Spelling
 pub mod SpellingLaws
 pub mod State

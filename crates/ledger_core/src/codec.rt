@@ -14,7 +14,8 @@ use std::alloc::{AllocError, Global};
 /// # Errors
 /// `NoMemory` where memory was refused.
 pub fn encode(alloc: Global, note: &Note) -> Result<Vec<u8>, AllocError>
-    ensures { IfOk result (λ v. v.items ≡ spelling note.now) }
+    ensures octets { IfOk result (λ v. v.items ≡ spelling note.now) }
+    ensures note { OnOk result (IsNote note.now) }
 {
     let mut octets = Vec::with_capacity(alloc, spelled_len(note))?;
     push_note(&mut octets, note)?;
@@ -59,7 +60,8 @@ fn spelled_len(note: &Note) -> usize
 }
 
 fn push_note(octets: &mut Vec<u8>, note: &Note) -> Result<(), AllocError>
-    ensures { OnOk result (octets.new.items ≡ octets.old.items ++ spelling note.now) }
+    ensures octets { OnOk result (octets.new.items ≡ octets.old.items ++ spelling note.now) }
+    ensures note { OnOk result (IsNote note.now) }
 {
     match note {
         Note::Owe { number, token, id } => {

@@ -1,5 +1,5 @@
 // Ledgers.
-ghost use Rattle.std.specs.Prelude.{◌≡◌, ◌+◌, ◌≤◌, ℕ, IfNone, IfOk, IfSome, IsErrOf, IsTrue, MatchResult, OnErr, OnOk, ◌↔◌, length};
+ghost use Rattle.std.specs.Prelude.{◌≡◌, ◌==◌, ◌+◌, ◌≤◌, ℕ, IfNone, IfOk, IfSome, IsErrOf, IsOk, IsSome, IsTrue, MatchResult, OnErr, OnOk, ◌↔◌, find, length, option_map};
 ghost use Rattle.std.specs.List.{All, Contains};
 ghost use Rattle.std.specs.List.Sorted.{IsStrictlyIncreasing};
 ghost use Rattle.ledger_core.specs.State.{line_octets, numbers_of, octets_of_debts, without};
@@ -109,9 +109,9 @@ impl Ledger {
     ghost use Rattle.ledger_core.specs.Note.{IsNote, IsOwe};
     ghost use Rattle.ledger_core.specs.Replay.{Leaves, SpellsNoLegal, StopsAt};
     ghost use Rattle.ledger_core.specs.Spelling.{spelling};
-    ghost use Rattle.ledger_core.specs.State.{State, IsLegal, IsOld, IsOwed, LacksDebt, Overflows, numbers, start, step};
+    ghost use Rattle.ledger_core.specs.State.{State, IsLegal, IsOld, IsOwed, LacksDebt, Overflows, Owing, numbers, start, step};
     ghost use Rattle.ledger_core.specs.Words.{octets_of};
-    ghost use Rattle.ledger_core.specs.Ledger.{IsApplied, state_of, totals_of};
+    ghost use Rattle.ledger_core.specs.Ledger.{IsApplied, IsJudged, state_of, totals_of};
 
     /// The ledger of no note.
     pub fn new(alloc: Global) -> Self
@@ -155,6 +155,15 @@ impl Ledger {
         self.debts.contains_key(&number)
     }
 
+    /// The token and the message-id of the debt of this number, where it is owed.
+    pub fn debt(&self, number: u64) -> Option<(&Token, &MsgId)>
+        ensures debt { option_map (λ texts. (number, (texts.0.now, texts.1.now))) result ≡ find (λ (owing : Owing). owing.0 == number) (state_of self.now).debts }
+        ensures owed { IsSome result ↔ IsOwed (state_of self.now) number }
+    {
+        let (token, id) = self.debts.get(&number)?;
+        Some((token, id))
+    }
+
     /// The numbers that are owed, rising.
     ///
     /// # Errors
@@ -188,6 +197,25 @@ impl Ledger {
             Note::Final { number, .. } => self.answer(*number),
             Note::Drop { number, .. } => self.discard(*number),
             Note::Seen { number } => self.see(*number),
+        }
+    }
+
+    /// Whether `apply` would take a note, if memory were not refused. It takes no memory and changes nothing.
+    ///
+    /// # Errors
+    /// As `apply` would refuse it: `OldNumber`, `NotOwed` or `CountFull`, never `NoMemory`.
+    pub fn check(&self, note: &Note) -> Result<(), LedgerFault>
+        ensures ok { IsOk result ↔ IsLegal (state_of self.now) note.now }
+        ensures old_number { IsErrOf result LedgerFault.OldNumber ↔ IsOld (state_of self.now) note.now }
+        ensures not_owed { IsErrOf result LedgerFault.NotOwed ↔ LacksDebt (state_of self.now) note.now }
+        ensures count_full { IsErrOf result LedgerFault.CountFull ↔ Overflows (state_of self.now) note.now }
+        ensures memory { IsErrOf result LedgerFault.NoMemory → ⊥ }
+    {
+        match note {
+            Note::Owe { number, token, id } => self.check_owe(*number, token, id),
+            Note::Final { number, .. } => self.check_owed(*number),
+            Note::Drop { number, .. } => self.check_owed(*number),
+            Note::Seen { number } => self.check_above(*number),
         }
     }
 
@@ -230,6 +258,43 @@ impl Ledger {
             Err(LedgerFault::NoMemory) => Err(ReplayFault::NoMemory),
             Err(_) => Err(ReplayFault::Refused { index }),
         }
+    }
+
+    fn check_owe(&self, number: u64, token: &Token, id: &MsgId) -> Result<(), LedgerFault>
+        ensures { IsJudged result (state_of self.now) (Note.Owe number token.now id.now) }
+    {
+        if self.mark >= number {
+            return Err(LedgerFault::OldNumber);
+        }
+        if self.taken == u64::MAX {
+            return Err(LedgerFault::CountFull);
+        }
+        match self.owed_bytes.checked_add(line_octets(token, id)) {
+            Some(_) => Ok(()),
+            None => Err(LedgerFault::CountFull),
+        }
+    }
+
+    // A debt that is owed was taken, and the count of those fits. So does the count of those that have ended, with this one.
+    fn check_owed(&self, number: u64) -> Result<(), LedgerFault>
+        ensures answered { (code : FinalCode) → IsJudged result (state_of self.now) (Note.Final number code) }
+        ensures dropped { (cause : Cause) → IsJudged result (state_of self.now) (Note.Drop number cause) }
+    {
+        let _taken = self.taken;
+        if self.owes(number) {
+            Ok(())
+        } else {
+            Err(LedgerFault::NotOwed)
+        }
+    }
+
+    fn check_above(&self, last: u64) -> Result<(), LedgerFault>
+        ensures { IsJudged result (state_of self.now) (Note.Seen last) }
+    {
+        if self.mark >= last {
+            return Err(LedgerFault::OldNumber);
+        }
+        Ok(())
     }
 
     fn owe(&mut self, number: u64, token: &Token, id: &MsgId) -> Result<(), LedgerFault>

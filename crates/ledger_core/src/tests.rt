@@ -219,6 +219,44 @@ fn walk(rt: HostRuntime) -> Result<(), Fail> {
 }
 
 #[test]
+fn checks(rt: HostRuntime) -> Result<(), Fail> {
+    let alloc = rt.alloc();
+    let mut ledger = Ledger::new(alloc);
+    let first = owe(alloc, 1)?;
+    assert_eq!(rt; ledger.check(&first), Ok(()));
+    assert_eq!(rt; ledger.check(&received(1)), Err(LedgerFault::NotOwed));
+    ledger.apply(&first)?;
+    assert_eq!(rt; ledger.check(&first), Err(LedgerFault::OldNumber));
+    assert_eq!(rt; ledger.check(&received(1)), Ok(()));
+    assert_eq!(rt; ledger.check(&missing(1)), Ok(()));
+    assert_eq!(rt; ledger.check(&missing(2)), Err(LedgerFault::NotOwed));
+    assert_eq!(rt;
+        ledger.check(&Note::Seen { number: 1 }),
+        Err(LedgerFault::OldNumber)
+    );
+    assert_eq!(rt; ledger.check(&Note::Seen { number: 2 }), Ok(()));
+    assert_eq!(rt; ledger.mark(), 1);
+    Ok(())
+}
+
+#[test]
+fn a_debt_is_found(rt: HostRuntime) -> Result<(), Fail> {
+    let alloc = rt.alloc();
+    let mut ledger = Ledger::new(alloc);
+    ledger.apply(&owe(alloc, 1)?)?;
+    ledger.apply(&owe(alloc, 3)?)?;
+    let Some((token, id)) = ledger.debt(3) else {
+        return Err(Fail::from("a debt"));
+    };
+    assert_eq!(rt; token.bytes(), b"a/1".as_slice());
+    assert_eq!(rt; id.bytes(), b"<x@y>".as_slice());
+    assert!(rt; ledger.debt(2).is_none());
+    ledger.apply(&received(3))?;
+    assert!(rt; ledger.debt(3).is_none());
+    Ok(())
+}
+
+#[test]
 fn replays(rt: HostRuntime) -> Result<(), Fail> {
     let alloc = rt.alloc();
     let mut payloads = Vec::new(alloc);

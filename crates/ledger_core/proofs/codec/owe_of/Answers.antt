@@ -2,7 +2,8 @@ use Rattle.std.proofs.Common.{[], sym, ◌∙◌, subst, IsTrue}
 use Rattle.funnel.specs.Names.{is_msg_id, is_token}
 use Rattle.std.proofs.lemmas.List.{append-nil}
 use Rattle.ledger_core.specs.Spelling.{sized_text}
-use Rattle.ledger_core.proofs.Spellings.{not-empty, not-some, owe-none, sized-apart, texts-apart}
+use Rattle.ledger_core.proofs.Spellings.{not-empty, not-some, owe-none, texts-apart}
+use Rattle.ledger_core.specs.SpellingLaws.{sized-apart}
 use Rattle.ledger_core.proofs.codec.owe_of.Goals as goal
 
 pub returns-in_default-sized_at : goal.returns-in_default-sized_at

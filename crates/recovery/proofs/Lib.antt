@@ -1,0 +1,4 @@
+pub mod Drops
+pub mod Opens
+pub mod Payloads
+pub mod Stands

@@ -1,0 +1,33 @@
+-- Lists of payloads, in a loop over their vectors.
+use Rattle.std.proofs.Common.{◌≡◌, ℕ, zero, suc, ◌+◌, ◌<◌, ◌≤◌, List, [], ◌∷◌, ◌++◌, length, get_or, take, drop, refl, sym, ◌∙◌, ap, arith, length-append, take-append-drop}
+use Rattle.std.specs.Prelude.{Vec}
+use Rattle.std.specs.declared.alloc.Global.{Global}
+use Rattle.std.proofs.lemmas.List.{append_assoc, get_or-map, take_more}
+use Rattle.tape_journal.specs.Segment.{records, gated, open_gate}
+use Rattle.tape_journal.specs.SegmentLaws.{length-sized}
+use Rattle.tape_journal.specs.Words.{octets_of}
+
+-- the octets of the vector at an index
+pub octets_at : (vectors : List (Vec ℕ Global)) (i : ℕ) (v : Vec ℕ Global) → i < length vectors → v ≡ get_or vectors i v → v.items ≡ get_or (octets_of vectors) i v.items
+octets_at vectors i v inside is = ap (λ (w : Vec ℕ Global). w.items) is ∙ sym (get_or-map (λ (w : Vec ℕ Global). w.items) vectors i v v.items inside)
+
+pub take_step : (ps : List (List ℕ)) (i : ℕ) (p : List ℕ) → i < length ps → p ≡ get_or ps i p → take (i + 1) ps ≡ take i ps ++ p ∷ []
+take_step ps i p inside is = take_more ps i p inside ∙ ap (λ (l : List ℕ). take i ps ++ l ∷ []) (sym is)
+
+pub records-append : (ps qs : List (List ℕ)) → records (ps ++ qs) ≡ records ps ++ records qs
+records-append [] qs = refl
+records-append (p ∷ ps) qs = ap (λ (l : List ℕ). gated open_gate p ++ l) (records-append ps qs) ∙ sym (append_assoc (gated open_gate p) (records ps) (records qs))
+
+pub length-records-push : (ps : List (List ℕ)) (p : List ℕ) → length (records (ps ++ p ∷ [])) ≡ length (records ps) + (5 + length p)
+length-records-push ps p = omega (arith, ap length (records-append ps (p ∷ [])), length-append (records ps) (records (p ∷ [])), length-append (gated open_gate p) [], length-sized p)
+
+-- a front is no longer
+pub length-records-take : (ps : List (List ℕ)) (n : ℕ) → length (records (take n ps)) ≤ length (records ps)
+length-records-take ps n =
+    let whole : records ps ≡ records (take n ps) ++ records (drop n ps) = ap records (sym (take-append-drop n ps)) ∙ records-append (take n ps) (drop n ps) in
+    omega (arith, ap length whole, length-append (records (take n ps)) (records (drop n ps)))
+
+pub octets_of-take : (vectors : List (Vec ℕ Global)) (n : ℕ) → octets_of (take n vectors) ≡ take n (octets_of vectors)
+octets_of-take vectors zero = refl
+octets_of-take [] (suc n) = refl
+octets_of-take (v ∷ vectors) (suc n) = ap (λ (l : List (List ℕ)). v.items ∷ l) (octets_of-take vectors n)

@@ -1,0 +1,57 @@
+-- Drops of several debts, which pend.
+use Rattle.std.proofs.Common.{◌≡◌, ◌+◌, ◌<◌, ◌^◌, ◌++◌, [], List, ℕ, length, length-append, refl, sym, ap, ◌∙◌, subst, arith}
+use Rattle.tape_journal.specs.Segment.{AllShort}
+use Rattle.tape_journal.specs.Words.{octets_of}
+use Rattle.ledger_core.specs.declared.ledger.Totals.{Totals}
+use Rattle.ledger_core.specs.Spelling.{spellings}
+use Rattle.recovery.specs.Notes.{drops}
+use Rattle.recovery.specs.Words.{ledger_of}
+use Rattle.recovery.proofs.Drops.{AllShort-append, AllShort-notes, drops_count, legal_drops, octets_of-append, stands_noted_all}
+use Rattle.recovery.proofs.tape.Tape.pend_drops.Goals as goal
+
+pub apply_drops-requires : goal.apply_drops-requires
+apply_drops-requires g c =
+    let state = ledger_of c.args.self.now in
+    let fits : state.dropped + length state.debts < 2 ^ 64 = omega (arith, c.taken_of-taken.ensures, c.taken_of-taken.type_inv) in
+    legal_drops state state c.args.cause [] c.args.numbers.now c.requires.owed (λ m o b. o) fits
+
+pub returns-clause-legal : goal.returns-clause-legal
+returns-clause-legal g c =
+    let state = ledger_of c.args.self.now in
+    let fits : state.dropped + length state.debts < 2 ^ 64 = omega (arith, c.taken_of-taken.ensures, c.taken_of-taken.type_inv) in
+    legal_drops state state c.args.cause [] c.args.numbers.now c.requires.owed (λ m o b. o) fits
+
+pub invariant_of-self : goal.invariant_of-self
+invariant_of-self g c =
+    let tape = c.args.self.now in
+    let same : c.append.new.self.items ≡ tape.pending.items = c.in_err-append.ensures.items in
+    record {
+      counted = tape.counted;
+      few = omega (arith, tape.few, ap length same);
+      short = subst AllShort (sym (ap octets_of same)) tape.short;
+      told = tape.told;
+    }
+
+pub returns-clause-ok : goal.returns-clause-ok
+returns-clause-ok g c = λ h stands.
+    stands_noted_all c.args.self.now _ h (drops c.args.cause c.args.numbers.now) c.in_ok-payloads.payloads.items stands refl c.in_ok-payloads.ensures.notes (returns-clause-legal g c) c.apply_drops.ensures c.in_ok-append.ensures.items c.in_ok-payloads.ensures.spelled refl
+
+pub invariant_of-self-2 : goal.invariant_of-self-2
+invariant_of-self-2 g c =
+    let tape = c.args.self.now in
+    let payloads = c.in_ok-payloads.payloads.items in
+    let notes = drops c.args.cause c.args.numbers.now in
+    let spelled : octets_of payloads ≡ spellings notes = c.in_ok-payloads.ensures.spelled in
+    let pends : c.append.new.self.items ≡ tape.pending.items ++ payloads = c.in_ok-append.ensures.items in
+    record {
+      counted = tape.counted;
+      few = omega (arith, ap length pends, length-append tape.pending.items payloads, drops_count payloads c.args.cause c.args.numbers.now spelled, c.requires.room);
+      short = subst AllShort (sym (ap octets_of pends ∙ octets_of-append tape.pending.items payloads))
+          (AllShort-append (octets_of tape.pending.items) (octets_of payloads) tape.short (subst AllShort (sym spelled) (AllShort-notes notes c.in_ok-payloads.ensures.notes)));
+      told = tape.told;
+    }
+
+pub returns-clause-pends : goal.returns-clause-pends
+returns-clause-pends g c =
+    let payloads = c.in_ok-payloads.payloads.items in
+    omega (arith, ap length c.in_ok-append.ensures.items, length-append c.args.self.now.pending.items payloads, drops_count payloads c.args.cause c.args.numbers.now c.in_ok-payloads.ensures.spelled)

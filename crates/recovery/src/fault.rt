@@ -1,0 +1,75 @@
+// Why a call of a tape was refused.
+ghost use Rattle.std.specs.Prelude.{◌≡◌};
+ghost use Rattle.recovery.specs.declared.fault.TapeFault.TheVariants.{NoMemory as NoTapeMemory};
+ghost use Rattle.recovery.specs.Words.{append_fault, open_fault};
+
+use ledger_core::LedgerFault;
+use std::alloc::{AllocError, AllocFailed};
+use tape_journal::{AppendFault, OpenFault};
+use thiserror::Error;
+
+/// Why a tape refuses a call. Each call tells which of these come, and in which order they are tried.
+#[derive(Clone, Copy, Debug, PartialEq, Eq, Error)]
+pub enum TapeFault {
+    /// What lies on the disk is no tape: at this offset of this segment, in octets, a record is cut short, the end behind
+    /// a record is missing, or a record is no note that its ledger takes.
+    #[error("Damaged")]
+    Damaged { segment: u8, at: u64 },
+    /// A call of the disk failed. After `flush` the tape is broken, and is to be opened again from its disk.
+    #[error("Disk")]
+    Disk,
+    /// A `flush` failed on the disk before. Nothing was changed.
+    #[error("Broken")]
+    Broken,
+    /// The tape would be longer than 4,294,967,296 octets. Nothing was changed.
+    #[error("TapeFull")]
+    TapeFull,
+    /// 65,536 notes pend. Nothing was changed.
+    #[error("PendingFull")]
+    PendingFull,
+    /// Memory was refused. Nothing was changed.
+    #[error("NoMemory")]
+    NoMemory,
+    /// The ledger refuses the note. Nothing was changed.
+    #[error("Note {0}")]
+    Note(LedgerFault),
+}
+
+impl From<AllocError> for TapeFault {
+    ghost from_gives = { λ _ e. e ≡ NoTapeMemory };
+
+    fn from(_: AllocError) -> Self {
+        TapeFault::NoMemory
+    }
+}
+
+impl<T: Drop> From<AllocFailed<T>> for TapeFault {
+    ghost from_gives = { λ _ e. e ≡ NoTapeMemory };
+
+    fn from(_: AllocFailed<T>) -> Self {
+        TapeFault::NoMemory
+    }
+}
+
+// The fault of a journal that was not opened.
+pub(crate) fn open_fault(fault: OpenFault) -> TapeFault
+    ensures { result ≡ open_fault fault }
+{
+    match fault {
+        OpenFault::Damaged { at } => TapeFault::Damaged { segment: 0, at },
+        OpenFault::Disk => TapeFault::Disk,
+        OpenFault::NoMemory => TapeFault::NoMemory,
+    }
+}
+
+// The fault of a journal to which notes were not added. None of them is too long.
+pub(crate) fn append_fault(fault: AppendFault) -> TapeFault
+    ensures { result ≡ append_fault fault }
+{
+    match fault {
+        AppendFault::Disk => TapeFault::Disk,
+        AppendFault::Broken => TapeFault::Broken,
+        AppendFault::TapeFull | AppendFault::PayloadTooLong => TapeFault::TapeFull,
+        AppendFault::NoMemory => TapeFault::NoMemory,
+    }
+}
