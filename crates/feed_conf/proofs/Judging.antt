@@ -1,9 +1,9 @@
 -- The values of peers one after another, up to the first whose shares are crossed.
-use Rattle.std.proofs.Common.{◌≡◌, ◌+◌, ◌<◌, ◌≤◌, ℕ, Bool, true, false, List, [], ◌∷◌, ◌++◌, length, map, take, drop, get_or, cond, ltb, Option, None, Some, refl, ap, ◌∙◌, sym, add-one, drop-cons, suc}
+use Rattle.std.proofs.Common.{◌≡◌, ◌+◌, ◌<◌, ◌≤◌, ℕ, true, false, List, [], ◌∷◌, ◌++◌, length, map, take, drop, get_or, cond, ltb, Some, ap, ◌∙◌, sym, add-one, drop-cons, suc}
 use Rattle.std.specs.List.{find}
 use Rattle.std.proofs.lemmas.Bool.{lt-ltb, le-ltb}
 use Rattle.std.proofs.lemmas.List.{take_more, map-append}
-use Rattle.feed_conf.specs.Reading.{Use, Declared}
+use Rattle.feed_conf.specs.Reading.{Use}
 use Rattle.feed_conf.specs.ReaderView.{declared_view}
 use Rattle.feed_conf.specs.Settings.{Settings, settings_of, is_low_above_high}
 use Rattle.feed_conf.specs.PeerView.{settings_view}

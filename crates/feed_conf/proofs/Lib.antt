@@ -6,3 +6,4 @@ pub mod TokenLaws
 pub mod Tables
 pub mod Lookups
 pub mod Judging
+pub mod Bounds

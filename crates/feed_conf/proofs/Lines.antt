@@ -1,6 +1,6 @@
 -- The lines of a text, and what running their items gives.
-use Rattle.std.proofs.Common.{◌≡◌, ◌≢◌, ◌<◌, ◌≤◌, ◌+◌, ◌==◌, ℕ, Bool, true, false, not, List, [], ◌∷◌, length, map, take, drop, cond, Option, None, Some, Result, Ok, Err, refl, ap, subst, ◌∙◌, sym, arith, ltb}
-use Rattle.std.specs.List.{position, prefix_len, slice_split, before_first, after_first}
+use Rattle.std.proofs.Common.{◌≡◌, ◌<◌, ◌≤◌, ◌+◌, ◌==◌, ℕ, Bool, true, false, not, List, [], ◌∷◌, length, map, take, drop, cond, None, Some, Ok, Err, refl, ap, subst, ◌∙◌, arith, ltb}
+use Rattle.std.specs.List.{position, prefix_len, slice_split}
 use Rattle.std.proofs.lemmas.List.Splits.{slice_split_first}
 use Rattle.std.proofs.lemmas.Bool.{ltb-true, ltb-false}
 use Rattle.feed_conf.specs.Items.{Item}

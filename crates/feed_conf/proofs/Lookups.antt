@@ -1,13 +1,13 @@
 -- Peers found by their names, and what is left of a name in a peer's values.
-use Rattle.std.proofs.Common.{◌≡◌, ◌+◌, ℕ, Bool, true, false, List, [], ◌∷◌, map, length, cond, zero, suc, Option, None, Some, refl, ap, ◌∙◌, sym, add-one}
-use Rattle.std.specs.List.{find, slice_get}
+use Rattle.std.proofs.Common.{◌≡◌, ◌+◌, ℕ, Bool, true, false, List, [], ◌∷◌, map, length, cond, Option, None, Some, refl, ap, ◌∙◌, sym, add-one}
+use Rattle.std.specs.List.{slice_get}
 use Rattle.std.specs.Option.{option_map, option_copied}
 use Rattle.std.specs.Slice.{IsItemAt}
 use Rattle.std.specs.Borrow.{Bor}
 use Rattle.std.proofs.lemmas.Option.{slice_get_past, slice_get_read}
 use Rattle.std.specs.Str.{bytes_eq}
 use Rattle.feed_conf.specs.Tokens.{Token}
-use Rattle.feed_conf.specs.Items.{Item, Nothing, items, items_of}
+use Rattle.feed_conf.specs.Items.{Nothing, items, items_of}
 use Rattle.feed_conf.specs.Scan.{tokens_of}
 use Rattle.feed_conf.specs.Reading.{Use, Declared, HaveTokens}
 use Rattle.feed_conf.specs.ReaderView.{place_of}

@@ -1,5 +1,5 @@
 -- Numbers where a reader stops counting.
-use Rattle.std.proofs.Common.{◌≡◌, ◌+◌, ◌*◌, ◌-◌, ◌^◌, ◌<◌, ◌≤◌, ℕ, List, [], ◌∷◌, min, refl, sym, ap, ◌∙◌, arith, drop}
+use Rattle.std.proofs.Common.{◌≡◌, ◌+◌, ◌*◌, ◌-◌, ◌^◌, ℕ, List, [], ◌∷◌, min, ◌∙◌, arith}
 use Rattle.feed_conf.specs.Values.{capped, decimal}
 
 cap-step : (a b x most : ℕ) → min a most ≡ min b most → min (10 * a + x) most ≡ min (10 * b + x) most

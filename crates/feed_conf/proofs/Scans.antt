@@ -1,10 +1,10 @@
 -- What the walk over a line gives behind a gap, a word and a quote.
-use Rattle.std.proofs.Common.{◌≡◌, ◌<◌, ◌==◌, ◌||◌, ℕ, Bool, true, false, not, List, [], ◌∷◌, ◌++◌, length, refl, ap, ◌∙◌, sym, append_assoc, append-nil, take, drop, cond, zero, suc, subst, ltb, unwrap_or, Some, None, Option, ◌≤◌, arith, IsTrue}
+use Rattle.std.proofs.Common.{◌≡◌, ◌<◌, ◌==◌, ◌||◌, ℕ, Bool, true, false, not, List, [], ◌∷◌, ◌++◌, length, refl, ap, ◌∙◌, sym, append_assoc, append-nil, take, drop, cond, zero, suc, subst, ltb, unwrap_or, Some, None, Option, ◌≤◌, arith}
 use Rattle.std.specs.List.{list_all, prefix_len, position}
 use Rattle.std.proofs.lemmas.List.Sums.{prefix_len-le-length}
 use Rattle.std.proofs.lemmas.Bool.{not-true, not-false, or_parts, and_parts, and_from, both_ways, ltb-false, eqb-true}
 use Rattle.std.proofs.lemmas.List.{take-append-drop}
-use Rattle.feed_conf.specs.Tokens.{Token, Word, Quoted, Open, Close, Unclosed, is_blank, is_mark, is_word_octet, is_quoted_octet, EndsWord}
+use Rattle.feed_conf.specs.Tokens.{Token, Word, Quoted, Unclosed, is_blank, is_mark, is_word_octet, is_quoted_octet, EndsWord}
 use Rattle.feed_conf.specs.Scan.{Place, Between, InWord, InQuote, scan, scan_first, StopsAt, BeginsWord, tokens_of}
 
 -- a blank is passed over

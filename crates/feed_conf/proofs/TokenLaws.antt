@@ -1,9 +1,9 @@
 -- The walk over a line gives the tokens that it has, and no others.
-use Rattle.std.proofs.Common.{◌≡◌, ◌<◌, ◌==◌, ◌||◌, ℕ, Bool, true, false, not, List, [], ◌∷◌, ◌++◌, length, refl, ap, subst, ◌∙◌, sym, append_assoc, append-nil, arith, inl, inr}
+use Rattle.std.proofs.Common.{◌≡◌, ◌==◌, ◌||◌, ℕ, Bool, true, false, List, [], ◌∷◌, ◌++◌, refl, ap, subst, ◌∙◌, sym, append_assoc, append-nil, arith, inl, inr}
 use Rattle.std.specs.List.{list_all}
 use Rattle.std.proofs.lemmas.Bool.{and_parts, and_from, or_from, not_from_false, cases_Bool, eqb-true}
-use Rattle.feed_conf.specs.Tokens.{Token, Word, Quoted, Open, Close, Unclosed, is_blank, is_mark, is_word_octet, is_quoted_octet, IsWord, HasNoQuote, EndsWord, IsEnd, IsForm, HasTokens}
-use Rattle.feed_conf.specs.Scan.{Place, Between, InWord, InQuote, scan, scan_first, tokens_of}
+use Rattle.feed_conf.specs.Tokens.{Token, Word, Quoted, Open, Close, Unclosed, is_blank, is_mark, is_word_octet, is_quoted_octet, IsWord, HasNoQuote, IsEnd, IsForm, HasTokens}
+use Rattle.feed_conf.specs.Scan.{Between, InWord, InQuote, scan, scan_first, tokens_of}
 use Rattle.feed_conf.proofs.Scans.{scan-gap, scan-word, scan-in_quote, scan-unclosed}
 
 form-scan : (token : Token) (form rest : List ℕ) → IsForm token form rest → tokens_of (form ++ rest) ≡ token ∷ tokens_of rest

@@ -1,5 +1,5 @@
 -- What the lines of settings say (profile).
-use Rattle.std.specs.Prelude.{◌==◌, ◌+◌, ℕ, Bool, true, false, List, [], ◌∷◌, length, Option, None, Some, position, take, drop, codes, if◌then◌else◌}
+use Rattle.std.specs.Prelude.{◌==◌, ◌+◌, ℕ, Bool, true, false, List, [], ◌∷◌, Option, None, Some, position, take, drop, codes, if◌then◌else◌}
 use Rattle.std.specs.Str.{bytes_eq}
 use Rattle.feed_conf.specs.Tokens.{Token, Word, Quoted, Open, Close, Unclosed}
 use Rattle.feed_conf.specs.Scan.{tokens_of}

@@ -12,3 +12,4 @@ pub mod Settings
 pub mod TableView
 pub mod PeerView
 pub mod ConfView
+pub mod Bounds

@@ -1,5 +1,5 @@
 -- The values of a peer, from the uses of keys (profile).
-use Rattle.std.specs.Prelude.{◌==◌, ◌&&◌, ◌*◌, ◌/◌, ℕ, Bool, true, false, List, [], ◌∷◌, nat_lt, map, Option, None, Some, Result, Ok, Err, unwrap_or, if◌then◌else◌}
+use Rattle.std.specs.Prelude.{◌==◌, ◌&&◌, ◌*◌, ◌/◌, ℕ, Bool, false, List, [], ◌∷◌, nat_lt, map, Option, None, Some, Result, Ok, Err, unwrap_or, if◌then◌else◌}
 use Rattle.std.specs.List.{find}
 use Rattle.feed_conf.specs.Tokens.{Token}
 use Rattle.feed_conf.specs.Keys.{row_of}

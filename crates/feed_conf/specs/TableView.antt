@@ -1,11 +1,11 @@
 -- What a table of values and the configuration stand for.
-use Rattle.std.specs.Prelude.{◌≡◌, ◌≢◌, ℕ, List, map, Option, Result, Ok, Err, MatchResult}
+use Rattle.std.specs.Prelude.{◌≡◌, ℕ, List, map}
 use Rattle.std.specs.Option.{option_map}
 use Rattle.std.specs.BTreeMap.{get}
 use Rattle.std.specs.Ordering.{nat_cmp, ordering_then}
 use Rattle.std.specs.declared.cmp.Ordering.{Ordering}
 use Rattle.feed_conf.specs.Reading.{Use}
-use Rattle.feed_conf.specs.ReaderView.{use_view, declared_view, report_view}
+use Rattle.feed_conf.specs.ReaderView.{use_view}
 use Rattle.feed_conf.specs.ValueView.{value_view}
 use Rattle.feed_conf.specs.Settings.{last_value}
 use Rattle.feed_conf.specs.declared.reader.Use.{Use as HeldUse}

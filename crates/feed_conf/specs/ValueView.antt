@@ -1,5 +1,5 @@
 -- What a value of the reader stands for.
-use Rattle.std.specs.Prelude.{◌<◌, ◌^◌, ◌-◌}
+use Rattle.std.specs.Prelude.{◌<◌, ◌^◌}
 use Rattle.feed_conf.specs.Values.{Value, TextOf, SwitchOf, NumberOf, Taken}
 use Rattle.feed_conf.specs.declared.value.Value.{Value as HeldValue}
 use Rattle.feed_conf.specs.declared.value.Value.TheVariants as held

@@ -91,6 +91,14 @@ impl Conf {
         &self.peers
     }
 
+    /// The values of all peers, in the order of their words.
+    pub fn into_peers(self) -> Vec<PeerConf>
+        ensures { map settings_view result.items ≡ (conf_view self).peers }
+    {
+        let Conf { peers, .. } = self;
+        peers
+    }
+
     /// What was ignored or limited, in reading order.
     pub fn ignored(&self) -> &[Ignored]
         ensures { map report_view result.now ≡ (conf_view self.now).reports }

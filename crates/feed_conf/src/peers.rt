@@ -1,9 +1,10 @@
 // The values of peers, looked up.
-ghost use Rattle.std.specs.Prelude.{◌≡◌, ◌++◌, ◌∷◌, [], IfErr, IfOk, IfSome, List, MatchResult, map};
+ghost use Rattle.std.specs.Prelude.{◌≡◌, ◌<◌, ◌*◌, ◌^◌, ◌++◌, ◌∷◌, [], IfErr, IfOk, List, MatchResult, map};
 ghost use Rattle.feed_conf.specs.declared.fault.ConfFaultKind.TheVariants.{NoMemory};
 ghost use Rattle.feed_conf.specs.Reading.{Use};
 ghost use Rattle.feed_conf.specs.ReaderView.{declared_view};
 ghost use Rattle.feed_conf.specs.Settings.{high_water, settings_of};
+ghost use Rattle.feed_conf.specs.Bounds.{HoldsBounded};
 ghost use Rattle.feed_conf.specs.TableView.{IsTableOf};
 ghost use Rattle.feed_conf.specs.PeerView.{Judges, settings_view};
 
@@ -14,29 +15,28 @@ use crate::reader::Declared;
 use crate::table::Table;
 use std::alloc::Global;
 
-// The high water of a backlog. `None` where the product passes the greatest u64, which the bounds of both keys rule out.
-fn high_water(written: u64, limit: u64, factor: u64) -> Option<u64>
-    ensures { IfSome result (λ n. n ≡ high_water written limit factor) }
+// The high water of a backlog. The bounds of both keys leave the product far below the greatest u64.
+fn high_water(written: u64, limit: u64, factor: u64) -> u64
+    requires { limit * factor < 2 ^ 64 }
+    ensures { result ≡ high_water written limit factor }
 {
     if written == 0 {
-        let product = limit.checked_mul(factor)?;
-        Some(product / 100)
+        limit * factor / 100
     } else {
-        Some(written)
+        written
     }
 }
 
 // The values of a peer.
 fn peer_conf(alloc: Global, table: &Table<'_>, peer: &Declared) -> Result<PeerConf, ConfFaultKind>
+    requires { HoldsBounded table.now }
     ensures value { (uses : List Use) → IsTableOf table.now uses → IfOk result (λ conf. settings_view conf ≡ settings_of uses (declared_view peer.now)) }
     ensures fault { IfErr result (λ kind. kind ≡ NoMemory) }
 {
     let written = table.number(peer, Key::BacklogLimitHighwater);
     let backlog_limit = table.number(peer, Key::BacklogLimit);
     let factor = table.number(peer, Key::BacklogFactor);
-    let Some(backlog_high) = high_water(written, backlog_limit, factor) else {
-        return Err(ConfFaultKind::NoMemory);
-    };
+    let backlog_high = high_water(written, backlog_limit, factor);
     let name = peer.name.clone()?;
     let ip_name = table.text(alloc, peer, Key::IpName)?;
     Ok(PeerConf {
@@ -72,6 +72,7 @@ pub(crate) fn peer_confs(
     table: &Table<'_>,
     peers: &[Declared],
 ) -> Result<Vec<PeerConf>, ConfFault>
+    requires { HoldsBounded table.now }
     ensures { (uses : List Use) → IsTableOf table.now uses → Judges uses (map declared_view peers.now) result }
 {
     let mut confs = Vec::new(alloc);

@@ -1,5 +1,6 @@
 // Reads settings whole.
 ghost use Rattle.std.specs.Prelude.{◌≡◌, List, Ok};
+ghost use Rattle.feed_conf.specs.Bounds.{AreBounded};
 ghost use Rattle.feed_conf.specs.Tokens.{Token};
 ghost use Rattle.feed_conf.specs.Reading.{HaveTokens, lines_of};
 ghost use Rattle.feed_conf.specs.ReaderView.{IsNamed, reader_view};
@@ -17,7 +18,8 @@ use std::alloc::Global;
 
 // Looks up the values of what was read.
 fn make_conf(alloc: Global, reader: Reader<'_>) -> Result<Conf, ConfFault>
-    requires { IsNamed reader }
+    requires named { IsNamed reader }
+    requires bounded { AreBounded (reader_view reader).uses }
     ensures { Makes (judged (Ok (reader_view reader.entry))) result }
 {
     let table = table_of(alloc, &reader.uses)?;

@@ -205,3 +205,34 @@ fn reads_quotes_and_limits(rt: HostRuntime) -> Result<(), Fail> {
     assert!(rt; limited.limited);
     Ok(())
 }
+
+// The high water is the limit times the factor, rounded down, unless it is written; at most 429,496,729,600.
+#[test]
+fn computes_the_high_water(rt: HostRuntime) -> Result<(), Fail> {
+    for (text, high) in [
+        ("peer p { backlog-limit: 1001 }", 1101),
+        (
+            "peer p { backlog-limit: 4294967296 backlog-factor: 100.00 }",
+            429_496_729_600,
+        ),
+        (
+            "peer p { backlog-limit: 1000 backlog-limit-highwater: 7 }",
+            7,
+        ),
+        ("peer p { backlog-factor: 100.00 }", 0),
+    ] {
+        let conf = read_conf(rt.alloc(), text.as_bytes())?;
+        let peer = conf.peers().first().ok_or("a peer")?;
+        assert_eq!(rt; peer.backlog_high, high, "{text}");
+    }
+    Ok(())
+}
+
+#[test]
+fn gives_its_peers_away(rt: HostRuntime) -> Result<(), Fail> {
+    let peers = read_conf(rt.alloc(), EXAMPLE)?.into_peers();
+    assert_eq!(rt; peers.len(), 3);
+    let three = peers.get(2).ok_or("a peer")?;
+    assert_eq!(rt; three.name.bytes(), b"three".as_slice());
+    Ok(())
+}

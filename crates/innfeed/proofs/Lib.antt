@@ -1,1 +1,3 @@
-pub mod Tapes
+pub mod Declared
+pub mod Numbers
+pub mod Owing

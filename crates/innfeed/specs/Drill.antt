@@ -1,9 +1,55 @@
--- What a line does at one peer of a drill.
-use Rattle.std.specs.Prelude.{ℕ, ◌≤◌, List, Contains}
-use Rattle.innfeed.specs.declared.drill.Peer.{Peer}
-use Rattle.innfeed.specs.declared.tape.Tape.{Tape}
-use Rattle.innfeed.specs.Tape.{mark_of}
+-- What a line does at the peers of a drill.
+use Rattle.std.specs.Prelude.{◌≡◌, ℕ, ◌+◌, ◌<◌, ◌≤◌, List, ◌++◌, length, Contains, slice_index_or}
+use Rattle.disk_model.specs.declared.Disk.{Ghosts}
+use Rattle.funnel.specs.declared.line.FunnelLine.{FunnelLine}
+use Rattle.ledger_core.specs.State.{IsLegal, step}
+use Rattle.ledger_core.specs.declared.note.Note.{Note}
+use Rattle.ledger_core.specs.declared.note.Note.TheVariants.{Owe}
+use Rattle.recovery.specs.Notes.{History, noted}
+use Rattle.recovery.specs.Tape.{StandsFor}
+use Rattle.recovery.specs.Words.{disk_of, ledger_of, pending_of}
+use Rattle.recovery.specs.declared.tape.Tape.{Tape}
+use Rattle.innfeed.specs.Report.{owed_text}
+use Rattle.innfeed.specs.declared.peer.Peer.{Peer}
+use Rattle.innfeed.specs.declared.peer.Owed.{Owed}
+use Rattle.innfeed.specs.declared.peer.Owed.TheVariants.{New, Already}
 
--- a peer that is among these has noted this number, or a greater one
-abbrev pub HasNoted : ℕ → List (List ℕ) → Peer Tape → Type 0
-HasNoted number named peer = Contains named peer.name → number ≤ mark_of peer.kept
+-- the note of a line's debt
+abbrev pub debt_of : ℕ → FunnelLine → Note
+debt_of number line = Owe number line.token line.id
+
+module _ {D : Type 0} {g : Ghosts D} where
+  -- the line names the peer
+  abbrev pub IsNamed : FunnelLine → Peer D g → Type 0
+  IsNamed line peer = Contains line.peers.items peer.conf.name
+
+  -- the greatest number that the peer has noted
+  abbrev pub mark_of : Peer D g → ℕ
+  mark_of peer = (ledger_of peer.tape).mark
+
+  -- The tape took this note, which pends: its ledger is one step further, and it stands for one note more. Its disk is as it was.
+  pub record Notes (note : Note) (old new : Tape D g) : Type 0 where
+    pub legal : IsLegal (ledger_of old) note
+    pub ledger : ledger_of new ≡ step (ledger_of old) note
+    pub stands : (h : History) → StandsFor old h → StandsFor new (noted h note)
+    pub pends : pending_of new ≡ pending_of old + 1
+    pub disk : disk_of new ≡ disk_of old
+
+  -- A peer that a line names was owed it: anew, where its number is above the mark, and else nothing changed.
+  abbrev pub TakesDebt : ℕ → FunnelLine → Peer D g → Peer D g → Owed → Type 0
+  TakesDebt number line old new New = (mark_of old < number) × (new.conf ≡ old.conf) × Notes (debt_of number line) old.tape new.tape
+  TakesDebt number line old new Already = (number ≤ mark_of old) × (new ≡ old)
+
+  -- What a good line does at one peer, and what is printed of it. A peer that it does not name stays as it is.
+  pub record Owes (number : ℕ) (line : FunnelLine) (old new : Peer D g) (before after : List ℕ) : Type 0 where
+    pub named : IsNamed line old → (owed : Owed) × TakesDebt number line old new owed × (after ≡ before ++ owed_text old.conf.name owed)
+    pub stranger : (IsNamed line old → ⊥) → (new ≡ old) × (after ≡ before)
+
+  -- what a good line does at a peer, whatever is printed
+  abbrev pub HasOwed : ℕ → FunnelLine → Peer D g → Peer D g → Type 0
+  HasOwed number line old new = (before after : List ℕ) × Owes number line old new before after
+
+  -- what a good line does at all peers: the same to each
+  pub record AllOwe (number : ℕ) (line : FunnelLine) (old new : List (Peer D g)) : Type 0 where
+    pub count : length new ≡ length old
+    pub each : (k : ℕ) (d : Peer D g) → k < length old → HasOwed number line (slice_index_or old k d) (slice_index_or new k d)

@@ -2,8 +2,8 @@
 use Rattle.std.specs.Prelude.{ℕ, List, ◌∷◌, ◌++◌, codes}
 use Rattle.funnel.specs.declared.line.LineFault.{LineFault}
 use Rattle.funnel.specs.declared.line.LineFault.TheVariants.{NoToken, BadToken, BadId, TooLong, NoMemory}
-use Rattle.innfeed.specs.declared.tape.Owed.{Owed}
-use Rattle.innfeed.specs.declared.tape.Owed.TheVariants.{New, Already}
+use Rattle.innfeed.specs.declared.peer.Owed.{Owed}
+use Rattle.innfeed.specs.declared.peer.Owed.TheVariants.{New, Already}
 
 -- a peer that a line names
 abbrev pub owed_text : List ℕ → Owed → List ℕ

@@ -1,39 +1,31 @@
 // Drills: a script's steps over stations on disks in memory, and what they print (docs/FORMATS.md).
 ghost use Rattle.std.specs.Prelude.{OnOk};
-ghost use Rattle.std.specs.List.{All};
-ghost use Rattle.innfeed.specs.Drill.{HasNoted};
+ghost use Rattle.innfeed.specs.Drill.{AllOwe};
 
+use crate::arming::Arming;
 use crate::exit::Exit;
 use crate::fault::Fault;
-use crate::report::{add_bad, add_mark, add_number, add_owed, write_totals};
+use crate::peer::{Peer, StoppedPeer};
+use crate::report::{add_bad, add_mark, add_number, print_stopped, write_totals};
 use crate::script::{Script, ScriptFault, Step, read_script};
-use crate::tape::{Owed, Tape};
-use disk_model::MemDisk;
-use funnel::{FunnelLine, LineFault, PeerName, read_line};
+use crate::stage::Stage;
+use crate::stop::{Stop, Trigger};
+use disk_model::Disk;
+use feed_conf::PeerConf;
+use funnel::{FunnelLine, LineFault, read_line};
 use std::alloc::Global;
+use std::cell::Cell;
 use std::io::{self, Read, Write};
 use std::mem;
-
-// A peer and what is kept for it.
-#[derive(Drop)]
-struct Peer<T> {
-    name: PeerName,
-    kept: T,
-}
-
-// All tapes are open, or all lie on their disks.
-#[derive(Drop)]
-enum Stage {
-    Running(Vec<Peer<Tape>>),
-    Stopped(Vec<Peer<MemDisk>>),
-}
+use std::rc::Rc;
 
 // A drill between two steps.
 #[derive(Drop)]
 struct Drill {
     alloc: Global,
-    // The peers, in byte order of their names.
     stage: Stage,
+    // The stop that is armed. All disks share it.
+    trigger: Rc<Cell<Trigger>>,
     // The number of the last line.
     last: u64,
     // The number of the last acknowledged line.
@@ -72,7 +64,7 @@ fn run<W: Write>(alloc: Global, script: Script<'_>, writer: &mut W) -> io::Resul
     let mut printed = Vec::new(alloc);
     for (place, step) in steps.iter().enumerate() {
         printed.clear();
-        if let Err(fault) = drill.take(*step, &mut printed) {
+        if let Err(fault) = drill.take(step, &mut printed) {
             return refuse(writer, place + 1, fault);
         }
         writer.write_all(&printed)?;
@@ -93,27 +85,41 @@ fn refuse<W: Write>(writer: &mut W, step: usize, fault: Fault) -> io::Result<Exi
 
 impl Drill {
     // A drill of these peers, whose disks are empty.
-    fn new(alloc: Global, names: Vec<PeerName>) -> Result<Drill, Fault> {
+    fn new(alloc: Global, confs: Vec<PeerConf>) -> Result<Drill, Fault> {
         let mut peers = Vec::new(alloc);
-        for name in names {
-            let kept = Tape::open(alloc, MemDisk::new(alloc))?;
-            peers.push(Peer { name, kept })?;
+        for conf in confs {
+            peers.push(StoppedPeer::new(alloc, conf))?;
         }
-        Ok(Drill {
+        let mut drill = Drill {
             alloc,
-            stage: Stage::Running(peers),
+            stage: Stage::Stopped(peers),
+            trigger: Rc::new(alloc, Cell::new(Trigger::Idle))?,
             last: 0,
             acknowledged: 0,
-        })
+        };
+        drill.open_all()?;
+        Ok(drill)
     }
 
-    // Takes one step, and adds what it prints. A step that is refused prints nothing.
-    fn take(&mut self, step: Step<'_>, out: &mut Vec<u8>) -> Result<(), Fault> {
-        match step {
+    // Takes one step, and adds what it prints. A step that is refused prints nothing, and one in which a stop is met prints
+    // `stopped` alone.
+    fn take(&mut self, step: &Step<'_>, out: &mut Vec<u8>) -> Result<(), Fault> {
+        let taken = match step {
             Step::Line(text) => self.line(text, out),
             Step::Flush => self.flush(out),
             Step::Stop => self.stop(out),
+            Step::Arm(arming) => self.arm(arming),
             Step::Restart => self.restart(out),
+        };
+        let (trigger, met) = self.trigger.get().settle();
+        self.trigger.set(trigger);
+        match met {
+            None => taken,
+            Some(choice) => {
+                self.stage = self.take_stage().leave(self.alloc, choice)?;
+                print_stopped(out)?;
+                Ok(())
+            }
         }
     }
 
@@ -142,7 +148,7 @@ impl Drill {
             return Err(Fault::Stopped);
         };
         for peer in peers.iter_mut() {
-            peer.kept.flush()?;
+            peer.tape.flush()?;
         }
         self.acknowledged = self.last;
         out.extend_from_slice(b"taken ")?;
@@ -151,46 +157,59 @@ impl Drill {
         Ok(())
     }
 
-    // Stops at rest: what stood on the disks stays.
-    fn stop(&mut self, out: &mut Vec<u8>) -> Result<(), Fault> {
-        let stage = mem::replace(&mut self.stage, Stage::Stopped(Vec::new(self.alloc)));
-        let Stage::Running(peers) = stage else {
-            return Err(Fault::Stopped);
+    // Arms a stop in place of one that is armed.
+    fn arm(&mut self, arming: &Arming) -> Result<(), Fault> {
+        let Some(place) = self.stage.place_of(&arming.name) else {
+            return Err(Fault::NoPeer);
         };
-        let mut disks = Vec::new(self.alloc);
-        for peer in peers {
-            let Peer { name, kept } = peer;
-            let kept = kept.into_disk();
-            disks.push(Peer { name, kept })?;
-        }
-        self.stage = Stage::Stopped(disks);
-        out.extend_from_slice(b"stopped\n")?;
+        self.trigger.set(Trigger::Armed(Stop {
+            place,
+            calls: arming.call,
+            choice: arming.choice,
+        }));
+        Ok(())
+    }
+
+    // Stops at rest: what stood on the disks stays, and no stop is armed.
+    fn stop(&mut self, out: &mut Vec<u8>) -> Result<(), Fault> {
+        self.stage = self.take_stage().stop(self.alloc)?;
+        self.trigger.set(Trigger::Idle);
+        print_stopped(out)?;
         Ok(())
     }
 
     // Opens all tapes again. The lines behind the last acknowledged one come again.
     fn restart(&mut self, out: &mut Vec<u8>) -> Result<(), Fault> {
-        let stage = mem::replace(&mut self.stage, Stage::Stopped(Vec::new(self.alloc)));
-        let Stage::Stopped(disks) = stage else {
-            return Err(Fault::Running);
-        };
-        let mut peers = Vec::new(self.alloc);
-        for peer in disks {
-            let Peer { name, kept } = peer;
-            let kept = Tape::open(self.alloc, kept)?;
-            add_mark(self.alloc, out, &name, &kept)?;
-            peers.push(Peer { name, kept })?;
+        self.open_all()?;
+        if let Stage::Running(peers) = &self.stage {
+            for peer in peers {
+                add_mark(out, &peer.conf.name, &peer.tape)?;
+            }
         }
-        self.stage = Stage::Running(peers);
         self.last = self.acknowledged;
         Ok(())
+    }
+
+    // Opens all tapes. Where one is refused all peers have stopped still.
+    fn open_all(&mut self) -> Result<(), Fault> {
+        let (stage, refused) = self.take_stage().open(self.alloc, &self.trigger)?;
+        self.stage = stage;
+        match refused {
+            None => Ok(()),
+            Some(fault) => Err(fault),
+        }
+    }
+
+    // The stage, which the drill has no more.
+    fn take_stage(&mut self) -> Stage {
+        mem::replace(&mut self.stage, Stage::Stopped(Vec::new(self.alloc)))
     }
 
     // Each peer's totals, but none while stopped.
     fn write_totals<W: Write>(&self, writer: &mut W) -> io::Result<()> {
         if let Stage::Running(peers) = &self.stage {
             for peer in peers {
-                write_totals(writer, &peer.name, peer.kept.totals())?;
+                write_totals(writer, &peer.conf.name, peer.tape.totals())?;
             }
         }
         Ok(())
@@ -198,29 +217,16 @@ impl Drill {
 }
 
 // Owes a good line to each peer that it names, in byte order of their names.
-fn owe(
-    peers: &mut [Peer<Tape>],
+fn owe<D: Disk>(
+    peers: &mut [Peer<D>],
     number: u64,
     line: &FunnelLine,
     out: &mut Vec<u8>,
 ) -> Result<(), Fault>
-    ensures { OnOk result (All (HasNoted number line.now.peers.items) peers.new) }
+    ensures { OnOk result (AllOwe number line.now peers.old peers.new) }
 {
     for peer in peers.iter_mut() {
         peer.owe(number, line, out)?;
     }
     Ok(())
-}
-
-impl Peer<Tape> {
-    // Owes a good line, where it names this peer.
-    fn owe(&mut self, number: u64, line: &FunnelLine, out: &mut Vec<u8>) -> Result<(), Fault>
-        ensures { OnOk result (HasNoted number line.now.peers.items self.new) }
-    {
-        if line.names(&self.name) {
-            let owed = self.kept.owe(number, &line.token, &line.id)?;
-            add_owed(out, &self.name, owed)?;
-        }
-        Ok(())
-    }
 }

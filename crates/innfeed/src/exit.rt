@@ -6,11 +6,11 @@ ghost use Rattle.std.specs.Prelude.{◌≡◌};
 pub enum Exit {
     /// All is done: status 0.
     Done,
-    /// The script breaks its rules, or a step of it was refused: status 1.
+    /// The configuration has a fault, the script breaks its rules, or a step of it was refused: status 1.
     Refused,
     /// The words of the command line are none that it knows: status 2.
     Usage,
-    /// Standard input could not be read, or standard output not be written: status 4.
+    /// A file or standard input could not be read, or an output not be written: status 4.
     Unreadable,
     /// Memory was refused: status 5.
     NoMemory,

@@ -1,11 +1,13 @@
 // The lines that a drill prints (docs/FORMATS.md).
-ghost use Rattle.std.specs.Prelude.{◌≡◌, ◌++◌, OnOk, decimal};
+ghost use Rattle.std.specs.Prelude.{◌≡◌, [], ◌∷◌, ◌++◌, OnOk, codes, decimal};
 ghost use Rattle.innfeed.specs.Report.{owed_text, bad_text};
 
-use crate::tape::{Owed, Tape};
+use crate::peer::Owed;
+use disk_model::Disk;
 use funnel::{LineFault, PeerName};
 use ledger_core::Totals;
-use std::alloc::{AllocError, Global};
+use recovery::Tape;
+use std::alloc::AllocError;
 use std::io::{self, Write};
 
 /// ` NAME new` or ` NAME already`, behind a line's number.
@@ -34,16 +36,15 @@ pub fn add_bad(out: &mut Vec<u8>, fault: LineFault) -> Result<(), AllocError>
 }
 
 /// `NAME mark M owes N1 N2 ..`, with `-` where nothing is owed.
-pub fn add_mark(
-    alloc: Global,
+pub fn add_mark<D: Disk>(
     out: &mut Vec<u8>,
     name: &PeerName,
-    tape: &Tape,
+    tape: &Tape<D>,
 ) -> Result<(), AllocError> {
-    let numbers = tape.ledger().numbers(alloc)?;
+    let numbers = tape.numbers()?;
     out.extend_from_slice(name.bytes())?;
     out.extend_from_slice(b" mark ")?;
-    add_number(out, tape.ledger().mark())?;
+    add_number(out, tape.mark())?;
     out.extend_from_slice(b" owes")?;
     for number in &numbers {
         out.push(b' ')?;
@@ -54,6 +55,14 @@ pub fn add_mark(
     }
     out.push(b'\n')?;
     Ok(())
+}
+
+/// What a step prints in which all stopped: this alone, whatever it had to print.
+pub fn print_stopped(out: &mut Vec<u8>) -> Result<(), AllocError>
+    ensures { OnOk result (out.new.items ≡ codes "stopped" ++ 10 ∷ []) }
+{
+    out.clear();
+    out.extend_from_slice(b"stopped\n")
 }
 
 /// A number in decimal digits.

@@ -1,13 +1,19 @@
 // Drill scripts (docs/FORMATS.md). The whole script is read before its first step is taken.
-ghost use Rattle.std.specs.Prelude.{◌<◌, length, IfSome};
+ghost use Rattle.std.specs.Prelude.{◌≡◌, ◌≢◌, ◌==◌, ◌<◌, ◌∷◌, [], List, length, position, IfSome, IfOk, MatchOption};
+ghost use Rattle.feed_conf.specs.declared.conf.PeerConf.{PeerConf};
+ghost use Rattle.feed_conf.specs.Tokens.{Token};
+ghost use Rattle.feed_conf.specs.Reading.{HaveTokens, lines_of};
+ghost use Rattle.feed_conf.specs.Settings.{meaning};
+ghost use Rattle.innfeed.specs.Script.{Declares, name_part, items_part, peer_text};
 
-use funnel::PeerName;
+use crate::arming::Arming;
+use feed_conf::{ConfFault, ConfFaultKind, PeerConf, read_conf};
 use memchr::memchr;
 use std::alloc::{AllocError, AllocFailed, Global};
 use std::collections::BTreeMap;
 
 /// One step of a drill. A line's octets stand in the script.
-#[derive(Clone, Copy, Debug)]
+#[derive(Debug, Drop)]
 pub enum Step<'a> {
     /// A funnel line, without its LF.
     Line(&'a [u8]),
@@ -15,6 +21,8 @@ pub enum Step<'a> {
     Flush,
     /// All stops, at rest.
     Stop,
+    /// A stop is armed.
+    Arm(Arming),
     /// All tapes are opened again.
     Restart,
 }
@@ -22,8 +30,8 @@ pub enum Step<'a> {
 /// A script that keeps its rules.
 #[derive(Drop)]
 pub struct Script<'a> {
-    /// The peers, in byte order of their names.
-    pub peers: Vec<PeerName>,
+    /// What is declared of the peers, in byte order of their names.
+    pub peers: Vec<PeerConf>,
     /// The steps, in order.
     pub steps: Vec<Step<'a>>,
 }
@@ -54,7 +62,7 @@ impl<T: Drop> From<AllocFailed<T>> for ScriptFault {
 enum Sentence<'a> {
     // Nothing: it is empty or a comment.
     Nothing,
-    // A peer is declared.
+    // A peer is declared, by its name and its items.
     Peer(&'a [u8]),
     // A step.
     Step(Step<'a>),
@@ -71,10 +79,10 @@ pub fn read_script(alloc: Global, text: &[u8]) -> Result<Script<'_>, ScriptFault
     let mut place = 0;
     while let Some((line, more)) = first_line(rest) {
         place += 1;
-        match read_sentence(without_cr(line)) {
+        match read_sentence(alloc, without_cr(line))? {
             Some(Sentence::Nothing) => {}
-            Some(Sentence::Peer(name)) if steps.is_empty() => {
-                declare(alloc, &mut peers, name, place)?;
+            Some(Sentence::Peer(declaration)) if steps.is_empty() => {
+                declare(alloc, &mut peers, declaration, place)?;
             }
             Some(Sentence::Step(step)) => steps.push(step)?,
             _ => return Err(ScriptFault::Broken { line: place }),
@@ -84,7 +92,7 @@ pub fn read_script(alloc: Global, text: &[u8]) -> Result<Script<'_>, ScriptFault
     if !rest.is_empty() {
         return Err(ScriptFault::Broken { line: place + 1 });
     }
-    let peers = names_of(alloc, peers)?;
+    let peers = confs_of(alloc, peers)?;
     Ok(Script { peers, steps })
 }
 
@@ -101,50 +109,117 @@ fn without_cr(line: &[u8]) -> &[u8] {
 }
 
 // What a line says, or None where it breaks the rules.
-fn read_sentence(line: &[u8]) -> Option<Sentence<'_>> {
+fn read_sentence(alloc: Global, line: &[u8]) -> Result<Option<Sentence<'_>>, AllocError> {
     if line.is_empty() || line.starts_with(b"#") {
-        return Some(Sentence::Nothing);
+        return Ok(Some(Sentence::Nothing));
     }
     let (word, rest) = match memchr(b' ', line) {
         Some(end) => (&line[..end], Some(&line[end + 1..])),
         None => (line, None),
     };
-    match (word, rest) {
+    Ok(match (word, rest) {
         (b"peer", Some(name)) => Some(Sentence::Peer(name)),
         (b"line", Some(text)) => Some(Sentence::Step(Step::Line(text))),
         (b"line", None) => Some(Sentence::Step(Step::Line(b""))),
         (b"flush", None) => Some(Sentence::Step(Step::Flush)),
+        (b"stop", Some(words)) => match Arming::read(alloc, words)? {
+            Some(arming) => Some(Sentence::Step(Step::Arm(arming))),
+            None => None,
+        },
         (b"stop", None) => Some(Sentence::Step(Step::Stop)),
         (b"restart", None) => Some(Sentence::Step(Step::Restart)),
         _ => None,
-    }
+    })
 }
 
-// Declares a peer, whose name is to be one and a new one.
+// Declares a peer, which is to be one and a new one.
 fn declare(
     alloc: Global,
-    peers: &mut BTreeMap<Vec<u8>, PeerName>,
-    octets: &[u8],
+    peers: &mut BTreeMap<Vec<u8>, PeerConf>,
+    declaration: &[u8],
     place: usize,
 ) -> Result<(), ScriptFault> {
-    let Some(name) = PeerName::read(alloc, octets)? else {
+    let Some(conf) = read_peer(alloc, declaration)? else {
         return Err(ScriptFault::Broken { line: place });
     };
-    if peers.contains_key(octets) {
+    let name = Vec::from_slice(alloc, conf.name.bytes())?;
+    if peers.contains_key(&name) {
         return Err(ScriptFault::Broken { line: place });
     }
-    peers.insert(Vec::from_slice(alloc, octets)?, name)?;
+    peers.insert(name, conf)?;
     Ok(())
 }
 
-// The names, in byte order.
-fn names_of(
-    alloc: Global,
-    peers: BTreeMap<Vec<u8>, PeerName>,
-) -> Result<Vec<PeerName>, AllocError> {
-    let mut names = Vec::new(alloc);
-    for (_, name) in peers {
-        names.push(name)?;
+// What a peer's declaration says: the settings of its name and its items on one line, where they are those of one peer of that
+// name. Items may close their block, so another peer may stand behind it, and one that has no name is none.
+fn read_peer(alloc: Global, declaration: &[u8]) -> Result<Option<PeerConf>, AllocError>
+    ensures { (lines : List (List Token)) → HaveTokens (lines_of (peer_text (name_part declaration.now) (items_part declaration.now))) lines → IfOk result (Declares (name_part declaration.now) (meaning lines)) }
+{
+    let (name, items) = split_peer(declaration);
+    let text = write_peer(alloc, name, items)?;
+    match read_conf(alloc, &text) {
+        Ok(conf) => Ok(only_peer(conf.into_peers(), name)),
+        Err(
+            ConfFault {
+                kind: ConfFaultKind::NoMemory,
+                ..
+            },
+        ) => Err(AllocError),
+        Err(_) => Ok(None),
     }
-    Ok(names)
+}
+
+// A peer's name, and the items behind the first space.
+fn split_peer(declaration: &[u8]) -> (&[u8], &[u8])
+    ensures name { result.0.now ≡ name_part declaration.now }
+    ensures items { result.1.now ≡ items_part declaration.now }
+{
+    match first_space(declaration) {
+        None => (declaration, &[]),
+        Some(space) => (&declaration[..space], &declaration[space + 1..]),
+    }
+}
+
+// Where the first space stands.
+fn first_space(octets: &[u8]) -> Option<usize>
+    ensures { result ≡ position (λ octet. octet == 32) octets.now }
+{
+    octets.iter().position(|octet| *octet == b' ')
+}
+
+// The block of a peer's settings, on one line.
+fn write_peer(alloc: Global, name: &[u8], items: &[u8]) -> Result<Vec<u8>, AllocError>
+    ensures { IfOk result (λ text. text.items ≡ peer_text name.now items.now) }
+{
+    let mut text = Vec::new(alloc);
+    text.extend_from_slice(b"peer ")?;
+    text.extend_from_slice(name)?;
+    text.extend_from_slice(b" { ")?;
+    text.extend_from_slice(items)?;
+    text.extend_from_slice(b" }")?;
+    Ok(text)
+}
+
+// The one peer that there is, where it has this name.
+fn only_peer(mut peers: Vec<PeerConf>, name: &[u8]) -> Option<PeerConf>
+    ensures { MatchOption result ((conf : PeerConf) → peers.items ≡ conf ∷ [] → conf.name ≢ name.now) (λ conf. (peers.items ≡ conf ∷ []) × (conf.name ≡ name.now)) }
+{
+    let conf = peers.pop()?;
+    if peers.is_empty() && conf.name.bytes() == name {
+        Some(conf)
+    } else {
+        None
+    }
+}
+
+// What is declared, in byte order of the names.
+fn confs_of(
+    alloc: Global,
+    peers: BTreeMap<Vec<u8>, PeerConf>,
+) -> Result<Vec<PeerConf>, AllocError> {
+    let mut confs = Vec::new(alloc);
+    for (_, conf) in peers {
+        confs.push(conf)?;
+    }
+    Ok(confs)
 }

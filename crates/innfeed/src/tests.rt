@@ -1,11 +1,16 @@
-// Drills, whole: what each script prints and how it ends.
+// Drills, whole: what each script prints and how it ends. Checks of configurations, and the words of the command line.
+use crate::check::check_conf;
 use crate::drill::run_script;
 use crate::exit::Exit;
+use crate::script::read_script;
+use crate::words::{Order, read_words};
+use feed_conf::ConfFaultKind;
 use std::alloc::{AllocError, Global};
+use std::process::Abort;
 use std::test::Fail;
 
 // A script, what it prints, and how it ends.
-type Row = (&'static str, &'static str, Exit);
+pub type Row = (&'static str, &'static str, Exit);
 
 const EMPTY: Row = ("", "end 0\n", Exit::Done);
 
@@ -58,7 +63,7 @@ const LINE_WHILE_STOPPED: Row = (
     Exit::Refused,
 );
 
-fn run(alloc: Global, script: &[u8]) -> Result<(Vec<u8>, Exit), Fail> {
+pub fn run(alloc: Global, script: &[u8]) -> Result<(Vec<u8>, Exit), Fail> {
     let mut printed = Vec::new(alloc);
     let mut reader = script;
     let exit = run_script(alloc, &mut reader, &mut printed)?;
@@ -91,12 +96,25 @@ fn broken_scripts(rt: HostRuntime) -> Result<(), Fail> {
         ("peer p\npeer p\n", "script 2\n"),
         ("flush\npeer p\n", "script 2\n"),
         ("peer .p\n", "script 1\n"),
-        ("peer p \n", "script 1\n"),
         ("peer\n", "script 1\n"),
+        ("peer \n", "script 1\n"),
+        ("peer  p\n", "script 1\n"),
+        ("peer p\npeer p streaming: no\n", "script 2\n"),
+        ("peer p no-check-low: 96\n", "script 1\n"),
+        ("peer p port-number: 0\n", "script 1\n"),
+        ("peer p port-number:\n", "script 1\n"),
+        ("peer p port-number: x\n", "script 1\n"),
+        ("peer p streaming: maybe\n", "script 1\n"),
+        ("peer p streaming\n", "script 1\n"),
+        ("peer p {\n", "script 1\n"),
+        ("peer p } peer q {\n", "script 1\n"),
+        ("peer p } peer p {\n", "script 1\n"),
+        ("peer p # streaming: no\n", "script 1\n"),
+        ("peer p{ }# streaming: no\n", "script 1\n"),
         ("flush \n", "script 1\n"),
         (" flush\n", "script 1\n"),
         ("flush now\n", "script 1\n"),
-        ("stop p 1 0\n", "script 1\n"),
+        ("stop p 0 0\n", "script 1\n"),
         ("begin\n", "script 1\n"),
         ("Line\n", "script 1\n"),
     ] {
@@ -169,5 +187,209 @@ fn pending_full(rt: HostRuntime) -> Result<(), Fail> {
     let end = b"65536 q new\nstep 65537: Tape PendingFull\n";
     assert!(rt; got.ends_with(end));
     assert_eq!(rt; exit, Exit::Refused);
+    Ok(())
+}
+
+// A peer's items are settings; what they ignore or limit is not told, and a space with nothing behind it says nothing.
+#[test]
+fn peers_with_settings(rt: HostRuntime) -> Result<(), Fail> {
+    let script =
+        b"peer q max-connections: 7 streaming: off\npeer p colour: red max-connections: 0\npeer r \npeer s } #\n";
+    let printed =
+        b"p taken 0 answered 0 dropped 0 owed 0 bytes 0\nq taken 0 answered 0 dropped 0 owed 0 bytes 0\n\
+        r taken 0 answered 0 dropped 0 owed 0 bytes 0\ns taken 0 answered 0 dropped 0 owed 0 bytes 0\nend 0\n";
+    let (got, exit) = run(rt.alloc(), script)?;
+    assert_eq!(rt; got.as_slice(), printed.as_slice());
+    assert_eq!(rt; exit, Exit::Done);
+    Ok(())
+}
+
+// The settings of each peer are kept with its name.
+#[test]
+fn settings_are_kept(rt: HostRuntime) -> Result<(), Fail> {
+    let script =
+        b"peer q max-connections: 7 streaming: off\npeer p colour: red max-connections: 0\n";
+    let script = read_script(rt.alloc(), script).ok().ok_or("a script")?;
+    assert_eq!(rt; script.peers.len(), 2);
+    let p = script.peers.first().ok_or("a peer")?;
+    let q = script.peers.get(1).ok_or("a peer")?;
+    assert_eq!(rt; p.name.bytes(), b"p".as_slice());
+    assert_eq!(rt; p.max_connections, 64);
+    assert!(rt; p.streaming);
+    assert_eq!(rt; q.name.bytes(), b"q".as_slice());
+    assert_eq!(rt; q.max_connections, 7);
+    assert!(rt; !q.streaming);
+    Ok(())
+}
+
+const EXAMPLE: &[u8] = b"# feed
+news-spool: /spool
+streaming: false
+group fast {
+  max-connections: 4
+  no-check-high: 95.005
+  peer one.example { streaming: yes }
+  peer two { max-connections: 3 max-connections: 6 }
+}
+peer three { colour: red }
+";
+
+#[test]
+fn checks_the_example(rt: HostRuntime) -> Result<(), Fail> {
+    let mut printed = Vec::new(rt.alloc());
+    let told = check_conf(rt.alloc(), EXAMPLE, &mut printed)?;
+    assert!(rt; told.is_ok());
+    assert_eq!(rt;
+        printed.as_slice(),
+        b"line 10: colour ignored\npeers 3\n".as_slice()
+    );
+    Ok(())
+}
+
+// Reports stand in reading order, a key's octets as they are written.
+#[test]
+fn checks_what_is_limited(rt: HostRuntime) -> Result<(), Fail> {
+    let text = b"port-number: 65536\npeer p { max-connections: 0 : x }\ngroup g { news-spool: y }";
+    let mut printed = Vec::new(rt.alloc());
+    let told = check_conf(rt.alloc(), text, &mut printed)?;
+    assert!(rt; told.is_ok());
+    assert_eq!(rt;
+        printed.as_slice(),
+        b"line 1: port-number limited\nline 2: max-connections limited\nline 2:  ignored\n\
+            line 3: news-spool ignored\npeers 1\n"
+            .as_slice()
+    );
+    Ok(())
+}
+
+// The fault of a configuration, of which nothing else is told.
+fn check_fault(
+    rt: &impl Abort,
+    alloc: Global,
+    text: &[u8],
+    line: u64,
+    kind: ConfFaultKind,
+) -> Result<(), Fail> {
+    let mut printed = Vec::new(alloc);
+    match check_conf(alloc, text, &mut printed)? {
+        Ok(()) => assert!(rt; false, "no fault"),
+        Err(fault) => {
+            assert_eq!(rt; fault.line, line);
+            assert_eq!(rt; fault.kind, kind);
+        }
+    }
+    assert!(rt; printed.is_empty());
+    Ok(())
+}
+
+#[test]
+fn checks_faults(rt: HostRuntime) -> Result<(), Fail> {
+    let alloc = rt.alloc();
+    let crossed = b"colour: red\npeer p { no-check-low: 96 }";
+    check_fault(&rt, alloc, crossed, 2, ConfFaultKind::LowAboveHigh)?;
+    let unclosed = b"streaming: true\npeer p {";
+    check_fault(&rt, alloc, unclosed, 2, ConfFaultKind::Unbalanced)?;
+    check_fault(&rt, alloc, b"port-number: 0", 1, ConfFaultKind::Range)?;
+    check_fault(&rt, alloc, b"port-number:", 1, ConfFaultKind::NoValue)?;
+    check_fault(&rt, alloc, b"port-number: x", 1, ConfFaultKind::BadNumber)?;
+    let maybe = b"streaming: maybe";
+    check_fault(&rt, alloc, maybe, 1, ConfFaultKind::BadBoolean)?;
+    check_fault(&rt, alloc, b"peer .x { }", 1, ConfFaultKind::BadPeerName)?;
+    let twice = b"peer p { }\npeer p { }";
+    check_fault(&rt, alloc, twice, 2, ConfFaultKind::SamePeer)?;
+    Ok(())
+}
+
+// An order's name, and the file that it names.
+fn name_of<'a>(order: &Order<'a>) -> (&'static str, &'a str) {
+    match order {
+        Order::DrillFromInput => ("drill", ""),
+        Order::Drill(path) => ("drill", path),
+        Order::Check(path) => ("check", path),
+        Order::Tell(_) => ("tell", ""),
+        Order::Usage => ("usage", ""),
+    }
+}
+
+// The words of a line, with one space between them.
+fn split_words(alloc: Global, line: &str) -> Result<Vec<String>, AllocError> {
+    let mut words = Vec::new(alloc);
+    for word in line.split(' ') {
+        words.push(String::from_str(alloc, word)?)?;
+    }
+    Ok(words)
+}
+
+#[test]
+fn words_and_orders(rt: HostRuntime) -> Result<(), Fail> {
+    for (line, name, path) in [
+        ("innfeed", "drill", ""),
+        ("innfeed -c x.conf -C", "check", "x.conf"),
+        ("innfeed -C -c x.conf", "check", "x.conf"),
+        ("innfeed -Cc x.conf", "check", "x.conf"),
+        ("innfeed --drill x.drill", "drill", "x.drill"),
+        ("innfeed --drill=x.drill", "drill", "x.drill"),
+        ("innfeed --help", "tell", ""),
+        ("innfeed -h", "tell", ""),
+        ("innfeed --version", "tell", ""),
+        ("innfeed -V", "tell", ""),
+        ("innfeed -C", "usage", ""),
+        ("innfeed -c x.conf", "usage", ""),
+        ("innfeed -c", "usage", ""),
+        ("innfeed -c x.conf -C -C", "usage", ""),
+        ("innfeed -c x.conf -C -c y.conf", "usage", ""),
+        ("innfeed -c x.conf -C --drill x.drill", "usage", ""),
+        ("innfeed -c x.conf -C funnel", "usage", ""),
+        ("innfeed -c x.conf --drill x.drill", "usage", ""),
+        ("innfeed -C --drill x.drill", "usage", ""),
+        ("innfeed --drill x.drill funnel", "usage", ""),
+        ("innfeed --drill", "usage", ""),
+        ("innfeed --drill x.drill --drill y.drill", "usage", ""),
+        ("innfeed funnel", "usage", ""),
+        ("innfeed -x", "usage", ""),
+        ("innfeed --", "usage", ""),
+        ("innfeed ", "usage", ""),
+    ] {
+        let words = split_words(rt.alloc(), line)?;
+        let order = read_words(rt.alloc(), &words)?;
+        let (got, file) = name_of(&order);
+        assert!(rt; got == name, "{line}");
+        assert!(rt; file == path, "{line}");
+    }
+    Ok(())
+}
+
+#[test]
+fn no_words_at_all(rt: HostRuntime) -> Result<(), Fail> {
+    let order = read_words(rt.alloc(), &[])?;
+    assert!(rt; name_of(&order).0 == "drill");
+    Ok(())
+}
+
+// What the program tells of itself.
+fn told_of(alloc: Global, line: &str) -> Result<String, Fail> {
+    let words = split_words(alloc, line)?;
+    match read_words(alloc, &words)? {
+        Order::Tell(text) => Ok(text.to_string(alloc)?),
+        _ => Err(Fail::from("the help or the version")),
+    }
+}
+
+#[test]
+fn help_and_version(rt: HostRuntime) -> Result<(), Fail> {
+    let version = told_of(rt.alloc(), "innfeed --version")?;
+    assert_eq!(rt; version.as_str(), "innfeed 0.1.0\n");
+    let help = told_of(rt.alloc(), "innfeed --help")?;
+    for part in [
+        "Usage: innfeed -c FILE -C\n",
+        "\n       innfeed --drill FILE\n",
+        "-c <FILE>",
+        "-C ",
+        "--drill <FILE>",
+        "-h, --help",
+        "-V, --version",
+    ] {
+        assert!(rt; help.contains(part), "{help}");
+    }
     Ok(())
 }

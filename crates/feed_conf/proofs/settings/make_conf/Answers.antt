@@ -1,5 +1,6 @@
 -- The peers' values have the names that were declared.
-use Rattle.std.proofs.Common.{map, ap, sym, ◌∙◌}
+use Rattle.std.proofs.Common.{map, ap, sym, ◌∙◌, subst}
+use Rattle.feed_conf.specs.Bounds.{AreBounded}
 use Rattle.feed_conf.specs.ReaderView.{declared_view, place_of}
 use Rattle.feed_conf.specs.Settings.{Settings, settings_of}
 use Rattle.feed_conf.specs.TableView.{uses_view}
@@ -11,4 +12,8 @@ invariant_of-result c =
     let uses = uses_view c.deref.result.now in
     let peers = map declared_view c.args.reader.peers.items in
     let same = (c.in_ok-peers.ensures uses c.in_ok-table.ensures).0 ∙ ap (λ z. map (settings_of uses) (map declared_view z)) c.deref-2.ensures.value in
-    record { named = λ octets. c.requires octets ∙ ap (place_of octets) (sym (ap (map (λ (peer : Settings). peer.name)) same ∙ names-kept uses peers)) }
+    record { named = λ octets. c.requires.named octets ∙ ap (place_of octets) (sym (ap (map (λ (peer : Settings). peer.name)) same ∙ names-kept uses peers)) }
+
+-- the uses that the table is of were read, and so they are bounded
+pub peer_confs-requires : goal.peer_confs-requires
+peer_confs-requires c = (uses_view c.deref.result.now, c.in_ok-table.ensures, subst (λ us. AreBounded (uses_view us)) (sym c.deref.ensures.value) c.requires.bounded)

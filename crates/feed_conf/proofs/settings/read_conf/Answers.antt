@@ -1,9 +1,12 @@
 -- The tokens of each line are those that were read.
-use Rattle.std.proofs.Common.{◌≡◌, ap, subst, sym, ◌∙◌, map}
+use Rattle.std.proofs.Common.{ap, subst, sym, ◌∙◌, map}
 use Rattle.feed_conf.specs.Scan.{tokens_of}
 use Rattle.feed_conf.specs.Reading.{lines_of, run_lines, start, then_on, finish}
+use Rattle.feed_conf.specs.Items.{items_of}
+use Rattle.feed_conf.specs.ReaderView.{reader_view}
 use Rattle.feed_conf.specs.Settings.{judged}
 use Rattle.feed_conf.specs.ConfView.{Makes}
+use Rattle.feed_conf.proofs.Bounds.{reading-bounded}
 use Rattle.feed_conf.proofs.Lookups.{items-are, have-tokens}
 use Rattle.feed_conf.proofs.settings.read_conf.Goals as goal
 
@@ -21,3 +24,6 @@ returns-in-Ok-clause-tokens c = (map tokens_of (lines_of c.args.text.now), have-
 
 pub returns-in-Err-clause-tokens : goal.returns-in-Err-clause-tokens
 returns-in-Err-clause-tokens c = (map tokens_of (lines_of c.args.text.now), have-tokens (lines_of c.args.text.now))
+
+pub make_conf-requires-clause-bounded : goal.make_conf-requires-clause-bounded
+make_conf-requires-clause-bounded c = reading-bounded (map items_of (lines_of c.args.text.now)) (reader_view c.in-Ok.reader) c.in-Ok.ensures.state

@@ -1,5 +1,5 @@
 -- The octets before the first quote are the quoted text.
-use Rattle.std.proofs.Common.{take, drop, sym, ap, ◌∙◌, List, []}
+use Rattle.std.proofs.Common.{sym, ◌∙◌}
 use Rattle.std.proofs.lemmas.List.{nil_from_length}
 use Rattle.feed_conf.specs.Tokens.{is_quoted_octet}
 use Rattle.feed_conf.proofs.Scans.{front-found, after-quote, after-open_quote}

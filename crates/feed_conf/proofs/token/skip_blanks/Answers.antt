@@ -1,8 +1,8 @@
 -- The octets before the first that is not blank are a gap.
-use Rattle.std.proofs.Common.{drop, subst, sym, ap, ◌∙◌}
+use Rattle.std.proofs.Common.{subst, sym, ap, ◌∙◌}
 use Rattle.feed_conf.specs.Tokens.{is_blank}
 use Rattle.feed_conf.specs.Scan.{StopsAt, tokens_of}
-use Rattle.feed_conf.proofs.Scans.{IsFront, front-found, after-blanks}
+use Rattle.feed_conf.proofs.Scans.{front-found, after-blanks}
 use Rattle.feed_conf.proofs.token.skip_blanks.Goals as goal
 
 pub returns-clause-same : goal.returns-clause-same

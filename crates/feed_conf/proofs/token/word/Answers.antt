@@ -1,5 +1,5 @@
 -- The octets before the first that no word may have are the word.
-use Rattle.std.proofs.Common.{◌<◌, take, drop, length, sym, arith}
+use Rattle.std.proofs.Common.{◌<◌, length, arith}
 use Rattle.feed_conf.specs.Tokens.{is_word_octet}
 use Rattle.feed_conf.proofs.Scans.{front-found, after-word, word-some}
 use Rattle.feed_conf.proofs.token.word.Goals as goal

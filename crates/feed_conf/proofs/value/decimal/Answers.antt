@@ -1,5 +1,5 @@
 -- Each digit is counted as the decimal value counts it, up to where the reader stops counting.
-use Rattle.std.proofs.Common.{◌≡◌, ◌+◌, ◌*◌, ◌-◌, ◌^◌, ◌<◌, ◌≤◌, ℕ, List, [], ◌∷◌, min, refl, sym, ap, ◌∙◌, add-one, arith, drop, drop-cons, get_or, length}
+use Rattle.std.proofs.Common.{◌≡◌, ◌+◌, ◌*◌, ◌-◌, ◌<◌, [], ◌∷◌, sym, ap, ◌∙◌, add-one, arith, drop, drop-cons, get_or, length}
 use Rattle.std.proofs.lemmas.List.{drop_all}
 use Rattle.feed_conf.specs.Values.{capped, decimal}
 use Rattle.feed_conf.proofs.Numbers.{capped-decimal, capped-digit}

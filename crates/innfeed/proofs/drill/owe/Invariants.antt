@@ -1,8 +1,10 @@
-use Rattle.std.proofs.Common.{ℕ, ◌<◌, get_or}
-use Rattle.innfeed.specs.Drill.{HasNoted}
-use Rattle.innfeed.specs.declared.drill.Peer.{Peer}
-use Rattle.innfeed.specs.declared.tape.Tape.{Tape}
+use Rattle.std.proofs.Common.{◌≡◌, ℕ, ◌<◌, ◌≤◌, length, slice_index_or}
+use Rattle.innfeed.specs.Drill.{HasOwed}
+use Rattle.innfeed.specs.declared.peer.Peer.{Peer}
 use Rattle.innfeed.proofs.drill.owe.Given as goal
 
 abbrev pub invariant-loop-peer : goal.invariant-loop-peer
-invariant-loop-peer l = (k : ℕ) (d : Peer Tape) → k < l.peer-index → HasNoted l.number l.line.peers.items (get_or l.peers k d)
+invariant-loop-peer g l =
+    (length l.peers ≡ length l.initial.peers)
+    × ((k : ℕ) (d : Peer _ g.D.Disk) → k < l.peer-index → HasOwed l.number l.line (slice_index_or l.initial.peers k d) (slice_index_or l.peers k d))
+    × ((k : ℕ) (d : Peer _ g.D.Disk) → l.peer-index ≤ k → slice_index_or l.peers k d ≡ slice_index_or l.initial.peers k d)

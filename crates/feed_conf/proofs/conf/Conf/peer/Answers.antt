@@ -1,5 +1,5 @@
 -- The map gives the place of the first peer of the name.
-use Rattle.std.proofs.Common.{◌≡◌, ap, sym, ◌∙◌, map, Option, None, Some, ℕ}
+use Rattle.std.proofs.Common.{◌≡◌, ap, sym, ◌∙◌, map, None, Some}
 use Rattle.std.specs.List.{slice_get}
 use Rattle.std.specs.Option.{option_map}
 use Rattle.std.specs.BTreeMap.{get_by_text}

@@ -1,5 +1,5 @@
 -- A name has a place where a peer of that name is declared.
-use Rattle.std.proofs.Common.{ap, sym, map, ◌∙◌}
+use Rattle.std.proofs.Common.{ap, map, ◌∙◌}
 use Rattle.std.specs.Option.{is_some}
 use Rattle.std.specs.BTreeMap.{get_by_text}
 use Rattle.feed_conf.specs.ReaderView.{declared_view}
