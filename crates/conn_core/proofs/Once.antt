@@ -1,0 +1,385 @@
+-- Each debt accepted is held or came out, once, and what came out is the debt that was accepted.
+use Rattle.std.proofs.Common.{◌≡◌, ℕ, suc, zero, ◌+◌, ◌<◌, ◌≤◌, Bool, true, false, List, [], ◌∷◌, ◌++◌, length, refl, sym, ap, subst, ◌∙◌, arith, find, Option, Some, None, cond, append_assoc, append-nil, inl, inr}
+use Rattle.std.specs.Prelude.{◌==◌, ◌||◌, if◌then◌else◌, option_map, slice_get}
+use Rattle.std.specs.List.{AllByRecursion}
+use Rattle.std.proofs.lemmas.Bool.{false≢true, ne_eqb}
+use Rattle.std.proofs.lemmas.Bool.Decides.{eqb_tells}
+use Rattle.reply_reader.specs.Stream.{Given}
+use Rattle.ledger_core.specs.State.{Owing}
+use Rattle.conn_core.specs.Codes.{meaning}
+use Rattle.conn_core.specs.Used.{has, times}
+use Rattle.conn_core.specs.Commands.{Ask, Held, Want, Handing, Sendable, Gone, Unsendable, debt_in, held_for, is_at}
+use Rattle.conn_core.specs.History.{Event, Offered, Put, Came, Faulted, Handed, Sent, Tick, Broke, Leave, Taken, accepted, asks, answered, answered_now, answered_ask, phase, closes, closes_in, reason, story, ends, held, held_from, End, ended_places, backs, ends_by_meaning, ends_by_answer, ends_by_loss, held_wanting, ends_at_close, first_want}
+use Rattle.conn_core.specs.Laws.{AllAreTheirOwn, times_held, times_out}
+use Rattle.conn_core.specs.declared.options.Options.{Options}
+use Rattle.conn_core.specs.declared.phase.Phase.{Phase}
+use Rattle.conn_core.specs.declared.phase.Phase.TheVariants.{Greeting, Asking, Streaming, OneByOne, Leaving}
+use Rattle.conn_core.specs.declared.reason.Reason.{Reason}
+use Rattle.conn_core.specs.declared.reason.Reason.TheVariants.{Quit as Left}
+use Rattle.conn_core.specs.declared.codes.Meaning.{Meaning}
+use Rattle.conn_core.specs.declared.codes.Meaning.TheVariants.{Wanted, SendBlock, Later, Final}
+use Rattle.conn_core.proofs.HeldBack.{find-is_at, places, ended_places-backs}
+use Rattle.conn_core.proofs.Facts.{ended_places-append, ends_below, places-below}
+
+pub times-append : (xs ys : List ℕ) (place : ℕ) → times (xs ++ ys) place ≡ times xs place + times ys place
+times-append [] ys place = omega arith
+times-append (x ∷ xs) ys place = omega (arith, times-append xs ys place)
+
+zero-step : (b : Bool) (n : ℕ) (more : Bool) → (b || more) ≡ false → (more ≡ false → n ≡ 0) → cond b 1 0 + n ≡ 0
+zero-step true n more e rest = cc
+zero-step false n more e rest = rw (rest e) refl
+
+pub times-none : (xs : List ℕ) (place : ℕ) → has xs place ≡ false → times xs place ≡ 0
+times-none [] place e = refl
+times-none (x ∷ xs) place e = zero-step (x == place) _ _ e (times-none xs place)
+
+some-step : (b : Bool) (n : ℕ) (more : Bool) → (b || more) ≡ true → (more ≡ true → 1 ≤ n) → 1 ≤ cond b 1 0 + n
+some-step true n more e rest = omega arith
+some-step false n more e rest = let r = rest e in omega arith
+
+pub times-some : (xs : List ℕ) (place : ℕ) → has xs place ≡ true → 1 ≤ times xs place
+times-some [] place e = cc
+times-some (x ∷ xs) place e = some-step (x == place) _ _ e (times-some xs place)
+
+-- more places, none of which was there
+more-step : (b : Bool) (gone more : List ℕ) (place : ℕ) → has more place ≡ b → times gone place ≤ 1 → times more place ≤ 1
+    → (has more place ≡ true → has gone place ≡ false) → times gone place + times more place ≤ 1
+more-step true gone more place e one once fresh = rw (times-none gone place (fresh e)) (omega arith)
+more-step false gone more place e one once fresh = rw (times-none more place e) (omega arith)
+
+once-more : (gone more : List ℕ) (place : ℕ) → times gone place ≤ 1 → times more place ≤ 1
+    → (has more place ≡ true → has gone place ≡ false) → times (gone ++ more) place ≤ 1
+once-more gone more place one once fresh =
+    rw (times-append gone more place) (more-step (has more place) gone more place refl one once fresh)
+
+-- the debts held have not come out
+fresh-step : (b : Bool) (y : Held) (left : List Held) (gone : List ℕ) (place : ℕ) → has gone y.place ≡ b
+    → (has (places left) place ≡ true → has gone place ≡ false) → has (places (if b then left else y ∷ left)) place ≡ true → has gone place ≡ false
+fresh-step true y left gone place e rest h = rest h
+fresh-step false y left gone place e rest h =
+    elim (eqb_tells y.place place) [
+      | inl same ↦ rw (← same.1) e
+      | inr other ↦ rest (rw (other.0) at h)
+    ]
+
+held-fresh : (gone : List ℕ) (n : ℕ) (debts : List Owing) (place : ℕ) → has (places (held_from n debts gone)) place ≡ true → has gone place ≡ false
+held-fresh gone n [] place h = cc
+held-fresh gone n (d ∷ debts) place h = fresh-step (has gone n) _ _ gone place refl (held-fresh gone (n + 1) debts place) h
+
+-- and each stands once
+none-before-step : (b : Bool) (y : Held) (left : List Held) (place : ℕ) → (y.place ≡ place → ⊥) → has (places left) place ≡ false
+    → has (places (if b then left else y ∷ left)) place ≡ false
+none-before-step true y left place other rest = rest
+none-before-step false y left place other rest = rw (ne_eqb y.place place other) rest
+
+none-before : (gone : List ℕ) (n : ℕ) (debts : List Owing) (place : ℕ) → place < n → has (places (held_from n debts gone)) place ≡ false
+none-before gone n [] place h = refl
+none-before gone n (d ∷ debts) place h = none-before-step (has gone n) _ _ place (λ e. omega arith) (none-before gone (n + 1) debts place (omega arith))
+
+once-step : (b : Bool) (y : Held) (left : List Held) (place : ℕ) → times (places left) place ≤ 1
+    → (y.place ≡ place → has (places left) place ≡ false) → times (places (if b then left else y ∷ left)) place ≤ 1
+once-step true y left place one alone = one
+once-step false y left place one alone =
+    elim (eqb_tells y.place place) [
+      | inl same ↦ rw (same.0, times-none (places left) place (alone same.1)) (omega arith)
+      | inr other ↦ rw (other.0) (omega arith)
+    ]
+
+held-once : (gone : List ℕ) (n : ℕ) (debts : List Owing) (place : ℕ) → times (places (held_from n debts gone)) place ≤ 1
+held-once gone n [] place = omega arith
+held-once gone n (d ∷ debts) place =
+    once-step (has gone n) _ _ place (held-once gone (n + 1) debts place) (λ e. none-before gone (n + 1) debts place (omega arith))
+
+-- a debt accepted that has not come out is held
+in-step : (b c : Bool) (y : Held) (left : List Held) (place : ℕ) → (y.place ≡ place → b ≡ false) → ((y.place ≡ place → ⊥) → has (places left) place ≡ true)
+    → has (places (if b then left else y ∷ left)) place ≡ true
+in-step b c y left place here there =
+    elim (eqb_tells y.place place) [
+      | inl same ↦ rw (here same.1, same.0) refl
+      | inr other ↦ (let h : has (places left) place ≡ true = there other.1 in
+          elim b as (λ v. has (places (if v then left else y ∷ left)) place ≡ true) [ true ↦ h | false ↦ rw other.0 h ])
+    ]
+
+pub in-held : (gone : List ℕ) (n : ℕ) (debts : List Owing) (place : ℕ) → n ≤ place → place < n + length debts → has gone place ≡ false
+    → has (places (held_from n debts gone)) place ≡ true
+in-held gone n [] place low high e = absurd (omega arith)
+in-held gone n (d ∷ debts) place low high e =
+    in-step (has gone n) false _ _ place (λ same. rw same e) (λ other. in-held gone (n + 1) debts place (omega arith) (omega arith) e)
+
+-- a debt that came out is not held
+out-step : (b : Bool) (hs : List Held) (gone : List ℕ) (place : ℕ) → has (places hs) place ≡ b → (has (places hs) place ≡ true → has gone place ≡ false)
+    → has gone place ≡ true → has (places hs) place ≡ false
+out-step true hs gone place e fresh h = absurd (false≢true (sym (fresh e) ∙ h))
+out-step false hs gone place e fresh h = e
+
+-- what one event brings out is among the debts held, each once
+pub record Fresh (held : List Held) (more : List ℕ) (place : ℕ) : Type 0 where
+  once : times more place ≤ 1
+  among : has more place ≡ true → has (places held) place ≡ true
+
+nothing-fresh : (hs : List Held) (place : ℕ) → Fresh hs [] place
+nothing-fresh hs place = record { once = omega arith; among = λ e. cc }
+
+one-step : (b : Bool) → (cond b 1 0 + 0 ≤ 1)
+one-step true = omega arith
+one-step false = omega arith
+
+one-fresh : (hs : List Held) (k place : ℕ) (x : Held) → find (is_at k) hs ≡ Some x → Fresh hs (x.place ∷ []) place
+one-fresh hs k place x e =
+    let f = find-is_at k hs x e in
+    record {
+      once = one-step (x.place == place);
+      among = λ h. elim (eqb_tells x.place place) [
+        | inl same ↦ (let s : k ≡ place = sym f.0 ∙ same.1 in rw (← s) f.1)
+        | inr other ↦ (let n : false ≡ true = rw other.0 at h in absurd (false≢true n))
+      ];
+    }
+
+by_meaning-fresh : (hs : List Held) (k place : ℕ) (m : Option Meaning) (o : Option Held) → find (is_at k) hs ≡ o → Fresh hs (ended_places (ends_by_meaning m o)) place
+by_meaning-fresh hs k place m None e = nothing-fresh hs place
+by_meaning-fresh hs k place None (Some x) e = nothing-fresh hs place
+by_meaning-fresh hs k place (Some Wanted) (Some x) e = nothing-fresh hs place
+by_meaning-fresh hs k place (Some SendBlock) (Some x) e = nothing-fresh hs place
+by_meaning-fresh hs k place (Some Later) (Some x) e = one-fresh hs k place x e
+by_meaning-fresh hs k place (Some (Final code)) (Some x) e = one-fresh hs k place x e
+
+by_loss-fresh : (hs : List Held) (k place : ℕ) (handing : Handing) (o : Option Held) → find (is_at k) hs ≡ o → Fresh hs (ended_places (ends_by_loss handing o)) place
+by_loss-fresh hs k place handing None e = nothing-fresh hs place
+by_loss-fresh hs k place (Sendable block) (Some x) e = nothing-fresh hs place
+by_loss-fresh hs k place Gone (Some x) e = one-fresh hs k place x e
+by_loss-fresh hs k place Unsendable (Some x) e = one-fresh hs k place x e
+
+by_want-fresh : (hs : List Held) (place : ℕ) (handing : Handing) (want : Option (ℕ × Want))
+    → Fresh hs (ended_places (ends_by_loss handing (held_for hs (option_map (λ (w : ℕ × Want). w.1) want)))) place
+by_want-fresh hs place handing None = nothing-fresh hs place
+by_want-fresh hs place handing (Some want) = by_loss-fresh hs want.1.place place handing _ refl
+
+backs-fresh : (gone : List ℕ) (debts : List Owing) (place : ℕ) → Fresh (held_from 0 debts gone) (ended_places (backs (held_from 0 debts gone))) place
+backs-fresh gone debts place = rw (ended_places-backs (held_from 0 debts gone)) (record { once = held-once gone 0 debts place; among = λ e. e })
+
+at_close-fresh : (gone : List ℕ) (debts : List Owing) (place : ℕ) (o : Option Reason) → Fresh (held_from 0 debts gone) (ended_places (ends_at_close o (held_from 0 debts gone))) place
+at_close-fresh gone debts place None = nothing-fresh _ place
+at_close-fresh gone debts place (Some reason) = backs-fresh gone debts place
+
+answer-fresh : (hs : List Held) (place code : ℕ) (command : ℕ × Ask) → Fresh hs (ended_places (ends_by_answer hs code (Some command) ++ [])) place
+answer-fresh hs place code command =
+    rw (append-nil (ends_by_answer hs code (Some command))) (by_meaning-fresh hs command.1.place place (meaning command.1.verb code) _ refl)
+
+-- a reply either answers a command or closes, never both
+mode-fresh : (gone : List ℕ) (debts : List Owing) (place : ℕ) (p : Phase) (code : ℕ) (o : Option (ℕ × Ask))
+    → ((c : ℕ × Ask) → closes_in p (Some c) code ≡ None)
+    → Fresh (held_from 0 debts gone) (ended_places (ends_by_answer (held_from 0 debts gone) code o ++ ends_at_close (closes_in p o code) (held_from 0 debts gone))) place
+mode-fresh gone debts place p code None still = at_close-fresh gone debts place (closes_in p None code)
+mode-fresh gone debts place p code (Some command) still = rw (still command) (answer-fresh (held_from 0 debts gone) place code command)
+
+reply-fresh : (gone : List ℕ) (debts : List Owing) (place : ℕ) (p : Phase) (reply : Given) (done : List ℕ) (sent : List Ask)
+    → Fresh (held_from 0 debts gone)
+    (ended_places (ends_by_answer (held_from 0 debts gone) reply.code (answered_now p reply done sent) ++ ends_at_close (closes_in p (answered_now p reply done sent) reply.code) (held_from 0 debts gone))) place
+reply-fresh gone debts place Greeting reply done sent = at_close-fresh gone debts place (closes_in Greeting None reply.code)
+reply-fresh gone debts place Asking reply done sent = at_close-fresh gone debts place (closes_in Asking None reply.code)
+reply-fresh gone debts place Streaming reply done sent = mode-fresh gone debts place Streaming reply.code (answered_now Streaming reply done sent) (λ c. refl)
+reply-fresh gone debts place OneByOne reply done sent = mode-fresh gone debts place OneByOne reply.code (answered_now OneByOne reply done sent) (λ c. refl)
+reply-fresh gone debts place Leaving reply done sent = at_close-fresh gone debts place (Some Left)
+
+-- what comes out by an event
+abbrev pub ends_by : Options → List Event → Event → List End
+ends_by options h (Came reply) =
+    ends_by_answer (held options h) reply.code (answered_ask options h reply) ++ ends_at_close (closes options h (Came reply)) (held options h)
+ends_by options h (Handed number handing) = ends_by_loss handing (held_wanting h (story options h) number)
+ends_by options h (Faulted fault) = ends_at_close (closes options h (Faulted fault)) (held options h)
+ends_by options h (Tick now) = ends_at_close (closes options h (Tick now)) (held options h)
+ends_by options h Broke = ends_at_close (closes options h Broke) (held options h)
+ends_by options h (Offered debt) = []
+ends_by options h (Put command) = []
+ends_by options h (Sent count) = []
+ends_by options h Leave = []
+ends_by options h Taken = []
+
+offered-step : (options : Options) (h : List Event) (b : Bool) (wants : List Want)
+    → (if b then record (story options h) { wants = wants } else story options h).ends ≡ ends options h
+offered-step options h true wants = refl
+offered-step options h false wants = refl
+
+pub ends-more : (options : Options) (h : List Event) (e : Event) → ends options (e ∷ h) ≡ ends options h ++ ends_by options h e
+unfolding story
+ends-more options h (Came reply) = append_assoc (ends options h) _ _
+ends-more options h (Handed number handing) = refl
+ends-more options h (Faulted fault) = refl
+ends-more options h (Tick now) = refl
+ends-more options h Broke = refl
+ends-more options h (Offered debt) = offered-step options h _ _ ∙ sym (append-nil (ends options h))
+ends-more options h (Put command) = sym (append-nil (ends options h))
+ends-more options h (Sent count) = sym (append-nil (ends options h))
+ends-more options h Leave = sym (append-nil (ends options h))
+ends-more options h Taken = sym (append-nil (ends options h))
+
+pub by-fresh : (options : Options) (h : List Event) (e : Event) (place : ℕ) → Fresh (held options h) (ended_places (ends_by options h e)) place
+by-fresh options h (Came reply) place =
+    reply-fresh (ended_places (ends options h)) (accepted h) place (phase options h) reply (answered options h) (asks h)
+by-fresh options h (Handed number handing) place = by_want-fresh (held options h) place handing (first_want (story options h) number)
+by-fresh options h (Faulted fault) place = at_close-fresh (ended_places (ends options h)) (accepted h) place (closes options h (Faulted fault))
+by-fresh options h (Tick now) place = at_close-fresh (ended_places (ends options h)) (accepted h) place (closes options h (Tick now))
+by-fresh options h Broke place = at_close-fresh (ended_places (ends options h)) (accepted h) place (closes options h Broke)
+by-fresh options h (Offered debt) place = nothing-fresh (held options h) place
+by-fresh options h (Put command) place = nothing-fresh (held options h) place
+by-fresh options h (Sent count) place = nothing-fresh (held options h) place
+by-fresh options h Leave place = nothing-fresh (held options h) place
+by-fresh options h Taken place = nothing-fresh (held options h) place
+
+pub places-more : (options : Options) (h : List Event) (e : Event)
+    → ended_places (ends options (e ∷ h)) ≡ ended_places (ends options h) ++ ended_places (ends_by options h e)
+places-more options h e = ap ended_places (ends-more options h e) ∙ ended_places-append (ends options h) (ends_by options h e)
+
+-- each debt comes out at most once
+pub at_most_once : (options : Options) (h : List Event) (place : ℕ) → times_out options h place ≤ 1
+unfolding story
+at_most_once options [] place = omega arith
+at_most_once options (e ∷ h) place =
+    let f = by-fresh options h e place in
+    let gone : List ℕ = ended_places (ends options h) in
+    let more : List ℕ = ended_places (ends_by options h e) in
+    subst (λ ps. times ps place ≤ 1) (sym (places-more options h e))
+    (once-more gone more place (at_most_once options h place) f.once (λ q. held-fresh gone 0 (accepted h) place (f.among q)))
+
+-- held or out, once
+held-or-out-step : (options : Options) (h : List Event) (place : ℕ) (b : Bool) → has (ended_places (ends options h)) place ≡ b → place < length (accepted h)
+    → times_held options h place + times_out options h place ≡ 1
+held-or-out-step options h place true e few =
+    let gone : List ℕ = ended_places (ends options h) in
+    let out = times-some gone place e in
+    let most = at_most_once options h place in
+    let none = times-none (places (held options h)) place (out-step _ (held options h) gone place refl (held-fresh gone 0 (accepted h) place) e) in
+    omega arith
+held-or-out-step options h place false e few =
+    let gone : List ℕ = ended_places (ends options h) in
+    let none = times-none gone place e in
+    let one = held-once gone 0 (accepted h) place in
+    let some = times-some (places (held options h)) place (in-held gone 0 (accepted h) place (omega arith) (omega arith) e) in
+    omega arith
+
+pub held_or_out : (options : Options) (h : List Event) (place : ℕ) → place < length (accepted h)
+    → times_held options h place + times_out options h place ≡ 1
+held_or_out options h place few = held-or-out-step options h place _ refl few
+
+pub neither-beyond : (options : Options) (h : List Event) (place : ℕ) → length (accepted h) ≤ place
+    → times_held options h place + times_out options h place ≡ 0
+neither-beyond options h place far =
+    let out = times-none (ended_places (ends options h)) place (ends_below options h place far) in
+    let hold = times-none (places (held options h)) place (places-below options h place far) in
+    omega arith
+
+-- each of some items is, and each of others
+pub All-append : {X : Type 0} (P : X → Type 0) (xs ys : List X) → AllByRecursion P xs → AllByRecursion P ys → AllByRecursion P (xs ++ ys)
+All-append P [] ys p q = q
+All-append P (x ∷ xs) ys p q = (p.0, All-append P xs ys p.1 q)
+
+pub All-map : {X : Type 0} (P Q : X → Type 0) → ((x : X) → P x → Q x) → (xs : List X) → AllByRecursion P xs → AllByRecursion Q xs
+All-map P Q f [] p = tt
+All-map P Q f (x ∷ xs) p = (f x p.0, All-map P Q f xs p.1)
+
+-- a debt held is the one accepted at its place
+abbrev pub IsOwn : List Owing → Held → Type 0
+IsOwn debts x = slice_get debts x.place ≡ Some x.debt
+
+own-step : (all : List Owing) (b : Bool) (y : Held) (left : List Held) → IsOwn all y → AllByRecursion (IsOwn all) left
+    → AllByRecursion (IsOwn all) (if b then left else y ∷ left)
+own-step all true y left p q = q
+own-step all false y left p q = (p, q)
+
+own-held : (all : List Owing) (gone : List ℕ) (n : ℕ) (debts : List Owing) → ((k : ℕ) (d : Owing) → slice_get debts k ≡ Some d → slice_get all (n + k) ≡ Some d)
+    → AllByRecursion (IsOwn all) (held_from n debts gone)
+own-held all gone n [] at = tt
+own-held all gone n (d ∷ debts) at =
+    let here : n + 0 ≡ n = omega arith in
+    own-step all (has gone n) _ _ (rw here at (at 0 d refl))
+    (own-held all gone (n + 1) debts (λ k x e. let there : n + suc k ≡ n + 1 + k = omega arith in rw there at (at (suc k) x e)))
+
+own-found : (all : List Owing) (b : Bool) (y x : Held) (rest : Option Held) → cond b (Some y) rest ≡ Some x → IsOwn all y → (rest ≡ Some x → IsOwn all x) → IsOwn all x
+own-found all true y x rest e p later = let same : y ≡ x = cc in subst (λ z. IsOwn all z) same p
+own-found all false y x rest e p later = later e
+
+pub find-own : (all : List Owing) (k : ℕ) (hs : List Held) (x : Held) → AllByRecursion (IsOwn all) hs → find (is_at k) hs ≡ Some x → IsOwn all x
+find-own all k [] x p e = cc
+find-own all k (y ∷ hs) x p e = own-found all (y.place == k) y x _ e p.0 (find-own all k hs x p.1)
+
+-- a debt that came out is, too
+abbrev IsOwnEnd : List Owing → End → Type 0
+IsOwnEnd debts x = slice_get debts x.place ≡ Some (debt_in x.outcome)
+
+own-backs : (all : List Owing) (hs : List Held) → AllByRecursion (IsOwn all) hs → AllByRecursion (IsOwnEnd all) (backs hs)
+own-backs all [] p = tt
+own-backs all (x ∷ hs) p = (p.0, own-backs all hs p.1)
+
+own-close : (all : List Owing) (o : Option Reason) (hs : List Held) → AllByRecursion (IsOwn all) hs → AllByRecursion (IsOwnEnd all) (ends_at_close o hs)
+own-close all None hs p = tt
+own-close all (Some why) hs p = own-backs all hs p
+
+own-meaning : (all : List Owing) (k : ℕ) (hs : List Held) (m : Option Meaning) (o : Option Held) → find (is_at k) hs ≡ o → AllByRecursion (IsOwn all) hs
+    → AllByRecursion (IsOwnEnd all) (ends_by_meaning m o)
+own-meaning all k hs m None e p = tt
+own-meaning all k hs None (Some x) e p = tt
+own-meaning all k hs (Some Wanted) (Some x) e p = tt
+own-meaning all k hs (Some SendBlock) (Some x) e p = tt
+own-meaning all k hs (Some Later) (Some x) e p = (find-own all k hs x p e, tt)
+own-meaning all k hs (Some (Final code)) (Some x) e p = (find-own all k hs x p e, tt)
+
+own-answer : (all : List Owing) (hs : List Held) (code : ℕ) (o : Option (ℕ × Ask)) → AllByRecursion (IsOwn all) hs → AllByRecursion (IsOwnEnd all) (ends_by_answer hs code o)
+own-answer all hs code None p = tt
+own-answer all hs code (Some command) p = own-meaning all command.1.place hs (meaning command.1.verb code) _ refl p
+
+own-loss : (all : List Owing) (k : ℕ) (hs : List Held) (handing : Handing) (o : Option Held) → find (is_at k) hs ≡ o → AllByRecursion (IsOwn all) hs
+    → AllByRecursion (IsOwnEnd all) (ends_by_loss handing o)
+own-loss all k hs handing None e p = tt
+own-loss all k hs (Sendable block) (Some x) e p = tt
+own-loss all k hs Gone (Some x) e p = (find-own all k hs x p e, tt)
+own-loss all k hs Unsendable (Some x) e p = (find-own all k hs x p e, tt)
+
+own-want : (all : List Owing) (hs : List Held) (handing : Handing) (want : Option (ℕ × Want)) → AllByRecursion (IsOwn all) hs
+    → AllByRecursion (IsOwnEnd all) (ends_by_loss handing (held_for hs (option_map (λ (w : ℕ × Want). w.1) want)))
+own-want all hs handing None p = tt
+own-want all hs handing (Some want) p = own-loss all want.1.place hs handing _ refl p
+
+pub held-own : (options : Options) (h : List Event) → AllByRecursion (IsOwn (accepted h)) (held options h)
+held-own options h =
+    own-held (accepted h) (ended_places (ends options h)) 0 (accepted h) (λ k d e. let here : 0 + k ≡ k = omega arith in rw here e)
+
+own-by : (options : Options) (h : List Event) (e : Event) → AllByRecursion (IsOwnEnd (accepted h)) (ends_by options h e)
+own-by options h (Came reply) =
+    All-append (IsOwnEnd (accepted h)) (ends_by_answer (held options h) reply.code (answered_ask options h reply)) _
+    (own-answer (accepted h) (held options h) reply.code (answered_ask options h reply) (held-own options h))
+    (own-close (accepted h) (closes options h (Came reply)) (held options h) (held-own options h))
+own-by options h (Handed number handing) = own-want (accepted h) (held options h) handing (first_want (story options h) number) (held-own options h)
+own-by options h (Faulted fault) = own-close (accepted h) (closes options h (Faulted fault)) (held options h) (held-own options h)
+own-by options h (Tick now) = own-close (accepted h) (closes options h (Tick now)) (held options h) (held-own options h)
+own-by options h Broke = own-close (accepted h) (closes options h Broke) (held options h) (held-own options h)
+own-by options h (Offered debt) = tt
+own-by options h (Put command) = tt
+own-by options h (Sent count) = tt
+own-by options h Leave = tt
+own-by options h Taken = tt
+
+get-more : {X : Type 0} (xs ys : List X) (k : ℕ) (x : X) → slice_get xs k ≡ Some x → slice_get (xs ++ ys) k ≡ Some x
+get-more [] ys k x e = cc
+get-more (y ∷ xs) ys zero x e = e
+get-more (y ∷ xs) ys (suc k) x e = get-more xs ys k x e
+
+still-own : (h : List Event) (e : Event) (x : End) → IsOwnEnd (accepted h) x → IsOwnEnd (accepted (e ∷ h)) x
+still-own h (Offered debt) x p = get-more (accepted h) (debt ∷ []) x.place (debt_in x.outcome) p
+still-own h (Came reply) x p = p
+still-own h (Handed number handing) x p = p
+still-own h (Faulted fault) x p = p
+still-own h (Tick now) x p = p
+still-own h Broke x p = p
+still-own h (Put command) x p = p
+still-own h (Sent count) x p = p
+still-own h Leave x p = p
+still-own h Taken x p = p
+
+-- what comes out is the debt that was accepted
+pub all_own : (options : Options) (h : List Event) → AllAreTheirOwn options h
+unfolding story
+all_own options [] = tt
+all_own options (e ∷ h) =
+    let all = All-append (IsOwnEnd (accepted h)) (ends options h) (ends_by options h e) (all_own options h) (own-by options h e) in
+    subst (λ xs. AllByRecursion (IsOwnEnd (accepted (e ∷ h))) xs) (sym (ends-more options h e))
+    (All-map (IsOwnEnd (accepted h)) (IsOwnEnd (accepted (e ∷ h))) (still-own h e) (ends options h ++ ends_by options h e) all)

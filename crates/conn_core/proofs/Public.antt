@@ -1,0 +1,197 @@
+-- From a step of what a connection holds to the transcript, as the public calls promise it.
+use Rattle.std.proofs.Common.{◌≡◌, ℕ, suc, zero, ◌+◌, ◌<◌, ◌≤◌, Bool, true, false, List, [], ◌∷◌, length, refl, sym, ap, ◌∙◌, arith, Option, Some, None, find, drop, take, add-one}
+use Rattle.std.specs.Prelude.{is_some, option_map, slice_get, if◌then◌else◌, not}
+use Rattle.std.proofs.lemmas.List.{length-drop}
+use Rattle.reply_reader.specs.Stream.{Given}
+use Rattle.reply_reader.specs.declared.fault.ReplyFault.{ReplyFault}
+use Rattle.ledger_core.specs.State.{Owing}
+use Rattle.conn_core.specs.Commands.{Handing, Want, is_of}
+use Rattle.conn_core.specs.History.{Event, Offered, Came, Faulted, Handed, Sent, Tick, Broke, Leave, Taken, accepted, taken, is_leaving, reason, checks, counted, story, outcomes, after, output, needed, need}
+use Rattle.conn_core.specs.State.{State, untold, output_of}
+use Rattle.conn_core.specs.Stands.{Arises, Open, StandsFor, ready_of, ready_when}
+use Rattle.conn_core.specs.Machine.{fresh, offered, came, faulted, handed, ticked, shut, asked_to_quit, sent_off, TakesOne, ready_at}
+use Rattle.conn_core.specs.declared.options.Options.{Options}
+use Rattle.conn_core.specs.declared.ready.Ready.TheVariants.{Yes}
+use Rattle.conn_core.specs.declared.reason.Reason.{Reason}
+use Rattle.conn_core.specs.declared.reason.Reason.TheVariants.{Broken}
+use Rattle.conn_core.specs.declared.outcome.Outcome.{Outcome}
+use Rattle.conn_core.proofs.Modes.{arises-plain}
+use Rattle.conn_core.proofs.Steps.{first_reason-none, stands_offered}
+use Rattle.conn_core.proofs.Clock.{stands_ticked}
+use Rattle.conn_core.proofs.Replies.{stands_came}
+use Rattle.conn_core.proofs.Articles.{stands_handed, stands_faulted, stands_broke, stands_leave, stands_sent, wanted_first}
+
+-- what is left of a list
+drop-front : {A : Type 0} (n : ℕ) (xs : List A) (x : A) (ys : List A) → drop n xs ≡ x ∷ ys → (slice_get xs n ≡ Some x) × (drop (n + 1) xs ≡ ys) × (n < length xs)
+drop-front zero [] x ys e = cc
+drop-front (suc n) [] x ys e = cc
+drop-front zero (z ∷ zs) x ys e = let a : z ≡ x = cc in let b : zs ≡ ys = cc in (ap Some a, b, omega arith)
+drop-front (suc n) (z ∷ zs) x ys e = let r = drop-front n zs x ys e in let q = rw (add-one n) at r.1 in (r.0, rw (add-one (suc n)) q, omega arith)
+
+ready-stays : (b q has_room : Bool) → ready_when b q has_room ≡ Yes → q ≡ false
+ready-stays true q has_room e = cc
+ready-stays false true has_room e = cc
+ready-stays false false has_room e = refl
+
+-- one just made stands for the empty transcript
+pub fresh-stands : (options : Options) → StandsFor options (fresh options) []
+unfolding story
+fresh-stands options = record {
+  options_is = refl;
+  closed_is = refl;
+  quitting_is = refl;
+  accepted_is = refl;
+  recent_is = nothing options.check_filter;
+  off_is = refl;
+  untold_is = refl;
+  taken_few = omega arith;
+  while_open = λ _. record { phase_is = refl; held_is = refl; window_is = refl; blocks_is = refl; wanted_is = refl; output_is = refl; sent_few = omega arith; stirred_is = refl; quiet_is = refl };
+}
+  where
+    nothing : (n : ℕ) → (let none : List Bool = [] in none ≡ take n none)
+    nothing zero = refl
+    nothing (suc n) = refl
+
+-- a debt is accepted
+pub offered-stands : (options : Options) (s : State) (h : List Event) (debt : Owing) → StandsFor options s h → reason options h ≡ None → ready_of options h ≡ Yes
+    → StandsFor options (offered s debt) (after options h (Offered debt))
+offered-stands options s h debt st running is_ready = stands_offered options s h debt st running (ready-stays _ (is_leaving h) _ is_ready)
+
+-- a reply comes in; what the calls were matters, since no IHAVE is awaited in streaming mode
+pub came-stands : (options : Options) (s : State) (h : List Event) (reply : Given) → Arises options h → StandsFor options s h → reason options h ≡ None
+    → StandsFor options (came s reply) (after options h (Came reply))
+came-stands options s h reply arises st running = stands_came options s h reply (arises-plain options h arises) st running
+
+-- what comes in is no reply
+pub faulted-stands : (options : Options) (s : State) (h : List Event) (fault : ReplyFault) → StandsFor options s h → reason options h ≡ None
+    → StandsFor options (faulted s fault) (after options h (Faulted fault))
+faulted-stands options s h fault st running = stands_faulted options s h fault st running
+
+-- an article is handed in
+pub handed-stands : (options : Options) (s : State) (h : List Event) (number : ℕ) (handing : Handing) → StandsFor options s h → reason options h ≡ None
+    → StandsFor options (handed s number handing) (after options h (Handed number handing))
+handed-stands options s h number handing st running = stands_handed options s h number handing st running
+
+-- a tick
+pub ticked-stands : (options : Options) (s : State) (h : List Event) (now : ℕ) → StandsFor options s h → reason options h ≡ None
+    → StandsFor options (ticked s now) (after options h (Tick now))
+ticked-stands options s h now st running = stands_ticked options s h now st running
+
+-- the connection broke
+pub broke-stands : (options : Options) (s : State) (h : List Event) → StandsFor options s h → reason options h ≡ None
+    → StandsFor options (shut Broken s) (after options h Broke)
+broke-stands options s h st running = stands_broke options s h st running
+
+-- it is to quit
+pub leave-stands : (options : Options) (s : State) (h : List Event) → StandsFor options s h → reason options h ≡ None
+    → StandsFor options (asked_to_quit s) (after options h Leave)
+leave-stands options s h st running = stands_leave options s h st running
+
+-- octets are sent
+pub sent-stands : (options : Options) (s : State) (h : List Event) (count : ℕ) → StandsFor options s h → reason options h ≡ None → count ≤ length s.output
+    → StandsFor options (sent_off s count) (Sent count ∷ h)
+sent-stands options s h count st running few = stands_sent options s h count st running few
+
+-- only what is still to be told has changed
+told-stands : (options : Options) (old new : State) (o : Option Outcome) (h g : List Event) → StandsFor options old h → TakesOne old o new
+    → reason options g ≡ reason options h → is_leaving g ≡ is_leaving h → accepted g ≡ accepted h → counted options g ≡ counted options h
+    → untold new ≡ drop (taken g) (outcomes options g) → taken g ≤ length (outcomes options g) → (Open options new h → Open options new g)
+    → StandsFor options new g
+told-stands options old new o h g st t same_reason same_leaving same_accepted same_counted told few open_same =
+    let same = t.others in
+    record {
+      options_is = ap (λ (x : State). x.options) same ∙ st.options_is;
+      closed_is = ap (λ (x : State). x.closed) same ∙ st.closed_is ∙ sym same_reason;
+      quitting_is = ap (λ (x : State). x.quitting) same ∙ st.quitting_is ∙ sym same_leaving;
+      accepted_is = ap (λ (x : State). x.accepted) same ∙ st.accepted_is ∙ ap length (sym same_accepted);
+      recent_is = rw same_counted (ap (λ (x : State). x.recent) same ∙ st.recent_is);
+      off_is = rw same_counted (ap (λ (x : State). x.off) same ∙ st.off_is);
+      untold_is = told;
+      taken_few = few;
+      while_open = λ e.
+          let r : reason options h ≡ None = sym same_reason ∙ e in
+          let w = st.while_open r in
+          open_same (record {
+            phase_is = ap (λ (x : State). x.phase) same ∙ w.phase_is;
+            held_is = t.held_open (st.closed_is ∙ r) ∙ w.held_is;
+            window_is = ap (λ (x : State). x.window) same ∙ w.window_is;
+            blocks_is = ap (λ (x : State). x.blocks) same ∙ w.blocks_is;
+            wanted_is = ap (λ (x : State). x.wanted) same ∙ w.wanted_is;
+            output_is = ap (λ (x : State). x.output) same ∙ w.output_is;
+            sent_few = w.sent_few;
+            stirred_is = ap (λ (x : State). x.stirred) same ∙ w.stirred_is;
+            quiet_is = ap (λ (x : State). x.quiet) same ∙ w.quiet_is;
+          });
+    }
+
+-- an outcome is taken: the first that was not
+pub taken-stands : (options : Options) (old new : State) (h : List Event) (outcome : Outcome) → StandsFor options old h → TakesOne old (Some outcome) new
+    → (slice_get (outcomes options h) (taken h) ≡ Some outcome) × StandsFor options new (Taken ∷ h)
+unfolding story
+taken-stands options old new h outcome st t =
+    let front = drop-front (taken h) (outcomes options h) outcome (untold new) (sym st.untold_is ∙ t.first) in (
+      front.0,
+      told-stands options old new (Some outcome) h (Taken ∷ h) st t (first_reason-none _) refl refl refl (sym front.1) (omega arith)
+          (λ w. record {
+            phase_is = w.phase_is;
+            held_is = w.held_is;
+            window_is = w.window_is;
+            blocks_is = w.blocks_is;
+            wanted_is = w.wanted_is;
+            output_is = w.output_is;
+            sent_few = w.sent_few;
+            stirred_is = w.stirred_is;
+            quiet_is = w.quiet_is;
+          }),
+    )
+
+-- or all were
+pub none_taken-stands : (options : Options) (old new : State) (h : List Event) → StandsFor options old h → TakesOne old None new
+    → (taken h ≡ length (outcomes options h)) × StandsFor options new h
+none_taken-stands options old new h st t =
+    let told : untold new ≡ drop (taken h) (outcomes options h) = sym t.first ∙ st.untold_is in
+    let nothing : drop (taken h) (outcomes options h) ≡ [] = sym told ∙ t.none_left refl in
+    let few = st.taken_few in (
+      omega (arith, length-drop (taken h) (outcomes options h), ap length nothing),
+      told-stands options old new None h h st t refl refl refl refl told few (λ w. w),
+    )
+
+-- what it holds tells what the transcript says
+pub closed-is : (options : Options) (s : State) (h : List Event) → StandsFor options s h → s.closed ≡ reason options h
+closed-is options s h st = st.closed_is
+
+ready-step : (options : Options) (s : State) (h : List Event) (r : Option Reason) → reason options h ≡ r → StandsFor options s h → ready_at s ≡ ready_of options h
+ready-step options s h None e st = let o = st.while_open e in rw (st.closed_is, st.quitting_is, st.options_is, o.phase_is, o.held_is) refl
+ready-step options s h (Some why) e st = rw (st.closed_is, e) refl
+
+pub ready-is : (options : Options) (s : State) (h : List Event) → StandsFor options s h → ready_at s ≡ ready_of options h
+ready-is options s h st = ready-step options s h (reason options h) refl st
+
+output-step : (options : Options) (s : State) (h : List Event) (r : Option Reason) → reason options h ≡ r → StandsFor options s h → output_of s ≡ output options h
+output-step options s h None e st = let o = st.while_open e in rw (st.closed_is, e, o.output_is) refl
+output-step options s h (Some why) e st = rw (st.closed_is, e) refl
+
+pub output-is : (options : Options) (s : State) (h : List Event) → StandsFor options s h → output_of s ≡ output options h
+output-is options s h st = output-step options s h (reason options h) refl st
+
+pub checks-is : (options : Options) (s : State) (h : List Event) → StandsFor options s h → not s.off ≡ checks options h
+checks-is options s h st = ap not st.off_is
+
+need-step : (options : Options) (s : State) (h : List Event) (r : Option Reason) → reason options h ≡ r → StandsFor options s h
+    → (if is_some s.closed then None else option_map (λ (want : Want). want.number) (slice_get s.wanted 0)) ≡ need options h
+need-step options s h None e st = let o = st.while_open e in rw (st.closed_is, e, o.wanted_is) refl
+need-step options s h (Some why) e st = rw (st.closed_is, e) refl
+
+pub need-is : (options : Options) (s : State) (h : List Event) → StandsFor options s h
+    → (if is_some s.closed then None else option_map (λ (want : Want). want.number) (slice_get s.wanted 0)) ≡ need options h
+need-is options s h st = need-step options s h (reason options h) refl st
+
+needed-step : (options : Options) (s : State) (h : List Event) (number : ℕ) (r : Option Reason) → reason options h ≡ r → StandsFor options s h
+    → (if is_some s.closed then None else find (is_of number) s.wanted) ≡ option_map (λ (want : ℕ × Want). want.1) (needed options h number)
+needed-step options s h number None e st = rw (st.closed_is, e) (wanted_first options s h number st e)
+needed-step options s h number (Some why) e st = rw (st.closed_is, e) refl
+
+-- the want of that number, where its article is wanted
+pub needed-is : (options : Options) (s : State) (h : List Event) (number : ℕ) → StandsFor options s h
+    → (if is_some s.closed then None else find (is_of number) s.wanted) ≡ option_map (λ (want : ℕ × Want). want.1) (needed options h number)
+needed-is options s h number st = needed-step options s h number (reason options h) refl st

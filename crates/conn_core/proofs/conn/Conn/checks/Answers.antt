@@ -1,0 +1,7 @@
+use Rattle.std.proofs.Common.{◌∙◌}
+use Rattle.conn_core.proofs.Calls.{state-of}
+use Rattle.conn_core.proofs.Public.{checks-is}
+use Rattle.conn_core.proofs.conn.Conn.checks.Goals as goal
+
+pub returns : goal.returns
+returns c = λ options unread h st. c.checks.ensures ∙ checks-is options _ h (state-of options _ unread h (rw (← c.self.view_is) at st))

@@ -1,0 +1,7 @@
+use Rattle.std.proofs.Common.{◌∙◌}
+use Rattle.conn_core.proofs.Calls.{state-of}
+use Rattle.conn_core.proofs.Public.{closed-is}
+use Rattle.conn_core.proofs.conn.Conn.closed.Goals as goal
+
+pub returns : goal.returns
+returns c = λ options unread h st. c.closed.ensures ∙ closed-is options _ h (state-of options _ unread h (rw (← c.self.view_is) at st))

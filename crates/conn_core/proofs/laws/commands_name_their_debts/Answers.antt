@@ -1,0 +1,8 @@
+-- What a command names.
+use Rattle.conn_core.specs.Stands.{Stands}
+use Rattle.conn_core.proofs.Named.{all_named}
+use Rattle.conn_core.proofs.laws.commands_name_their_debts.Goals as goal
+
+pub returns : goal.returns
+unfolding Stands
+returns c = λ options conn unread h s. all_named options h s.0

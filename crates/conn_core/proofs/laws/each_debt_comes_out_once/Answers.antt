@@ -1,0 +1,18 @@
+-- A debt accepted is held or came out.
+use Rattle.conn_core.specs.Stands.{Stands}
+use Rattle.conn_core.proofs.Closed.{exactly_once}
+use Rattle.conn_core.proofs.Once.{all_own, at_most_once, held_or_out}
+use Rattle.conn_core.proofs.laws.each_debt_comes_out_once.Goals as goal
+
+pub returns-clause-at_most : goal.returns-clause-at_most
+returns-clause-at_most c = at_most_once
+
+pub returns-clause-held_or_out : goal.returns-clause-held_or_out
+returns-clause-held_or_out c = held_or_out
+
+pub returns-clause-exactly : goal.returns-clause-exactly
+unfolding Stands
+returns-clause-exactly c = λ options conn unread h place s closed few. exactly_once options h place s.0 closed few
+
+pub returns-clause-own : goal.returns-clause-own
+returns-clause-own c = all_own

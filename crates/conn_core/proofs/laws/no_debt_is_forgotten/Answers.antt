@@ -1,0 +1,8 @@
+-- What is still to come of a debt held.
+use Rattle.conn_core.specs.Stands.{Stands}
+use Rattle.conn_core.proofs.Forgotten.{none_forgotten}
+use Rattle.conn_core.proofs.laws.no_debt_is_forgotten.Goals as goal
+
+pub returns : goal.returns
+unfolding Stands
+returns c = λ options conn unread h place s running. none_forgotten options h place s.0 running

@@ -1,0 +1,21 @@
+-- What is put out of a debt, and of a connection.
+use Rattle.conn_core.specs.Stands.{Stands}
+use Rattle.conn_core.proofs.PutOnce.{mode_once, quit_once}
+use Rattle.conn_core.proofs.Twice.{asked_once, sent_once}
+use Rattle.conn_core.proofs.laws.nothing_is_put_out_twice.Goals as goal
+
+pub returns-clause-asks : goal.returns-clause-asks
+unfolding Stands
+returns-clause-asks c = λ options conn unread h place verb s. asked_once options h place verb s.0
+
+pub returns-clause-blocks : goal.returns-clause-blocks
+unfolding Stands
+returns-clause-blocks c = λ options conn unread h place s. sent_once options h place s.0
+
+pub returns-clause-mode : goal.returns-clause-mode
+unfolding Stands
+returns-clause-mode c = λ options conn unread h s. mode_once options h s.0
+
+pub returns-clause-quit : goal.returns-clause-quit
+unfolding Stands
+returns-clause-quit c = λ options conn unread h s. quit_once options h s.0

@@ -1,0 +1,55 @@
+-- What the private code says of what it keeps.
+use Rattle.std.specs.Prelude.{ℕ, ◌+◌, ◌++◌, ◌∷◌, [], Bool, true, false, Option, Some, None, List, find}
+use Rattle.reply_reader.specs.Stream.{Given}
+use Rattle.std.specs.Set.{remove_key}
+use Rattle.dot_codec.specs.Lines.{IsSendable}
+use Rattle.conn_core.specs.Commands.{Handing, Sendable, Gone, Unsendable, Held, is_of, outcome_by}
+use Rattle.conn_core.specs.Receipt.{IsBlockOf}
+use Rattle.ledger_core.specs.State.{Owing}
+use Rattle.conn_core.specs.State.{Awaited, State}
+use Rattle.conn_core.specs.Machine.{answered_by, fits_awaited, belongs_to_awaited, newly, parted}
+use Rattle.conn_core.specs.declared.codes.Meaning.{Meaning}
+use Rattle.conn_core.specs.declared.codes.Meaning.TheVariants.{Wanted, SendBlock, Later, Final}
+use Rattle.conn_core.specs.declared.machine.articles.Loss.{Loss}
+use Rattle.conn_core.specs.declared.machine.articles.Loss.TheVariants.{Missing, Unfit}
+
+-- whether a reply can be the answer to an awaited command: in streaming mode it names the id too (RFC 4644, section 2.2)
+abbrev pub can_answer : (streaming : Bool) → Given → Awaited → Bool
+can_answer true reply = fits_awaited reply
+can_answer false reply = belongs_to_awaited reply
+
+-- a reply in a mode
+abbrev pub answered_with : State → (streaming : Bool) → Given → State
+answered_with s streaming reply = answered_by s (can_answer streaming reply) reply.code (find (can_answer streaming reply) s.window)
+
+-- what an answer of this meaning makes of the debt at that place, where it is held
+abbrev pub parted_by : State → ℕ → Meaning → Option Held → State
+parted_by s place meaning None = s
+parted_by s place meaning (Some x) = parted s place (outcome_by meaning x.debt)
+
+-- what an answer that neither wants an article nor sends a block makes of that debt
+abbrev pub settled_by : State → Option Meaning → ℕ → Option Held → State
+settled_by s None place x = s
+settled_by s (Some Wanted) place x = s
+settled_by s (Some SendBlock) place x = s
+settled_by s (Some Later) place x = parted_by s place Later x
+settled_by s (Some (Final code)) place x = parted_by s place (Final code) x
+
+-- what is handed in by an article that is not there (profile)
+abbrev pub handing_of : Loss → Handing
+handing_of Missing = Gone
+handing_of Unfit = Unsendable
+
+-- what is handed in with a text (profile)
+abbrev pub IsTextAs : List ℕ → Handing → Type 0
+IsTextAs text (Sendable block) = IsBlockOf text block
+IsTextAs text Gone = ⊥
+IsTextAs text Unsendable = ¬ (IsSendable text)
+
+-- the first want of that number is gone
+abbrev pub without_want : State → ℕ → State
+without_want s number = record s { wanted = remove_key (is_of number) s.wanted }
+
+-- one more debt is held
+abbrev pub with_newly : State → Owing → State
+with_newly s debt = record s { held = s.held ++ newly s debt ∷ []; accepted = s.accepted + 1 }

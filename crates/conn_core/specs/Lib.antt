@@ -1,0 +1,14 @@
+pub mod Checks
+pub mod Codes
+pub mod Commands
+pub mod History
+pub mod Kept
+pub mod Laws
+pub mod Left
+pub mod Machine
+pub mod Receipt
+pub mod Room
+pub mod Stands
+pub mod State
+pub mod CheckSwitch
+pub mod Used

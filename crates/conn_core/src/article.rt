@@ -1,0 +1,13 @@
+// Why an article was not taken.
+use thiserror::Error;
+
+/// Why an article was not taken.
+#[derive(Clone, Copy, Debug, PartialEq, Eq, Error)]
+pub enum ArticleFault {
+    /// No article of this number is wanted.
+    #[error("NotNeeded")]
+    NotNeeded,
+    /// Memory was refused.
+    #[error("NoMemory")]
+    NoMemory,
+}

@@ -1,0 +1,357 @@
+// What a connection holds, and one step of it for each event.
+ghost use Rattle.std.specs.Prelude.{◌≡◌, ◌≤◌, ◌<◌, ◌&&◌, ◌++◌, [], ◌∷◌, if◌then◌else◌, Option, None, not, length, option_map, slice_get, is_none, is_some, find, IfOk, IfErr, OnOk, OnErr};
+ghost use Rattle.conn_core.specs.Commands.{Want, check_of, is_of, want_of};
+ghost use Rattle.conn_core.specs.History.{is_mode, is_streaming, room};
+ghost use Rattle.conn_core.specs.Machine.{TakesOne, asked, asked_to_quit, faulted, fresh, is_awaiting, leave, newly, offered, ready_at, sent_off, shut, ticked};
+ghost use Rattle.conn_core.specs.Kept.{with_newly};
+ghost use Rattle.conn_core.specs.State.{output_of};
+ghost use Rattle.conn_core.specs.declared.reason.Reason.TheVariants.{Broken};
+
+use crate::check_switch::CheckSwitch;
+use crate::codes::Verb;
+use crate::kept::{AwaitedAsk, HeldDebt, WantedArticle};
+use crate::lines::{LONGEST_VERB, QUIT, id_len, put_line, skip};
+use crate::lookup::is_wanted;
+use crate::options::Options;
+use crate::outcome::Outcome;
+use crate::phase::Phase;
+use crate::quiet::Clock;
+use crate::ready::Ready;
+use crate::reason::Reason;
+use bytes::{Bytes, BytesMut};
+use ledger_core::Debt;
+use reply_reader::ReplyFault;
+use std::alloc::{AllocError, Global};
+use std::collections::VecDeque;
+use std::marker::Model;
+
+mod answers;
+mod articles;
+
+// What a connection holds at a moment.
+#[derive(Drop)]
+pub(crate) struct Machine {
+    options: Options,
+    phase: Phase,
+    // In the order offered.
+    held: VecDeque<HeldDebt>,
+    // In the order put out.
+    window: VecDeque<AwaitedAsk>,
+    // The blocks that unanswered IHAVEs keep.
+    blocks: VecDeque<Bytes>,
+    // In the order in which they came to be wanted.
+    wanted: VecDeque<WantedArticle>,
+    // What is still to be sent. There is room for a QUIT, until it is out.
+    output: BytesMut,
+    // There is room for an outcome of each debt held.
+    found: VecDeque<Outcome>,
+    closed: Option<Reason>,
+    quitting: bool,
+    accepted: u64,
+    switch: CheckSwitch,
+    clock: Clock,
+}
+
+impl Model for Machine {
+    ghost use Rattle.std.specs.Prelude.{◌≡◌, ◌+◌, ◌≤◌};
+    ghost use Rattle.std.specs.VecDeque.{deque_capacity, deque_len};
+    ghost use Rattle.conn_core.specs.Room.{quit_room};
+    ghost use Rattle.conn_core.specs.State.{State};
+
+    ghost Value = { State };
+
+    ghost view = { λ m. record {
+      options = m.options;
+      phase = m.phase;
+      held = m.held.items;
+      window = m.window.items;
+      blocks = m.blocks.items;
+      wanted = m.wanted.items;
+      output = m.output.items;
+      found = m.found.items;
+      closed = m.closed;
+      quitting = m.quitting;
+      accepted = m.accepted;
+      recent = m.switch.recent;
+      off = m.switch.off;
+      stirred = m.clock.stirred;
+      quiet = m.clock.quiet;
+    } };
+
+    ghost invariant = { λ m. (quit_room m.phase ≤ m.output.spare)
+        × (deque_len m.found + deque_len m.held ≤ deque_capacity m.found)
+        × (m.switch.filter ≡ m.options.check_filter) };
+}
+
+// Whether streaming mode stands (RFC 4644, section 2.3).
+fn is_streaming(phase: Phase) -> bool
+    ensures { result ≡ is_streaming phase }
+{
+    match phase {
+        Phase::Streaming => true,
+        _ => false,
+    }
+}
+
+// Whether a mode stands, and QUIT is not out.
+fn is_mode(phase: Phase) -> bool
+    ensures { result ≡ is_mode phase }
+{
+    match phase {
+        Phase::Streaming | Phase::OneByOne => true,
+        _ => false,
+    }
+}
+
+// How many debts may be held (innfeed.conf(5), max-queue-size).
+fn room(options: &Options, phase: Phase) -> u64
+    ensures { result ≡ room options.now phase }
+{
+    match phase {
+        Phase::Streaming => options.max_queue,
+        Phase::OneByOne => 1,
+        _ => 0,
+    }
+}
+
+impl Machine {
+    // A machine that holds nothing.
+    pub(crate) fn new(alloc: Global, options: Options) -> Result<Self, AllocError>
+        ensures { IfOk result (λ m. m ≡ fresh options) }
+    {
+        Ok(Machine {
+            options,
+            phase: Phase::Greeting,
+            held: VecDeque::new(alloc),
+            window: VecDeque::new(alloc),
+            blocks: VecDeque::new(alloc),
+            wanted: VecDeque::new(alloc),
+            output: BytesMut::with_capacity(alloc, QUIT)?,
+            found: VecDeque::new(alloc),
+            closed: None,
+            quitting: false,
+            accepted: 0,
+            switch: CheckSwitch::new(alloc, options.check_filter)?,
+            clock: Clock::new(),
+        })
+    }
+
+    // Whether a debt can be offered.
+    pub(crate) fn ready(&self) -> Ready
+        ensures { result ≡ ready_at self.now }
+    {
+        if self.closed.is_some() || self.quitting {
+            return Ready::Shut;
+        }
+        if (self.held.len() as u64) < room(&self.options, self.phase) {
+            Ready::Yes
+        } else {
+            Ready::Busy
+        }
+    }
+
+    // Takes a debt, while it is ready. An `Err` hands it back and changes nothing.
+    pub(crate) fn offer(&mut self, debt: Debt) -> Result<(), Debt>
+        ensures ok { OnOk result (self.new ≡ offered self.old debt) }
+        ensures err { OnErr result (self.new ≡ self.old) }
+        ensures back { IfErr result (λ back. back ≡ debt) }
+    {
+        if self.accepted == u64::MAX {
+            return Err(debt);
+        }
+        if is_streaming(self.phase) && self.switch.checks() {
+            self.offer_asking(debt)
+        } else {
+            self.offer_wanting(debt)
+        }
+    }
+
+    // Takes a debt, and puts its CHECK out (RFC 4644, section 2.4).
+    fn offer_asking(&mut self, debt: Debt) -> Result<(), Debt>
+        requires { self.old.accepted < u64.MAX }
+        ensures ok { OnOk result (self.new ≡ asked (with_newly self.old debt) (check_of (newly self.old debt))) }
+        ensures err { OnErr result (self.new ≡ self.old) }
+        ensures back { IfErr result (λ back. back ≡ debt) }
+    {
+        let Ok(id) = debt.id().clone() else {
+            return Err(debt);
+        };
+        if self.held.reserve(1).is_err()
+            || self.found.reserve(self.held.len() + 1).is_err()
+            || self.window.reserve(1).is_err()
+            || self
+                .output
+                .reserve(id_len(&id) + LONGEST_VERB + QUIT)
+                .is_err()
+        {
+            return Err(debt);
+        }
+        put_line(&mut self.output, b"CHECK ", id.bytes());
+        let ask = AwaitedAsk::new(Verb::Check, self.accepted, id);
+        self.window.push_back_reserved(ask);
+        let x = HeldDebt::new(self.accepted, debt);
+        self.held.push_back_reserved(x);
+        self.accepted += 1;
+        Ok(())
+    }
+
+    // Takes a debt, and wants its article at once.
+    fn offer_wanting(&mut self, debt: Debt) -> Result<(), Debt>
+        requires { self.old.accepted < u64.MAX }
+        ensures ok { OnOk result (self.new ≡ record (with_newly self.old debt) { wanted = self.old.wanted ++ want_of (newly self.old debt) ∷ [] }) }
+        ensures err { OnErr result (self.new ≡ self.old) }
+        ensures back { IfErr result (λ back. back ≡ debt) }
+    {
+        if self.held.reserve(1).is_err()
+            || self.found.reserve(self.held.len() + 1).is_err()
+            || self.wanted.reserve(1).is_err()
+        {
+            return Err(debt);
+        }
+        let want = WantedArticle::new(self.accepted, debt.number());
+        self.wanted.push_back_reserved(want);
+        let x = HeldDebt::new(self.accepted, debt);
+        self.held.push_back_reserved(x);
+        self.accepted += 1;
+        Ok(())
+    }
+
+    // The number of the first want: none, once closed.
+    pub(crate) fn need(&self) -> Option<u64>
+        ensures { result ≡ (if is_some self.now.closed then None else option_map (λ (want : Want). want.number) (slice_get self.now.wanted 0)) }
+    {
+        if self.closed.is_some() {
+            return None;
+        }
+        match self.wanted.front() {
+            Some(want) => Some(want.number()),
+            None => None,
+        }
+    }
+
+    // Whether it is open and an article of this number is wanted.
+    pub(crate) fn needs(&self, number: u64) -> bool
+        ensures { result ≡ (is_none self.now.closed && is_some (find (is_of number) self.now.wanted)) }
+    {
+        self.closed.is_none() && is_wanted(&self.wanted, number)
+    }
+
+    // Puts QUIT out where it is due (RFC 3977, section 5.4).
+    fn leave(&mut self)
+        ensures { self.new ≡ leave self.old }
+    {
+        if self.quitting && is_mode(self.phase) && self.held.is_empty() && self.closed.is_none() {
+            self.phase = Phase::Leaving;
+            self.output.extend_reserved(b"QUIT\r\n");
+        }
+    }
+
+    // Closes for this reason: all that is held comes out from now on.
+    fn shut(&mut self, reason: Reason)
+        ensures { self.new ≡ shut reason self.old }
+    {
+        self.closed = Some(reason);
+        self.output.clear();
+    }
+
+    // A fault of the reader, while it is open.
+    pub(crate) fn faulted(&mut self, fault: ReplyFault)
+        ensures { self.new ≡ faulted self.old fault }
+    {
+        self.shut(Reason::Reader(fault));
+    }
+
+    // Whether an answer is awaited: the greeting, the mode, or that of a command.
+    fn is_awaiting(&self) -> bool
+        ensures { result ≡ is_awaiting self.now }
+    {
+        !is_mode(self.phase) || !self.window.is_empty()
+    }
+
+    // A tick: once closed nothing changes.
+    pub(crate) fn tick(&mut self, now: u64)
+        ensures { self.new ≡ (if is_some self.old.closed then self.old else ticked self.old now) }
+    {
+        if self.closed.is_some() {
+            return;
+        }
+        let awaiting = self.is_awaiting();
+        let silent = self.clock.tick(awaiting, now);
+        if awaiting && self.options.response_timeout <= silent {
+            self.shut(Reason::Timeout);
+        }
+        self.leave();
+    }
+
+    // It broke: once closed nothing changes.
+    pub(crate) fn broken(&mut self)
+        ensures { self.new ≡ (if is_some self.old.closed then self.old else shut Broken self.old) }
+    {
+        if self.closed.is_none() {
+            self.shut(Reason::Broken);
+        }
+    }
+
+    // It is to quit: once closed nothing changes.
+    pub(crate) fn quit(&mut self)
+        ensures { self.new ≡ (if is_some self.old.closed then self.old else asked_to_quit self.old) }
+    {
+        if self.closed.is_some() {
+            return;
+        }
+        self.quitting = true;
+        self.leave();
+    }
+
+    // Whether checks are on.
+    pub(crate) fn checks(&self) -> bool
+        ensures { result ≡ not self.now.off }
+    {
+        self.switch.checks()
+    }
+
+    // The octets to be sent: none, once closed.
+    pub(crate) fn output(&self) -> &[u8]
+        ensures { result.now ≡ output_of self.now }
+    {
+        if self.closed.is_some() {
+            return &[];
+        }
+        self.output.as_slice()
+    }
+
+    // So many of them count as sent: once closed nothing changes.
+    pub(crate) fn sent(&mut self, count: usize)
+        requires { count ≤ length (output_of self.old) }
+        ensures { self.new ≡ (if is_some self.old.closed then self.old else sent_off self.old count) }
+    {
+        if self.closed.is_some() {
+            return;
+        }
+        self.clock.stirred = count > 0 || self.clock.stirred;
+        skip(&mut self.output, count);
+    }
+
+    // The next outcome.
+    pub(crate) fn outcome(&mut self) -> Option<Outcome>
+        ensures { TakesOne self.old result self.new }
+    {
+        if let Some(outcome) = self.found.pop_front() {
+            return Some(outcome);
+        }
+        if self.closed.is_none() {
+            return None;
+        }
+        match self.held.pop_front() {
+            Some(x) => Some(Outcome::Back(x.into_debt())),
+            None => None,
+        }
+    }
+
+    // Why it closed.
+    pub(crate) fn closed(&self) -> Option<Reason>
+        ensures { result ≡ self.now.closed }
+    {
+        self.closed
+    }
+}

@@ -1,0 +1,242 @@
+// Replies that come in.
+ghost use Rattle.std.specs.Prelude.{◌≡◌, ◌≢◌, ◌+◌, ◌≤◌, ◌++◌, drop, find, length, OnOk, OnErr};
+ghost use Rattle.reply_reader.specs.Told.{given_of};
+ghost use Rattle.conn_core.specs.Checks.{counts};
+ghost use Rattle.conn_core.specs.Commands.{is_at};
+ghost use Rattle.conn_core.specs.Kept.{answered_with, parted_by, settled_by};
+ghost use Rattle.conn_core.specs.Machine.{came, came_in, counted_by, first_block, greeted, let_go, mode_answered};
+
+use super::Machine;
+use crate::codes::{Meaning, Verb, counted, ends_all, is_welcome, meaning_of, stray};
+use crate::deferral::Deferral;
+use crate::kept::WantedArticle;
+use crate::lines::{MODE_STREAM, QUIT};
+use crate::lookup::{debt_at, take_answered, take_at};
+use crate::outcome::Outcome;
+use crate::phase::Phase;
+use crate::reason::Reason;
+use crate::verdict::Verdict;
+use bytes::{Bytes, BytesMut};
+use ledger_core::FinalCode;
+use reply_reader::Reply;
+use std::alloc::AllocError;
+use std::collections::VecDeque;
+
+impl Machine {
+    // A reply, while it is open. An `Err` changes nothing.
+    pub(crate) fn came(&mut self, reply: &Reply) -> Result<(), AllocError>
+        ensures ok { OnOk result (self.new ≡ came self.old (given_of reply.now)) }
+        ensures err { OnErr result (self.new ≡ self.old) }
+    {
+        self.came_in(reply)?;
+        self.clock.stirred = true;
+        self.leave();
+        Ok(())
+    }
+
+    // A reply, by what is awaited. An `Err` changes nothing.
+    fn came_in(&mut self, reply: &Reply) -> Result<(), AllocError>
+        ensures ok { OnOk result (self.new ≡ came_in self.old (given_of reply.now) self.old.phase) }
+        ensures err { OnErr result (self.new ≡ self.old) }
+    {
+        match self.phase {
+            Phase::Greeting => self.greeted(reply.code),
+            Phase::Asking => {
+                self.mode_answered(reply.code);
+                Ok(())
+            }
+            Phase::Streaming => self.answered(reply, true),
+            Phase::OneByOne => self.answered(reply, false),
+            Phase::Leaving => {
+                self.shut(Reason::Quit);
+                Ok(())
+            }
+        }
+    }
+
+    // The greeting (RFC 3977, section 5.1). An `Err` changes nothing.
+    fn greeted(&mut self, code: u16) -> Result<(), AllocError>
+        requires { self.old.phase ≡ Phase.Greeting }
+        ensures ok { OnOk result (self.new ≡ greeted self.old code) }
+        ensures err { OnErr result (self.new ≡ self.old) }
+    {
+        if !is_welcome(code) {
+            self.shut(Reason::Greeting(code));
+            return Ok(());
+        }
+        if self.options.streaming {
+            self.output.reserve(MODE_STREAM + QUIT)?;
+            self.output.extend_reserved(b"MODE STREAM\r\n");
+            self.phase = Phase::Asking;
+        } else {
+            self.phase = Phase::OneByOne;
+        }
+        Ok(())
+    }
+
+    // The answer to MODE STREAM (RFC 4644, section 2.3).
+    fn mode_answered(&mut self, code: u16)
+        requires { self.old.phase ≡ Phase.Asking }
+        ensures { self.new ≡ mode_answered self.old code }
+    {
+        if code == 203 {
+            self.phase = Phase::Streaming;
+        } else if ends_all(code) {
+            self.shut(Reason::Ended(code));
+        } else {
+            self.phase = Phase::OneByOne;
+        }
+    }
+
+    // A reply in a mode. An `Err` changes nothing.
+    fn answered(&mut self, reply: &Reply, streaming: bool) -> Result<(), AllocError>
+        ensures ok { OnOk result (self.new ≡ answered_with self.old streaming (given_of reply.now)) }
+        ensures err { OnErr result (self.new ≡ self.old) }
+    {
+        match reply.code {
+            238 => self.wants(reply, streaming),
+            335 => self.sends_block(reply, streaming),
+            _ => {
+                self.settles(reply, streaming);
+                Ok(())
+            }
+        }
+    }
+
+    // 238: the article of a CHECK is wanted (RFC 4644, section 2.4). An `Err` changes nothing.
+    fn wants(&mut self, reply: &Reply, streaming: bool) -> Result<(), AllocError>
+        requires { reply.now.code ≡ 238 }
+        ensures ok { OnOk result (self.new ≡ answered_with self.old streaming (given_of reply.now)) }
+        ensures err { OnErr result (self.new ≡ self.old) }
+    {
+        self.wanted.reserve(1)?;
+        let Some(ask) = take_answered(&mut self.window, reply, streaming) else {
+            self.shut(stray(reply.code));
+            return Ok(());
+        };
+        match debt_at(&self.held, ask.place()) {
+            Some(x) => {
+                let want = WantedArticle::new(x.place(), x.debt().number());
+                self.wanted.push_back_reserved(want);
+                Ok(())
+            }
+            None => Ok(()),
+        }
+    }
+
+    // 335: the block of an IHAVE goes out (RFC 3977, section 6.3.2). An `Err` changes nothing.
+    fn sends_block(&mut self, reply: &Reply, streaming: bool) -> Result<(), AllocError>
+        requires { reply.now.code ≡ 335 }
+        ensures ok { OnOk result (self.new ≡ answered_with self.old streaming (given_of reply.now)) }
+        ensures err { OnErr result (self.new ≡ self.old) }
+    {
+        self.window.reserve(1)?;
+        room_for_block(&mut self.output, &self.blocks)?;
+        let Some(ask) = take_answered(&mut self.window, reply, streaming) else {
+            self.shut(stray(reply.code));
+            return Ok(());
+        };
+        put_block(&mut self.output, &mut self.blocks);
+        self.window.push_back_reserved(ask.into_block());
+        Ok(())
+    }
+
+    // Any other answer ends a debt, or puts it off.
+    fn settles(&mut self, reply: &Reply, streaming: bool)
+        requires not_wanted { reply.now.code ≢ 238 }
+        requires no_block { reply.now.code ≢ 335 }
+        ensures { self.new ≡ answered_with self.old streaming (given_of reply.now) }
+    {
+        let Some(ask) = take_answered(&mut self.window, reply, streaming) else {
+            self.shut(stray(reply.code));
+            return;
+        };
+        self.let_go(ask.verb());
+        self.count(reply.code);
+        self.tell(meaning_of(ask.verb(), reply.code), ask.place());
+    }
+
+    // An answered IHAVE keeps its block no more.
+    fn let_go(&mut self, verb: Verb)
+        ensures { self.new ≡ record self.old { blocks = let_go verb self.old.blocks } }
+    {
+        match verb {
+            Verb::Ihave => {
+                let _ = self.blocks.pop_front();
+            }
+            _ => {}
+        }
+    }
+
+    // An answer of this code moves the check switch, where it counts.
+    fn count(&mut self, code: u16)
+        ensures { self.new ≡ counted_by self.old (counts code) }
+    {
+        match counted(code) {
+            Some(took) => self.switch.count(&self.options, took),
+            None => {}
+        }
+    }
+
+    // An answer of this meaning ends the debt at that place, or puts it off.
+    fn tell(&mut self, meaning: Option<Meaning>, place: u64)
+        ensures { self.new ≡ settled_by self.old meaning place (find (is_at place) self.old.held) }
+    {
+        match meaning {
+            Some(Meaning::Later) => self.put_off(place),
+            Some(Meaning::Final(code)) => self.end(place, code),
+            _ => {}
+        }
+    }
+
+    // The debt at that place may be offered later.
+    fn put_off(&mut self, place: u64)
+        ensures { self.new ≡ parted_by self.old place Meaning.Later (find (is_at place) self.old.held) }
+    {
+        match take_at(&mut self.held, place) {
+            Some(x) => {
+                let deferral = Deferral::new(x.into_debt());
+                self.found.push_back_reserved(Outcome::Deferred(deferral));
+            }
+            None => {}
+        }
+    }
+
+    // The debt at that place is answered for good.
+    fn end(&mut self, place: u64, code: FinalCode)
+        ensures { self.new ≡ parted_by self.old place (Meaning.Final code) (find (is_at place) self.old.held) }
+    {
+        match take_at(&mut self.held, place) {
+            Some(x) => {
+                let verdict = Verdict::new(x.into_debt(), code);
+                self.found.push_back_reserved(Outcome::Final(verdict));
+            }
+            None => {}
+        }
+    }
+}
+
+// Makes room for the first of these blocks, and for a QUIT behind it.
+fn room_for_block(output: &mut BytesMut, blocks: &VecDeque<Bytes>) -> Result<(), AllocError>
+    ensures items { output.new.items ≡ output.old.items }
+    ensures spare { output.old.spare ≤ output.new.spare }
+    ensures room { OnOk result (length (first_block blocks.now.items) + 6 ≤ output.new.spare) }
+{
+    match blocks.front() {
+        Some(block) => output.reserve(block.len() + QUIT),
+        None => output.reserve(QUIT),
+    }
+}
+
+// Moves the first of these blocks to the output, where there is room for it.
+fn put_block(output: &mut BytesMut, blocks: &mut VecDeque<Bytes>)
+    requires { length (first_block blocks.old.items) ≤ output.old.spare }
+    ensures items { output.new.items ≡ output.old.items ++ first_block blocks.old.items }
+    ensures spare { output.new.spare + length (first_block blocks.old.items) ≡ output.old.spare }
+    ensures rest { blocks.new.items ≡ drop 1 blocks.old.items }
+{
+    match blocks.pop_front() {
+        Some(block) => output.extend_reserved(block.as_slice()),
+        None => {}
+    }
+}

@@ -1,0 +1,176 @@
+// Articles that are handed in.
+ghost use Rattle.std.specs.Prelude.{◌≡◌, [], ◌∷◌, find, OnOk, OnErr};
+ghost use Rattle.dot_codec.specs.Lines.{IsSendable};
+ghost use Rattle.conn_core.specs.Commands.{Handing, Sendable, held_for, is_at, is_of, loss_of};
+ghost use Rattle.conn_core.specs.Kept.{IsTextAs, handing_of, without_want};
+ghost use Rattle.conn_core.specs.Machine.{asked, handed, handed_for, leave};
+ghost use Rattle.conn_core.specs.Receipt.{IsHandedAs, IsSendableArticle};
+
+use super::Machine;
+use crate::codes::Verb;
+use crate::kept::AwaitedAsk;
+use crate::lines::{LONGEST_VERB, QUIT, id_len, put_line};
+use crate::lookup::{debt_wanting, take_at, take_wanted};
+use crate::outcome::Outcome;
+use crate::phase::Phase;
+use article_store::Found;
+use bytes::Bytes;
+use dot_codec::{BlockRefusal, to_block};
+use funnel::MsgId;
+use ledger_core::{Cause, Debt};
+use std::alloc::AllocError;
+
+// Why an article that is handed in is not there.
+#[derive(Clone, Copy, Debug, PartialEq, Eq)]
+pub(crate) enum Loss {
+    // There is no such article.
+    Missing,
+    // Its text can't be sent.
+    Unfit,
+}
+
+// What became of a debt whose article is not there.
+fn lost(debt: Debt, loss: Loss) -> Outcome
+    ensures { result ∷ [] ≡ loss_of (handing_of loss) debt }
+{
+    match loss {
+        Loss::Missing => Outcome::Lost(debt, Cause::Missing),
+        Loss::Unfit => Outcome::Lost(debt, Cause::Unsendable),
+    }
+}
+
+impl Machine {
+    // Takes what was found for the first want of that number. An `Err` changes nothing.
+    pub(crate) fn hand(&mut self, number: u64, found: &Found) -> Result<(), AllocError>
+        ensures ok { OnOk result ((handing : Handing) × IsHandedAs found.now handing × (self.new ≡ handed self.old number handing)) }
+        ensures err { OnErr result (self.new ≡ self.old) }
+        ensures memory { OnErr result (IsSendableArticle found.now) }
+    {
+        match found {
+            Found::Article(text) => self.hand_text(number, text.as_slice()),
+            Found::Gone => {
+                self.lose(number, Loss::Missing);
+                Ok(())
+            }
+            Found::Unsendable => {
+                self.lose(number, Loss::Unfit);
+                Ok(())
+            }
+        }
+    }
+
+    // Takes the text of the article. An `Err` changes nothing.
+    fn hand_text(&mut self, number: u64, text: &[u8]) -> Result<(), AllocError>
+        ensures ok { OnOk result ((handing : Handing) × IsTextAs text.now handing × (self.new ≡ handed self.old number handing)) }
+        ensures err { OnErr result (self.new ≡ self.old) }
+        ensures memory { OnErr result (IsSendable text.now) }
+    {
+        match to_block(*self.held.allocator(), text) {
+            Ok(block) => self.send(number, block),
+            Err(BlockRefusal::Unsendable) => {
+                self.lose(number, Loss::Unfit);
+                Ok(())
+            }
+            Err(BlockRefusal::NoMemory) => Err(AllocError),
+        }
+    }
+
+    // The article is there no more, or its text can't be sent: its debt is lost.
+    fn lose(&mut self, number: u64, loss: Loss)
+        ensures { self.new ≡ handed self.old number (handing_of loss) }
+    {
+        self.lose_wanted(number, loss);
+        self.leave();
+    }
+
+    // The first want of that number goes, and the debt that it is about is lost.
+    fn lose_wanted(&mut self, number: u64, loss: Loss)
+        ensures { self.new ≡ handed_for (without_want self.old number) (handing_of loss) (held_for self.old.held (find (is_of number) self.old.wanted)) }
+    {
+        match take_wanted(&mut self.wanted, number) {
+            Some(want) => self.lose_at(want.place(), loss),
+            None => {}
+        }
+    }
+
+    // The debt at that place is lost.
+    fn lose_at(&mut self, place: u64, loss: Loss)
+        ensures { self.new ≡ handed_for self.old (handing_of loss) (find (is_at place) self.old.held) }
+    {
+        match take_at(&mut self.held, place) {
+            Some(x) => self.found.push_back_reserved(lost(x.into_debt(), loss)),
+            None => {}
+        }
+    }
+
+    // This is the block of the article. An `Err` changes nothing.
+    fn send(&mut self, number: u64, block: Bytes) -> Result<(), AllocError>
+        ensures ok { OnOk result (self.new ≡ handed self.old number (Sendable block)) }
+        ensures err { OnErr result (self.new ≡ self.old) }
+    {
+        let Some(x) = debt_wanting(&self.held, &self.wanted, number) else {
+            self.forget(number);
+            return Ok(());
+        };
+        let place = x.place();
+        let id = x.debt().id().clone()?;
+        match self.phase {
+            Phase::Streaming => self.send_takethis(number, place, id, block),
+            _ => self.send_ihave(number, place, id, block),
+        }
+    }
+
+    // The want of that number goes, and nothing comes of it.
+    fn forget(&mut self, number: u64)
+        ensures { self.new ≡ leave (without_want self.old number) }
+    {
+        let _ = take_wanted(&mut self.wanted, number);
+        self.leave();
+    }
+
+    // The article goes out with its command (RFC 4644, section 2.5). An `Err` changes nothing.
+    fn send_takethis(
+        &mut self,
+        number: u64,
+        place: u64,
+        id: MsgId,
+        block: Bytes,
+    ) -> Result<(), AllocError>
+        ensures ok { OnOk result (self.new ≡ leave (asked (without_want self.old number) (record { verb = Verb.Takethis; place = place; id = id; block = block }))) }
+        ensures err { OnErr result (self.new ≡ self.old) }
+    {
+        self.output
+            .reserve(id_len(&id) + block.len() + (LONGEST_VERB + QUIT))?;
+        self.window.reserve(1)?;
+        let _ = take_wanted(&mut self.wanted, number);
+        put_line(&mut self.output, b"TAKETHIS ", id.bytes());
+        self.output.extend_reserved(block.as_slice());
+        let ask = AwaitedAsk::new(Verb::Takethis, place, id);
+        self.window.push_back_reserved(ask);
+        self.leave();
+        Ok(())
+    }
+
+    // The article is offered, and its block kept (RFC 3977, section 6.3.2). An `Err` changes nothing.
+    fn send_ihave(
+        &mut self,
+        number: u64,
+        place: u64,
+        id: MsgId,
+        block: Bytes,
+    ) -> Result<(), AllocError>
+        ensures ok { OnOk result (self.new ≡ leave (asked (without_want self.old number) (record { verb = Verb.Ihave; place = place; id = id; block = block }))) }
+        ensures err { OnErr result (self.new ≡ self.old) }
+    {
+        self.output.reserve(id_len(&id) + (LONGEST_VERB + QUIT))?;
+        self.blocks.reserve(1)?;
+        self.window.reserve(1)?;
+        let _ = take_wanted(&mut self.wanted, number);
+        put_line(&mut self.output, b"IHAVE ", id.bytes());
+        self.blocks.push_back_reserved(block);
+        let ask = AwaitedAsk::new(Verb::Ihave, place, id);
+        self.window.push_back_reserved(ask);
+        self.leave();
+        Ok(())
+    }
+}

@@ -1,0 +1,26 @@
+// A debt that a connection did not take.
+use ledger_core::Debt;
+use thiserror::Error;
+
+/// Why a debt was not taken. A closed connection is told first, then a busy one, then the want of memory.
+#[derive(Clone, Copy, Debug, PartialEq, Eq, Error)]
+pub enum OfferFault {
+    /// No mode stands yet, or as many debts are held as the mode allows.
+    #[error("Busy")]
+    Busy,
+    /// The connection is closed, or was asked to quit.
+    #[error("Closed")]
+    Closed,
+    /// Memory was refused.
+    #[error("NoMemory")]
+    NoMemory,
+}
+
+/// A debt that was not taken, handed back.
+#[derive(Debug, Drop)]
+pub struct Back {
+    /// The very debt that was offered.
+    pub debt: Debt,
+    /// Why it was not taken.
+    pub fault: OfferFault,
+}
