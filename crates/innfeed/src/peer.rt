@@ -1,5 +1,5 @@
 // The peers of a drill: what is said of each, and its tape, or the disk that a stop left of it.
-ghost use Rattle.std.specs.Prelude.{◌≡◌, ℕ, [], ◌∷◌, IfOk, IfErr, OnOk};
+ghost use Rattle.std.specs.Prelude.{◌≡◌, ◌≤◌, ℕ, Ok, [], ◌∷◌, IfOk, IfErr, OnOk};
 
 use crate::fault::Fault;
 use crate::report::add_owed;
@@ -39,7 +39,7 @@ pub struct StoppedPeer {
 }
 
 impl<D: Disk> Peer<D> {
-    ghost use Rattle.innfeed.specs.Drill.{Owes, TakesDebt};
+    ghost use Rattle.innfeed.specs.Drill.{Owes, TakesDebt, mark_of};
 
     /// Owes a good line, where it names this peer: its debt is noted, and pends until the next flush. A number at or below the mark
     /// is owed already, or was. Adds what is printed of it.
@@ -59,7 +59,8 @@ impl<D: Disk> Peer<D> {
 
     // Notes the debt of a line, where its number is above the mark.
     fn take_debt(&mut self, number: u64, line: &FunnelLine) -> Result<Owed, Fault>
-        ensures { IfOk result (TakesDebt number line.now self.old self.new) }
+        ensures taken { IfOk result (TakesDebt number line.now self.old self.new) }
+        ensures already { number ≤ mark_of self.old → result ≡ Ok Owed.Already }
     {
         if number <= self.tape.mark() {
             return Ok(Owed::Already);
