@@ -1,10 +1,10 @@
 //! How fast a `Conn` sends articles, beside a plain copy of the octets that it puts out.
 //!
 //! May touch its arguments, the clock and standard output.
-//! With no argument it sends some small articles, and prints what came of them. `conn ARTICLES OCTETS` sends that many articles of at most
-//! so many octets through one streaming connection, 20 at a time, whose peer wants and takes each; `copy ARTICLES OCTETS` copies as many
-//! blocks into a buffer that is used again. Both print the octets and the nanoseconds taken, from which `bench/conn_core.sh` prints ratios.
-//! Nothing stands above it, and it promises nothing.
+//! With no argument it sends some small articles, and prints what came of them. `conn ARTICLES OCTETS TEXTS` sends that many articles of at
+//! most so many octets through one streaming connection, 20 at a time, whose peer wants and takes each; `copy ARTICLES OCTETS TEXTS` copies
+//! as many blocks into a buffer that is used again. Both take their articles from so many texts in turn, each in memory of its own, and print
+//! the octets and the nanoseconds taken, from which `bench/conn_core.sh` prints ratios. Nothing stands above it, and it promises nothing.
 #![tactic(auto)]
 
 use anyhow::{Context, Result, bail};
@@ -43,26 +43,44 @@ struct Told {
     finals: u64,
 }
 
+// How much there is to do.
+#[derive(Clone, Copy)]
+struct Size {
+    articles: u64,
+    octets: usize,
+    texts: usize,
+}
+
 fn main(rt: HostRuntime) -> Result<()> {
     let mut args = env::args(&rt)?.skip(1);
-    let (Some(work), Some(articles), Some(octets)) = (args.next(), args.next(), args.next()) else {
+    let (Some(work), Some(articles), Some(octets), Some(texts)) = (
+        args.next(),
+        args.next(),
+        args.next(),
+        args.next(),
+    ) else {
         return small(&rt);
     };
-    let articles: u64 = articles.as_str().parse().context("ARTICLES is a number")?;
-    let octets: usize = octets.as_str().parse().context("OCTETS is a number")?;
+    let size = Size {
+        articles: articles.as_str().parse().context("ARTICLES is a number")?,
+        octets: octets.as_str().parse().context("OCTETS is a number")?,
+        texts: texts.as_str().parse().context("TEXTS is a number")?,
+    };
     match work.as_str() {
-        "conn" => measured_conn(&rt, articles, octets),
-        "copy" => measured_copy(&rt, articles, octets),
-        _ => bail!("usage: bench_conn_core [conn ARTICLES OCTETS | copy ARTICLES OCTETS]"),
+        "conn" => measured_conn(&rt, size),
+        "copy" => measured_copy(&rt, size),
+        _ => bail!(
+            "usage: bench_conn_core [conn ARTICLES OCTETS TEXTS | copy ARTICLES OCTETS TEXTS]"
+        ),
     }
 }
 
 // Some small articles.
 fn small<R: AllocGlobal + Print>(rt: &R) -> Result<()> {
     let alloc = rt.alloc();
-    let text = text_of(alloc, 1000)?;
+    let texts = texts_of(alloc, 1000, 3)?;
     let answers = answers_of(alloc)?;
-    let told = sent(alloc, &answers, &text, 100)?;
+    let told = sent(alloc, &answers, &texts, 100)?;
     println!(rt;
         "{} articles taken, {} octets put out",
         told.finals, told.octets
@@ -70,47 +88,58 @@ fn small<R: AllocGlobal + Print>(rt: &R) -> Result<()> {
     Ok(())
 }
 
-fn measured_conn<R: AllocGlobal + Print + Clock>(
-    rt: &R,
-    articles: u64,
-    octets: usize,
-) -> Result<()> {
+fn measured_conn<R: AllocGlobal + Print + Clock>(rt: &R, size: Size) -> Result<()> {
     let alloc = rt.alloc();
-    let text = text_of(alloc, octets)?;
+    let texts = texts_of(alloc, size.octets, size.texts)?;
     let answers = answers_of(alloc)?;
     let start = Instant::now(rt)?;
-    let told = sent(alloc, &answers, &text, articles)?;
+    let told = sent(alloc, &answers, &texts, size.articles)?;
     let nanoseconds = start.elapsed(rt)?.as_nanos();
     println!(rt; "{} octets {nanoseconds} nanoseconds", told.octets)?;
     Ok(())
 }
 
-fn measured_copy<R: AllocGlobal + Print + Clock>(
-    rt: &R,
-    articles: u64,
-    octets: usize,
-) -> Result<()> {
+fn measured_copy<R: AllocGlobal + Print + Clock>(rt: &R, size: Size) -> Result<()> {
     let alloc = rt.alloc();
-    let block = to_block(alloc, &text_of(alloc, octets)?)?;
+    let mut blocks = Vec::with_capacity(alloc, size.texts)?;
+    for text in &texts_of(alloc, size.octets, size.texts)? {
+        blocks.push(to_block(alloc, text)?)?;
+    }
     let start = Instant::now(rt)?;
-    let sum = copied(alloc, &block, articles)?;
+    let sum = copied(alloc, &blocks, size.articles)?;
     let nanoseconds = start.elapsed(rt)?.as_nanos();
     println!(rt; "{sum} octets {nanoseconds} nanoseconds")?;
     Ok(())
 }
 
-// Copies the block so many times, as many into one buffer as articles are under way.
-fn copied(alloc: Global, block: &[u8], articles: u64) -> Result<u64> {
+// Copies so many of the blocks in turn, as many into one buffer as articles are under way.
+fn copied(alloc: Global, blocks: &[Bytes], articles: u64) -> Result<u64> {
     let mut sum = 0u64;
     let mut buffer = Vec::new(alloc);
     for round in 0..articles {
         if round % IN_FLIGHT == 0 {
             buffer.clear();
         }
+        let block = in_turn(blocks, round).context("a block")?;
         buffer.extend_from_slice(block)?;
         sum = sum.saturating_add(block.len() as u64);
     }
     Ok(sum)
+}
+
+// The one of them whose turn it is.
+fn in_turn(texts: &[Bytes], number: u64) -> Option<&Bytes> {
+    let place = (number as usize).checked_rem(texts.len())?;
+    texts.get(place)
+}
+
+// So many texts of the same lines.
+fn texts_of(alloc: Global, octets: usize, count: usize) -> Result<Vec<Bytes>, AllocError> {
+    let mut texts = Vec::with_capacity(alloc, count)?;
+    for _ in 0..count {
+        texts.push(text_of(alloc, octets)?)?;
+    }
+    Ok(texts)
 }
 
 // Whole lines, as many as fit into this many octets.
@@ -143,8 +172,8 @@ fn answers_of(alloc: Global) -> Result<Answers> {
     Ok(answers)
 }
 
-// Sends so many articles of this text, all under way at once that may be.
-fn sent(alloc: Global, answers: &Answers, text: &Bytes, articles: u64) -> Result<Told> {
+// Sends so many articles, each of the text whose turn it is, all under way at once that may be.
+fn sent(alloc: Global, answers: &Answers, texts: &[Bytes], articles: u64) -> Result<Told> {
     let token = Token::read(alloc, b"default/0001")?.context("a token")?;
     let mut conn = streaming(alloc)?;
     let mut told = Told {
@@ -155,7 +184,7 @@ fn sent(alloc: Global, answers: &Answers, text: &Bytes, articles: u64) -> Result
         offer(&mut conn, &token, &answers.ids, round)?;
         told.octets = told.octets.saturating_add(drain(&mut conn));
         conn.input(&answers.wanted)?;
-        hand_in(&mut conn, text)?;
+        hand_in(&mut conn, texts)?;
         told.octets = told.octets.saturating_add(drain(&mut conn));
         conn.input(&answers.taken)?;
         told.finals = told.finals.saturating_add(finals(&mut conn));
@@ -191,9 +220,10 @@ fn offer(conn: &mut Conn, token: &Token, ids: &[MsgId], round: u64) -> Result<()
 }
 
 // Hands in each article that is wanted.
-fn hand_in(conn: &mut Conn, text: &Bytes) -> Result<()> {
+fn hand_in(conn: &mut Conn, texts: &[Bytes]) -> Result<()> {
     for _ in 0..IN_FLIGHT {
         let number = conn.need().context("an article is wanted")?;
+        let text = in_turn(texts, number).context("a text")?;
         if conn.article(number, Found::Article(text.clone()?)).is_err() {
             bail!("an article was refused");
         }

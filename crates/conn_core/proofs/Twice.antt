@@ -10,7 +10,7 @@ use Rattle.conn_core.specs.Codes.{meaning}
 use Rattle.conn_core.specs.Used.{left_from}
 use Rattle.conn_core.specs.Commands.{Ask, Command, Asks, Handing, Sendable, Gone, Unsendable, Held, Want, ask_with, block_of, check_of, held_for, is_at, want_of}
 use Rattle.conn_core.specs.History.{Event, Offered, Put, Came, Faulted, Handed, Sent, Tick, Broke, Leave, Taken, accepted, answered, answered_ask, asks, after, first_want, held, is_streaming, newcomer, phase, puts_answer, puts_article, puts_block, puts_greeting, reason, story, wanted, wants_at_once, wants_by_answer, window, with_puts}
-use Rattle.conn_core.specs.Laws.{is_verb, sends_block, times_asked}
+use Rattle.conn_core.specs.Laws.{is_verb, offers_article, sends_block, times_asked}
 use Rattle.conn_core.specs.Stands.{Arises, Starts, Offers, Receives_reply, Receives_fault, Is_handed, Sends, Ticks, Breaks, Leaves, Takes_one}
 use Rattle.conn_core.specs.declared.codes.Verb.{Verb}
 use Rattle.conn_core.specs.declared.codes.Verb.TheVariants.{Check, Takethis, Ihave, Block}
@@ -20,13 +20,6 @@ use Rattle.conn_core.specs.declared.options.Options.{Options}
 use Rattle.conn_core.proofs.Behind.{article-none, greeting-none, holds-after, holds-greeted}
 use Rattle.conn_core.proofs.HeldBack.{find-is_at}
 use Rattle.conn_core.proofs.Tallies.{asked, asked-tally, asks-put, tally, tally-least, wanted-handed, wanted-more, wanted-none, window-came, window-none, window-put}
-
--- whether an article is offered or sent by it
-abbrev pub offers : Verb → Bool
-offers Check = false
-offers Takethis = true
-offers Ihave = true
-offers Block = false
 
 -- 1 for this place
 abbrev pub one_at : ℕ → ℕ → ℕ
@@ -42,7 +35,7 @@ to_come p count = if nat_lt p count then 0 else 1
 -- what may still come of a debt, with what is out: one CHECK, one TAKETHIS or IHAVE, and one block
 record Budget (p count : ℕ) (out open_ones : List Ask) (wants : List Want) : Type 0 where
   checks : to_come p count + tally (asked (is_verb Check) p) out ≤ 1
-  offered : to_come p count + tally (asked (is_verb Check) p) open_ones + tally (wants_at p) wants + tally (asked offers p) out ≤ 1
+  offered : to_come p count + tally (asked (is_verb Check) p) open_ones + tally (wants_at p) wants + tally (asked offers_article p) out ≤ 1
   blocks : to_come p count + tally (asked (is_verb Check) p) open_ones + tally (wants_at p) wants + tally (asked (is_verb Ihave) p) open_ones
       + tally (asked sends_block p) out ≤ 1
 
@@ -50,7 +43,7 @@ record Budget (p count : ℕ) (out open_ones : List Ask) (wants : List Want) : T
 record Room (p count : ℕ) (out open_ones : List Ask) (wants : List Want) (ask : Ask) : Type 0 where
   checks : to_come p count + (tally (asked (is_verb Check) p) out + asked (is_verb Check) p ask) ≤ 1
   offered : to_come p count + (tally (asked (is_verb Check) p) open_ones + asked (is_verb Check) p ask) + tally (wants_at p) wants
-      + (tally (asked offers p) out + asked offers p ask) ≤ 1
+      + (tally (asked offers_article p) out + asked offers_article p ask) ≤ 1
   blocks : to_come p count + (tally (asked (is_verb Check) p) open_ones + asked (is_verb Check) p ask) + tally (wants_at p) wants
       + (tally (asked (is_verb Ihave) p) open_ones + asked (is_verb Ihave) p ask) + (tally (asked sends_block p) out + asked sends_block p ask) ≤ 1
 
@@ -63,7 +56,7 @@ put-ask : (options : Options) (p : ℕ) (g : List Event) (ask : Ask) → Room p 
 unfolding story
 put-ask options p g ask room =
     let k = asks-put (asked (is_verb Check) p) g ask in
-    let s = asks-put (asked offers p) g ask in
+    let s = asks-put (asked offers_article p) g ask in
     let b = asks-put (asked sends_block p) g ask in
     let c = window-put options (asked (is_verb Check) p) g ask in
     let i = window-put options (asked (is_verb Ihave) p) g ask in
@@ -360,7 +353,7 @@ less-step : (a b c : Bool) → (a ≡ true → b ≡ true) → (if a && c then 1
 less-step false b c e = omega arith
 less-step true b c e = rw (e refl) (omega arith)
 
-is-offer : (verb other : Verb) → offers verb ≡ true → is_verb verb other ≡ true → offers other ≡ true
+is-offer : (verb other : Verb) → offers_article verb ≡ true → is_verb verb other ≡ true → offers_article other ≡ true
 is-offer Check other o e = cc
 is-offer Block other o e = cc
 is-offer Takethis Check o e = cc
@@ -378,10 +371,10 @@ is-block Takethis e = refl
 is-block Ihave e = cc
 is-block Block e = refl
 
-offers-once : (options : Options) (p : ℕ) (verb : Verb) (h : List Event) → offers verb ≡ true → Arises options h → tally (asked (is_verb verb) p) (asks h) ≤ 1
+offers-once : (options : Options) (p : ℕ) (verb : Verb) (h : List Event) → offers_article verb ≡ true → Arises options h → tally (asked (is_verb verb) p) (asks h) ≤ 1
 offers-once options p verb h o a =
     let k = (keeps options p h a).offered in
-    let less = tally-least (asked (is_verb verb) p) (asked offers p) (λ ask. less-step (is_verb verb ask.verb) (offers ask.verb) (ask.place == p) (is-offer verb ask.verb o)) (asks h) in
+    let less = tally-least (asked (is_verb verb) p) (asked offers_article p) (λ ask. less-step (is_verb verb ask.verb) (offers_article ask.verb) (ask.place == p) (is-offer verb ask.verb o)) (asks h) in
     omega (arith, k, less)
 
 blocks-once : (options : Options) (p : ℕ) (h : List Event) → Arises options h → tally (asked sends_block p) (asks h) ≤ 1
@@ -401,3 +394,6 @@ asked_once options h place verb a = rw (asked-tally (is_verb verb) place (asks h
 
 pub sent_once : (options : Options) (h : List Event) (place : ℕ) → Arises options h → times_asked sends_block place (asks h) ≤ 1
 sent_once options h place a = rw (asked-tally sends_block place (asks h)) (blocks-once options place h a)
+
+pub offered_once : (options : Options) (h : List Event) (place : ℕ) → Arises options h → times_asked offers_article place (asks h) ≤ 1
+offered_once options h place a = rw (asked-tally offers_article place (asks h)) (let k = (keeps options place h a).offered in omega (arith, k))

@@ -115,6 +115,13 @@ sends_block Takethis = true
 sends_block Ihave = false
 sends_block Block = true
 
+-- whether an article is sent or offered by it (RFC 4644, section 2.5; RFC 3977, section 6.3.2)
+abbrev pub offers_article : Verb → Bool
+offers_article Check = false
+offers_article Takethis = true
+offers_article Ihave = true
+offers_article Block = false
+
 -- how many of these commands are about the debt at that place and have such a verb (profile)
 abbrev pub times_asked : (Verb → Bool) → ℕ → List Ask → ℕ
 times_asked test place [] = 0

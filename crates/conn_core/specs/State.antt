@@ -68,3 +68,7 @@ output_of s = if is_some s.closed then [] else s.output
 -- the octets that a connection has still to send (profile)
 abbrev pub output_at : Holding → List ℕ
 output_at conn = output_of conn.state
+
+-- the outcomes that a connection has still to give (profile)
+abbrev pub untold_at : Holding → List Outcome
+untold_at conn = untold conn.state

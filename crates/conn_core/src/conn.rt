@@ -1,11 +1,11 @@
 // One connection, as the crates above see it: what each call promises is said of the whole transcript.
-ghost use Rattle.std.specs.Prelude.{◌≡◌, ◌↔◌, ◌≤◌, ◌<◌, ◌++◌, ℕ, List, [], ◌∷◌, Option, Some, None, length, is_some, true, IfOk, IfErr, IsOk, OnOk, OnErr};
+ghost use Rattle.std.specs.Prelude.{◌≡◌, ◌↔◌, ◌≤◌, ◌<◌, ◌++◌, ℕ, List, [], ◌∷◌, Option, Some, None, length, is_some, option_to_list, true, IfNone, IfOk, IfErr, IsOk, OnOk, OnErr};
 ghost use Rattle.conn_core.specs.Commands.{Handing};
 ghost use Rattle.conn_core.specs.Left.{IsLeftOpen, IsReading, ReadsOne, size_of};
 ghost use Rattle.conn_core.specs.History.{Event, Offered, Handed, Sent, Tick, Broke, Leave, reason, checks, need, needed, output, after, outside, noted};
 ghost use Rattle.conn_core.specs.Receipt.{IsHandedAs, IsSendableArticle, Receives, ReceivesSome};
 ghost use Rattle.conn_core.specs.Stands.{Refuses, RefusesArticle, Stands, Takes, left_behind, ready_of};
-ghost use Rattle.conn_core.specs.State.{output_at};
+ghost use Rattle.conn_core.specs.State.{output_at, untold_at};
 ghost use Rattle.conn_core.specs.declared.options.Options.{Options};
 
 use crate::article::ArticleFault;
@@ -257,6 +257,8 @@ impl Conn {
     /// The next outcome, oldest first.
     pub fn outcome(&mut self) -> Option<Outcome>
         ensures stands { (options : Options) (unread : List ℕ) (h : List Event) → Stands options self.old unread h → Takes options unread h result self.new }
+        ensures told { untold_at self.old ≡ option_to_list result ++ untold_at self.new }
+        ensures none_left { IfNone result (untold_at self.new ≡ []) }
         ensures same_id { self.new.id ≡ self.old.id }
     {
         self.machine.outcome()

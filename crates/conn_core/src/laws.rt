@@ -4,7 +4,7 @@ ghost use Rattle.article_store.specs.declared.store.Found.{Found};
 ghost use Rattle.reply_reader.specs.Stream.{Given};
 ghost use Rattle.conn_core.specs.Commands.{Ask, Handing};
 ghost use Rattle.conn_core.specs.History.{Event, accepted, answered_ask, asks, put_out, reason};
-ghost use Rattle.conn_core.specs.Laws.{AllAreTheirOwn, AllNameTheirDebt, AllRight, IsFirstOpen, is_mode_stream, is_quit, is_verb, open_commands, open_wants, sends_block, times_asked, times_held, times_out, times_put};
+ghost use Rattle.conn_core.specs.Laws.{AllAreTheirOwn, AllNameTheirDebt, AllRight, IsFirstOpen, is_mode_stream, is_quit, is_verb, offers_article, open_commands, open_wants, sends_block, times_asked, times_held, times_out, times_put};
 ghost use Rattle.conn_core.specs.Receipt.{IsHandedAs, Receives};
 ghost use Rattle.conn_core.specs.Stands.{Stands};
 ghost use Rattle.conn_core.specs.State.{Holding};
@@ -42,12 +42,15 @@ pub fn no_debt_is_forgotten()
         → open_commands options h place + open_wants options h place ≡ times_held options h place }
 {}
 
-/// Nothing is put out twice: no command of one verb about one debt, no block of one debt, neither MODE STREAM nor QUIT.
+/// Nothing is put out twice: no command of one verb about one debt, no block of one debt, neither MODE STREAM nor QUIT. And a
+/// debt gets a TAKETHIS or an IHAVE, never both.
 pub fn nothing_is_put_out_twice()
     ensures asks { (options : Options) (conn : Holding) (unread : List ℕ) (h : List Event) (place : ℕ) (verb : Verb) → Stands options conn unread h
         → times_asked (is_verb verb) place (asks h) ≤ 1 }
     ensures blocks { (options : Options) (conn : Holding) (unread : List ℕ) (h : List Event) (place : ℕ) → Stands options conn unread h
         → times_asked sends_block place (asks h) ≤ 1 }
+    ensures offers { (options : Options) (conn : Holding) (unread : List ℕ) (h : List Event) (place : ℕ) → Stands options conn unread h
+        → times_asked offers_article place (asks h) ≤ 1 }
     ensures mode { (options : Options) (conn : Holding) (unread : List ℕ) (h : List Event) → Stands options conn unread h → times_put is_mode_stream (put_out h) ≤ 1 }
     ensures quit { (options : Options) (conn : Holding) (unread : List ℕ) (h : List Event) → Stands options conn unread h → times_put is_quit (put_out h) ≤ 1 }
 {}

@@ -1,52 +1,10 @@
 -- Loops over the lines of a text and over the forms of a block.
-use Rattle.std.proofs.Common.{◌≡◌, ℕ, ◌+◌, ◌-◌, ◌*◌, ◌<◌, ◌≤◌, List, [], ◌∷◌, ◌++◌, length, refl, sym, ◌∙◌, ap, subst, inl, inr, ⊎_elim, arith, append_assoc, length-append, take}
-use Rattle.std.proofs.lemmas.Bool.{cases_Bool, cond-true, cond-false}
+use Rattle.std.proofs.Common.{◌≡◌, ℕ, ◌+◌, ◌-◌, ◌<◌, ◌≤◌, List, [], ◌∷◌, ◌++◌, length, refl, sym, ◌∙◌, ap, subst, inl, inr, arith, append_assoc, length-append, take}
 use Rattle.std.proofs.lemmas.List.{append-nil, take_at}
 use Rattle.dot_codec.specs.Lines.{IsLine, IsFirstLine, HasLines, text_of}
-use Rattle.dot_codec.specs.Block.{begins_with_dot, stuffed, written, end_of_block, IsLineForm, HasForms, IsReadForm}
-use Rattle.dot_codec.proofs.Texts.{first_shorter, rest_shorter, lines_behind, none_of_nothing}
+use Rattle.dot_codec.specs.Block.{stuffed, written, end_of_block, IsLineForm, HasForms, IsReadForm}
+use Rattle.dot_codec.proofs.Texts.{lines_behind, none_of_nothing}
 use Rattle.dot_codec.proofs.Forms.{IsFinal, end_is_final, forms_once, forms_more, forms_behind, forms_follow, read_form_of}
-
-length-stuffed : (line : List ℕ) → length (stuffed line) ≤ 2 * length line
-length-stuffed [] = omega arith
-length-stuffed (octet ∷ line) = ⊎_elim
-    (λ dot. omega (arith, ap length (cond-true (begins_with_dot (octet ∷ line)) (46 ∷ octet ∷ line) (octet ∷ line) dot)))
-    (λ plain. omega (arith, ap length (cond-false (begins_with_dot (octet ∷ line)) (46 ∷ octet ∷ line) (octet ∷ line) plain)))
-    (cases_Bool (begins_with_dot (octet ∷ line)))
-
--- the lines before the rest of a text are counted
-pub record Counted (text rest : List ℕ) (len : ℕ) : Type 0 where
-  pub back : (more : List (List ℕ)) → HasLines rest more → (lines : List (List ℕ)) × HasLines text lines
-  pub front : (lines : List (List ℕ)) → HasLines text lines → (more : List (List ℕ)) × HasLines rest more × (len + length (written more) ≡ 3 + length (written lines))
-  pub bound : len + 4 * length rest ≤ 3 + 4 * length text
-  pub within : length rest ≤ length text
-
-pub counted_none : (text : List ℕ) → Counted text text 3
-counted_none text = record { back = λ more has. (more, has); front = λ lines has. (lines, has, refl); bound = omega arith; within = omega arith }
-
-length-written : (line : List ℕ) (more : List (List ℕ)) → length (written (line ∷ more)) ≡ length (stuffed line ++ 13 ∷ 10 ∷ []) + length (written more)
-length-written line more = omega (arith, length-append (stuffed line) (13 ∷ 10 ∷ written more), length-append (stuffed line) (13 ∷ 10 ∷ []))
-
-pub counted_more : (text rest line next : List ℕ) (len size : ℕ) → Counted text rest len → IsFirstLine rest line next → size ≡ length (stuffed line ++ 13 ∷ 10 ∷ []) → Counted text next (len + size)
-counted_more text rest line next len size so_far first is = record {
-  back = λ more has. so_far.back (line ∷ more) (next, first, has);
-  front = λ lines has.
-      let before = so_far.front lines has in
-      let behind = lines_behind rest line next before.0 first before.1 in
-      let same : length (written before.0) ≡ length (written (line ∷ behind.0)) = ap (λ (l : List (List ℕ)). length (written l)) behind.1 in
-      let count : len + length (written before.0) ≡ 3 + length (written lines) = before.2 in
-      (behind.0, behind.2, omega (arith, same, count, is, length-written line behind.0));
-  bound = omega (arith, so_far.bound, is, length-stuffed line, length-append (stuffed line) (13 ∷ 10 ∷ []), first_shorter rest line next first, rest_shorter rest line next first);
-  within = omega (arith, so_far.within, rest_shorter rest line next first);
-}
-
-pub counted_all : (text rest : List ℕ) (len : ℕ) → Counted text rest len → rest ≡ [] → (lines : List (List ℕ)) → HasLines text lines → len ≡ length (written lines)
-counted_all text rest len so_far empty lines has =
-    let left = so_far.front lines has in
-    let none : left.0 ≡ [] = none_of_nothing left.0 (subst (λ (t : List ℕ). HasLines t left.0) empty left.1) in
-    let same : length (written left.0) ≡ 3 = ap (λ (l : List (List ℕ)). length (written l)) none in
-    let count : len + length (written left.0) ≡ 3 + length (written lines) = left.2 in
-    omega arith
 
 -- the lines before the rest of a text are written
 abbrev pub Wrote : List ℕ → List ℕ → List ℕ → List ℕ → Type 0
@@ -55,10 +13,10 @@ Wrote text rest old new = (lines : List (List ℕ)) → HasLines text lines → 
 pub wrote_none : (text old : List ℕ) → Wrote text text old old
 wrote_none text old lines has = (lines, has, refl)
 
-pub wrote_more : (text rest line next old new newer : List ℕ) → Wrote text rest old new → IsFirstLine rest line next → newer ≡ new ++ (stuffed line ++ 13 ∷ 10 ∷ []) → Wrote text next old newer
+pub wrote_more : (text rest line next old new newer : List ℕ) → Wrote text rest old new → ((more : List (List ℕ)) → HasLines rest more → IsFirstLine rest line next) → newer ≡ new ++ (stuffed line ++ 13 ∷ 10 ∷ []) → Wrote text next old newer
 wrote_more text rest line next old new newer so_far first is lines has =
     let before = so_far lines has in
-    let behind = lines_behind rest line next before.0 first before.1 in
+    let behind = lines_behind rest line next before.0 (first before.0 before.1) before.1 in
     let same : new ++ written before.0 ≡ new ++ (stuffed line ++ 13 ∷ 10 ∷ written behind.0) = ap (λ (l : List (List ℕ)). new ++ written l) behind.1 in (
       behind.0,
       behind.2,

@@ -3,6 +3,8 @@ pub mod Cuts
 pub mod Faults
 pub mod Forms
 pub mod Nexts
+pub mod Places
 mod Rows
 pub mod Runs
+pub mod Stops
 pub mod Texts

@@ -1,8 +1,8 @@
 -- What the first run says of octets, of a text and of a block.
 use Rattle.std.proofs.Common.{◌≡◌, ◌⊎◌, ℕ, zero, suc, ◌<◌, ◌≤◌, true, false, eqb, List, [], ◌∷◌, ◌++◌, length, get_or, take, drop, Option, Some, None, refl, sym, ◌∙◌, ap, subst, inl, inr, ⊎_elim, arith, ◌==◌, ◌||◌, append_assoc, length-append, take-append-drop}
 use Rattle.std.specs.Option.{unwrap_or}
-use Rattle.std.proofs.lemmas.Bool.{and_from, false_from_ne_true, not_from_true, not_from_false, eqb-true, or_cases, or_left, or_right}
-use Rattle.std.proofs.lemmas.List.{nil_from_length, drop_all, drop_at, get_or_append_left, length-take-le}
+use Rattle.std.proofs.lemmas.Bool.{and_from, false_from_ne_true, not_from_true, not_from_false, or_cases, or_left, or_right}
+use Rattle.std.proofs.lemmas.List.{drop_all, drop_at, get_or_append_left, length-take-le}
 use Rattle.memchr.specs.Find.{is_byte, is_byte2, is_byte3, IsFirstByte}
 use Rattle.dot_codec.specs.Lines.{is_line_octet, IsLine, IsFirstLine, HasLines}
 use Rattle.dot_codec.specs.Fault.{IsFaultyLine}
@@ -123,11 +123,6 @@ no_line_at_cr text run rest is (line ∷ lines) (next, first, has) =
   where
     cr_ends_no_line : (tail : List ℕ) → IsStop Cr tail rest → EndsLine tail next → ⊥
     cr_ends_no_line tail (cr, bare) ends = elim ends [ inl none ↦ cc (cr, none.0) | inr some ↦ elim some [ inl lf ↦ cc | inr crlf ↦ bare next (cc (cr, crlf)) ] ]
-
-pub nothing_at_end : (text run rest : List ℕ) → IsRun text run End rest → eqb (length run) 0 ≡ true → text ≡ []
-nothing_at_end text run rest (tail, is, is_line, at) empty =
-    let none : run ≡ [] = nil_from_length run (eqb-true (length run) 0 empty) in
-    is ∙ (ap (λ (r : List ℕ). r ++ tail) none ∙ at.0)
 
 -- another octet behind the CR
 pub bare_cr : (octets run rest : List ℕ) → IsRun octets run Cr rest → eqb (length rest) 0 ≡ false → IsFaultyLine BareCr octets

@@ -1,5 +1,5 @@
 -- A text has one list of lines.
-use Rattle.std.proofs.Common.{◌≡◌, ◌⊎◌, ℕ, ◌+◌, ◌<◌, ◌≤◌, List, [], ◌∷◌, ◌++◌, length, refl, sym, ◌∙◌, ap, subst, inl, inr, arith, length-append}
+use Rattle.std.proofs.Common.{◌≡◌, ◌⊎◌, ℕ, ◌<◌, List, [], ◌∷◌, ◌++◌, length, refl, sym, ◌∙◌, ap, subst, inl, inr, arith, length-append}
 use Rattle.std.specs.List.{AllByRecursion}
 use Rattle.std.proofs.lemmas.List.{append-nil}
 use Rattle.dot_codec.specs.Lines.{IsLine, IsFirstLine, HasLines, text_of}
@@ -44,15 +44,6 @@ first_once text a b p q first_a first_b =
     (cut.0, rest_once tail_b.0 p q (subst (λ (t : List ℕ). EndsLine t p) cut.1 tail_a.2) tail_b.2)
 
 -- a line takes an octet at least
-pub first_shorter : (text line rest : List ℕ) → IsFirstLine text line rest → length line + length rest ≤ length text
-first_shorter text line rest (is_line, ends) = elim ends [
-  | inl none ↦ omega (arith, ap length none.0, ap length none.1)
-  | inr some ↦ elim some [
-    | inl lf ↦ omega (arith, ap length lf, length-append line (10 ∷ rest))
-    | inr crlf ↦ omega (arith, ap length crlf, length-append line (13 ∷ 10 ∷ rest))
-  ]
-]
-
 pub rest_shorter : (text line rest : List ℕ) → IsFirstLine text line rest → length rest < length text
 rest_shorter text line rest (is_line, ends) = elim ends [
   | inl none ↦ omega (arith, ap length none.0, ap length none.1)

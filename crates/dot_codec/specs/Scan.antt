@@ -1,5 +1,5 @@
 -- The first run of octets that a line may have, and what ends it.
-use Rattle.std.specs.Prelude.{◌≡◌, ◌≢◌, ℕ, false, List, [], ◌∷◌, ◌++◌}
+use Rattle.std.specs.Prelude.{◌≡◌, ◌≢◌, ◌==◌, ◌&&◌, ℕ, Bool, false, List, [], ◌∷◌, ◌++◌}
 use Rattle.dot_codec.specs.Lines.{is_line_octet, IsLine}
 use Rattle.dot_codec.specs.declared.scan.Stop.{Stop}
 use Rattle.dot_codec.specs.declared.scan.Stop.TheVariants.{End, Nul, Lf, CrLf, Cr}
@@ -20,3 +20,9 @@ IsRun octets run stop rest = (tail : List ℕ) × (octets ≡ run ++ tail) × Is
 abbrev pub EndsRun : List ℕ → Type 0
 EndsRun [] = Unit {0}
 EndsRun (octet ∷ rest) = is_line_octet octet ≡ false
+
+-- whether CR LF begins the octets
+abbrev pub begins_with_crlf : List ℕ → Bool
+begins_with_crlf [] = false
+begins_with_crlf (octet ∷ []) = false
+begins_with_crlf (octet ∷ other ∷ rest) = octet == 13 && other == 10

@@ -1,5 +1,5 @@
 // The run of octets up to the next NUL, LF or CR.
-ghost use Rattle.std.specs.Prelude.{◌≡◌, ◌≤◌, ◌⊎◌, ◌++◌, ◌∷◌, [], length, take, drop};
+ghost use Rattle.std.specs.Prelude.{◌≡◌, ◌≤◌, ◌⊎◌, ◌++◌, ◌∷◌, [], ℕ, List, length, take, drop};
 ghost use Rattle.dot_codec.specs.Lines.{IsLine};
 ghost use Rattle.dot_codec.specs.Scan.{EndsRun, IsRun, IsStop};
 
@@ -61,8 +61,9 @@ fn run_len(octets: &[u8]) -> usize
 
 // A line without one CR at its end.
 #[inline]
-fn without_cr(line: &[u8]) -> &[u8]
-    ensures { (line.now ≡ result.now) ⊎ (line.now ≡ result.now ++ 13 ∷ []) }
+pub(crate) fn without_cr(line: &[u8]) -> &[u8]
+    ensures either { (line.now ≡ result.now) ⊎ (line.now ≡ result.now ++ 13 ∷ []) }
+    ensures cr { (front : List ℕ) → line.now ≡ front ++ 13 ∷ [] → result.now ≡ front }
 {
     match line {
         [front @ .., b'\r'] => front,

@@ -1,11 +1,13 @@
-// A text's lines, counted and then written as a block.
-ghost use Rattle.std.specs.Prelude.{◌≡◌, ◌<◌, ◌≤◌, ◌↔◌, ◌++◌, ◌∷◌, [], ℕ, List, length, IfOk, IfSome, IfNone, IsOk, IsErrOf, OnOk, IsTrue};
-ghost use Rattle.dot_codec.specs.Lines.{HasLines, IsFirstLine, IsSendable, longest_text};
+// A text's lines, written as a block.
+ghost use Rattle.std.specs.Prelude.{◌≡◌, ◌<◌, ◌≤◌, ◌↔◌, ◌++◌, ◌∷◌, [], ℕ, List, length, drop, IfOk, IsOk, IsErrOf, OnOk, IsTrue};
+ghost use Rattle.dot_codec.specs.Lines.{HasLines, IsSendable, longest_text};
 ghost use Rattle.dot_codec.specs.Block.{begins_with_dot, stuffed, written};
+ghost use Rattle.dot_codec.specs.Scan.{begins_with_crlf};
 
 use crate::fault::BlockRefusal;
-use crate::scan::{Line, Stop, first_run};
+use crate::scan::without_cr;
 use bytes::Bytes;
+use memchr::{memchr_iter, memchr2_iter};
 use std::alloc::{AllocError, Global};
 
 const LONGEST_TEXT: usize = 16_777_216;
@@ -24,12 +26,12 @@ pub fn to_block(alloc: Global, text: &[u8]) -> Result<Bytes, BlockRefusal>
     ensures sendable { IsErrOf result BlockRefusal.NoMemory → IsSendable text.now }
     ensures sent { IsOk result → IsSendable text.now }
 {
-    match block_len(text) {
-        Some(len) => match block_of(alloc, text, len) {
-            Ok(block) => Ok(block),
-            Err(_) => Err(BlockRefusal::NoMemory),
-        },
-        None => Err(BlockRefusal::Unsendable),
+    if !is_sendable(text) {
+        return Err(BlockRefusal::Unsendable);
+    }
+    match block_of(alloc, text) {
+        Ok(block) => Ok(block),
+        Err(_) => Err(BlockRefusal::NoMemory),
     }
 }
 
@@ -37,50 +39,61 @@ pub fn to_block(alloc: Global, text: &[u8]) -> Result<Bytes, BlockRefusal>
 pub fn is_sendable(text: &[u8]) -> bool
     ensures { IsTrue result ↔ IsSendable text.now }
 {
-    block_len(text).is_some()
+    !text.is_empty() && text.len() <= LONGEST_TEXT && has_lines(text)
 }
 
-// How long the block of a text is; `None` where the text is not sendable.
-fn block_len(text: &[u8]) -> Option<usize>
-    ensures sendable { IfSome result (λ len. IsSendable text.now) }
-    ensures len { IfSome result (λ len. (lines : List (List ℕ)) → HasLines text.now lines → len ≡ length (written lines)) }
-    ensures unsendable { IfNone result (IsSendable text.now → ⊥) }
+// Whether a text has lines: each NUL or CR of it is a CR directly before an LF. Few texts have one, so this is one wide
+// search of the text.
+fn has_lines(text: &[u8]) -> bool
+    ensures { IsTrue result ↔ ((lines : List (List ℕ)) × HasLines text.now lines) }
 {
-    if text.is_empty() || text.len() > LONGEST_TEXT {
-        return None;
-    }
-    let mut len = b".\r\n".len();
-    let mut rest = text;
-    while let Some(line) = first_line(rest) {
-        len += written_len(line.octets);
-        rest = line.rest;
-    }
-    if rest.is_empty() { Some(len) } else { None }
+    memchr2_iter(b'\0', b'\r', text).all(|at| has_crlf_at(text, at))
 }
 
-// The block of a text that has lines, in one allocation of its length.
-fn block_of(alloc: Global, text: &[u8], len: usize) -> Result<Bytes, AllocError>
+fn has_crlf_at(text: &[u8], at: usize) -> bool
+    ensures { result ≡ begins_with_crlf (drop at text.now) }
+{
+    matches!(text.get(at..), Some([b'\r', b'\n', ..]))
+}
+
+// The block of a text that has lines.
+fn block_of(alloc: Global, text: &[u8]) -> Result<Bytes, AllocError>
+    requires { length text.now ≤ longest_text }
     ensures { IfOk result (λ b. (lines : List (List ℕ)) → HasLines text.now lines → b ≡ written lines) }
 {
-    let mut block = Vec::with_capacity(alloc, len)?;
+    let mut block = Vec::with_capacity(alloc, likely_len(text))?;
     put_lines(&mut block, text)?;
     block.extend_from_slice(b".\r\n")?;
+    if block.capacity() - block.len() > block.len() / 8 {
+        block.shrink_to_fit();
+    }
     Ok(Bytes::from_vec(block)?)
+}
+
+// Room for most blocks: an octet more for each line, of which few texts have one in 16 octets, and the end.
+fn likely_len(text: &[u8]) -> usize
+    requires { length text.now ≤ longest_text }
+{
+    text.len() + text.len() / 16 + 16
 }
 
 // Writes the lines of a text.
 fn put_lines(block: &mut Vec<u8>, text: &[u8]) -> Result<(), AllocError>
     ensures { OnOk result ((lines : List (List ℕ)) → HasLines text.now lines → block.new.items ++ 46 ∷ 13 ∷ 10 ∷ [] ≡ block.old.items ++ written lines) }
 {
-    let mut rest = text;
-    while let Some(line) = first_line(rest) {
-        put_line(block, line.octets)?;
-        rest = line.rest;
+    let mut from = 0;
+    for at in memchr_iter(b'\n', text) {
+        put_line(block, without_cr(&text[from..at]))?;
+        from = at + 1;
+    }
+    if from < text.len() {
+        put_line(block, &text[from..])?;
     }
     Ok(())
 }
 
 // Writes a line with CR LF, and one more dot before it where it begins with one.
+#[inline(always)]
 fn put_line(block: &mut Vec<u8>, line: &[u8]) -> Result<(), AllocError>
     ensures { OnOk result (block.new.items ≡ block.old.items ++ (stuffed line.now ++ 13 ∷ 10 ∷ [])) }
 {
@@ -88,38 +101,14 @@ fn put_line(block: &mut Vec<u8>, line: &[u8]) -> Result<(), AllocError>
         block.push(b'.')?;
     }
     block.extend_from_slice(line)?;
-    block.extend_from_slice(b"\r\n")
+    block.push(b'\r')?;
+    block.push(b'\n')?;
+    Ok(())
 }
 
-// How long a line is as it is written.
-fn written_len(line: &[u8]) -> usize
-    requires { length line.now ≤ longest_text }
-    ensures { result ≡ length (stuffed line.now ++ 13 ∷ 10 ∷ []) }
-{
-    let dots = if begins_with_dot(line) { 1 } else { 0 };
-    dots + line.len() + b"\r\n".len()
-}
-
+#[inline]
 fn begins_with_dot(line: &[u8]) -> bool
     ensures { result ≡ begins_with_dot line.now }
 {
     matches!(line, [b'.', ..])
-}
-
-// The first line of a text; `None` where it has none.
-fn first_line(text: &[u8]) -> Option<Line<'_>>
-    ensures line { IfSome result (λ line. IsFirstLine text.now line.octets.now line.rest.now) }
-    ensures none { IfNone result ((lines : List (List ℕ)) → HasLines text.now lines → text.now ≡ []) }
-{
-    let run = first_run(text);
-    let line = Line {
-        octets: run.octets,
-        rest: run.rest,
-    };
-    match run.stop {
-        Stop::Lf | Stop::CrLf => Some(line),
-        Stop::End if run.octets.is_empty() => None,
-        Stop::End => Some(line),
-        Stop::Nul | Stop::Cr => None,
-    }
 }

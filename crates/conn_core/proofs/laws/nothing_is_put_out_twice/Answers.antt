@@ -1,7 +1,7 @@
 -- What is put out of a debt, and of a connection.
 use Rattle.conn_core.specs.Stands.{Stands}
 use Rattle.conn_core.proofs.PutOnce.{mode_once, quit_once}
-use Rattle.conn_core.proofs.Twice.{asked_once, sent_once}
+use Rattle.conn_core.proofs.Twice.{asked_once, offered_once, sent_once}
 use Rattle.conn_core.proofs.laws.nothing_is_put_out_twice.Goals as goal
 
 pub returns-clause-asks : goal.returns-clause-asks
@@ -11,6 +11,10 @@ returns-clause-asks c = λ options conn unread h place verb s. asked_once option
 pub returns-clause-blocks : goal.returns-clause-blocks
 unfolding Stands
 returns-clause-blocks c = λ options conn unread h place s. sent_once options h place s.0
+
+pub returns-clause-offers : goal.returns-clause-offers
+unfolding Stands
+returns-clause-offers c = λ options conn unread h place s. offered_once options h place s.0
 
 pub returns-clause-mode : goal.returns-clause-mode
 unfolding Stands

@@ -1,9 +1,11 @@
-use Rattle.std.proofs.Common.{length}
+use Rattle.std.proofs.Common.{◌≡◌, ◌≤◌, length, drop}
+use Rattle.memchr.specs.Find.{is_byte, places_between}
 use Rattle.dot_codec.proofs.Counts.{Wrote}
 use Rattle.dot_codec.proofs.write.put_lines.Given as goal
 
-abbrev pub invariant-loop-line : goal.invariant-loop-line
-invariant-loop-line l = Wrote l.text l.rest l.fn.block.items l.block.items
-
-abbrev pub decreases-loop-line : goal.decreases-loop-line
-decreases-loop-line l = length l.rest
+abbrev pub invariant-loop-at : goal.invariant-loop-at
+invariant-loop-at l = record {
+  within : l.from ≤ length l.text;
+  left : l.at-iterator ≡ places_between (is_byte 10) l.text l.from (length l.text);
+  wrote : Wrote l.text (drop l.from l.text) l.fn.block.items l.block.items;
+}
