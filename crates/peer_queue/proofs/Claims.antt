@@ -1,0 +1,94 @@
+-- The debt that may be claimed first, and the debt of a number.
+use Rattle.std.proofs.Common.{◌≡◌, ◌==◌, ℕ, zero, ◌<◌, Bool, true, false, cond, Option, Some, None, List, [], ◌∷◌, get_or, refl, sym, ap, ◌∙◌, subst, inl, inr, arith}
+use Rattle.std.specs.Prelude.{Err, Ok, OnErr, OnOk, Result, find, option_map}
+use Rattle.std.specs.List.{Contains}
+use Rattle.std.proofs.lemmas.Bool.{eqb-true, eq-eqb, eqb-false, ne_eqb}
+use Rattle.std.proofs.lemmas.List.Elements.{Contains-append_right, Contains-append_cases}
+use Rattle.ledger_core.specs.State.{Owing, numbers_of}
+use Rattle.peer_queue.specs.Place.{AreAbove, AreRising, Held, IsUnheld, Later, Place, Places, Ready, is_candidate, is_held, least_candidate, moved, place_at, placed}
+use Rattle.peer_queue.proofs.Ends.{placed-moved}
+
+-- ---- in lists
+
+pub Contains-head : {X : Type 0} (x : X) (xs : List X) → Contains (x ∷ xs) x
+Contains-head x xs = (zero, omega arith, refl)
+
+pub Contains-tail : {X : Type 0} (x : X) (xs : List X) (y : X) → Contains xs y → Contains (x ∷ xs) y
+Contains-tail x xs y has = Contains-append_right (x ∷ []) xs y has
+
+-- ---- the debt of a number
+
+find_step : (n : ℕ) (debt d : Owing) (debts : List Owing) (b : Bool) → (debt.0 == n) ≡ b → (find (λ (owing : Owing). owing.0 == n) debts ≡ Some d → (d.0 ≡ n) × Contains debts d)
+    → cond b (Some debt) (find (λ (owing : Owing). owing.0 == n) debts) ≡ Some d → (d.0 ≡ n) × Contains (debt ∷ debts) d
+find_step n debt d debts true e rest is =
+    let same : debt ≡ d = cc in
+    (sym (ap (λ (owing : Owing). owing.0) same) ∙ eqb-true debt.0 n e, subst (λ (x : Owing). Contains (debt ∷ debts) x) same (Contains-head debt debts))
+find_step n debt d debts false e rest is = let found = rest is in (found.0, Contains-tail debt debts d found.1)
+
+-- the debt that is found has the number, and is owed
+pub found_debt : (n : ℕ) (debts : List Owing) (d : Owing) → find (λ (owing : Owing). owing.0 == n) debts ≡ Some d → (d.0 ≡ n) × Contains debts d
+found_debt n [] d is = absurd (cc)
+found_debt n (debt ∷ debts) d is = find_step n debt d debts (debt.0 == n) refl (λ there. found_debt n debts d there) is
+
+missing_step : (n : ℕ) (debt : Owing) (debts : List Owing) (b : Bool) → (debt.0 == n) ≡ b → (find (λ (owing : Owing). owing.0 == n) debts ≡ None → Contains (numbers_of debts) n → ⊥)
+    → cond b (Some debt) (find (λ (owing : Owing). owing.0 == n) debts) ≡ None → Contains (debt.0 ∷ numbers_of debts) n → ⊥
+missing_step n debt debts true e rest is has = cc
+missing_step n debt debts false e rest is has = elim (Contains-append_cases (debt.0 ∷ []) (numbers_of debts) n has) [
+  | inl here ↦ eqb-false debt.0 n e (only debt.0 n here)
+  | inr there ↦ rest is there
+]
+  where
+    only : (x y : ℕ) → Contains (x ∷ []) y → x ≡ y
+    only x y (k, inside, at) = let first : k ≡ 0 = omega (arith, inside) in subst (λ (j : ℕ). get_or (x ∷ []) j y ≡ y) first at
+
+-- where none is found, the number is not owed
+pub missing_debt : (n : ℕ) (debts : List Owing) → find (λ (owing : Owing). owing.0 == n) debts ≡ None → Contains (numbers_of debts) n → ⊥
+missing_debt n [] is (k, inside, at) = omega (arith, inside)
+missing_debt n (debt ∷ debts) is has = missing_step n debt debts (debt.0 == n) refl (λ none there. missing_debt n debts none there) is has
+
+-- ---- the least number that may be claimed
+
+placed_step : (n : ℕ) (e : ℕ × Place) (p : Places) (found : Option (ℕ × Place)) (b : Bool) → (option_map (λ (entry : ℕ × Place). entry.0) found ≡ Some n → Contains (placed p) n)
+    → option_map (λ (entry : ℕ × Place). entry.0) (cond b (Some e) found) ≡ Some n → Contains (e.0 ∷ placed p) n
+placed_step n e p found true rest is =
+    let same : e.0 ≡ n = cc in
+    subst (λ (m : ℕ). Contains (e.0 ∷ placed p) m) same (Contains-head e.0 (placed p))
+placed_step n e p found false rest is = Contains-tail e.0 (placed p) n (rest is)
+
+-- it has a place
+pub candidate_placed : (now n : ℕ) (p : Places) → least_candidate now p ≡ Some n → Contains (placed p) n
+candidate_placed now n [] is = absurd (cc)
+candidate_placed now n (e ∷ p) is = placed_step n e p (find (λ (entry : ℕ × Place). is_candidate now entry.1) p) (is_candidate now e.1) (λ there. candidate_placed now n p there) is
+
+above_step : (n m : ℕ) (e : ℕ × Place) (found : Option (ℕ × Place)) (b : Bool) → m < e.0 → (option_map (λ (entry : ℕ × Place). entry.0) found ≡ Some n → m < n)
+    → option_map (λ (entry : ℕ × Place). entry.0) (cond b (Some e) found) ≡ Some n → m < n
+above_step n m e found true low rest is = let same : e.0 ≡ n = cc in omega (arith, same)
+above_step n m e found false low rest is = rest is
+
+candidate_above : (now n m : ℕ) (p : Places) → AreAbove m p → least_candidate now p ≡ Some n → m < n
+candidate_above now n m [] above is = absurd (cc)
+candidate_above now n m (e ∷ p) above is = above_step n m e (find (λ (entry : ℕ × Place). is_candidate now entry.1) p) (is_candidate now e.1) above.0 (λ there. candidate_above now n m p above.1 there) is
+
+not_held : (now : ℕ) (place : Place) → is_candidate now place ≡ true → is_held place ≡ false
+not_held now Ready may = refl
+not_held now (Held c) may = cc
+not_held now (Later m) may = refl
+
+unheld_step : (now n : ℕ) (e : ℕ × Place) (p : Places) (b : Bool) → is_candidate now e.1 ≡ b → (least_candidate now p ≡ Some n → e.0 < n) → (least_candidate now p ≡ Some n → IsUnheld p n)
+    → option_map (λ (entry : ℕ × Place). entry.0) (cond b (Some e) (find (λ (entry : ℕ × Place). is_candidate now entry.1) p)) ≡ Some n → option_map is_held (cond (e.0 == n) (Some e.1) (place_at p n)) ≡ Some false
+unheld_step now n e p true may above rest is =
+    let same : e.0 ≡ n = cc in
+    ap (λ (t : Bool). option_map is_held (cond t (Some e.1) (place_at p n))) (eq-eqb e.0 n same) ∙ ap (λ (t : Bool). Some t) (not_held now e.1 may)
+unheld_step now n e p false may above rest is =
+    ap (λ (t : Bool). option_map is_held (cond t (Some e.1) (place_at p n))) (ne_eqb e.0 n (λ same. omega (arith, above is, same))) ∙ rest is
+
+-- no connection holds it
+pub candidate_unheld : (now n : ℕ) (p : Places) → AreRising p → least_candidate now p ≡ Some n → IsUnheld p n
+candidate_unheld now n [] rising is = absurd (cc)
+candidate_unheld now n (e ∷ p) rising is =
+    unheld_step now n e p (is_candidate now e.1) refl (λ there. candidate_above now n e.0 p rising.0 there) (λ there. candidate_unheld now n p rising.1 there) is
+
+-- the same numbers have a place, whether a connection holds one of them from now on or memory was refused
+pub placed_hold : {T E : Type 0} (result : Result T E) (old new : Places) (n c : ℕ) → OnOk result (new ≡ moved old n (Held c)) → OnErr result (new ≡ old) → placed new ≡ placed old
+placed_hold (Ok t) old new n c ok err = ap placed ok ∙ placed-moved old n (Held c)
+placed_hold (Err e) old new n c ok err = ap placed err

@@ -1,0 +1,272 @@
+-- What an index keeps, where a number is held or given up.
+use Rattle.std.proofs.Common.{◌≡◌, ◌==◌, ◌^◌, ℕ, zero, suc, ◌<◌, ◌≤◌, Bool, true, false, cond, Option, Some, None, [], ◌∷◌, refl, sym, ap, ◌∙◌, subst, arith}
+use Rattle.std.specs.Prelude.{IsSome, option_map, Result, Ok, Err, OnOk, OnErr}
+use Rattle.std.specs.Result.{is_err}
+use Rattle.std.specs.Ordering.{is_eq, is_gt, nat_cmp, ordering_then}
+use Rattle.std.specs.declared.cmp.Ordering.{Ordering}
+use Rattle.std.specs.declared.cmp.Ordering.TheVariants.{Less, Equal, Greater}
+use Rattle.std.proofs.lemmas.Bool.{eqb-true, eqb-false, eq-eqb, ne_eqb}
+use Rattle.std.proofs.lemmas.Bool.Decides.{nat_tests}
+use Rattle.std.proofs.lemmas.Map.Keys.{le_from_not_gt}
+use Rattle.std.specs.BTreeMap.Range.{IsInRange}
+use Rattle.std.specs.declared.ops.Bound.TheVariants.{Included, Unbounded}
+use Rattle.std.proofs.lemmas.Cmp.{nat_cmp_total, tied_itself}
+use Rattle.deferral.specs.Due.{Waiting, IsRising, added, due_of}
+use Rattle.peer_queue.specs.Place.{Place, Held, place_at, is_held, IsHeldBy, IsUnheld}
+use Rattle.peer_queue.specs.Index.{Holders, IsKept, pair_cmp, place_by, place_until, places_by}
+
+-- ---- comparing numbers and pairs
+
+eq_of : (p q : Bool) → is_eq (cond p Less (cond q Equal Greater)) ≡ true → q ≡ true
+eq_of true q e = cc
+eq_of false true e = refl
+eq_of false false e = cc
+
+pub nat_at : (n m : ℕ) → is_eq (nat_cmp n m) ≡ true → n ≡ m
+nat_at n m e = eqb-true n m (eq_of _ (n == m) e)
+
+both_eq : (o r : Ordering) → is_eq (ordering_then o r) ≡ true → (is_eq o ≡ true) × (is_eq r ≡ true)
+both_eq Less r e = cc
+both_eq Equal r e = (refl, e)
+both_eq Greater r e = cc
+
+pub pair_at : (c n d m : ℕ) → is_eq (pair_cmp (c, n) (d, m)) ≡ true → (c ≡ d) × (n ≡ m)
+pair_at c n d m e = let h = both_eq (nat_cmp c d) (nat_cmp n m) e in (nat_at c d h.0, nat_at n m h.1)
+
+pub pair_self : (c n : ℕ) → is_eq (pair_cmp (c, n) (c, n)) ≡ true
+pair_self c n = ap (λ (o : Ordering). is_eq (ordering_then o (nat_cmp n n))) (tied_itself nat_cmp_total c) ∙ ap is_eq (tied_itself nat_cmp_total n)
+
+not_true : (b : Bool) → (b ≡ true → ⊥) → b ≡ false
+not_true true h = absurd (h refl)
+not_true false h = refl
+
+pub nat_apart : (n m : ℕ) → (m ≡ n → ⊥) → is_eq (nat_cmp n m) ≡ false
+nat_apart n m apart = not_true (is_eq (nat_cmp n m)) (λ e. apart (sym (nat_at n m e)))
+
+-- ---- the place of a number
+
+at_step : (h : Holders) (n m : ℕ) (d : Option ℕ) (b : Bool) (o : Option (Option ℕ)) (p : Option Place) → (m == n) ≡ b → p ≡ option_map (place_by (h n)) o
+    → cond b (Some (place_by (h m) d)) p ≡ option_map (place_by (h n)) (cond b (Some d) o)
+at_step h n m d true o p e q = ap (λ (k : ℕ). Some (place_by (h k) d)) (eqb-true m n e)
+at_step h n m d false o p e q = q
+
+pub place_of : (h : Holders) (agenda : Waiting) (n : ℕ) → place_at (places_by h agenda) n ≡ option_map (place_by (h n)) (due_of agenda n)
+place_of h [] n = refl
+place_of h (x ∷ xs) n = at_step h n x.0 x.1 (x.0 == n) (due_of xs n) (place_at (places_by h xs) n) refl (place_of h xs n)
+
+unheld_is : (q : Option ℕ) (o : Option (Option ℕ)) → option_map is_held (option_map (place_by q) o) ≡ Some false → (d : ℕ) × (o ≡ Some (Some d))
+unheld_is q None e = cc
+unheld_is q (Some None) e = cc
+unheld_is q (Some (Some d)) e = (d, refl)
+
+-- a number that none holds waits for a moment
+pub unheld_due : (h : Holders) (agenda : Waiting) (n : ℕ) → IsUnheld (places_by h agenda) n → (d : ℕ) × (due_of agenda n ≡ Some (Some d))
+unheld_due h agenda n unheld = unheld_is (h n) (due_of agenda n) (sym (ap (option_map is_held) (place_of h agenda n)) ∙ unheld)
+
+until_held : (d c : ℕ) → place_until d ≡ Held c → ⊥
+until_held zero c e = cc
+until_held (suc d) c e = cc
+
+held_is : (q : Option ℕ) (o : Option (Option ℕ)) (c : ℕ) → (o ≡ Some None → IsSome q) → option_map (place_by q) o ≡ Some (Held c) → (q ≡ Some c) × (o ≡ Some None)
+held_is q None c f e = absurd (cc)
+held_is None (Some None) c f e = let bad : false ≡ true = f refl in absurd (cc)
+held_is (Some b) (Some None) c f e = let same : b ≡ c = cc in (ap Some same, refl)
+held_is q (Some (Some d)) c f e = let same : place_until d ≡ Held c = cc in absurd (until_held d c same)
+
+pub held_by : (h : Holders) (agenda : Waiting) (k : ℕ → ℕ → Bool) (n c : ℕ) → IsKept agenda h k → IsHeldBy (places_by h agenda) c n → (h n ≡ Some c) × (due_of agenda n ≡ Some None)
+held_by h agenda k n c kept held = held_is (h n) (due_of agenda n) c (kept.holder n) (sym (place_of h agenda n) ∙ held)
+
+pub is_held_by : (h : Holders) (agenda : Waiting) (k : ℕ → ℕ → Bool) (n c : ℕ) → IsKept agenda h k → h n ≡ Some c → IsHeldBy (places_by h agenda) c n
+is_held_by h agenda k n c kept holder = place_of h agenda n ∙ (ap (option_map (place_by (h n))) (kept.held n c holder) ∙ ap (λ (q : Option ℕ). Some (place_by q None)) holder)
+
+-- a number that waits for a moment is held by none
+pub free : (h : Holders) (agenda : Waiting) (k : ℕ → ℕ → Bool) (n c d : ℕ) → IsKept agenda h k → due_of agenda n ≡ Some (Some d) → h n ≡ Some c → ⊥
+free h agenda k n c d kept due holder = let none = kept.held n c holder in cc
+
+-- ---- one number changes
+
+by_number : {P : Type 0} (n m : ℕ) → (m ≡ n → P) → ((m ≡ n → ⊥) → P) → P
+by_number {P = P} n m same apart = on (m == n) refl
+  where
+    on : (b : Bool) → (m == n) ≡ b → P
+    on true e = same (eqb-true m n e)
+    on false e = apart (eqb-false m n e)
+
+cond_true : (b c : Bool) → c ≡ true → cond b true c ≡ true
+cond_true true c e = refl
+cond_true false c e = e
+
+split_true : {P : Type 0} (b c : Bool) → (b ≡ true → P) → (c ≡ true → P) → cond b true c ≡ true → P
+split_true true c f g e = f refl
+split_true false c f g e = g e
+
+split_false : {P : Type 0} (b c : Bool) → (b ≡ false → c ≡ true → P) → cond b false c ≡ true → P
+split_false true c f e = cc
+split_false false c f e = f refl e
+
+module _ (agenda agenda' : Waiting) (h h' : Holders) (k k' : ℕ → ℕ → Bool) (c n : ℕ) (kept : IsKept agenda h k) (rising : IsRising agenda') (dues : (m : ℕ) → (m ≡ n → ⊥) → due_of agenda' m ≡ due_of agenda m) (others : (m : ℕ) → (m ≡ n → ⊥) → h' m ≡ h m) where
+  -- this connection holds the number from now on
+  pub kept_hold : (d : ℕ) → due_of agenda n ≡ Some (Some d) → due_of agenda' n ≡ Some None → h' n ≡ Some c → ((b m : ℕ) → k' b m ≡ cond (is_eq (pair_cmp (c, n) (b, m))) true (k b m)) → IsKept agenda' h' k'
+  kept_hold d was due holder pairs = record {
+    rising = rising;
+    held = λ m b e. by_number n m
+        (λ same. subst (λ (x : ℕ). due_of agenda' x ≡ Some None) (sym same) due)
+        (λ apart. dues m apart ∙ kept.held m b (sym (others m apart) ∙ e));
+    holder = λ m e. by_number n m
+        (λ same. let here : h' m ≡ Some c = ap h' same ∙ holder in subst IsSome (sym here) refl)
+        (λ apart. subst IsSome (sym (others m apart)) (kept.holder m (sym (dues m apart) ∙ e)));
+    told = λ b m e. split_true (is_eq (pair_cmp (c, n) (b, m))) (k b m)
+        (λ at. let both = pair_at c n b m at in ap h' (sym both.1) ∙ (holder ∙ ap Some both.0))
+        (λ old. let was_held : h m ≡ Some b = kept.told b m old in
+        others m (λ same. free h agenda k n b d kept was (sym (ap h same) ∙ was_held)) ∙ was_held)
+        (sym (pairs b m) ∙ e);
+    tells = λ b m e. pairs b m ∙ by_number n m
+        (λ same.
+        let here : Some c ≡ Some b = sym holder ∙ (sym (ap h' same) ∙ e) in
+        let who : c ≡ b = cc in
+        let at : is_eq (pair_cmp (c, n) (b, m)) ≡ true = subst (λ (x : ℕ). is_eq (pair_cmp (c, n) (x, m)) ≡ true) who (subst (λ (x : ℕ). is_eq (pair_cmp (c, n) (c, x)) ≡ true) (sym same) (pair_self c n)) in
+        ap (λ (x : Bool). cond x true (k b m)) at)
+        (λ apart. cond_true (is_eq (pair_cmp (c, n) (b, m))) (k b m) (kept.tells b m (sym (others m apart) ∙ e)));
+    moments = λ m t e. by_number n m
+        (λ same.
+        let here : Some None ≡ Some (Some t) = sym due ∙ subst (λ (x : ℕ). due_of agenda' x ≡ Some (Some t)) same e in
+        cc)
+        (λ apart. kept.moments m t (sym (dues m apart) ∙ e));
+  }
+
+  -- this connection held the number, and none does from now on
+  pub kept_drop : h n ≡ Some c → (due_of agenda' n ≡ Some None → ⊥) → ((t : ℕ) → due_of agenda' n ≡ Some (Some t) → t < 2 ^ 64) → h' n ≡ None → ((b m : ℕ) → k' b m ≡ cond (is_eq (pair_cmp (c, n) (b, m))) false (k b m)) → IsKept agenda' h' k'
+  kept_drop was due fits none pairs = record {
+    rising = rising;
+    held = λ m b e. by_number n m
+        (λ same. let here : h' m ≡ None = ap h' same ∙ none in cc)
+        (λ apart. dues m apart ∙ kept.held m b (sym (others m apart) ∙ e));
+    holder = λ m e. by_number n m
+        (λ same. absurd (due (subst (λ (x : ℕ). due_of agenda' x ≡ Some None) same e)))
+        (λ apart. subst IsSome (sym (others m apart)) (kept.holder m (sym (dues m apart) ∙ e)));
+    told = λ b m e. split_false (is_eq (pair_cmp (c, n) (b, m))) (k b m)
+        (λ off old.
+        let was_held : h m ≡ Some b = kept.told b m old in
+        others m (λ same.
+        let here : Some c ≡ Some b = sym was ∙ (sym (ap h same) ∙ was_held) in
+        let who : c ≡ b = cc in
+        let at : is_eq (pair_cmp (c, n) (b, m)) ≡ true = subst (λ (x : ℕ). is_eq (pair_cmp (c, n) (x, m)) ≡ true) who (subst (λ (x : ℕ). is_eq (pair_cmp (c, n) (c, x)) ≡ true) (sym same) (pair_self c n)) in
+        cc) ∙ was_held)
+        (sym (pairs b m) ∙ e);
+    tells = λ b m e. by_number n m
+        (λ same. let here : h' m ≡ None = ap h' same ∙ none in cc)
+        (λ apart.
+        let off : is_eq (pair_cmp (c, n) (b, m)) ≡ false = not_true (is_eq (pair_cmp (c, n) (b, m))) (λ at. apart (sym (pair_at c n b m at).1)) in
+        pairs b m ∙ (ap (λ (x : Bool). cond x false (k b m)) off ∙ kept.tells b m (sym (others m apart) ∙ e)));
+    moments = λ m t e. by_number n m
+        (λ same. fits t (subst (λ (x : ℕ). due_of agenda' x ≡ Some (Some t)) same e))
+        (λ apart. kept.moments m t (sym (dues m apart) ∙ e));
+  }
+
+  -- no connection held the number, and it goes
+  pub kept_gone : ((b : ℕ) → h n ≡ Some b → ⊥) → (due_of agenda' n ≡ Some None → ⊥) → ((t : ℕ) → due_of agenda' n ≡ Some (Some t) → t < 2 ^ 64) → h' n ≡ h n → ((b m : ℕ) → k' b m ≡ k b m) → IsKept agenda' h' k'
+  kept_gone nobody due fits none pairs = record {
+    rising = rising;
+    held = λ m b e. by_number n m
+        (λ same. absurd (nobody b (sym none ∙ (sym (ap h' same) ∙ e))))
+        (λ apart. dues m apart ∙ kept.held m b (sym (others m apart) ∙ e));
+    holder = λ m e. by_number n m
+        (λ same. absurd (due (subst (λ (x : ℕ). due_of agenda' x ≡ Some None) same e)))
+        (λ apart. subst IsSome (sym (others m apart)) (kept.holder m (sym (dues m apart) ∙ e)));
+    told = λ b m e.
+        let was_held : h m ≡ Some b = kept.told b m (sym (pairs b m) ∙ e) in
+        by_number n m (λ same. ap h' same ∙ (none ∙ (sym (ap h same) ∙ was_held))) (λ apart. others m apart ∙ was_held);
+    tells = λ b m e. pairs b m ∙ kept.tells b m (by_number n m (λ same. ap h same ∙ (sym none ∙ (sym (ap h' same) ∙ e))) (λ apart. sym (others m apart) ∙ e));
+    moments = λ m t e. by_number n m
+        (λ same. fits t (subst (λ (x : ℕ). due_of agenda' x ≡ Some (Some t)) same e))
+        (λ apart. kept.moments m t (sym (dues m apart) ∙ e));
+  }
+
+-- the same is told by pairs that are the same
+pub kept_same : (agenda : Waiting) (h h' : Holders) (k k' : ℕ → ℕ → Bool) → IsKept agenda h k → ((m : ℕ) → h' m ≡ h m) → ((b m : ℕ) → k' b m ≡ k b m) → IsKept agenda h' k'
+kept_same agenda h h' k k' kept others pairs = record {
+  rising = kept.rising;
+  held = λ m b e. kept.held m b (sym (others m) ∙ e);
+  holder = λ m e. subst IsSome (sym (others m)) (kept.holder m e);
+  told = λ b m e. others m ∙ kept.told b m (sym (pairs b m) ∙ e);
+  tells = λ b m e. pairs b m ∙ kept.tells b m (sym (others m) ∙ e);
+  moments = kept.moments;
+}
+
+back_step : (b c : Bool) → (b ≡ true → c ≡ false) → cond b false (cond b true c) ≡ c
+back_step true c f = sym (f refl)
+back_step false c f = refl
+
+-- a pair that was put in and taken out again
+pub pair_back : (agenda : Waiting) (h : Holders) (k : ℕ → ℕ → Bool) (c n d b m : ℕ) → IsKept agenda h k → due_of agenda n ≡ Some (Some d) → cond (is_eq (pair_cmp (c, n) (b, m))) false (cond (is_eq (pair_cmp (c, n) (b, m))) true (k b m)) ≡ k b m
+pair_back agenda h k c n d b m kept was = back_step (is_eq (pair_cmp (c, n) (b, m))) (k b m) (λ at.
+    not_true (k b m) (λ old. free h agenda k n b d kept was (ap h (pair_at c n b m at).1 ∙ kept.told b m old)))
+
+-- ---- what a call says of the moments afterwards
+
+pub other_due : {X : Type 0} (n m : ℕ) (x o : X) → (m ≡ n → ⊥) → cond (n == m) x o ≡ o
+other_due n m x o apart = ap (λ (b : Bool). cond b x o) (ne_eqb n m (λ e. apart (sym e)))
+
+pub own_due : {X : Type 0} (n : ℕ) (x o : X) → cond (n == n) x o ≡ x
+own_due n x o = ap (λ (b : Bool). cond b x o) (eq-eqb n n refl)
+
+pub some_apart : (o : Option (Option ℕ)) (d : ℕ) → o ≡ Some (Some d) → o ≡ Some None → ⊥
+some_apart o d e f = let h : Some (Some d) ≡ Some None = sym e ∙ f in cc
+
+pub none_apart : (o : Option (Option ℕ)) → o ≡ None → o ≡ Some None → ⊥
+none_apart o e f = let h : None ≡ Some None = sym e ∙ f in cc
+
+-- a moment of 64 bits
+pub some_fits : (o : Option (Option ℕ)) (d t : ℕ) → o ≡ Some (Some d) → d < 2 ^ 64 → o ≡ Some (Some t) → t < 2 ^ 64
+some_fits o d t e fits f = let same : d ≡ t = cc in subst (λ (x : ℕ). x < 2 ^ 64) same fits
+
+pub none_fits : (o : Option (Option ℕ)) (t : ℕ) → o ≡ None → o ≡ Some (Some t) → t < 2 ^ 64
+none_fits o t e f = let h : None ≡ Some (Some t) = sym e ∙ f in cc
+
+-- a number that waits for nothing yet is held by none
+pub nobody_yet : (h : Holders) (agenda : Waiting) (k : ℕ → ℕ → Bool) (n b : ℕ) → IsKept agenda h k → due_of agenda n ≡ None → h n ≡ Some b → ⊥
+nobody_yet h agenda k n b kept none holder = none_apart (due_of agenda n) none (kept.held n b holder)
+
+-- a number is put in, or memory is refused
+pub kept_put : {T E : Type 0} (result : Result T E) (agenda agenda' : Waiting) (h : Holders) (k : ℕ → ℕ → Bool) (n : ℕ) → IsKept agenda h k → due_of agenda n ≡ None
+    → OnOk result (agenda' ≡ added agenda n (Some 0)) → OnErr result (agenda' ≡ agenda)
+    → ((m : ℕ) → due_of (added agenda n (Some 0)) m ≡ cond (n == m) (Some (Some 0)) (due_of agenda m)) → IsRising (added agenda n (Some 0)) → IsKept agenda' h k
+kept_put (Ok t) agenda agenda' h k n kept none ok err moments rising =
+    subst (λ (w : Waiting). IsKept w h k) (sym ok)
+    (kept_gone agenda (added agenda n (Some 0)) h h k k 0 n kept rising (λ m apart. moments m ∙ other_due n m (Some (Some 0)) (due_of agenda m) apart) (λ m apart. refl)
+    (λ b e. nobody_yet h agenda k n b kept none e)
+    (some_apart (due_of (added agenda n (Some 0)) n) 0 (moments n ∙ own_due n (Some (Some 0)) (due_of agenda n)))
+    (λ t. some_fits (due_of (added agenda n (Some 0)) n) 0 t (moments n ∙ own_due n (Some (Some 0)) (due_of agenda n)) (omega arith))
+    refl (λ b m. refl))
+kept_put (Err e) agenda agenda' h k n kept none ok err moments rising = subst (λ (w : Waiting). IsKept w h k) (sym err) kept
+
+pub ok_of : {T E : Type 0} {P : Type 0} (result : Result T E) → OnOk result P → is_err result ≡ false → P
+ok_of (Ok t) p e = p
+ok_of (Err t) p e = cc
+
+pub err_of : {T E : Type 0} {P : Type 0} (result : Result T E) → OnErr result P → is_err result ≡ true → P
+err_of (Ok t) p e = cc
+err_of (Err t) p e = p
+
+-- ---- the first pair of a connection
+
+pair_from : (c n : ℕ) → is_gt (pair_cmp (c, 0) (c, n)) ≡ false
+pair_from c n = ap (λ (o : Ordering). is_gt (ordering_then o (nat_cmp 0 n))) (tied_itself nat_cmp_total c) ∙ zero_first n
+  where
+    zero_first : (m : ℕ) → is_gt (nat_cmp 0 m) ≡ false
+    zero_first m = grind (arith, nat_tests)
+
+pub from_first : (c n : ℕ) → IsInRange pair_cmp (Included (c, 0)) Unbounded (c, n)
+from_first c n = (pair_from c n, tt)
+
+then_gt : (o r : Ordering) → is_gt (ordering_then o r) ≡ false → is_gt o ≡ false
+then_gt Less r e = refl
+then_gt Equal r e = refl
+then_gt Greater r e = cc
+
+-- a pair between the first that a connection may have and one that it has is of that connection
+pub between : (c n : ℕ) (p : ℕ × ℕ) → is_gt (pair_cmp (c, 0) p) ≡ false → is_gt (pair_cmp p (c, n)) ≡ false → p.0 ≡ c
+between c n p low high =
+    let a : c ≤ p.0 = le_from_not_gt c p.0 (then_gt (nat_cmp c p.0) (nat_cmp 0 p.1) low) in
+    let b : p.0 ≤ c = le_from_not_gt p.0 c (then_gt (nat_cmp p.0 c) (nat_cmp p.1 n) high) in
+    omega arith

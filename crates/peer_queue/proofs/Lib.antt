@@ -1,0 +1,13 @@
+pub mod Claims
+pub mod EndFaults
+pub mod Ends
+pub mod Fronts
+pub mod Kept
+pub mod Moves
+pub mod Owes
+pub mod Ready
+pub mod Releases
+pub mod Reopens
+pub mod Same
+pub mod Sheds
+pub mod Unheld

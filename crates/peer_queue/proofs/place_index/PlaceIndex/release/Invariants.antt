@@ -1,0 +1,12 @@
+use Rattle.std.proofs.Common.{◌≡◌, ◌+◌}
+use Rattle.peer_queue.specs.Place.{held_count, released}
+use Rattle.peer_queue.proofs.place_index.PlaceIndex.release.Given as goal
+
+abbrev pub invariant-loop-number : goal.invariant-loop-number
+invariant-loop-number l = record {
+  counted : l.count + held_count l.connection l.self ≡ held_count l.connection l.initial.self;
+  same : released l.connection l.self ≡ released l.connection l.initial.self;
+}
+
+abbrev pub decreases-loop-number : goal.decreases-loop-number
+decreases-loop-number l = held_count l.connection l.self

@@ -1,0 +1,33 @@
+use Rattle.std.proofs.Common.{◌≡◌, ◌==◌, ℕ, Bool, cond, None, refl, sym, ap, ◌∙◌, subst}
+use Rattle.std.specs.Ordering.{nat_cmp}
+use Rattle.std.specs.BTreeMap.{get}
+use Rattle.std.specs.BTreeSet.{contains}
+use Rattle.deferral.specs.Due.{Waiting, IsRising, due_of}
+use Rattle.peer_queue.specs.Place.{IsUnheld, Places, gone}
+use Rattle.peer_queue.specs.Index.{Holders, pair_cmp, places_by}
+use Rattle.peer_queue.proofs.Kept as kept
+use Rattle.peer_queue.proofs.Moves as moves
+use Rattle.peer_queue.proofs.place_index.PlaceIndex.remove.Goals as goal
+
+pub invariant_of-self : goal.invariant_of-self
+invariant_of-self c =
+    let agenda = c.self.inside.agenda in
+    let h : Holders = get nat_cmp c.self.inside.holders in
+    let k : ℕ → ℕ → Bool = λ b m. contains pair_cmp c.self.inside.held (b, m) in
+    let n = c.args.number in
+    let was = kept.unheld_due h agenda n (subst (λ (p : Places). IsUnheld p n) (sym c.self.view_is) c.requires) in
+    let new = c.remove.ensures.new in
+    let moments : (m : ℕ) → due_of c.remove.new.self m ≡ cond (n == m) None (due_of agenda m) = λ m. ap (λ (w : Waiting). due_of w m) new ∙ c.after_remove.ensures.moments agenda n m c.self.invariant.rising in
+    kept.kept_gone agenda c.remove.new.self h h k k 0 n c.self.invariant (subst IsRising (sym new) (c.after_remove.ensures.order agenda n c.self.invariant.rising))
+    (λ m apart. moments m ∙ kept.other_due n m None (due_of agenda m) apart) (λ m apart. refl)
+    (λ b e. kept.free h agenda k n b was.0 c.self.invariant was.1 e)
+    (kept.none_apart (due_of c.remove.new.self n) (moments n ∙ kept.own_due n None (due_of agenda n)))
+    (λ t. kept.none_fits (due_of c.remove.new.self n) t (moments n ∙ kept.own_due n None (due_of agenda n)))
+    refl (λ b m. refl)
+
+pub returns : goal.returns
+returns c =
+    let agenda = c.self.inside.agenda in
+    let h : Holders = get nat_cmp c.self.inside.holders in
+    let k : ℕ → ℕ → Bool = λ b m. contains pair_cmp c.self.inside.held (b, m) in
+    ap (places_by h) c.remove.ensures.new ∙ (moves.gone_by h h agenda c.args.number c.self.invariant.rising (λ m apart. refl) ∙ ap (λ (p : Places). gone p c.args.number) c.self.view_is)

@@ -1,0 +1,56 @@
+-- Why a station refuses its calls.
+use Rattle.std.specs.Prelude.{◌≡◌, ◌⊎◌}
+use Rattle.ledger_core.specs.declared.ledger.LedgerFault.TheVariants.{CountFull}
+use Rattle.recovery.specs.declared.fault.TapeFault.{TapeFault}
+use Rattle.recovery.specs.declared.fault.TapeFault.TheVariants.{Damaged, Disk, Broken as BrokenTape, TapeFull, PendingFull, NoMemory as NoTapeMemory, Note as RefusedNote}
+use Rattle.peer_queue.specs.declared.fault.StationFault.{StationFault}
+use Rattle.peer_queue.specs.declared.fault.StationFault.TheVariants.{NotHeld, Broken, Tape as TapeRefused, NoMemory}
+
+-- a tape's fault, as a station tells it
+abbrev pub station_fault : TapeFault → StationFault
+station_fault (Damaged segment at) = TapeRefused (Damaged segment at)
+station_fault Disk = TapeRefused Disk
+station_fault BrokenTape = Broken
+station_fault TapeFull = TapeRefused TapeFull
+station_fault PendingFull = TapeRefused PendingFull
+station_fault NoTapeMemory = NoMemory
+station_fault (RefusedNote fault) = TapeRefused (RefusedNote fault)
+
+-- the faults of a tape that `owe` tells
+abbrev pub IsOweTapeFault : TapeFault → Type 0
+IsOweTapeFault (Damaged segment at) = ⊥
+IsOweTapeFault Disk = ⊥
+IsOweTapeFault BrokenTape = ⊥
+IsOweTapeFault TapeFull = ⊥
+IsOweTapeFault PendingFull = Unit {0}
+IsOweTapeFault NoTapeMemory = ⊥
+IsOweTapeFault (RefusedNote fault) = fault ≡ CountFull
+
+-- the faults that `owe` tells
+abbrev pub IsOweFault : StationFault → Type 0
+IsOweFault NotHeld = ⊥
+IsOweFault Broken = Unit {0}
+IsOweFault (TapeRefused fault) = IsOweTapeFault fault
+IsOweFault NoMemory = Unit {0}
+
+-- the faults that `claim` tells
+abbrev pub IsClaimFault : StationFault → Type 0
+IsClaimFault fault = (fault ≡ Broken) ⊎ (fault ≡ NoMemory)
+
+-- the faults of a tape that `flush` tells
+abbrev pub IsFlushTapeFault : TapeFault → Type 0
+IsFlushTapeFault fault = (fault ≡ TapeFull) ⊎ (fault ≡ Disk)
+
+-- the faults that `flush` tells
+abbrev pub IsFlushFault : StationFault → Type 0
+IsFlushFault NotHeld = ⊥
+IsFlushFault Broken = Unit {0}
+IsFlushFault (TapeRefused fault) = IsFlushTapeFault fault
+IsFlushFault NoMemory = Unit {0}
+
+-- the faults that a call tells which ends a debt
+abbrev pub IsEndFault : StationFault → Type 0
+IsEndFault NotHeld = Unit {0}
+IsEndFault Broken = Unit {0}
+IsEndFault (TapeRefused fault) = fault ≡ PendingFull
+IsEndFault NoMemory = Unit {0}

@@ -1,0 +1,6 @@
+pub mod Place
+pub mod Index
+pub mod Faults
+pub mod Shed
+pub mod Words
+pub mod Station

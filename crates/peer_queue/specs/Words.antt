@@ -1,0 +1,115 @@
+-- What a station holds, in words of its own.
+use Rattle.std.specs.Prelude.{◌≡◌, ◌+◌, ◌↔◌, ℕ, Result, IsErrAnd}
+use Rattle.disk_model.specs.declared.Disk.{Ghosts}
+use Rattle.ledger_core.specs.declared.note.Note.{Note}
+use Rattle.ledger_core.specs.declared.note.Note.TheVariants.{Owe, Final, Drop, Seen}
+use Rattle.ledger_core.specs.declared.note.FinalCode.{FinalCode}
+use Rattle.ledger_core.specs.State.{State, IsLegal, step}
+use Rattle.recovery.specs.Notes.{History, most_pending, noted}
+use Rattle.recovery.specs.Image.{Log}
+use Rattle.recovery.specs.Tape.{StandsFor as TapeStandsFor}
+use Rattle.recovery.specs.Words.{log_of as tape_log, disk_of as tape_disk, ledger_of as tape_ledger, pending_of as tape_pending, IsBroken as IsBrokenTape}
+use Rattle.conn_core.specs.declared.verdict.Verdict.{Verdict}
+use Rattle.conn_core.specs.declared.deferral.Deferral.{Deferral}
+use Rattle.peer_queue.specs.Place.{Places, IsHeldBy}
+use Rattle.peer_queue.specs.declared.fault.StationFault.{StationFault}
+use Rattle.peer_queue.specs.declared.fault.StationFault.TheVariants.{NotHeld, Broken}
+use Rattle.peer_queue.specs.declared.station.Station.{Station}
+use Rattle.peer_queue.specs.declared.limits.Limits.{Limits}
+
+-- the number that a verdict answers
+abbrev pub number_of : Verdict → ℕ
+number_of verdict = verdict.debt.0
+
+-- the final answer of a verdict
+abbrev pub code_of : Verdict → FinalCode
+code_of verdict = verdict.code
+
+-- the number that is deferred
+abbrev pub deferred_number : Deferral → ℕ
+deferred_number deferral = deferral.debt.0
+
+-- the call was refused for this fault, and handed something back with it
+abbrev pub Tells : {A B : Type 0} → Result A (B × StationFault) → StationFault → Type 0
+Tells result fault = IsErrAnd result (λ e. e.1 ≡ fault)
+
+-- the note owes the article of this number
+abbrev pub IsOweOf : Note → ℕ → Type 0
+IsOweOf (Owe other token id) number = other ≡ number
+IsOweOf (Final other code) number = ⊥
+IsOweOf (Drop other cause) number = ⊥
+IsOweOf (Seen other) number = ⊥
+
+-- the note ends the debt of this number
+abbrev pub IsEnd : Note → ℕ → Type 0
+IsEnd (Owe other token id) number = ⊥
+IsEnd (Final other code) number = other ≡ number
+IsEnd (Drop other cause) number = other ≡ number
+IsEnd (Seen other) number = ⊥
+
+module _ {D : Type 0} {g : Ghosts D} where
+  -- the disk beneath
+  abbrev pub disk_of : Station D g → D
+  disk_of station = tape_disk station.tape
+
+  -- what has happened to it
+  abbrev pub log_of : Station D g → Log
+  log_of station = tape_log station.tape
+
+  -- the ledger, pending notes included
+  abbrev pub ledger_of : Station D g → State
+  ledger_of station = tape_ledger station.tape
+
+  -- how many notes pend
+  abbrev pub pending_of : Station D g → ℕ
+  pending_of station = tape_pending station.tape
+
+  -- a flush failed on the disk, and the station has to be opened again from it
+  abbrev pub IsBroken : Station D g → Type 0
+  IsBroken station = IsBrokenTape station.tape
+
+  -- the limits of its backlog
+  abbrev pub limits_of : Station D g → Limits
+  limits_of station = station.limits
+
+  -- the station stands for this history of notes
+  abbrev pub StandsFor : Station D g → History → Type 0
+  StandsFor station h = TapeStandsFor station.tape h
+
+  -- the place of each number that is owed
+  abbrev pub places_of : Station D g → Places
+  places_of station = station.index
+
+  -- the tape stayed as it was, so that it stands for the same history
+  pub record IsSameTape (old new : Station D g) : Type 0 where
+    pub tape : new.tape ≡ old.tape
+    pub limits : new.limits ≡ old.limits
+
+  -- nothing changed: what it owes, what pends, what has happened to its disk, the places
+  pub record IsSame (old new : Station D g) : Type 0 where
+    pub stands : (h : History) → StandsFor old h → StandsFor new h
+    pub ledger : ledger_of new ≡ ledger_of old
+    pub pending : pending_of new ≡ pending_of old
+    pub disk : disk_of new ≡ disk_of old
+    pub places : places_of new ≡ places_of old
+    pub limits : limits_of new ≡ limits_of old
+    pub works : IsBroken old ↔ IsBroken new
+
+  -- one note was taken, and pends
+  pub record Notes (old new : Station D g) (note : Note) : Type 0 where
+    pub stands : (h : History) → StandsFor old h → StandsFor new (noted h note)
+    pub legal : IsLegal (ledger_of old) note
+    pub ledger : ledger_of new ≡ step (ledger_of old) note
+    pub pending : pending_of new ≡ pending_of old + 1
+    pub disk : disk_of new ≡ disk_of old
+    pub limits : limits_of new ≡ limits_of old
+    pub works : IsBroken old ↔ IsBroken new
+
+  -- Broken comes exactly where the station is broken, NotHeld exactly where it is not and that connection doesn't hold that number
+  pub record Refuses {A B : Type 0} (old : Station D g) (connection number : ℕ) (result : Result A (B × StationFault)) : Type 0 where
+    pub broken : Tells result Broken ↔ IsBroken old
+    pub not_held : Tells result NotHeld ↔ ((IsBroken old → ⊥) × (IsHeldBy (places_of old) connection number → ⊥))
+
+  -- the connection holds the number, the station works, and no more notes may pend
+  abbrev pub MeetsFull : Station D g → ℕ → ℕ → Type 0
+  MeetsFull old connection number = (IsBroken old → ⊥) × IsHeldBy (places_of old) connection number × (pending_of old ≡ most_pending)

@@ -1,0 +1,44 @@
+// Why a call of a station was refused.
+ghost use Rattle.std.specs.Prelude.{◌≡◌};
+ghost use Rattle.peer_queue.specs.Faults.{station_fault};
+ghost use Rattle.peer_queue.specs.declared.fault.StationFault.TheVariants.{NoMemory as NoStationMemory};
+
+use recovery::TapeFault;
+use std::alloc::AllocError;
+use thiserror::Error;
+
+/// Why a station refuses a call. A refusal changes nothing, but that a `Tape(Disk)` of `flush` breaks the station.
+#[derive(Clone, Copy, Debug, PartialEq, Eq, Error)]
+pub enum StationFault {
+    /// That connection does not hold that number.
+    #[error("NotHeld")]
+    NotHeld,
+    /// A `flush` failed on the disk before.
+    #[error("Broken")]
+    Broken,
+    /// The tape refused; a tape's `Broken` and `NoMemory` are the station's.
+    #[error("Tape {0}")]
+    Tape(TapeFault),
+    /// Memory was refused.
+    #[error("NoMemory")]
+    NoMemory,
+}
+
+impl From<AllocError> for StationFault {
+    ghost from_gives = { λ _ e. e ≡ NoStationMemory };
+
+    fn from(_: AllocError) -> Self {
+        StationFault::NoMemory
+    }
+}
+
+// A tape's fault, as a station tells it.
+pub(crate) fn station_fault(fault: TapeFault) -> StationFault
+    ensures { result ≡ station_fault fault }
+{
+    match fault {
+        TapeFault::Broken => StationFault::Broken,
+        TapeFault::NoMemory => StationFault::NoMemory,
+        fault => StationFault::Tape(fault),
+    }
+}

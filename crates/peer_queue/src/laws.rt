@@ -1,0 +1,47 @@
+//! Laws of stations, each the contract of a function that does what it is about.
+ghost use Rattle.std.specs.Prelude.{◌≡◌, ◌↔◌, IfErr, IfOk};
+ghost use Rattle.ledger_core.specs.State.{numbers};
+ghost use Rattle.recovery.specs.Image.{EachTape, Survives};
+ghost use Rattle.recovery.specs.Notes.{History, recovered};
+ghost use Rattle.peer_queue.specs.Place.{AreRising, all_ready, placed};
+ghost use Rattle.peer_queue.specs.Words.{IsBroken, StandsFor, Tells, ledger_of, limits_of, pending_of, places_of};
+
+use crate::fault::station_fault;
+use crate::{Station, StationFault};
+use disk_model::Disk;
+use recovery::RefusedTape;
+use std::alloc::Global;
+
+/// Each owed number has one place, and no other number has any.
+pub fn each_number_has_one_place<D: Disk>(station: &Station<D>)
+    ensures placed { placed (places_of station.now) ≡ numbers (ledger_of station.now) }
+    ensures rising { AreRising (places_of station.now) }
+{
+    let _ = station.index.unheld_from(0);
+}
+
+/// A station whose flush answered Ok owes the same once its disk is opened again, and all of it is ready.
+///
+/// # Errors
+/// Those of `flush`, then those of `open`. The disk is handed back: a stop leaves of it a tape of the first of the notes, with every
+/// note that was acknowledged before.
+pub fn reopened<D: Disk>(
+    alloc: Global,
+    mut station: Station<D>,
+) -> Result<Station<D>, (D, StationFault)>
+    ensures stands { (h : History) → StandsFor station h → IfOk result (λ opened. StandsFor opened (recovered h.notes)) }
+    ensures ledger { (h : History) → StandsFor station h → IfOk result (λ opened. ledger_of opened ≡ ledger_of station) }
+    ensures ready { (h : History) → StandsFor station h → IfOk result (λ opened. places_of opened ≡ all_ready (numbers (ledger_of station))) }
+    ensures fresh { IfOk result (λ opened. (IsBroken opened → ⊥) × (pending_of opened ≡ 0) × (limits_of opened ≡ limits_of station)) }
+    ensures broken { Tells result StationFault.Broken ↔ IsBroken station }
+    ensures survives { (h : History) → StandsFor station h → IfErr result (λ e. D.honest e.0 × EachTape (Survives h) (D.log e.0)) }
+{
+    let limits = station.limits;
+    if let Err(fault) = station.flush() {
+        return Err((station.into_disk(), fault));
+    }
+    match Station::open(alloc, station.into_disk(), limits) {
+        Ok(opened) => Ok(opened),
+        Err(RefusedTape { disk, fault }) => Err((disk, station_fault(fault))),
+    }
+}

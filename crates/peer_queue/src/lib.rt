@@ -1,0 +1,22 @@
+//! A station: all that one peer is owed, and where each debt is: ready, held by one connection, or later until a moment.
+//!
+//! May touch the disk that it is given and nothing else; it stands on `recovery`, `deferral` and `conn_core`, and is neither Sync
+//! nor in need of it: who shares it puts a lock round it.
+//! The crates above use `Station`: its ledger as a history of notes (`specs/Words.antt`, `StandsFor`), so that the tape's stop
+//! theorem is the station's, and the places of the debts as plain data (`specs/Place.antt`).
+#![tactic(auto)]
+
+mod fault;
+mod laws;
+mod limits;
+mod place_index;
+mod station;
+#[cfg(test)]
+mod tests;
+
+pub use fault::StationFault;
+pub use laws::{each_number_has_one_place, reopened};
+pub use limits::{Limits, Owed, Shed};
+pub use station::{Station, deferred_until};
+/// Memory was refused.
+pub use std::alloc::AllocError as NoMemory;

@@ -1,0 +1,31 @@
+// The limits of a peer's backlog.
+
+/// The limits of a peer's backlog (innfeed.conf(5): backlog-limit, backlog-limit-highwater, drop-deferred). Octets count as in
+/// [`ledger_core::Totals::owed_bytes`].
+#[derive(Clone, Copy, Debug, PartialEq, Eq)]
+pub struct Limits {
+    /// The octets that may stay owed once the backlog has been shed; 0: there is no limit.
+    pub backlog_limit: u64,
+    /// The octets above which it is shed.
+    pub backlog_high: u64,
+    /// Whether a deferred debt is dropped.
+    pub drop_deferred: bool,
+}
+
+/// What was shed.
+#[derive(Debug, Drop)]
+pub struct Shed {
+    /// The numbers that were dropped, rising.
+    pub numbers: Vec<u64>,
+    /// Whether more is to be shed, for which there was no room among the notes that pend.
+    pub more: bool,
+}
+
+/// Whether a line was owed anew, or was before.
+#[derive(Clone, Copy, Debug, PartialEq, Eq)]
+pub enum Owed {
+    /// It is owed from now on.
+    New,
+    /// Its number is not above the station's mark: it is owed, or was.
+    Already,
+}

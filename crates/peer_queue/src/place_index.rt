@@ -1,0 +1,196 @@
+// Where each debt is.
+ghost use Rattle.std.specs.Prelude.{◌≡◌, ◌↔◌, ◌++◌, [], ◌∷◌, ℕ, IfNone, IfOk, IfSome, IsTrue, OnErr, OnOk, ◌<◌, ◌^◌, nat_le, find, length};
+ghost use Rattle.std.specs.List.Sorted.{IsStrictlyIncreasing};
+ghost use Rattle.peer_queue.specs.Place.{AreBelow, AreRising, AreUnheld, Held, IsHeldBy, IsUnheld, Ready, all_gone, all_ready, gone, held_count, least_candidate, moved, released, unheld};
+ghost use Rattle.peer_queue.specs.Index.{place_until};
+
+use deferral::{Later, after_put, after_remove, after_set};
+use std::alloc::{AllocError, Global};
+use std::collections::{BTreeMap, BTreeSet};
+use std::marker::Model;
+
+/// The place of each number, found by the number, by its moment, and by who holds it.
+///
+/// Contracts see it as the list of the numbers with their places, by rising numbers.
+#[derive(Drop)]
+pub(crate) struct PlaceIndex {
+    // Each number, with the moment that it waits for: 0 where it is ready, none where it is held.
+    agenda: Later,
+    // Who holds a number.
+    holders: BTreeMap<u64, u64>,
+    // What a connection holds: pairs of connection and number.
+    held: BTreeSet<(u64, u64)>,
+}
+
+impl Model for PlaceIndex {
+    ghost use Rattle.std.specs.Prelude.{ℕ};
+    ghost use Rattle.std.specs.Ordering.{nat_cmp};
+    ghost use Rattle.std.specs.BTreeMap.{get};
+    ghost use Rattle.std.specs.BTreeSet.{contains};
+    ghost use Rattle.peer_queue.specs.Place.{Places};
+    ghost use Rattle.peer_queue.specs.Index.{IsKept, pair_cmp, places_by};
+
+    ghost Value = { Places };
+
+    ghost view = { λ index. places_by (get nat_cmp index.holders) index.agenda };
+
+    ghost invariant = { λ index. IsKept index.agenda (get nat_cmp index.holders) (λ connection number. contains pair_cmp index.held (connection, number)) };
+}
+
+impl PlaceIndex {
+    /// No number has a place.
+    pub fn new(alloc: Global) -> Self
+        ensures { result ≡ [] }
+    {
+        PlaceIndex {
+            agenda: Later::new(alloc),
+            holders: BTreeMap::new(alloc),
+            held: BTreeSet::new(alloc),
+        }
+    }
+
+    /// A number above all others is ready.
+    ///
+    /// # Errors
+    /// `NoMemory` where memory was refused; nothing changes.
+    pub fn add(&mut self, number: u64) -> Result<(), AllocError>
+        requires { AreBelow number self.old }
+        ensures ok { OnOk result (self.new ≡ self.old ++ (number, Ready) ∷ []) }
+        ensures err { OnErr result (self.new ≡ self.old) }
+    {
+        // The numbers still rise.
+        after_put();
+        self.agenda.put(number, 0)
+    }
+
+    /// The least number that is ready, or later until a moment at or before now.
+    pub fn candidate(&self, now: u64) -> Option<u64>
+        ensures least { result ≡ least_candidate now self.now }
+        ensures unheld { IfSome result (λ number. IsUnheld self.now number) }
+    {
+        let _ = &self.agenda;
+        self.agenda.due_least(now)
+    }
+
+    /// Whether this connection holds this number.
+    pub fn is_held_by(&self, connection: u64, number: u64) -> bool
+        ensures { IsTrue result ↔ IsHeldBy self.now connection number }
+    {
+        match self.holders.get(&number) {
+            Some(holder) => *holder == connection,
+            None => false,
+        }
+    }
+
+    /// Has a connection hold a number that none holds.
+    ///
+    /// # Errors
+    /// `NoMemory` where memory was refused; nothing changes.
+    pub fn hold(&mut self, connection: u64, number: u64) -> Result<(), AllocError>
+        requires { IsUnheld self.old number }
+        ensures ok { OnOk result (self.new ≡ moved self.old number (Held connection)) }
+        ensures err { OnErr result (self.new ≡ self.old) }
+    {
+        // The same numbers wait, and they rise.
+        after_set();
+        self.held.insert((connection, number))?;
+        if self.holders.insert(number, connection).is_err() {
+            self.held.remove(&(connection, number));
+            return Err(AllocError);
+        }
+        self.agenda.set(number, None);
+        Ok(())
+    }
+
+    /// Has a number that this connection holds wait for this moment, or none at 0. Takes no memory.
+    pub fn give_up(&mut self, connection: u64, number: u64, moment: u64)
+        requires { IsHeldBy self.old connection number }
+        ensures { self.new ≡ moved self.old number (place_until moment) }
+    {
+        self.held.remove(&(connection, number));
+        self.holders.remove(&number);
+        // The same numbers wait, and they rise.
+        after_set();
+        self.agenda.set(number, Some(moment));
+    }
+
+    /// Takes out a number that no connection holds.
+    pub fn remove(&mut self, number: u64)
+        requires { IsUnheld self.old number }
+        ensures { self.new ≡ gone self.old number }
+    {
+        // The others wait as before, and they rise.
+        after_remove();
+        self.agenda.remove(number);
+    }
+
+    /// Takes out a number that this connection holds.
+    pub fn end(&mut self, connection: u64, number: u64)
+        requires { IsHeldBy self.old connection number }
+        ensures { self.new ≡ gone self.old number }
+    {
+        self.held.remove(&(connection, number));
+        self.holders.remove(&number);
+        // The others wait as before, and they rise.
+        after_remove();
+        self.agenda.remove(number);
+    }
+
+    // A number that this connection holds, where it holds one.
+    fn first_held_by(&self, connection: u64) -> Option<u64>
+        ensures some { IfSome result (λ number. IsHeldBy self.now connection number) }
+        ensures none { IfNone result ((number : ℕ) → IsHeldBy self.now connection number → ⊥) }
+        ensures rising { AreRising self.now }
+    {
+        let (holder, number) = self.held.range((connection, 0)..).next()?;
+        if *holder == connection {
+            Some(*number)
+        } else {
+            None
+        }
+    }
+
+    /// Makes all that this connection holds ready, and counts it. Takes no memory. Logarithmic for each number that it holds.
+    pub fn release(&mut self, connection: u64) -> u64
+        requires { length self.old < 2 ^ 64 }
+        ensures count { result ≡ held_count connection self.old }
+        ensures places { self.new ≡ released connection self.old }
+    {
+        let mut count = 0;
+        while let Some(number) = self.first_held_by(connection) {
+            self.give_up(connection, number, 0);
+            count += 1;
+        }
+        count
+    }
+
+    /// The least number at or above the first that no connection holds.
+    pub fn unheld_from(&self, first: u64) -> Option<u64>
+        ensures first { result ≡ find (λ number. nat_le first number) (unheld self.now) }
+        ensures rising { AreRising self.now }
+    {
+        self.agenda.due_from(first, u64::MAX)
+    }
+
+    /// Takes out numbers that no connection holds.
+    pub fn remove_all(&mut self, numbers: &[u64])
+        requires { AreUnheld self.old numbers.now }
+        ensures { self.new ≡ all_gone self.old numbers.now }
+    {
+        for number in numbers {
+            self.remove(*number);
+        }
+    }
+}
+
+// The index in which all of these numbers are ready.
+pub(crate) fn all_ready_of(alloc: Global, numbers: &[u64]) -> Result<PlaceIndex, AllocError>
+    requires { IsStrictlyIncreasing numbers.now }
+    ensures { IfOk result (λ index. index ≡ all_ready numbers.now) }
+{
+    let mut index = PlaceIndex::new(alloc);
+    for number in numbers {
+        index.add(*number)?;
+    }
+    Ok(index)
+}

@@ -1,0 +1,503 @@
+// Stations.
+ghost use Rattle.std.specs.Prelude.{◌≡◌, ◌≢◌, ◌+◌, ◌-◌, ◌^◌, ◌≤◌, ◌<◌, ℕ, List, length};
+ghost use Rattle.std.specs.List.{All};
+ghost use Rattle.std.specs.List.Sorted.{IsStrictlyIncreasing};
+ghost use Rattle.ledger_core.specs.State.{numbers};
+ghost use Rattle.recovery.specs.Words.{ledger_of as tape_ledger};
+ghost use Rattle.std.specs.Prelude.{IfOk, OnOk};
+ghost use Rattle.peer_queue.specs.Place.{all_ready, deferred_until, placed};
+
+use crate::fault::station_fault;
+use crate::place_index::{PlaceIndex, all_ready_of};
+use crate::{Limits, Owed, Shed, StationFault};
+use conn_core::{CxnId, Deferral, Verdict};
+use disk_model::Disk;
+use funnel::{MsgId, Token};
+use ledger_core::{Cause, Debt, Note, Totals};
+use recovery::{RefusedTape, Tape, TapeFault, tape_once};
+use std::alloc::{AllocError, Global};
+
+/// All that one peer is owed.
+///
+/// Each call is logarithmic in what is owed; `release` and `shed` also in what they move, `flush` linear in what pends, `open` and
+/// `list` linear.
+#[derive(Drop)]
+pub struct Station<D: Disk> {
+    pub(crate) alloc: Global,
+    pub(crate) tape: Tape<D>,
+    // The place of each number that is owed.
+    pub(crate) index: PlaceIndex,
+    pub(crate) limits: Limits,
+    ghost all_placed: { placed index ≡ numbers (tape_ledger tape) },
+    ghost marked: { All (λ number. number ≤ (tape_ledger tape).mark) (numbers (tape_ledger tape)) },
+}
+
+impl<D: Disk> Station<D> {
+    ghost use Rattle.std.specs.Prelude.{◌⊎◌, ◌↔◌, ◌==◌, ◌++◌, [], ◌∷◌, true, false, min, nat_lt, find, MatchResult, IfErr, IfNone, IfSome, OnErr, IsErr, IsErrOf, IsOk, IsSome, Ok, None, Some};
+    ghost use Rattle.std.specs.List.{Contains};
+    ghost use Rattle.disk_model.specs.Disk.{content};
+    ghost use Rattle.ledger_core.specs.Ledger.{totals_of};
+    ghost use Rattle.ledger_core.specs.declared.ledger.LedgerFault.{LedgerFault};
+    ghost use Rattle.ledger_core.specs.declared.note.Note.{Note};
+    ghost use Rattle.ledger_core.specs.State.{IsOwed, Overflows, Owing, after};
+    ghost use Rattle.recovery.specs.Image.{EachTape, IsNoTapeAt, IsTape, Survives, TapeFirstSync, TapeLeaves};
+    ghost use Rattle.recovery.specs.Notes.{History, flushed, most_pending, noted_all, recovered};
+    ghost use Rattle.recovery.specs.Tape.{Recovers};
+    ghost use Rattle.recovery.specs.Words.{IsFull, IsOpenFault};
+    ghost use Rattle.peer_queue.specs.Place.{AreRising, Held, IsHeldBy, Later, Ready, all_gone, deferred_until, gone, held_count, least_candidate, moved, released, unheld};
+    ghost use Rattle.peer_queue.specs.Index.{place_until};
+    ghost use Rattle.peer_queue.specs.Shed.{IsShedSet, dropped};
+    ghost use Rattle.peer_queue.specs.Station.{IsShed};
+    ghost use Rattle.peer_queue.specs.Faults.{IsClaimFault, IsEndFault, IsFlushFault, IsOweFault};
+    ghost use Rattle.peer_queue.specs.Words.{IsBroken, IsEnd, IsOweOf, IsSame, IsSameTape, MeetsFull, Notes, Refuses, StandsFor, Tells, code_of, deferred_number, disk_of, ledger_of, limits_of, log_of, number_of, pending_of, places_of};
+
+    /// Opens the station of a disk, an empty one among them: all that its tape owes is ready.
+    ///
+    /// # Errors
+    /// The tape's: `Damaged`, `Disk`, `NoMemory`. The disk is handed back.
+    pub fn open(alloc: Global, disk: D, limits: Limits) -> Result<Station<D>, RefusedTape<D>>
+        // Whatever a stop left of a history is opened to the ledger after a front of it that holds every acknowledged note.
+        ensures recovers { (h : History) → D.honest disk → EachTape (Survives h) (D.log disk) → IfOk result (λ station. Recovers h (D.log disk) station.tape) }
+        ensures survives { (h : History) → D.honest disk → EachTape (Survives h) (D.log disk) → IfErr result (λ e. TapeLeaves (Survives h) (D.log disk) (D.log e.disk)) }
+        ensures undamaged { (h : History) → D.honest disk → EachTape (Survives h) (D.log disk) → IfErr result (λ e. (segment at : ℕ) → e.fault ≢ TapeFault.Damaged segment at) }
+        ensures first_sync { D.honest disk → IfOk result (λ station. (notes : List Note) → IsTape (content (D.log disk)) notes → StandsFor station (recovered notes) × TapeFirstSync (λ c. IsTape c notes) (D.log disk) (log_of station)) }
+        ensures damaged { D.honest disk → IfErr result (λ e. (segment at : ℕ) → e.fault ≡ TapeFault.Damaged segment at → (segment ≡ 0) × IsNoTapeAt (content (D.log disk)) at) }
+        ensures cause { D.honest disk → IfErr result (λ e. e.fault ≡ TapeFault.Disk → min (D.told disk + 1) (2 ^ 64 - 1) ≤ D.told e.disk) }
+        ensures kinds { IfErr result (λ e. IsOpenFault e.fault) }
+        ensures ready { IfOk result (λ station. places_of station ≡ all_ready (numbers (ledger_of station))) }
+        ensures fresh { IfOk result (λ station. (IsBroken station → ⊥) × (pending_of station ≡ 0) × (limits_of station ≡ limits)) }
+        ensures honest { MatchResult result (λ station. D.honest disk ↔ D.honest (disk_of station)) (λ e. D.honest disk ↔ D.honest e.disk) }
+    {
+        let tape = match Tape::open(alloc, disk) {
+            Ok(tape) => tape,
+            Err(refused) => return Err(refused),
+        };
+        // Octets are a tape of one list of notes at most.
+        tape_once();
+        match index_of(alloc, &tape) {
+            Ok(index) => Ok(Station {
+                alloc,
+                tape,
+                index,
+                limits,
+            }),
+            Err(_) => Err(RefusedTape {
+                disk: tape.into_disk(),
+                fault: TapeFault::NoMemory,
+            }),
+        }
+    }
+
+    /// Owes the article of this number: it is ready from now on.
+    ///
+    /// # Errors
+    /// Tried in this order: `Broken`; `NoMemory` of the station; `Tape(Note(CountFull))`; `Tape(PendingFull)`; `NoMemory`.
+    pub fn owe(&mut self, number: u64, token: &Token, id: &MsgId) -> Result<Owed, StationFault>
+        ensures already { (result ≡ Ok Owed.Already) ↔ ((IsBroken self.old → ⊥) × (number ≤ (ledger_of self.old).mark)) }
+        ensures same { result ≡ Ok Owed.Already → self.new ≡ self.old }
+        ensures new { result ≡ Ok Owed.New → Notes self.old self.new (Note.Owe number token.now id.now) }
+        ensures places { result ≡ Ok Owed.New → places_of self.new ≡ places_of self.old ++ (number, Ready) ∷ [] }
+        ensures broken { IsErrOf result StationFault.Broken ↔ IsBroken self.old }
+        ensures count_full { IsErrOf result (StationFault.Tape (TapeFault.Note LedgerFault.CountFull)) → Overflows (ledger_of self.old) (Note.Owe number token.now id.now) }
+        ensures pending_full { IsErrOf result (StationFault.Tape TapeFault.PendingFull) → ((ledger_of self.old).mark < number) × (pending_of self.old ≡ most_pending) }
+        ensures never { Overflows (ledger_of self.old) (Note.Owe number token.now id.now) ⊎ ((ledger_of self.old).mark < number) × (pending_of self.old ≡ most_pending) → IsErr result }
+        ensures kinds { IfErr result IsOweFault }
+        ensures unchanged { OnErr result (IsSame self.old self.new) }
+    {
+        if self.tape.is_broken() {
+            return Err(StationFault::Broken);
+        }
+        if number <= self.tape.mark() {
+            return Ok(Owed::Already);
+        }
+        let note = Note::Owe {
+            number,
+            token: token.clone()?,
+            id: id.clone()?,
+        };
+        self.owe_new(number, note)
+    }
+
+    /// Claims the least number that is ready, or later until a moment at or before `now`: from now on this connection holds it.
+    ///
+    /// # Errors
+    /// Tried in this order: `Broken`; `NoMemory`.
+    pub fn claim(&mut self, connection: CxnId, now: u64) -> Result<Option<Debt>, StationFault>
+        ensures none { IfOk result (λ debt. IfNone debt ((least_candidate now (places_of self.old) ≡ None) × (places_of self.new ≡ places_of self.old))) }
+        ensures some { IfOk result (λ debt. IfSome debt (λ d. (least_candidate now (places_of self.old) ≡ Some d.0) × Contains (ledger_of self.old).debts d × (places_of self.new ≡ moved (places_of self.old) d.0 (Held connection.0)))) }
+        ensures tape { IsSameTape self.old self.new }
+        ensures broken { IsErrOf result StationFault.Broken ↔ IsBroken self.old }
+        ensures no_memory { IsErrOf result StationFault.NoMemory → IsSome (least_candidate now (places_of self.old)) }
+        ensures kinds { IfErr result IsClaimFault }
+        ensures unchanged { OnErr result (IsSame self.old self.new) }
+    {
+        if self.tape.is_broken() {
+            return Err(StationFault::Broken);
+        }
+        let Some(number) = self.index.candidate(now) else {
+            return Ok(None);
+        };
+        let debt = self.owed_debt(number)?;
+        self.index.hold(connection.0, number)?;
+        Ok(Some(debt))
+    }
+
+    /// Settles a debt by the peer's final answer.
+    ///
+    /// # Errors
+    /// The verdict is handed back. Tried in this order: `Broken`; `NotHeld`; `Tape(PendingFull)`; `NoMemory`.
+    pub fn settle(
+        &mut self,
+        connection: CxnId,
+        verdict: Verdict,
+    ) -> Result<(), (Verdict, StationFault)>
+        ensures ok { OnOk result (Notes self.old self.new (Note.Final (number_of verdict) (code_of verdict))) }
+        ensures places { OnOk result (IsHeldBy (places_of self.old) connection.0 (number_of verdict) × (places_of self.new ≡ gone (places_of self.old) (number_of verdict))) }
+        ensures refused { Refuses self.old connection.0 (number_of verdict) result }
+        ensures pending_full { Tells result (StationFault.Tape TapeFault.PendingFull) ↔ MeetsFull self.old connection.0 (number_of verdict) }
+        ensures kinds { IfErr result (λ e. IsEndFault e.1) }
+        ensures handed { IfErr result (λ e. e.0 ≡ verdict) }
+        ensures unchanged { OnErr result (IsSame self.old self.new) }
+    {
+        let number = verdict.debt().number();
+        let code = verdict.code();
+        match self.end(connection.0, number, Note::Final { number, code }) {
+            Ok(()) => Ok(()),
+            Err(fault) => Err((verdict, fault)),
+        }
+    }
+
+    /// Has a deferred debt wait until 60 seconds after `now`, or drops it where the limits say so.
+    ///
+    /// # Errors
+    /// The deferral is handed back. Tried in this order: `Broken`; `NotHeld`; where it is dropped `Tape(PendingFull)`, `NoMemory`.
+    pub fn defer(
+        &mut self,
+        connection: CxnId,
+        deferral: Deferral,
+        now: u64,
+    ) -> Result<(), (Deferral, StationFault)>
+        ensures later { OnOk result ((limits_of self.old).drop_deferred ≡ false → IsSameTape self.old self.new × (places_of self.new ≡ moved (places_of self.old) (deferred_number deferral) (Later (deferred_until now)))) }
+        ensures dropped { OnOk result ((limits_of self.old).drop_deferred ≡ true → Notes self.old self.new (Note.Drop (deferred_number deferral) Cause.Deferred) × (places_of self.new ≡ gone (places_of self.old) (deferred_number deferral))) }
+        ensures held { OnOk result (IsHeldBy (places_of self.old) connection.0 (deferred_number deferral)) }
+        ensures refused { Refuses self.old connection.0 (deferred_number deferral) result }
+        ensures pending_full { Tells result (StationFault.Tape TapeFault.PendingFull) ↔ (((limits_of self.old).drop_deferred ≡ true) × MeetsFull self.old connection.0 (deferred_number deferral)) }
+        ensures no_memory { Tells result StationFault.NoMemory → (limits_of self.old).drop_deferred ≡ true }
+        ensures kinds { IfErr result (λ e. IsEndFault e.1) }
+        ensures handed { IfErr result (λ e. e.0 ≡ deferral) }
+        ensures unchanged { OnErr result (IsSame self.old self.new) }
+    {
+        let number = deferral.debt().number();
+        let cause = Cause::Deferred;
+        let done = if self.limits.drop_deferred {
+            self.end(connection.0, number, Note::Drop { number, cause })
+        } else {
+            self.give_up(connection.0, number, deferred_until(now))
+        };
+        match done {
+            Ok(()) => Ok(()),
+            Err(fault) => Err((deferral, fault)),
+        }
+    }
+
+    /// Drops a debt whose article cannot be sent.
+    ///
+    /// # Errors
+    /// The debt is handed back. Tried in this order: `Broken`; `NotHeld`; `Tape(PendingFull)`; `NoMemory`.
+    pub fn lose(
+        &mut self,
+        connection: CxnId,
+        debt: Debt,
+        cause: Cause,
+    ) -> Result<(), (Debt, StationFault)>
+        ensures ok { OnOk result (Notes self.old self.new (Note.Drop debt.0 cause)) }
+        ensures places { OnOk result (IsHeldBy (places_of self.old) connection.0 debt.0 × (places_of self.new ≡ gone (places_of self.old) debt.0)) }
+        ensures refused { Refuses self.old connection.0 debt.0 result }
+        ensures pending_full { Tells result (StationFault.Tape TapeFault.PendingFull) ↔ MeetsFull self.old connection.0 debt.0 }
+        ensures kinds { IfErr result (λ e. IsEndFault e.1) }
+        ensures handed { IfErr result (λ e. e.0 ≡ debt) }
+        ensures unchanged { OnErr result (IsSame self.old self.new) }
+    {
+        let number = debt.number();
+        match self.end(connection.0, number, Note::Drop { number, cause }) {
+            Ok(()) => Ok(()),
+            Err(fault) => Err((debt, fault)),
+        }
+    }
+
+    /// Takes a debt back: it is ready. Takes no memory.
+    ///
+    /// # Errors
+    /// The debt is handed back. Tried in this order: `Broken`; `NotHeld`.
+    pub fn back(&mut self, connection: CxnId, debt: Debt) -> Result<(), (Debt, StationFault)>
+        ensures ok { OnOk result (IsSameTape self.old self.new × IsHeldBy (places_of self.old) connection.0 debt.0 × (places_of self.new ≡ moved (places_of self.old) debt.0 Ready)) }
+        ensures refused { Refuses self.old connection.0 debt.0 result }
+        ensures kinds { IfErr result (λ e. (e.1 ≡ StationFault.Broken) ⊎ (e.1 ≡ StationFault.NotHeld)) }
+        ensures handed { IfErr result (λ e. e.0 ≡ debt) }
+        ensures unchanged { OnErr result (IsSame self.old self.new) }
+    {
+        match self.give_up(connection.0, debt.number(), 0) {
+            Ok(()) => Ok(()),
+            Err(fault) => Err((debt, fault)),
+        }
+    }
+
+    /// Makes all that this connection held ready, and counts it. Takes no memory. A broken station answers too.
+    pub fn release(&mut self, connection: CxnId) -> u64
+        ensures count { result ≡ held_count connection.0 (places_of self.old) }
+        ensures places { places_of self.new ≡ released connection.0 (places_of self.old) }
+        ensures tape { IsSameTape self.old self.new }
+    {
+        // No more are held than are owed, so that the count fits.
+        let _totals = self.tape.totals();
+        self.index.release(connection.0)
+    }
+
+    /// Drops, oldest first, what exceeds the backlog's limit, as far as there is room among the notes that pend. All of it is dropped, or
+    /// on a refusal nothing.
+    ///
+    /// # Errors
+    /// Tried in this order: `Broken`; `NoMemory`.
+    pub fn shed(&mut self) -> Result<Shed, StationFault>
+        ensures set { IfOk result (λ shed. IsShed (limits_of self.old) (ledger_of self.old) (places_of self.old) (pending_of self.old) shed) }
+        ensures notes { IfOk result (λ shed. (h : History) → StandsFor self.old h → StandsFor self.new (noted_all h (dropped shed.numbers.items))) }
+        ensures ledger { IfOk result (λ shed. ledger_of self.new ≡ after (ledger_of self.old) (dropped shed.numbers.items)) }
+        ensures places { IfOk result (λ shed. places_of self.new ≡ all_gone (places_of self.old) shed.numbers.items) }
+        ensures pends { IfOk result (λ shed. pending_of self.new ≡ pending_of self.old + length shed.numbers.items) }
+        ensures disk { disk_of self.new ≡ disk_of self.old }
+        ensures works { IsBroken self.old ↔ IsBroken self.new }
+        ensures limits { limits_of self.new ≡ limits_of self.old }
+        ensures broken { IsErrOf result StationFault.Broken ↔ IsBroken self.old }
+        ensures kinds { IfErr result (λ e. (e ≡ StationFault.Broken) ⊎ (e ≡ StationFault.NoMemory)) }
+        ensures unchanged { OnErr result (IsSame self.old self.new) }
+    {
+        if self.tape.is_broken() {
+            return Err(StationFault::Broken);
+        }
+        let mut numbers = self.shed_set()?;
+        let room = self.tape.room();
+        let more = numbers.len() > room;
+        numbers.truncate(room);
+        if let Err(fault) = self.tape.drop_all(&numbers, Cause::Limit) {
+            return Err(station_fault(fault));
+        }
+        self.index.remove_all(&numbers);
+        Ok(Shed { numbers, more })
+    }
+
+    // Notes what is owed anew, and makes it ready.
+    fn owe_new(&mut self, number: u64, note: Note) -> Result<Owed, StationFault>
+        requires works { IsBroken self.old → ⊥ }
+        requires above { (ledger_of self.old).mark < number }
+        requires owes { IsOweOf note number }
+        ensures new { OnOk result (Notes self.old self.new note) }
+        ensures is_new { IfOk result (λ owed. owed ≡ Owed.New) }
+        ensures places { OnOk result (places_of self.new ≡ places_of self.old ++ (number, Ready) ∷ []) }
+        ensures broken { IsErrOf result StationFault.Broken → ⊥ }
+        ensures count_full { IsErrOf result (StationFault.Tape (TapeFault.Note LedgerFault.CountFull)) → Overflows (ledger_of self.old) note }
+        ensures pending_full { IsErrOf result (StationFault.Tape TapeFault.PendingFull) → pending_of self.old ≡ most_pending }
+        ensures never { Overflows (ledger_of self.old) note ⊎ (pending_of self.old ≡ most_pending) → IsErr result }
+        ensures kinds { IfErr result IsOweFault }
+        ensures unchanged { OnErr result (IsSame self.old self.new) }
+    {
+        self.index.add(number)?;
+        if let Err((_, fault)) = self.tape.note(note) {
+            self.index.remove(number);
+            return Err(station_fault(fault));
+        }
+        Ok(Owed::New)
+    }
+
+    // A copy of a debt that is owed.
+    fn owed_debt(&self, number: u64) -> Result<Debt, StationFault>
+        requires works { IsBroken self.now → ⊥ }
+        requires owed { IsOwed (ledger_of self.now) number }
+        ensures debt { IfOk result (λ debt. (debt.0 ≡ number) × Contains (ledger_of self.now).debts debt) }
+        ensures memory { IfErr result (λ fault. fault ≡ StationFault.NoMemory) }
+    {
+        match self.tape.debt(number) {
+            Ok(Some(debt)) => Ok(debt),
+            Ok(None) => unreachable!(),
+            Err(fault) => Err(station_fault(fault)),
+        }
+    }
+
+    // Ends a debt that this connection holds, by the note of its end.
+    fn end(&mut self, connection: u64, number: u64, note: Note) -> Result<(), StationFault>
+        requires { IsEnd note number }
+        ensures ok { OnOk result (Notes self.old self.new note) }
+        ensures places { OnOk result (IsHeldBy (places_of self.old) connection number × (places_of self.new ≡ gone (places_of self.old) number)) }
+        ensures broken { IsErrOf result StationFault.Broken ↔ IsBroken self.old }
+        ensures not_held { IsErrOf result StationFault.NotHeld ↔ ((IsBroken self.old → ⊥) × (IsHeldBy (places_of self.old) connection number → ⊥)) }
+        ensures pending_full { IsErrOf result (StationFault.Tape TapeFault.PendingFull) ↔ MeetsFull self.old connection number }
+        ensures kinds { IfErr result IsEndFault }
+        ensures unchanged { OnErr result (IsSame self.old self.new) }
+    {
+        if self.tape.is_broken() {
+            return Err(StationFault::Broken);
+        }
+        if !self.index.is_held_by(connection, number) {
+            return Err(StationFault::NotHeld);
+        }
+        // What was taken is a sum with what has ended, so that no count passes the greatest number.
+        let _totals = self.tape.totals();
+        if let Err((_, fault)) = self.tape.note(note) {
+            return Err(station_fault(fault));
+        }
+        self.index.end(connection, number);
+        Ok(())
+    }
+
+    // Has a debt that this connection holds wait for this moment; at 0 it is ready.
+    fn give_up(&mut self, connection: u64, number: u64, moment: u64) -> Result<(), StationFault>
+        ensures ok { OnOk result (IsSameTape self.old self.new × IsHeldBy (places_of self.old) connection number × (places_of self.new ≡ moved (places_of self.old) number (place_until moment))) }
+        ensures broken { IsErrOf result StationFault.Broken ↔ IsBroken self.old }
+        ensures not_held { IsErrOf result StationFault.NotHeld ↔ ((IsBroken self.old → ⊥) × (IsHeldBy (places_of self.old) connection number → ⊥)) }
+        ensures kinds { IfErr result (λ e. (e ≡ StationFault.Broken) ⊎ (e ≡ StationFault.NotHeld)) }
+        ensures unchanged { OnErr result (self.new ≡ self.old) }
+    {
+        if self.tape.is_broken() {
+            return Err(StationFault::Broken);
+        }
+        if !self.index.is_held_by(connection, number) {
+            return Err(StationFault::NotHeld);
+        }
+        self.index.give_up(connection, number, moment);
+        Ok(())
+    }
+
+    // The least number above this one that no connection holds.
+    fn next_unheld(&self, number: u64) -> Option<u64>
+        ensures { result ≡ find (λ other. nat_lt number other) (unheld (places_of self.now)) }
+    {
+        // None is above the mark.
+        if number < self.tape.mark() {
+            self.index.unheld_from(number + 1)
+        } else {
+            None
+        }
+    }
+
+    // The numbers to shed, oldest first.
+    fn shed_set(&self) -> Result<Vec<u64>, AllocError>
+        ensures set { IfOk result (λ set. IsShedSet (limits_of self.now) (ledger_of self.now) (places_of self.now) set.items) }
+        ensures rising { OnOk result (AreRising (places_of self.now)) }
+    {
+        let limit = self.limits.backlog_limit;
+        let mut owed = self.tape.totals().owed_bytes;
+        let mut set = Vec::new(self.alloc);
+        let mut next = self.index.unheld_from(0);
+        if limit == 0 || owed <= self.limits.backlog_high {
+            return Ok(set);
+        }
+        while let Some(number) = next
+            && owed > limit
+        {
+            set.push(number)?;
+            owed = owed.saturating_sub(self.tape.octets(number).unwrap_or(0));
+            next = self.next_unheld(number);
+        }
+        Ok(set)
+    }
+
+    /// Puts the notes that pend on the disk: from `Ok` on all notes are acknowledged. Answers how many notes of this opening are on
+    /// the tape now. Linear in what pends.
+    ///
+    /// # Errors
+    /// Tried in this order: `Broken`; `Tape(TapeFull)`; `NoMemory`; these change nothing. `Tape(Disk)`: the station is broken from now on.
+    pub fn flush(&mut self) -> Result<u64, StationFault>
+        ensures ok { (h : History) → StandsFor self.old h → OnOk result (StandsFor self.new (flushed h)) }
+        ensures err { (h : History) → StandsFor self.old h → OnErr result (StandsFor self.new h) }
+        ensures count { (h : History) → StandsFor self.old h → IfOk result (λ n. n + h.opened ≡ length h.notes) }
+        // A stop at any moment of the call leaves a tape of the first of the notes, with every acknowledged one.
+        ensures moments { (h : History) → StandsFor self.old h → TapeLeaves (Survives h) (log_of self.old) (log_of self.new) }
+        ensures none_pends { OnOk result (pending_of self.new ≡ 0) }
+        ensures empty { pending_of self.old ≡ 0 → self.new ≡ self.old }
+        ensures empty_ok { pending_of self.old ≡ 0 → (IsBroken self.old → ⊥) → IsOk result }
+        ensures places { places_of self.new ≡ places_of self.old }
+        ensures ledger { ledger_of self.new ≡ ledger_of self.old }
+        ensures limits { limits_of self.new ≡ limits_of self.old }
+        ensures broken { IsErrOf result StationFault.Broken ↔ IsBroken self.old }
+        ensures full { IsErrOf result (StationFault.Tape TapeFault.TapeFull) ↔ ((IsBroken self.old → ⊥) × IsFull self.old.tape) }
+        ensures refused { IfErr result (λ e. e ≢ StationFault.Tape TapeFault.Disk → IsSame self.old self.new) }
+        ensures breaks { IsErrOf result (StationFault.Tape TapeFault.Disk) → IsBroken self.new }
+        ensures works { OnOk result (IsBroken self.new → ⊥) }
+        ensures cause { (h : History) → StandsFor self.old h → IsErrOf result (StationFault.Tape TapeFault.Disk) → min (D.told (disk_of self.old) + 1) (2 ^ 64 - 1) ≤ D.told (disk_of self.new) }
+        ensures honest { D.honest (disk_of self.old) ↔ D.honest (disk_of self.new) }
+        ensures later { D.told (disk_of self.old) ≤ D.told (disk_of self.new) }
+        ensures kinds { IfErr result IsFlushFault }
+    {
+        match self.tape.flush() {
+            Ok(count) => Ok(count),
+            Err(fault) => Err(station_fault(fault)),
+        }
+    }
+
+    /// The debt of this number, where it is owed.
+    ///
+    /// # Errors
+    /// Tried in this order: `Broken`; `NoMemory`.
+    pub fn debt(&self, number: u64) -> Result<Option<Debt>, StationFault>
+        ensures debt { IfOk result (λ debt. debt ≡ find (λ (owing : Owing). owing.0 == number) (ledger_of self.now).debts) }
+        ensures broken { IsErrOf result StationFault.Broken ↔ IsBroken self.now }
+        ensures no_memory { IsErrOf result StationFault.NoMemory → IsOwed (ledger_of self.now) number }
+        ensures kinds { IfErr result (λ e. (e ≡ StationFault.Broken) ⊎ (e ≡ StationFault.NoMemory)) }
+    {
+        match self.tape.debt(number) {
+            Ok(debt) => Ok(debt),
+            Err(fault) => Err(station_fault(fault)),
+        }
+    }
+
+    /// The numbers that are owed, rising. A broken station answers too.
+    ///
+    /// # Errors
+    /// `NoMemory` where memory was refused.
+    pub fn list(&self) -> Result<Vec<u64>, AllocError>
+        ensures items { IfOk result (λ v. v.items ≡ numbers (ledger_of self.now)) }
+        ensures rising { IfOk result (λ v. IsStrictlyIncreasing v.items) }
+        ensures marked { IfOk result (λ v. All (λ number. number ≤ (ledger_of self.now).mark) v.items) }
+    {
+        self.tape.numbers()
+    }
+
+    /// What was taken, answered and dropped, and what is owed: taken = owed + answered + dropped. A broken station answers too.
+    pub fn totals(&self) -> Totals
+        ensures counts { result ≡ totals_of (ledger_of self.now) }
+        ensures sum { result.taken ≡ result.owed + result.answered + result.dropped }
+    {
+        self.tape.totals()
+    }
+
+    /// The greatest number that was owed, 0 at first. A broken station answers too.
+    pub fn mark(&self) -> u64
+        ensures { result ≡ (ledger_of self.now).mark }
+    {
+        self.tape.mark()
+    }
+
+    /// The disk beneath. Notes that pend are gone. A broken station answers too.
+    pub fn into_disk(self) -> D
+        ensures disk { result ≡ disk_of self }
+        ensures survives { (h : History) → StandsFor self h → D.honest result × EachTape (Survives h) (D.log result) }
+    {
+        let Station { tape, .. } = self;
+        tape.into_disk()
+    }
+}
+
+/// The moment until which a debt waits that is deferred at this one: 60 seconds on, or the last that there is.
+pub fn deferred_until(now: u64) -> u64
+    ensures { result ≡ deferred_until now }
+{
+    now.saturating_add(60)
+}
+
+// The index in which all that a tape owes is ready.
+fn index_of<D: Disk>(alloc: Global, tape: &Tape<D>) -> Result<PlaceIndex, AllocError>
+    ensures places { IfOk result (λ index. index ≡ all_ready (numbers (tape_ledger tape.now))) }
+    ensures marked { OnOk result (All (λ number. number ≤ (tape_ledger tape.now).mark) (numbers (tape_ledger tape.now))) }
+{
+    let numbers = tape.numbers()?;
+    all_ready_of(alloc, &numbers)
+}
