@@ -1,11 +1,3 @@
-pub mod Arming
 pub mod Check
-pub mod Drill
 pub mod Exit
-pub mod Fault
-pub mod Report
-pub mod Script
-pub mod Stage
-pub mod StopDisk
-pub mod Trigger
 pub mod Words

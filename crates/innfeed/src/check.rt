@@ -9,7 +9,6 @@ ghost use Rattle.feed_conf.specs.ReaderView.{report_view};
 ghost use Rattle.feed_conf.specs.Settings.{Outcome, meaning};
 ghost use Rattle.innfeed.specs.Check.{check_text, count_text, report_text};
 
-use crate::report::add_number;
 use feed_conf::{Conf, ConfFault, Ignored, read_conf};
 use std::alloc::{AllocError, Global};
 use std::io::{self, Write};
@@ -58,7 +57,7 @@ fn add_report(out: &mut Vec<u8>, report: &Ignored) -> Result<(), AllocError>
     ensures { OnOk result (out.new.items ≡ out.old.items ++ report_text (report_view report.now)) }
 {
     out.extend_from_slice(b"line ")?;
-    add_number(out, report.line)?;
+    out.extend_from_slice(itoa::Buffer::new().format(report.line).as_bytes())?;
     out.extend_from_slice(b": ")?;
     out.extend_from_slice(&report.key)?;
     if report.limited {
@@ -73,7 +72,7 @@ fn add_count(out: &mut Vec<u8>, count: usize) -> Result<(), AllocError>
     ensures { OnOk result (out.new.items ≡ out.old.items ++ count_text count) }
 {
     out.extend_from_slice(b"peers ")?;
-    add_number(out, count as u64)?;
+    out.extend_from_slice(itoa::Buffer::new().format(count as u64).as_bytes())?;
     out.push(b'\n')?;
     Ok(())
 }

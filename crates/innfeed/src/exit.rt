@@ -1,6 +1,8 @@
 // How the program ends.
 ghost use Rattle.std.specs.Prelude.{◌≡◌};
 
+use drill::Ending;
+
 /// How the program ends, as administrators' scripts see it.
 #[derive(Clone, Copy, Debug, PartialEq, Eq)]
 pub enum Exit {
@@ -29,6 +31,20 @@ impl Exit {
             Exit::Usage => 2,
             Exit::Unreadable => 4,
             Exit::NoMemory => 5,
+        }
+    }
+}
+
+impl From<Ending> for Exit {
+    ghost use Rattle.innfeed.specs.Exit.{exit_of};
+
+    ghost from_gives = { λ ending exit. exit ≡ exit_of ending };
+
+    fn from(ending: Ending) -> Self {
+        match ending {
+            Ending::Done => Exit::Done,
+            Ending::Refused => Exit::Refused,
+            Ending::NoMemory => Exit::NoMemory,
         }
     }
 }

@@ -5,18 +5,8 @@
 //! Nothing stands above it: what it promises is what the contracts of those crates promise, and what its tests show.
 #![tactic(auto)]
 
-mod arming;
 mod check;
-mod drill;
 mod exit;
-mod fault;
-mod peer;
-mod report;
-mod script;
-mod stage;
-mod stop;
-#[cfg(test)]
-mod stop_tests;
 #[cfg(test)]
 mod tests;
 mod words;
@@ -80,7 +70,8 @@ fn fail<R: Eprint>(rt: &R, error: &io::Error) -> Exit {
 // Runs the drill script that the reader gives.
 fn run_drill<R: AllocGlobal + Print, S: Read>(rt: &R, script: &mut S) -> io::Result<Exit> {
     let mut writer = BufWriter::new(rt.alloc(), io::writer(rt))?;
-    run_script(rt.alloc(), script, &mut writer)
+    let ending = run_script(rt.alloc(), script, &mut writer)?;
+    Ok(Exit::from(ending))
 }
 
 fn drill_file<R: AllocGlobal + Print + Eprint + Files>(rt: &R, path: &str) -> io::Result<Exit> {

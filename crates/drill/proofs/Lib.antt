@@ -1,0 +1,5 @@
+pub mod Declared
+pub mod Digits
+pub mod Owing
+pub mod Writing
+pub mod Saying

@@ -1,0 +1,12 @@
+pub mod Action
+pub mod Arming
+pub mod Drill
+pub mod Exchange
+pub mod Fault
+pub mod Numbers
+pub mod Report
+pub mod Script
+pub mod Stage
+pub mod StopDisk
+pub mod Told
+pub mod Trigger

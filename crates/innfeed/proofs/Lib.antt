@@ -1,3 +1,0 @@
-pub mod Declared
-pub mod Numbers
-pub mod Owing
