@@ -1,7 +1,6 @@
 // The waits of one place that is tried again after it failed.
-ghost use Rattle.std.specs.Prelude.{◌≡◌, ℕ, ◌+◌};
+ghost use Rattle.std.specs.Prelude.{◌≡◌, ◌≢◌, ◌≤◌, ℕ, ◌+◌, min};
 ghost use Rattle.deferral.specs.Wait.{wait_after};
-ghost use Rattle.deferral.specs.Failed.{Failed, first_wait_of, most_wait_of};
 
 /// How long one place waits before it is tried again, by how often it has failed in a row.
 ///
@@ -12,9 +11,13 @@ pub struct Backoff {
     first: u64,
     most: u64,
     wait: u64,
+    ghost least: { wait ≢ 0 → min first most ≤ wait },
+    ghost greatest: { wait ≤ most },
 }
 
 impl Backoff {
+    ghost use Rattle.deferral.specs.Failed.{Failed, first_wait_of, most_wait_of};
+
     /// A place that has not failed, with its first wait and the most that it waits.
     pub fn new(first: u64, most: u64) -> Self
         ensures failures { Failed result 0 }
@@ -51,9 +54,12 @@ impl Backoff {
         self.wait = 0;
     }
 
-    /// The seconds to wait before the next try: none where no try has failed since the last that went well.
+    /// The seconds to wait before the next try: none where no try has failed since the last that went well, and otherwise
+    /// from the first wait to the most.
     pub fn wait(&self) -> u64
-        ensures { (failures : ℕ) → Failed self.now failures → result ≡ wait_after (first_wait_of self.now) (most_wait_of self.now) failures }
+        ensures least { result ≢ 0 → min (first_wait_of self.now) (most_wait_of self.now) ≤ result }
+        ensures greatest { result ≤ most_wait_of self.now }
+        ensures failures { (failures : ℕ) → Failed self.now failures → result ≡ wait_after (first_wait_of self.now) (most_wait_of self.now) failures }
     {
         let Self { wait, .. } = *self;
         wait

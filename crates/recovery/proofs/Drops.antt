@@ -1,5 +1,5 @@
 -- Drops of several debts.
-use Rattle.std.proofs.Common.{◌≡◌, ◌==◌, ◌⊎◌, inl, inr, Bool, false, cond, not, ℕ, zero, suc, ◌+◌, ◌<◌, ◌≤◌, ◌^◌, List, [], ◌∷◌, ◌++◌, length, get_or, take, drop, true, refl, sym, ap, ◌∙◌, subst, arith, length-append, add-one}
+use Rattle.std.proofs.Common.{◌≡◌, ◌==◌, ◌⊎◌, inl, inr, Bool, false, cond, not, ℕ, suc, ◌+◌, ◌<◌, ◌≤◌, ◌^◌, List, [], ◌∷◌, ◌++◌, length, get_or, take, drop, true, refl, sym, ap, ◌∙◌, subst, arith, length-append, add-one}
 use Rattle.std.specs.Prelude.{Vec, Contains, Result, Ok, Err, OnOk, IsErrOf}
 use Rattle.ledger_core.specs.declared.ledger.LedgerFault.{LedgerFault}
 use Rattle.ledger_core.specs.declared.ledger.LedgerFault.TheVariants.{OldNumber, NotOwed, CountFull, NoMemory}
@@ -9,7 +9,7 @@ use Rattle.std.proofs.Math.Seq.{drop-cons}
 use Rattle.std.proofs.lemmas.Bool.{eqb-false, eqb-true}
 use Rattle.std.proofs.lemmas.List.Elements.{Contains-append_cases, Contains-append_left, Contains-append_right, Contains-push, Contains-push_cases}
 use Rattle.tape_journal.specs.Journal.{Holds, disk_of as journal_disk}
-use Rattle.tape_journal.specs.Segment.{AllShort, IsShort}
+use Rattle.tape_journal.specs.Segment.{AllShort}
 use Rattle.tape_journal.specs.Words.{octets_of}
 use Rattle.tape_journal.specs.declared.journal.Journal.{Journal}
 use Rattle.disk_model.specs.declared.Disk.{Ghosts}
@@ -17,14 +17,14 @@ use Rattle.ledger_core.specs.declared.note.Note.{Note}
 use Rattle.ledger_core.specs.declared.note.Note.TheVariants.{Drop}
 use Rattle.ledger_core.specs.declared.note.Cause.{Cause}
 use Rattle.ledger_core.specs.Laws.{after-append, AllLegal-append}
-use Rattle.ledger_core.specs.Note.{AreNotes, IsNote}
-use Rattle.ledger_core.specs.Spelling.{spelling, spellings}
+use Rattle.ledger_core.specs.Note.{AreNotes}
+use Rattle.ledger_core.specs.Spelling.{spellings}
 use Rattle.ledger_core.specs.SpellingLaws.{AreNotes-append, spellings-append}
 use Rattle.ledger_core.specs.State.{State, AllLegal, IsLegal, IsOld, IsOwed, LacksDebt, Overflows, Owing, after, numbers_of, start, step, without}
-use Rattle.recovery.specs.Notes.{AreLegal, AreOwed, History, drops, noted_all}
+use Rattle.recovery.specs.Notes.{AreOwed, History, drops, noted_all}
 use Rattle.recovery.specs.Laws.{spellings-length}
 use Rattle.recovery.specs.Image.{Survives, EachTape, IsTape, Octets}
-use Rattle.recovery.specs.Words.{disk_of, log_of, ledger_of, IsBroken}
+use Rattle.recovery.specs.Words.{ledger_of}
 use Rattle.recovery.specs.Tape.{StandsFor}
 use Rattle.recovery.specs.declared.tape.Tape.{Tape}
 use Rattle.recovery.proofs.Stands.{note_short}

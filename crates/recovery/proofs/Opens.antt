@@ -1,10 +1,11 @@
 -- What an opening finds.
-use Rattle.std.proofs.Common.{◌≡◌, ℕ, List, [], length, take, sym, ap, subst, arith}
+use Rattle.std.proofs.Common.{◌≡◌, ℕ, List, [], length, take, sym, ap, ◌∙◌, subst, arith}
 use Rattle.disk_model.specs.Disk.{Event, Image, FirstSync, content}
 use Rattle.disk_model.specs.Moments.{FirstSync-weaker}
 use Rattle.disk_model.specs.declared.Disk.{Ghosts}
-use Rattle.tape_journal.specs.Journal.{Holds, IsOpened, disk_of as journal_disk}
-use Rattle.tape_journal.specs.Segment.{Reads}
+use Rattle.tape_journal.specs.Journal.{Holds, IsOpened, opening, disk_of as journal_disk}
+use Rattle.tape_journal.specs.Segment.{Reads, records}
+use Rattle.tape_journal.specs.declared.journal.Journal.{Journal}
 use Rattle.tape_journal.specs.SegmentLaws.{reads_once}
 use Rattle.tape_journal.specs.declared.fault.OpenFault.{OpenFault}
 use Rattle.tape_journal.specs.declared.fault.OpenFault.TheVariants.{Damaged as JournalDamaged, Disk as JournalDisk, NoMemory as NoJournalMemory}
@@ -44,6 +45,12 @@ opened_tape {D} {g} old tape payloads notes opened same legal ledger none zero =
       moments = opened.moments;
       first_sync = first_sync_of old (g.log (journal_disk tape.journal)) payloads notes opened.reads opened.first_sync was;
     }
+
+-- the calls of the opening, where the octets were a tape of these notes
+pub opening_of : {D : Type 0} {g : Ghosts D} (old : List Event) (journal : Journal D g) (payloads : List (List ℕ)) (notes : List Note) → IsOpened old journal payloads → IsTape (content old) notes
+    → g.log (journal_disk journal) ≡ opening (length (content old)) (length (records (spellings notes))) old
+opening_of old journal payloads notes opened is =
+    opened.calls ∙ ap (λ (l : List (List ℕ)). opening (length (content old)) (length (records l)) old) (reads_once (content old) payloads (spellings notes) opened.reads is.reads)
 
 -- what survived of a history is opened as such a front of it
 pub recovered_tape : {D : Type 0} {g : Ghosts D} (h : History) (old : List Event) (tape : Tape D g) (payloads : List (List ℕ)) → Image old (content old) → EachTape (Survives h) old → IsOpened old tape.journal payloads

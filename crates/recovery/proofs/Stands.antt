@@ -1,7 +1,6 @@
 -- How what a tape stands for goes on.
 use Rattle.std.proofs.Common.{◌≡◌, ℕ, ◌+◌, ◌≤◌, true, List, [], ◌∷◌, ◌++◌, length, take, drop, sym, ◌∙◌, ap, subst, arith, length-append, length-drop, take-append-drop}
-use Rattle.std.specs.Prelude.{Vec, IsTrue, ◌↔◌}
-use Rattle.std.proofs.Props.{props}
+use Rattle.std.specs.Prelude.{Vec}
 use Rattle.std.proofs.Math.Bridge.{le_prop}
 use Rattle.std.specs.declared.alloc.Global.{Global}
 use Rattle.std.proofs.lemmas.List.{map-append, length-map, take_all, drop_all, take-append-le, drop-append-le, length-take-le}
@@ -10,7 +9,7 @@ use Rattle.disk_model.specs.Disk.Leaves.{at_start}
 use Rattle.disk_model.specs.Moments.{Leaves-weaker, Leaves-now}
 use Rattle.disk_model.specs.declared.Disk.{Ghosts}
 use Rattle.tape_journal.specs.Kept.{KeptFrom}
-use Rattle.tape_journal.specs.Journal.{Holds, disk_of as journal_disk, end_of, IsBroken as IsBrokenJournal}
+use Rattle.tape_journal.specs.Journal.{Holds, disk_of as journal_disk, end_of}
 use Rattle.tape_journal.specs.Segment.{Reads, ReadsFrom, AllShort, IsShort, records, gated, open_gate}
 use Rattle.tape_journal.specs.SegmentLaws.{reads_rest, length-gated}
 use Rattle.tape_journal.specs.Words.{octets_of}
@@ -140,19 +139,15 @@ idle_count tape h stands works none =
 
 -- A tape whose journal is the same is the same: what else it keeps are facts.
 pub same_tape : {D : Type 0} {g : Ghosts D} (tape : Tape D g) (journal : Journal D g) → journal ≡ tape.journal
-    → (counted : tape.flushed ≤ end_of journal) (few : length tape.pending.items ≤ most_pending) (short : AllShort (octets_of tape.pending.items)) (told : IsTrue tape.broken ↔ IsBrokenJournal journal)
-    → record tape { journal = journal; counted = counted; few = few; short = short; told = told } ≡ tape
+    → (counted : tape.flushed ≤ end_of journal) (few : length tape.pending.items ≤ most_pending) (short : AllShort (octets_of tape.pending.items))
+    → record tape { journal = journal; counted = counted; few = few; short = short } ≡ tape
 same_tape {D} {g} tape journal same =
-    subst (λ (j : Journal D g). (counted : tape.flushed ≤ end_of j) (few : length tape.pending.items ≤ most_pending) (short : AllShort (octets_of tape.pending.items)) (told : IsTrue tape.broken ↔ IsBrokenJournal j)
-    → record tape { journal = j; counted = counted; few = few; short = short; told = told } ≡ tape) (sym same)
-    (λ counted few short told.
-    ap (λ (x : tape.flushed ≤ end_of tape.journal). record tape { counted = x; few = few; short = short; told = told }) (le_prop counted tape.counted)
-    ∙ ap (λ (x : length tape.pending.items ≤ most_pending). record tape { few = x; short = short; told = told }) (le_prop few tape.few)
-    ∙ ap (λ (x : AllShort (octets_of tape.pending.items)). record tape { short = x; told = told }) (AllShort-prop (octets_of tape.pending.items) short tape.short)
-    ∙ ap (λ (x : IsTrue tape.broken ↔ IsBrokenJournal tape.journal). record tape { told = x }) (told_prop told tape.told))
-  where
-    told_prop : IsProp (IsTrue tape.broken ↔ IsBrokenJournal tape.journal)
-    told_prop = hlevel props
+    subst (λ (j : Journal D g). (counted : tape.flushed ≤ end_of j) (few : length tape.pending.items ≤ most_pending) (short : AllShort (octets_of tape.pending.items))
+    → record tape { journal = j; counted = counted; few = few; short = short } ≡ tape) (sym same)
+    (λ counted few short.
+    ap (λ (x : tape.flushed ≤ end_of tape.journal). record tape { counted = x; few = few; short = short }) (le_prop counted tape.counted)
+    ∙ ap (λ (x : length tape.pending.items ≤ most_pending). record tape { few = x; short = short }) (le_prop few tape.few)
+    ∙ ap (λ (x : AllShort (octets_of tape.pending.items)). record tape { short = x }) (AllShort-prop (octets_of tape.pending.items) short tape.short))
 
 -- at each moment of a flush of a tape that works
 pub flush_moments : {D : Type 0} {g : Ghosts D} (tape : Tape D g) (new : List Event) (h : History) → StandsFor tape h → (IsBroken tape → ⊥)

@@ -1,6 +1,6 @@
 // Tapes.
 ghost use Rattle.std.specs.Prelude.{◌≡◌, ◌≢◌, ◌+◌, ◌-◌, ◌*◌, ◌^◌, ◌≤◌, ◌<◌, ◌↔◌, ℕ, List, length, IsTrue};
-ghost use Rattle.tape_journal.specs.Journal.{end_of, IsBroken as IsBrokenJournal};
+ghost use Rattle.tape_journal.specs.Journal.{end_of};
 ghost use Rattle.tape_journal.specs.Segment.{AllShort};
 ghost use Rattle.tape_journal.specs.Words.{octets_of};
 ghost use Rattle.recovery.specs.Image.{IsNoTapeAt};
@@ -21,7 +21,7 @@ use crate::read::read_ledger;
 use disk_model::Disk;
 use ledger_core::{Cause, Debt, Ledger, LedgerFault, Note, Totals, encode};
 use std::alloc::{AllocError, Global};
-use tape_journal::{AppendFault, Journal};
+use tape_journal::Journal;
 
 // How many notes may pend.
 const MOST_PENDING: usize = 65536;
@@ -46,25 +46,23 @@ pub struct Tape<D: Disk> {
     pub(crate) pending: Vec<Vec<u8>>,
     // How many notes were put on the disk since the tape was opened.
     pub(crate) flushed: u64,
-    // Whether a flush failed on the disk.
-    pub(crate) broken: bool,
     ghost counted: { flushed ≤ end_of journal },
     ghost few: { length pending.items ≤ most_pending },
     ghost short: { AllShort (octets_of pending.items) } by { AllShort-prop (octets_of pending.items) },
-    ghost told: { IsTrue broken ↔ IsBrokenJournal journal },
 }
 
 impl<D: Disk> Tape<D> {
     ghost use Rattle.std.specs.Prelude.{[], ◌∷◌, ◌++◌, ◌==◌, find, min, take, drop, MatchResult, IfErr, OnErr, IsOk, IsErrOf, IsSome, option_map};
     ghost use Rattle.std.specs.List.Sorted.{IsStrictlyIncreasing};
     ghost use Rattle.disk_model.specs.Disk.{content};
-    ghost use Rattle.tape_journal.specs.Journal.{appending};
+    ghost use Rattle.tape_journal.specs.Journal.{appending, opening};
     ghost use Rattle.tape_journal.specs.Segment.{records};
     ghost use Rattle.ledger_core.specs.Ledger.{totals_of};
     ghost use Rattle.ledger_core.specs.declared.ledger.LedgerFault.{LedgerFault};
+    ghost use Rattle.ledger_core.specs.declared.note.Note.{Note};
     ghost use Rattle.ledger_core.specs.State.{IsLegal, IsOwed, Owing, line_octets, numbers, step};
     ghost use Rattle.recovery.specs.Notes.{AreOwed, History, noted, noted_all, flushed};
-    ghost use Rattle.recovery.specs.Image.{EachTape, TapeLeaves, Survives};
+    ghost use Rattle.recovery.specs.Image.{EachTape, IsTape, TapeLeaves, Survives};
     ghost use Rattle.recovery.specs.Words.{disk_of, log_of, ledger_of, pending_of, IsBroken, IsFull, IsSame, RefusesNote, Tells, IsOpenFault, IsNoteFault, IsFlushFault, IsDebtFault, IsDropFault};
     ghost use Rattle.recovery.specs.Tape.{StandsFor, IsOpenedTape, IsRefusedTape, Recovers};
 
@@ -83,6 +81,9 @@ impl<D: Disk> Tape<D> {
         ensures recovers { (h : History) → D.honest disk → EachTape (Survives h) (D.log disk) → IfOk result (λ tape. Recovers h (D.log disk) tape) }
         ensures survives { (h : History) → D.honest disk → EachTape (Survives h) (D.log disk) → IfErr result (λ e. TapeLeaves (Survives h) (D.log disk) (D.log e.disk)) }
         ensures undamaged { (h : History) → D.honest disk → EachTape (Survives h) (D.log disk) → IfErr result (λ e. (segment at : ℕ) → e.fault ≢ TapeFault.Damaged segment at) }
+
+        // The calls that it makes.
+        ensures calls { D.honest disk → (notes : List Note) → IsTape (content (D.log disk)) notes → IfOk result (λ tape. log_of tape ≡ opening (length (content (D.log disk))) (length (records (spellings notes))) (D.log disk)) }
 
         // Each fault has its cause.
         ensures damaged { D.honest disk → IfErr result (λ e. (segment at : ℕ) → e.fault ≡ TapeFault.Damaged segment at → (segment ≡ 0) × IsNoTapeAt (content (D.log disk)) at) }
@@ -110,7 +111,6 @@ impl<D: Disk> Tape<D> {
                 ledger,
                 pending: Vec::new(alloc),
                 flushed: 0,
-                broken: false,
             }),
             Err(fault) => Err(RefusedTape {
                 disk: journal.into_disk(),
@@ -164,7 +164,7 @@ impl<D: Disk> Tape<D> {
         ensures disk { disk_of self.new ≡ disk_of self.old }
         ensures works { IsBroken self.old ↔ IsBroken self.new }
     {
-        if self.broken {
+        if self.journal.is_broken() {
             return Err(TapeFault::Broken);
         }
         if let Err(fault) = self.ledger.check(note) {
@@ -220,7 +220,7 @@ impl<D: Disk> Tape<D> {
         ensures disk { disk_of self.new ≡ disk_of self.old }
         ensures works { IsBroken self.old ↔ IsBroken self.new }
     {
-        if self.broken {
+        if self.journal.is_broken() {
             return Err(TapeFault::Broken);
         }
         if !self.owes_all(numbers) {
@@ -298,7 +298,7 @@ impl<D: Disk> Tape<D> {
         ensures honest { D.honest (disk_of self.old) ↔ D.honest (disk_of self.new) }
         ensures later { D.told (disk_of self.old) ≤ D.told (disk_of self.new) }
     {
-        if self.broken {
+        if self.journal.is_broken() {
             return Err(TapeFault::Broken);
         }
         if self.nothing_pends() {
@@ -340,10 +340,6 @@ impl<D: Disk> Tape<D> {
                 self.pending.clear();
                 Ok(self.flushed)
             }
-            Err(AppendFault::Disk) => {
-                self.broken = true;
-                Err(TapeFault::Disk)
-            }
             Err(fault) => Err(append_fault(fault)),
         }
     }
@@ -358,7 +354,7 @@ impl<D: Disk> Tape<D> {
         ensures no_memory { IsErrOf result TapeFault.NoMemory → IsOwed (ledger_of self.now) number }
         ensures kinds { IfErr result IsDebtFault }
     {
-        if self.broken {
+        if self.journal.is_broken() {
             return Err(TapeFault::Broken);
         }
         let Some((token, id)) = self.ledger.debt(number) else {
@@ -390,7 +386,7 @@ impl<D: Disk> Tape<D> {
     pub fn is_broken(&self) -> bool
         ensures { IsTrue result ↔ IsBroken self.now }
     {
-        self.broken
+        self.journal.is_broken()
     }
 
     /// The numbers that are owed, rising. None is above the mark.

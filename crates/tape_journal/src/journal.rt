@@ -47,7 +47,7 @@ fn read_fault_of(fault: OpenFault) -> ReadFault
 }
 
 impl<D: Disk> Journal<D> {
-    ghost use Rattle.std.specs.Prelude.{◌≢◌, ◌↔◌, [], ◌∷◌, ◌++◌, length, min, drop, MatchResult, IfOk, IfErr, OnOk, OnErr, IsOk, IsErrOf};
+    ghost use Rattle.std.specs.Prelude.{◌≢◌, ◌↔◌, [], ◌∷◌, ◌++◌, length, min, drop, MatchResult, IfOk, IfErr, OnOk, OnErr, IsOk, IsErrOf, IsTrue};
     ghost use Rattle.disk_model.specs.Disk.{Leaves, AfterSync};
     ghost use Rattle.tape_journal.specs.Words.{octets_of};
     ghost use Rattle.tape_journal.specs.Segment.{ReadsFrom, AllShort, IsRecord, records, longest_segment};
@@ -199,6 +199,14 @@ impl<D: Disk> Journal<D> {
             Ok(None) => Err(ReadFault::Disk),
             Err(fault) => Err(read_fault_of(fault)),
         }
+    }
+
+    /// Whether a `Disk` of `append_all` broke it before, so that its disk is to be opened again.
+    pub fn is_broken(&self) -> bool
+        ensures { IsTrue result ↔ IsBroken self.now }
+    {
+        let Self { broken, .. } = *self;
+        broken
     }
 
     /// The length in octets, with the end gate.

@@ -121,7 +121,9 @@ fn a_fault_of_the_disk_breaks_the_journal(rt: HostRuntime) -> Result<(), Fail> {
     // Opening an empty disk takes five calls, and the first write is the sixth.
     let (mut journal, _) = open(alloc, FuseDisk::new(MemDisk::new(alloc), 6))?;
     let payloads = payloads_of(alloc, &[&PAYLOAD])?;
+    assert!(rt; !journal.is_broken());
     assert_eq!(rt; journal.append_all(&payloads), Err(AppendFault::Disk));
+    assert!(rt; journal.is_broken());
     assert_eq!(rt; journal.append_all(&payloads), Err(AppendFault::Broken));
     assert_eq!(rt; journal.append_all(&[]), Err(AppendFault::Broken));
     match journal.payload_at(0) {

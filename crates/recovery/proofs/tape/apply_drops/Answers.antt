@@ -1,5 +1,4 @@
 use Rattle.std.proofs.Common.{◌≡◌, ◌+◌, ◌<◌, ◌∷◌, ℕ, List, length, get_or, drop, refl, sym, ap, ◌∙◌, subst, arith}
-use Rattle.ledger_core.specs.declared.note.Note.{Note}
 use Rattle.ledger_core.specs.declared.note.Note.TheVariants.{Drop}
 use Rattle.ledger_core.specs.Ledger.{state_of}
 use Rattle.ledger_core.specs.State.{State, AllLegal, after, step}

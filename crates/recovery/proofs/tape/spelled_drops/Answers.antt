@@ -1,9 +1,8 @@
 use Rattle.std.proofs.Common.{◌≡◌, ◌+◌, ◌<◌, ◌∷◌, [], ◌++◌, ℕ, List, length, get_or, take, refl, sym, ap, ◌∙◌, subst, arith}
 use Rattle.tape_journal.specs.Words.{octets_of}
-use Rattle.ledger_core.specs.declared.note.Note.{Note}
 use Rattle.ledger_core.specs.declared.note.Note.TheVariants.{Drop}
 use Rattle.ledger_core.specs.Note.{AreNotes}
-use Rattle.ledger_core.specs.Spelling.{spelling, spellings}
+use Rattle.ledger_core.specs.Spelling.{spellings}
 use Rattle.ledger_core.specs.SpellingLaws.{AreNotes-append, spellings-append}
 use Rattle.recovery.specs.Notes.{drops}
 use Rattle.recovery.proofs.Drops.{take_step, drops-push}

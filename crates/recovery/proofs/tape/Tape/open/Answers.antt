@@ -8,7 +8,7 @@ use Rattle.tape_journal.specs.Words.{octets_of}
 use Rattle.ledger_core.specs.Spelling.{spellings}
 use Rattle.recovery.specs.Image.{IsTape}
 use Rattle.recovery.specs.Laws.{tape_nowhere_damaged}
-use Rattle.recovery.proofs.Opens.{first_sync_of, opened_tape, recovered_tape, open_damaged, survived_leaves}
+use Rattle.recovery.proofs.Opens.{first_sync_of, opened_tape, opening_of, recovered_tape, open_damaged, survived_leaves}
 use Rattle.recovery.proofs.Stands.{open_moments}
 use Rattle.recovery.proofs.tape.Tape.open.Goals as goal
 
@@ -39,6 +39,10 @@ returns-in-Ok-read_ledger-clause-ok g c = λ honest.
     let fold = c.in-Ok-read_ledger.ensures.fold in
     let same : octets_of c.in-Ok.opened.1.items ≡ spellings fold.0 = ap octets_of (sym c.deref.ensures.value) ∙ fold.2 in
     opened_tape (g.D.Disk.log c.args.disk) _ (octets_of c.in-Ok.opened.1.items) fold.0 (c.in-Ok.ensures.ok honest) same (record { notes_are = fold.1; legal = fold.3 }) fold.4 c.new.ensures.items refl
+
+pub returns-in-Ok-read_ledger-clause-calls : goal.returns-in-Ok-read_ledger-clause-calls
+returns-in-Ok-read_ledger-clause-calls g c = λ honest notes is.
+    opening_of (g.D.Disk.log c.args.disk) c.in-Ok.opened.0 (octets_of c.in-Ok.opened.1.items) notes (c.in-Ok.ensures.ok honest) is
 
 pub returns-in-Ok-read_ledger-clause-recovers : goal.returns-in-Ok-read_ledger-clause-recovers
 returns-in-Ok-read_ledger-clause-recovers g c = λ h honest each.

@@ -1,8 +1,7 @@
 -- Drops of several debts, which pend.
-use Rattle.std.proofs.Common.{◌≡◌, ◌+◌, ◌<◌, ◌^◌, ◌++◌, [], List, ℕ, length, length-append, refl, sym, ap, ◌∙◌, subst, arith}
+use Rattle.std.proofs.Common.{◌≡◌, ◌+◌, ◌<◌, ◌^◌, ◌++◌, [], length, length-append, refl, sym, ap, ◌∙◌, subst, arith}
 use Rattle.tape_journal.specs.Segment.{AllShort}
 use Rattle.tape_journal.specs.Words.{octets_of}
-use Rattle.ledger_core.specs.declared.ledger.Totals.{Totals}
 use Rattle.ledger_core.specs.Spelling.{spellings}
 use Rattle.recovery.specs.Notes.{drops}
 use Rattle.recovery.specs.Words.{ledger_of}
@@ -29,7 +28,6 @@ invariant_of-self g c =
       counted = tape.counted;
       few = omega (arith, tape.few, ap length same);
       short = subst AllShort (sym (ap octets_of same)) tape.short;
-      told = tape.told;
     }
 
 pub returns-clause-ok : goal.returns-clause-ok
@@ -48,7 +46,6 @@ invariant_of-self-2 g c =
       few = omega (arith, ap length pends, length-append tape.pending.items payloads, drops_count payloads c.args.cause c.args.numbers.now spelled, c.requires.room);
       short = subst AllShort (sym (ap octets_of pends ∙ octets_of-append tape.pending.items payloads))
           (AllShort-append (octets_of tape.pending.items) (octets_of payloads) tape.short (subst AllShort (sym spelled) (AllShort-notes notes c.in_ok-payloads.ensures.notes)));
-      told = tape.told;
     }
 
 pub returns-clause-pends : goal.returns-clause-pends
