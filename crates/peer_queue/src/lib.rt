@@ -12,6 +12,8 @@ mod limits;
 mod place_index;
 mod station;
 #[cfg(test)]
+mod steps;
+#[cfg(test)]
 mod tests;
 
 pub use fault::StationFault;
