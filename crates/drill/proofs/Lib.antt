@@ -1,5 +1,9 @@
 pub mod Declared
 pub mod Digits
+pub mod Naming
 pub mod Owing
-pub mod Writing
 pub mod Saying
+pub mod Stopping
+pub mod Trying
+pub mod Writing
+pub mod Zips

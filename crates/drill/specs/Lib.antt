@@ -7,6 +7,7 @@ pub mod Numbers
 pub mod Report
 pub mod Script
 pub mod Stage
+pub mod Step
 pub mod StopDisk
 pub mod Told
 pub mod Trigger

@@ -1,5 +1,5 @@
 -- What a drill prints of a debt at a connection (docs/FORMATS.md).
-use Rattle.std.specs.Prelude.{ℕ, Bool, true, false, List, [], ◌∷◌, ◌++◌, codes, decimal}
+use Rattle.std.specs.Prelude.{ℕ, Bool, true, false, List, ◌∷◌, ◌++◌, codes, decimal}
 use Rattle.conn_core.specs.declared.outcome.Outcome.{Outcome}
 use Rattle.conn_core.specs.declared.outcome.Outcome.TheVariants.{Final as FinalOutcome, Deferred as DeferredOutcome, Lost as LostOutcome, Back as BackOutcome}
 use Rattle.ledger_core.specs.Codes.{code_number}

@@ -1,5 +1,6 @@
 // The connections of a drill: what comes of each step on one, at its peer's station and in print (docs/FORMATS.md).
 ghost use Rattle.std.specs.Prelude.{◌≡◌, ◌++◌, ◌∷◌, [], ℕ, List, IfOk, OnOk, decimal};
+ghost use Rattle.conn_core.specs.Stands.{Stands};
 ghost use Rattle.conn_core.specs.State.{untold_at};
 ghost use Rattle.drill.specs.Exchange.{AllSettle, Settles, options_of, reason_text, reply_fault_text};
 
@@ -36,7 +37,11 @@ impl Connection {
         number: u64,
         peer: usize,
         conf: &PeerConf,
-    ) -> Result<Connection, AllocError> {
+    ) -> Result<Connection, AllocError>
+        ensures peer { IfOk result (λ connection. connection.peer ≡ peer) }
+        ensures number { IfOk result (λ connection. connection.conn.id.0 ≡ number) }
+        ensures stands { IfOk result (λ connection. Stands (options_of conf.now) connection.conn [] []) }
+    {
         let conn = Conn::new(alloc, CxnId(number), options_of(conf))?;
         Ok(Connection { peer, conn })
     }

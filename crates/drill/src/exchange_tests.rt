@@ -1,8 +1,7 @@
 // Drills of whole exchanges with peers: what each script prints and how it ends.
 use crate::ending::Ending;
-use crate::tests::{Row, run};
-use std::alloc::Global;
-use std::io::Write;
+use crate::tests::{Row, check, check_broken_lines, check_rows, repeat};
+use std::alloc::{AllocError, Global};
 use std::process::Abort;
 use std::test::Fail;
 
@@ -32,7 +31,6 @@ const TAKETHIS: Row = (
         taken 1\n\
         p taken 1 answered 1 dropped 0 owed 0 bytes 0\n\
         end 9\n",
-    Ending::Done,
 );
 
 const TAKETHIS_BARE_LF: Row = (
@@ -61,7 +59,6 @@ const TAKETHIS_BARE_LF: Row = (
         taken 1\n\
         p taken 1 answered 1 dropped 0 owed 0 bytes 0\n\
         end 9\n",
-    Ending::Done,
 );
 
 const IHAVE: Row = (
@@ -97,7 +94,6 @@ const IHAVE: Row = (
         c1 final 2 437\n\
         p taken 2 answered 1 dropped 0 owed 1 bytes 10\n\
         end 13\n",
-    Ending::Done,
 );
 
 const SAME_ID_TWICE: Row = (
@@ -128,7 +124,6 @@ const SAME_ID_TWICE: Row = (
         c1 final 1 438\n\
         p taken 3 answered 2 dropped 0 owed 1 bytes 10\n\
         end 11\n",
-    Ending::Done,
 );
 
 const DEFERRED: Row = (
@@ -155,7 +150,6 @@ const DEFERRED: Row = (
         c1>CHECK <x@y>\n\
         p taken 1 answered 0 dropped 0 owed 1 bytes 10\n\
         end 11\n",
-    Ending::Done,
 );
 
 const BREAK_IN_FLIGHT: Row = (
@@ -193,7 +187,6 @@ const BREAK_IN_FLIGHT: Row = (
         c1 closed Broken\n\
         p taken 3 answered 0 dropped 0 owed 3 bytes 30\n\
         end 12\n",
-    Ending::Done,
 );
 
 const ENDED_THEN_NEXT: Row = (
@@ -217,7 +210,6 @@ const ENDED_THEN_NEXT: Row = (
         c1 closed\n\
         p taken 1 answered 0 dropped 0 owed 1 bytes 10\n\
         end 8\n",
-    Ending::Done,
 );
 
 const ARTICLE_GONE: Row = (
@@ -238,7 +230,6 @@ const ARTICLE_GONE: Row = (
         c1 drop 1 Missing\n\
         p taken 1 answered 0 dropped 1 owed 0 bytes 0\n\
         end 7\n",
-    Ending::Done,
 );
 
 const DROP_DEFERRED: Row = (
@@ -264,7 +255,6 @@ const DROP_DEFERRED: Row = (
         c1 none\n\
         p taken 1 answered 0 dropped 1 owed 0 bytes 0\n\
         end 11\n",
-    Ending::Done,
 );
 
 const SHED: Row = (
@@ -299,7 +289,6 @@ const SHED: Row = (
         p shed 1 2\n\
         p taken 12 answered 0 dropped 2 owed 10 bytes 100\n\
         end 14\n",
-    Ending::Done,
 );
 
 const SHED_HELD: Row = (
@@ -342,7 +331,6 @@ const SHED_HELD: Row = (
         p shed 2 3\n\
         p taken 12 answered 0 dropped 2 owed 10 bytes 100\n\
         end 18\n",
-    Ending::Done,
 );
 
 const ENDED_BEFORE_FINAL: Row = (
@@ -362,7 +350,6 @@ const ENDED_BEFORE_FINAL: Row = (
         c1 closed Ended 400\n\
         p taken 1 answered 0 dropped 0 owed 1 bytes 10\n\
         end 6\n",
-    Ending::Done,
 );
 
 const FINAL_BEFORE_ENDED: Row = (
@@ -382,7 +369,6 @@ const FINAL_BEFORE_ENDED: Row = (
         c1 closed Ended 400\n\
         p taken 1 answered 1 dropped 0 owed 0 bytes 0\n\
         end 6\n",
-    Ending::Done,
 );
 
 const SECOND_REPLY: Row = (
@@ -403,7 +389,6 @@ const SECOND_REPLY: Row = (
         c1 closed Unmatched\n\
         p taken 1 answered 1 dropped 0 owed 0 bytes 0\n\
         end 7\n",
-    Ending::Done,
 );
 
 const STRANGER_ID: Row = (
@@ -423,7 +408,6 @@ const STRANGER_ID: Row = (
         c1 closed Unmatched\n\
         p taken 1 answered 0 dropped 0 owed 1 bytes 10\n\
         end 6\n",
-    Ending::Done,
 );
 
 const TAKETHIS_CODE_FOR_CHECK: Row = (
@@ -443,299 +427,457 @@ const TAKETHIS_CODE_FOR_CHECK: Row = (
         c1 closed Unmatched\n\
         p taken 1 answered 0 dropped 0 owed 1 bytes 10\n\
         end 6\n",
-    Ending::Done,
 );
 
-// Runs a script, and looks at what it prints and how it ends.
-fn check(
-    rt: &impl Abort,
-    alloc: Global,
-    script: &[u8],
-    printed: &[u8],
-    ending: Ending,
-) -> Result<(), Fail> {
-    let (got, end) = run(alloc, script)?;
-    assert_eq!(rt; got.as_slice(), printed);
-    assert_eq!(rt; end, ending);
-    Ok(())
-}
+// With no candidate `none` is told whatever the connection does; a busy or a closed one gives its debt back.
+const HANDS: Row = (
+    "peer p max-queue-size: 1\n\
+        connect p\n\
+        hand 1\n\
+        line a/1 <x@y> p\n\
+        line a/2 <z@y> p\n\
+        hand 1\n\
+        say 1 200\n\
+        hand 1\n\
+        say 1 203\n\
+        hand 1\n\
+        hand 1\n\
+        break 1\n\
+        hand 1\n\
+        connect p\n\
+        say 2 200\n\
+        say 2 203\n\
+        hand 2\n",
+    "c1 p\n\
+        c1 none\n\
+        1 p new\n\
+        2 p new\n\
+        c1 busy\n\
+        c1>MODE STREAM\n\
+        c1 busy\n\
+        c1 hand 1\n\
+        c1>CHECK <x@y>\n\
+        c1 busy\n\
+        c1 back 1\n\
+        c1 closed Broken\n\
+        c1 closed\n\
+        c2 p\n\
+        c2>MODE STREAM\n\
+        c2 hand 1\n\
+        c2>CHECK <x@y>\n\
+        p taken 2 answered 0 dropped 0 owed 2 bytes 20\n\
+        end 16\n",
+);
+
+// The article that is wanted is named again behind each step on its connection.
+const NAMED_AGAIN: Row = (
+    "peer p\n\
+        line a/1 <x@y> p\n\
+        connect p\n\
+        say 1 200\n\
+        say 1 203\n\
+        hand 1\n\
+        say 1 238 <x@y>\n\
+        hand 1\n\
+        raw 1 32\n\
+        tick 400\n\
+        article 1 a\\0b\n",
+    "1 p new\n\
+        c1 p\n\
+        c1>MODE STREAM\n\
+        c1 hand 1\n\
+        c1>CHECK <x@y>\n\
+        c1 need 1\n\
+        c1 none\n\
+        c1 need 1\n\
+        c1 need 1\n\
+        c1 need 1\n\
+        c1 drop 1 Unsendable\n\
+        p taken 1 answered 0 dropped 1 owed 0 bytes 0\n\
+        end 10\n",
+);
+
+// A moment is one step for all connections, in order of their numbers. An answer that is late closes.
+const LATE_ANSWERS: Row = (
+    "peer p response-timeout: 10\n\
+        peer q\n\
+        connect q\n\
+        connect p\n\
+        connect p\n\
+        say 3 200\n\
+        tick 5\n\
+        tick 14\n\
+        tick 15\n\
+        tick 304\n\
+        tick 305\n",
+    "c1 q\n\
+        c2 p\n\
+        c3 p\n\
+        c3>MODE STREAM\n\
+        c2 closed Timeout\n\
+        c3 closed Timeout\n\
+        c1 closed Timeout\n\
+        p taken 0 answered 0 dropped 0 owed 0 bytes 0\n\
+        q taken 0 answered 0 dropped 0 owed 0 bytes 0\n\
+        end 9\n",
+);
+
+// The moment may go back: what was due is due no more.
+const THE_MOMENT_GOES_BACK: Row = (
+    "peer p\n\
+        line a/1 <x@y> p\n\
+        connect p\n\
+        say 1 200\n\
+        say 1 203\n\
+        hand 1\n\
+        say 1 431 <x@y>\n\
+        tick 60\n\
+        tick 59\n\
+        hand 1\n\
+        tick 60\n\
+        hand 1\n",
+    "1 p new\n\
+        c1 p\n\
+        c1>MODE STREAM\n\
+        c1 hand 1\n\
+        c1>CHECK <x@y>\n\
+        c1 later 1 60\n\
+        c1 none\n\
+        c1 hand 1\n\
+        c1>CHECK <x@y>\n\
+        p taken 1 answered 0 dropped 0 owed 1 bytes 10\n\
+        end 11\n",
+);
+
+// Without streaming an article goes by IHAVE.
+const WITHOUT_STREAMING: Row = (
+    "peer p streaming: false\n\
+        line a/1 <x@y> p\n\
+        connect p\n\
+        say 1 201\n\
+        hand 1\n\
+        article 1 one\\r\\n\\\\\n\
+        say 1 335\n\
+        say 1 235\n",
+    "1 p new\n\
+        c1 p\n\
+        c1 hand 1\n\
+        c1 need 1\n\
+        c1>IHAVE <x@y>\n\
+        c1>one\n\
+        c1>\\\n\
+        c1>.\n\
+        c1 final 1 235\n\
+        p taken 1 answered 1 dropped 0 owed 0 bytes 0\n\
+        end 7\n",
+);
+
+// Checks end with the share of wanted articles.
+const CHECKS_END: Row = (
+    "peer p no-check-filter: 1\n\
+        line a/1 <x@y> p\n\
+        line a/2 <z@y> p\n\
+        connect p\n\
+        say 1 200\n\
+        say 1 203\n\
+        hand 1\n\
+        say 1 238 <x@y>\n\
+        article 1 t\n\
+        say 1 239 <x@y>\n\
+        hand 1\n\
+        article 1 t\n\
+        say 1 439 <z@y>\n",
+    "1 p new\n\
+        2 p new\n\
+        c1 p\n\
+        c1>MODE STREAM\n\
+        c1 hand 1\n\
+        c1>CHECK <x@y>\n\
+        c1 need 1\n\
+        c1>TAKETHIS <x@y>\n\
+        c1>t\n\
+        c1>.\n\
+        c1 final 1 239\n\
+        c1 hand 2\n\
+        c1 need 2\n\
+        c1>TAKETHIS <z@y>\n\
+        c1>t\n\
+        c1>.\n\
+        c1 final 2 439\n\
+        p taken 2 answered 2 dropped 0 owed 0 bytes 0\n\
+        end 12\n",
+);
+
+const DONE: &[Row] = &[
+    TAKETHIS,
+    TAKETHIS_BARE_LF,
+    IHAVE,
+    SAME_ID_TWICE,
+    DEFERRED,
+    BREAK_IN_FLIGHT,
+    ENDED_THEN_NEXT,
+    ARTICLE_GONE,
+    DROP_DEFERRED,
+    SHED,
+    SHED_HELD,
+    ENDED_BEFORE_FINAL,
+    FINAL_BEFORE_ENDED,
+    SECOND_REPLY,
+    STRANGER_ID,
+    TAKETHIS_CODE_FOR_CHECK,
+    HANDS,
+    NAMED_AGAIN,
+    LATE_ANSWERS,
+    THE_MOMENT_GOES_BACK,
+    WITHOUT_STREAMING,
+    CHECKS_END,
+];
 
 #[test]
 fn rows(rt: HostRuntime) -> Result<(), Fail> {
-    for (script, printed, ending) in [
-        TAKETHIS,
-        TAKETHIS_BARE_LF,
-        IHAVE,
-        SAME_ID_TWICE,
-        DEFERRED,
-        BREAK_IN_FLIGHT,
-        ENDED_THEN_NEXT,
-        ARTICLE_GONE,
-        DROP_DEFERRED,
-        SHED,
-        SHED_HELD,
-        ENDED_BEFORE_FINAL,
-        FINAL_BEFORE_ENDED,
-        SECOND_REPLY,
-        STRANGER_ID,
-        TAKETHIS_CODE_FOR_CHECK,
-    ] {
-        check(
-            &rt,
-            rt.alloc(),
-            script.as_bytes(),
-            printed.as_bytes(),
-            ending,
-        )?;
-    }
-    Ok(())
+    check_rows(&rt, rt.alloc(), DONE, Ending::Done)
+}
+
+// A stop ends the connections, and their numbers go on. What was answered and not flushed is owed again.
+const CONNECTIONS_END_WITH_A_STOP: Row = (
+    "peer p\n\
+        line a/1 <x@y> p\n\
+        flush\n\
+        connect p\n\
+        say 1 200\n\
+        say 1 203\n\
+        hand 1\n\
+        say 1 438 <x@y>\n\
+        stop\n\
+        restart\n\
+        connect p\n\
+        say 2 200\n\
+        say 2 203\n\
+        hand 2\n\
+        say 2 438 <x@y>\n\
+        flush\n\
+        stop\n\
+        restart\n\
+        hand 2\n",
+    "1 p new\n\
+        taken 1\n\
+        c1 p\n\
+        c1>MODE STREAM\n\
+        c1 hand 1\n\
+        c1>CHECK <x@y>\n\
+        c1 final 1 438\n\
+        stopped\n\
+        p mark 1 owes 1\n\
+        c2 p\n\
+        c2>MODE STREAM\n\
+        c2 hand 1\n\
+        c2>CHECK <x@y>\n\
+        c2 final 1 438\n\
+        taken 1\n\
+        stopped\n\
+        p mark 1 owes -\n\
+        step 18: NoConnection\n",
+);
+
+// A stop between the gates of a flush: what the peer had answered is owed again, and the connection is gone.
+const STOPPED_WITHIN_AN_EXCHANGE: Row = (
+    "peer p\n\
+        line a/1 <x@y> p\n\
+        flush\n\
+        connect p\n\
+        say 1 200\n\
+        say 1 203\n\
+        hand 1\n\
+        say 1 438 <x@y>\n\
+        stop p 3 0\n\
+        flush\n\
+        restart\n\
+        connect p\n\
+        say 1 x\n",
+    "1 p new\n\
+        taken 1\n\
+        c1 p\n\
+        c1>MODE STREAM\n\
+        c1 hand 1\n\
+        c1>CHECK <x@y>\n\
+        c1 final 1 438\n\
+        stopped\n\
+        p mark 1 owes 1\n\
+        c2 p\n\
+        step 12: NoConnection\n",
+);
+
+const STOPPED: &[Row] = &[CONNECTIONS_END_WITH_A_STOP, STOPPED_WITHIN_AN_EXCHANGE];
+
+#[test]
+fn stopped_exchanges(rt: HostRuntime) -> Result<(), Fail> {
+    check_rows(&rt, rt.alloc(), STOPPED, Ending::Refused)
+}
+
+// What a step without its peer or its connection is told, and a stop before that.
+const REFUSED: &[Row] = &[
+    ("peer p\nconnect q\n", "step 1: NoPeer\n"),
+    ("peer p\nshed q\n", "step 1: NoPeer\n"),
+    ("peer p\nhand 1\n", "step 1: NoConnection\n"),
+    (
+        "peer p\nconnect p\nhand 0\n",
+        "c1 p\nstep 2: NoConnection\n",
+    ),
+    ("peer p\nsay 1 200\n", "step 1: NoConnection\n"),
+    ("peer p\nraw 1 0a\n", "step 1: NoConnection\n"),
+    ("peer p\narticle 1 gone\n", "step 1: NoConnection\n"),
+    ("peer p\nbreak 1\n", "step 1: NoConnection\n"),
+    (
+        "peer p\nconnect p\narticle 1 gone\n",
+        "c1 p\nstep 2: NotNeeded\n",
+    ),
+    (
+        "peer p\nconnect p\nbreak 1\narticle 1 gone\n",
+        "c1 p\nc1 closed Broken\nstep 3: NotNeeded\n",
+    ),
+    ("peer p\nstop\nconnect q\n", "stopped\nstep 2: Stopped\n"),
+    ("peer p\nstop\nhand 1\n", "stopped\nstep 2: Stopped\n"),
+    ("peer p\nstop\ntick 1\n", "stopped\nstep 2: Stopped\n"),
+    ("peer p\nstop\nshed q\n", "stopped\nstep 2: Stopped\n"),
+];
+
+#[test]
+fn refused_steps(rt: HostRuntime) -> Result<(), Fail> {
+    check_rows(&rt, rt.alloc(), REFUSED, Ending::Refused)
+}
+
+// Codes below 100, and codes that end a connection at its greeting. What closes a connection empties its output.
+const GREETINGS: &[Row] = &[
+    (
+        "peer p\nconnect p\nsay 1 005\n",
+        "c1 p\nc1 closed Greeting 5\np taken 0 answered 0 dropped 0 owed 0 bytes 0\nend 2\n",
+    ),
+    (
+        "peer p\nconnect p\nsay 1 502 no\n",
+        "c1 p\nc1 closed Greeting 502\np taken 0 answered 0 dropped 0 owed 0 bytes 0\nend 2\n",
+    ),
+    (
+        "peer p\nconnect p\nsay 1 400\n",
+        "c1 p\nc1 closed Greeting 400\np taken 0 answered 0 dropped 0 owed 0 bytes 0\nend 2\n",
+    ),
+    (
+        "peer p\nconnect p\nsay 1 \n",
+        "c1 p\nc1 closed Reader NoCode\np taken 0 answered 0 dropped 0 owed 0 bytes 0\nend 2\n",
+    ),
+    (
+        "peer p\nconnect p\nsay 1 no\n",
+        "c1 p\nc1 closed Reader NoCode\np taken 0 answered 0 dropped 0 owed 0 bytes 0\nend 2\n",
+    ),
+    (
+        "peer p\nconnect p\nraw 1 3230300D0A3530320d0a\n",
+        "c1 p\nc1 closed Ended 502\np taken 0 answered 0 dropped 0 owed 0 bytes 0\nend 2\n",
+    ),
+];
+
+#[test]
+fn greetings(rt: HostRuntime) -> Result<(), Fail> {
+    check_rows(&rt, rt.alloc(), GREETINGS, Ending::Done)
+}
+
+// Lines of a script that name no step.
+const BROKEN: &[&str] = &[
+    "connect",
+    "connect ",
+    "connect .p",
+    "connect p ",
+    "hand",
+    "hand ",
+    "hand x",
+    "hand +1",
+    "hand 1 ",
+    "hand  1",
+    "hand 18446744073709551616",
+    "say",
+    "say 1",
+    "say x y",
+    "raw 1",
+    "raw 1 ",
+    "raw 1 3",
+    "raw 1 3g",
+    "raw 1 32 32",
+    "article 1",
+    "article x gone",
+    "article 1 \\x",
+    "article 1 a\\",
+    "break",
+    "break 1 1",
+    "tick",
+    "tick -1",
+    "tick 1 ",
+    "shed",
+    "shed ~p",
+    "begin",
+    "rotate p",
+];
+
+#[test]
+fn broken_lines(rt: HostRuntime) -> Result<(), Fail> {
+    check_broken_lines(&rt, rt.alloc(), BROKEN)
 }
 
 // `raw 1` and two digits for each of these octets.
-fn add_cut(script: &mut Vec<u8>, octets: &[u8]) -> Result<(), Fail> {
+fn add_cut(script: &mut String, octets: &[u8]) -> Result<(), AllocError> {
     for octet in octets {
         writeln!(script, "raw 1 {octet:02x}")?;
     }
     Ok(())
 }
 
-// The exchange with a line that begins with a dot, its replies cut at every octet: the lines end with these octets.
-fn check_cut(rt: &impl Abort, alloc: Global, end: &str, steps: &str) -> Result<(), Fail> {
-    let mut script = Vec::from_slice(alloc, b"peer p\nline a/1 <x@y> p\nconnect p\n")?;
-    add_cut(&mut script, b"200 ready")?;
-    add_cut(&mut script, end.as_bytes())?;
-    add_cut(&mut script, b"203 ok")?;
-    add_cut(&mut script, end.as_bytes())?;
-    script.extend_from_slice(b"hand 1\n")?;
-    add_cut(&mut script, b"238 <x@y>")?;
-    add_cut(&mut script, end.as_bytes())?;
-    script.extend_from_slice(b"article 1 Subject: t\\n\\n.b\\n\n")?;
-    add_cut(&mut script, b"239 <x@y>")?;
-    add_cut(&mut script, end.as_bytes())?;
-    script.extend_from_slice(b"flush\n")?;
+// A line of a script, but a reply on the first connection is cut at every octet and ends so.
+fn add_line(script: &mut String, line: &str, end: &str) -> Result<(), AllocError> {
+    match line.strip_prefix("say 1 ") {
+        Some(reply) => {
+            add_cut(script, reply.as_bytes())?;
+            add_cut(script, end.as_bytes())
+        }
+        None => writeln!(script, "{line}"),
+    }
+}
+
+// A script whose replies are cut.
+fn cut(alloc: Global, script: &str, end: &str) -> Result<String, AllocError> {
+    let mut whole = String::new(alloc);
+    for line in script.lines() {
+        add_line(&mut whole, line, end)?;
+    }
+    Ok(whole)
+}
+
+// The exchange with a line that begins with a dot, its replies cut at every octet: the lines end with these octets, and it has so
+// many steps.
+fn check_cut(rt: &impl Abort, alloc: Global, end: &str, steps: u8) -> Result<(), Fail> {
+    let script = cut(alloc, TAKETHIS.0, end)?;
     let whole = TAKETHIS.1.strip_suffix("end 9\n").ok_or("nine steps")?;
-    let mut printed = Vec::from_slice(alloc, whole.as_bytes())?;
-    printed.extend_from_slice(steps.as_bytes())?;
-    check(rt, alloc, &script, &printed, Ending::Done)
+    let wanted = format!(in alloc; "{whole}end {steps}\n")?;
+    check(rt, alloc, &script, &wanted, Ending::Done)
 }
 
 #[test]
 fn replies_cut_everywhere(rt: HostRuntime) -> Result<(), Fail> {
-    check_cut(&rt, rt.alloc(), "\r\n", "end 46\n")?;
-    check_cut(&rt, rt.alloc(), "\n", "end 42\n")
+    check_cut(&rt, rt.alloc(), "\r\n", 46)?;
+    check_cut(&rt, rt.alloc(), "\n", 42)
 }
 
 // A line of 2,049 octets is none that a peer may send.
 #[test]
 fn reply_too_long(rt: HostRuntime) -> Result<(), Fail> {
-    let mut script = Vec::from_slice(
-        rt.alloc(),
-        b"peer p\nline a/1 <x@y> p\nconnect p\nsay 1 200\nsay 1 203\nhand 1\nraw 1 ",
+    let octets = repeat(rt.alloc(), "32", 2049)?;
+    let script = format!(in rt.alloc();
+        "peer p\nline a/1 <x@y> p\nconnect p\nsay 1 200\nsay 1 203\nhand 1\nraw 1 {octets}\n"
     )?;
-    for _ in 0..2049 {
-        script.extend_from_slice(b"32")?;
-    }
-    script.push(b'\n')?;
-    let printed =
-        b"1 p new\nc1 p\nc1>MODE STREAM\nc1 hand 1\nc1>CHECK <x@y>\nc1 back 1\nc1 closed Reader TooLong\n\
-        p taken 1 answered 0 dropped 0 owed 1 bytes 10\nend 6\n";
-    check(&rt, rt.alloc(), &script, printed, Ending::Done)
-}
-
-// Lines of a script that name no step.
-#[test]
-fn broken_lines(rt: HostRuntime) -> Result<(), Fail> {
-    for line in [
-        "connect",
-        "connect ",
-        "connect .p",
-        "connect p ",
-        "hand",
-        "hand ",
-        "hand x",
-        "hand +1",
-        "hand 1 ",
-        "hand  1",
-        "hand 18446744073709551616",
-        "say",
-        "say 1",
-        "say x y",
-        "raw 1",
-        "raw 1 ",
-        "raw 1 3",
-        "raw 1 3g",
-        "raw 1 32 32",
-        "article 1",
-        "article x gone",
-        "article 1 \\x",
-        "article 1 a\\",
-        "break",
-        "break 1 1",
-        "tick",
-        "tick -1",
-        "tick 1 ",
-        "shed",
-        "shed ~p",
-        "begin",
-        "rotate p",
-    ] {
-        let script = format!(in rt.alloc(); "peer p\n{line}\n")?;
-        check(
-            &rt,
-            rt.alloc(),
-            script.as_bytes(),
-            b"script 2\n",
-            Ending::Refused,
-        )?;
-    }
-    Ok(())
-}
-
-// What a step without its peer or its connection is told, and a stop before that.
-#[test]
-fn refused_steps(rt: HostRuntime) -> Result<(), Fail> {
-    for (script, printed) in [
-        ("connect q\n", "step 1: NoPeer\n"),
-        ("shed q\n", "step 1: NoPeer\n"),
-        ("hand 1\n", "step 1: NoConnection\n"),
-        ("connect p\nhand 0\n", "c1 p\nstep 2: NoConnection\n"),
-        ("say 1 200\n", "step 1: NoConnection\n"),
-        ("raw 1 0a\n", "step 1: NoConnection\n"),
-        ("article 1 gone\n", "step 1: NoConnection\n"),
-        ("break 1\n", "step 1: NoConnection\n"),
-        ("connect p\narticle 1 gone\n", "c1 p\nstep 2: NotNeeded\n"),
-        (
-            "connect p\nbreak 1\narticle 1 gone\n",
-            "c1 p\nc1 closed Broken\nstep 3: NotNeeded\n",
-        ),
-        ("stop\nconnect q\n", "stopped\nstep 2: Stopped\n"),
-        ("stop\nhand 1\n", "stopped\nstep 2: Stopped\n"),
-        ("stop\ntick 1\n", "stopped\nstep 2: Stopped\n"),
-        ("stop\nshed q\n", "stopped\nstep 2: Stopped\n"),
-    ] {
-        let script = format!(in rt.alloc(); "peer p\n{script}")?;
-        check(
-            &rt,
-            rt.alloc(),
-            script.as_bytes(),
-            printed.as_bytes(),
-            Ending::Refused,
-        )?;
-    }
-    Ok(())
-}
-
-// With no candidate `none` is told whatever the connection does; a busy or a closed one gives its debt back.
-#[test]
-fn hands(rt: HostRuntime) -> Result<(), Fail> {
-    let script =
-        b"peer p max-queue-size: 1\nconnect p\nhand 1\nline a/1 <x@y> p\nline a/2 <z@y> p\nhand 1\nsay 1 200\nhand 1\n\
-        say 1 203\nhand 1\nhand 1\nbreak 1\nhand 1\nconnect p\nsay 2 200\nsay 2 203\nhand 2\n";
-    let printed =
-        b"c1 p\nc1 none\n1 p new\n2 p new\nc1 busy\nc1>MODE STREAM\nc1 busy\nc1 hand 1\nc1>CHECK <x@y>\nc1 busy\n\
-        c1 back 1\nc1 closed Broken\nc1 closed\nc2 p\nc2>MODE STREAM\nc2 hand 1\nc2>CHECK <x@y>\n\
-        p taken 2 answered 0 dropped 0 owed 2 bytes 20\nend 16\n";
-    check(&rt, rt.alloc(), script, printed, Ending::Done)
-}
-
-// The article that is wanted is named again behind each step on its connection.
-#[test]
-fn named_again(rt: HostRuntime) -> Result<(), Fail> {
-    let script =
-        b"peer p\nline a/1 <x@y> p\nconnect p\nsay 1 200\nsay 1 203\nhand 1\nsay 1 238 <x@y>\nhand 1\nraw 1 32\ntick 400\n\
-        article 1 a\\0b\n";
-    let printed =
-        b"1 p new\nc1 p\nc1>MODE STREAM\nc1 hand 1\nc1>CHECK <x@y>\nc1 need 1\nc1 none\nc1 need 1\nc1 need 1\nc1 need 1\n\
-        c1 drop 1 Unsendable\np taken 1 answered 0 dropped 1 owed 0 bytes 0\nend 10\n";
-    check(&rt, rt.alloc(), script, printed, Ending::Done)
-}
-
-// A moment is one step for all connections, in order of their numbers. An answer that is late closes.
-#[test]
-fn late_answers(rt: HostRuntime) -> Result<(), Fail> {
-    let script =
-        b"peer p response-timeout: 10\npeer q\nconnect q\nconnect p\nconnect p\nsay 3 200\ntick 5\ntick 14\ntick 15\ntick 304\ntick 305\n";
-    let printed =
-        b"c1 q\nc2 p\nc3 p\nc3>MODE STREAM\nc2 closed Timeout\nc3 closed Timeout\nc1 closed Timeout\n\
-        p taken 0 answered 0 dropped 0 owed 0 bytes 0\nq taken 0 answered 0 dropped 0 owed 0 bytes 0\nend 9\n";
-    check(&rt, rt.alloc(), script, printed, Ending::Done)
-}
-
-// The moment may go back: what was due is due no more.
-#[test]
-fn the_moment_goes_back(rt: HostRuntime) -> Result<(), Fail> {
-    let script =
-        b"peer p\nline a/1 <x@y> p\nconnect p\nsay 1 200\nsay 1 203\nhand 1\nsay 1 431 <x@y>\ntick 60\ntick 59\nhand 1\ntick 60\nhand 1\n";
-    let printed =
-        b"1 p new\nc1 p\nc1>MODE STREAM\nc1 hand 1\nc1>CHECK <x@y>\nc1 later 1 60\nc1 none\nc1 hand 1\nc1>CHECK <x@y>\n\
-        p taken 1 answered 0 dropped 0 owed 1 bytes 10\nend 11\n";
-    check(&rt, rt.alloc(), script, printed, Ending::Done)
-}
-
-// Settings act: without streaming an article goes by IHAVE, and checks end with the share of wanted articles.
-#[test]
-fn settings_act(rt: HostRuntime) -> Result<(), Fail> {
-    let script =
-        b"peer p streaming: false\nline a/1 <x@y> p\nconnect p\nsay 1 201\nhand 1\narticle 1 one\\r\\n\\\\\nsay 1 335\nsay 1 235\n";
-    let printed =
-        b"1 p new\nc1 p\nc1 hand 1\nc1 need 1\nc1>IHAVE <x@y>\nc1>one\nc1>\\\nc1>.\nc1 final 1 235\n\
-        p taken 1 answered 1 dropped 0 owed 0 bytes 0\nend 7\n";
-    check(&rt, rt.alloc(), script, printed, Ending::Done)?;
-    let script =
-        b"peer p no-check-filter: 1\nline a/1 <x@y> p\nline a/2 <z@y> p\nconnect p\nsay 1 200\nsay 1 203\nhand 1\nsay 1 238 <x@y>\n\
-        article 1 t\nsay 1 239 <x@y>\nhand 1\narticle 1 t\nsay 1 439 <z@y>\n";
-    let printed =
-        b"1 p new\n2 p new\nc1 p\nc1>MODE STREAM\nc1 hand 1\nc1>CHECK <x@y>\nc1 need 1\nc1>TAKETHIS <x@y>\nc1>t\nc1>.\nc1 final 1 239\n\
-        c1 hand 2\nc1 need 2\nc1>TAKETHIS <z@y>\nc1>t\nc1>.\nc1 final 2 439\n\
-        p taken 2 answered 2 dropped 0 owed 0 bytes 0\nend 12\n";
-    check(&rt, rt.alloc(), script, printed, Ending::Done)
-}
-
-// Codes below 100, and codes that end a connection at its greeting. What closes a connection empties its output.
-#[test]
-fn greetings(rt: HostRuntime) -> Result<(), Fail> {
-    for (said, printed) in [
-        ("say 1 005", "c1 closed Greeting 5\n"),
-        ("say 1 502 no", "c1 closed Greeting 502\n"),
-        ("say 1 400", "c1 closed Greeting 400\n"),
-        ("say 1 ", "c1 closed Reader NoCode\n"),
-        ("say 1 no", "c1 closed Reader NoCode\n"),
-        ("raw 1 3230300D0A3530320d0a", "c1 closed Ended 502\n"),
-    ] {
-        let script = format!(in rt.alloc(); "peer p\nconnect p\n{said}\n")?;
-        let printed = format!(in rt.alloc();
-            "c1 p\n{printed}p taken 0 answered 0 dropped 0 owed 0 bytes 0\nend 2\n"
-        )?;
-        check(
-            &rt,
-            rt.alloc(),
-            script.as_bytes(),
-            printed.as_bytes(),
-            Ending::Done,
-        )?;
-    }
-    Ok(())
-}
-
-// A stop ends the connections, and their numbers go on. What was answered and not flushed is owed again.
-#[test]
-fn connections_end_with_a_stop(rt: HostRuntime) -> Result<(), Fail> {
-    let script =
-        b"peer p\nline a/1 <x@y> p\nflush\nconnect p\nsay 1 200\nsay 1 203\nhand 1\nsay 1 438 <x@y>\nstop\nrestart\nconnect p\nsay 2 200\nsay 2 203\n\
-        hand 2\nsay 2 438 <x@y>\nflush\nstop\nrestart\nhand 2\n";
-    let printed =
-        b"1 p new\ntaken 1\nc1 p\nc1>MODE STREAM\nc1 hand 1\nc1>CHECK <x@y>\nc1 final 1 438\nstopped\np mark 1 owes 1\nc2 p\nc2>MODE STREAM\n\
-        c2 hand 1\nc2>CHECK <x@y>\nc2 final 1 438\ntaken 1\nstopped\np mark 1 owes -\nstep 18: NoConnection\n";
-    check(&rt, rt.alloc(), script, printed, Ending::Refused)
-}
-
-// A stop between the gates of a flush: what the peer had answered is owed again, and the connection is gone.
-#[test]
-fn stopped_within_an_exchange(rt: HostRuntime) -> Result<(), Fail> {
-    let script =
-        b"peer p\nline a/1 <x@y> p\nflush\nconnect p\nsay 1 200\nsay 1 203\nhand 1\nsay 1 438 <x@y>\nstop p 3 0\nflush\nrestart\nconnect p\nsay 1 x\n";
-    let printed =
-        b"1 p new\ntaken 1\nc1 p\nc1>MODE STREAM\nc1 hand 1\nc1>CHECK <x@y>\nc1 final 1 438\nstopped\np mark 1 owes 1\nc2 p\n\
-        step 12: NoConnection\n";
-    check(&rt, rt.alloc(), script, printed, Ending::Refused)
+    let wanted = "1 p new\n\
+        c1 p\n\
+        c1>MODE STREAM\n\
+        c1 hand 1\n\
+        c1>CHECK <x@y>\n\
+        c1 back 1\n\
+        c1 closed Reader TooLong\n\
+        p taken 1 answered 0 dropped 0 owed 1 bytes 10\n\
+        end 6\n";
+    check(&rt, rt.alloc(), &script, wanted, Ending::Done)
 }

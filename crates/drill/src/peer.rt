@@ -56,11 +56,12 @@ impl Peer<StopDisk> {
     ghost use Rattle.disk_model.specs.InMemory.{events};
     ghost use Rattle.recovery.specs.Image.{EachTape, Survives};
     ghost use Rattle.recovery.specs.Notes.{History};
-    ghost use Rattle.peer_queue.specs.Words.{StandsFor};
+    ghost use Rattle.peer_queue.specs.Words.{StandsFor, log_of};
 
     /// Stops it. What pends is gone, and the disk stays as it is.
     pub fn stop(self) -> StoppedPeer
         ensures conf { result.conf ≡ self.conf }
+        ensures log { events result.disk ≡ log_of self.station }
         ensures survives { (h : History) → StandsFor self.station h → EachTape (Survives h) (events result.disk) }
     {
         let Peer { conf, station } = self;

@@ -113,7 +113,7 @@ impl Drill {
     }
 
     // Takes one step, and adds what it prints. A step that is refused prints nothing, and one in which a stop is met prints
-    // `stopped` alone.
+    // `stopped` alone, unless memory was refused to it.
     fn take(&mut self, step: Step<'_>, out: &mut Vec<u8>) -> Result<(), Fault> {
         let taken = match step {
             Step::Line(text) => self.line(text, out),
@@ -128,14 +128,16 @@ impl Drill {
         };
         let (trigger, met) = self.trigger.get().settle();
         self.trigger.set(trigger);
-        match met {
-            None => taken,
-            Some(choice) => {
-                self.stage = self.take_stage().leave(self.alloc, choice)?;
-                print_stopped(out)?;
-                Ok(())
-            }
+        let Some(choice) = met else {
+            return taken;
+        };
+        // A step that memory was refused to may have lost the peers.
+        if let Err(Fault::NoMemory) = taken {
+            return taken;
         }
+        self.stage = self.take_stage().leave(self.alloc, choice)?;
+        print_stopped(out)?;
+        Ok(())
     }
 
     // Takes a funnel line: what it owes is owed, and it has a number, good or bad.

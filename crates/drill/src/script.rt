@@ -4,6 +4,7 @@ ghost use Rattle.feed_conf.specs.declared.conf.PeerConf.{PeerConf};
 ghost use Rattle.feed_conf.specs.Tokens.{Token};
 ghost use Rattle.feed_conf.specs.Reading.{HaveTokens, lines_of};
 ghost use Rattle.feed_conf.specs.Settings.{meaning};
+ghost use Rattle.drill.specs.declared.script.ScriptFault.TheVariants.{NoMemory};
 ghost use Rattle.drill.specs.Script.{Declares, name_part, items_part, peer_text};
 
 use crate::lines::{first_line, first_space};
@@ -32,12 +33,16 @@ pub enum ScriptFault {
 }
 
 impl From<AllocError> for ScriptFault {
+    ghost from_gives = { λ _ fault. fault ≡ NoMemory };
+
     fn from(_: AllocError) -> Self {
         ScriptFault::NoMemory
     }
 }
 
 impl<T: Drop> From<AllocFailed<T>> for ScriptFault {
+    ghost from_gives = { λ _ fault. fault ≡ NoMemory };
+
     fn from(_: AllocFailed<T>) -> Self {
         ScriptFault::NoMemory
     }

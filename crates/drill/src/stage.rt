@@ -1,6 +1,9 @@
 // All peers of a drill, running or stopped.
-ghost use Rattle.std.specs.Prelude.{◌≡◌, ◌↔◌, IfOk, IsErrOf, MatchOption};
+ghost use Rattle.std.specs.Prelude.{◌≡◌, ◌↔◌, ◌++◌, ◌∷◌, [], List, map, IfNone, IfOk, IfSome, IsErrOf, MatchOption, OnOk, OnSome};
+ghost use Rattle.std.specs.List.{AllZip};
 ghost use Rattle.std.specs.Str.{bytes_eq};
+ghost use Rattle.recovery.specs.Notes.{History};
+ghost use Rattle.drill.specs.Stage.{HasStopped, IsLeft, Opens, place_among, running_confs};
 
 use crate::action::Action;
 use crate::connection::Connection;
@@ -33,8 +36,10 @@ pub struct Running {
 }
 
 impl Running {
-    /// The place of the peer of this name.
-    pub fn place_of(&self, name: &PeerName) -> Option<usize> {
+    /// The place of the first peer of this name.
+    pub fn place_of(&self, name: &PeerName) -> Option<usize>
+        ensures { result ≡ place_among (running_confs self.now.peers.items) name.now }
+    {
         self.peers
             .iter()
             .position(|peer| is_named(&peer.conf, name))
@@ -117,10 +122,12 @@ struct Opening {
 }
 
 impl Stage {
-    ghost use Rattle.drill.specs.Stage.{IsRunning, IsStopped};
+    ghost use Rattle.drill.specs.Stage.{HasLimits, IsRunning, IsStopped, RecoversEach, TellsEach, TellsNoDamage, confs_of, left_by, logs_of};
 
-    /// The place of the peer of this name.
-    pub fn place_of(&self, name: &PeerName) -> Option<usize> {
+    /// The place of the first peer of this name.
+    pub fn place_of(&self, name: &PeerName) -> Option<usize>
+        ensures { result ≡ place_among (confs_of self.now) name.now }
+    {
         match self {
             Stage::Running(running) => running.place_of(name),
             Stage::Stopped(peers) => peers.iter().position(|peer| is_named(&peer.conf, name)),
@@ -134,6 +141,9 @@ impl Stage {
     pub fn stop(self, alloc: Global) -> Result<Stage, Fault>
         ensures ok { IfOk result IsStopped }
         ensures stopped { IsErrOf result Fault.Stopped ↔ IsStopped self }
+        ensures confs { IfOk result (λ stage. confs_of stage ≡ confs_of self) }
+        ensures logs { IfOk result (λ stage. logs_of stage ≡ logs_of self) }
+        ensures tells { (hs : List History) → TellsEach hs self → IfOk result (TellsEach hs) }
     {
         match self {
             Stage::Running(running) => Ok(Stage::Stopped(stop_each(alloc, running.peers)?)),
@@ -146,17 +156,18 @@ impl Stage {
     /// # Errors
     /// Memory was refused.
     pub fn leave(self, alloc: Global, choice: Choice) -> Result<Stage, AllocError>
-        ensures { IfOk result IsStopped }
+        ensures stopped { IfOk result IsStopped }
+        ensures confs { IfOk result (λ stage. confs_of stage ≡ confs_of self) }
+        ensures logs { IfOk result (λ stage. logs_of stage ≡ map (left_by choice) (logs_of self)) }
+        ensures tells { (hs : List History) → TellsEach hs self → IfOk result (TellsEach hs) }
     {
-        let peers = match self {
-            Stage::Running(running) => stop_each(alloc, running.peers)?,
-            Stage::Stopped(peers) => peers,
-        };
-        let mut left = Vec::new(alloc);
-        for peer in peers {
-            left.push(peer.leave(choice)?)?;
+        match self {
+            Stage::Running(running) => {
+                let peers = stop_each(alloc, running.peers)?;
+                Ok(Stage::Stopped(leave_each(alloc, peers, choice)?))
+            }
+            Stage::Stopped(peers) => Ok(Stage::Stopped(leave_each(alloc, peers, choice)?)),
         }
-        Ok(Stage::Stopped(left))
     }
 
     /// Opens all peers' stations in order. Where a tape is refused all peers have stopped, and its fault is told beside them.
@@ -170,52 +181,53 @@ impl Stage {
     ) -> Result<(Stage, Option<Fault>), Fault>
         ensures ok { IfOk result (λ r. MatchOption r.1 (IsRunning r.0) (λ _. IsStopped r.0)) }
         ensures running { IsErrOf result Fault.Running ↔ IsRunning self }
+        ensures confs { IfOk result (λ r. confs_of r.0 ≡ confs_of self) }
+        ensures limits { IfOk result (λ r. HasLimits r.0) }
+        ensures recovers { (hs : List History) → TellsEach hs self → IfOk result (λ r. IfNone r.1 (RecoversEach hs (logs_of self) r.0)) }
+        ensures tells { (hs : List History) → TellsEach hs self → IfOk result (λ r. OnSome r.1 (TellsEach hs r.0)) }
+        ensures undamaged { (hs : List History) → TellsEach hs self → IfOk result (λ r. IfSome r.1 TellsNoDamage) }
     {
-        let peers = match self {
-            Stage::Running(_) => return Err(Fault::Running),
-            Stage::Stopped(peers) => peers,
-        };
-        let mut opening = Opening {
-            running: Vec::new(alloc),
-            stopped: Vec::new(alloc),
-            refused: None,
-        };
-        for (place, peer) in peers.into_iter().enumerate() {
-            opening.add(alloc, peer, place, trigger.clone()?)?;
+        match self {
+            Stage::Running(_) => Err(Fault::Running),
+            Stage::Stopped(peers) => Ok(open_each(alloc, peers, trigger)?),
         }
-        let stage_and_fault = opening.end(alloc)?;
-        Ok(stage_and_fault)
     }
 }
 
 impl Opening {
-    ghost use Rattle.drill.specs.Stage.{IsRunning, IsStopped};
+    ghost use Rattle.drill.specs.declared.peer.StoppedPeer.{StoppedPeer};
+    ghost use Rattle.drill.specs.Stage.{HasTried, IsRunning, IsStopped};
 
-    // Opens the next peer's station, unless one was refused.
+    // Opens the next peer's station, unless one was refused. All before it run, so that they tell its place.
     fn add(
         &mut self,
         alloc: Global,
         peer: StoppedPeer,
-        place: usize,
         trigger: Rc<Cell<Trigger>>,
-    ) -> Result<(), AllocError> {
+    ) -> Result<(), AllocError>
+        ensures { (peers : List StoppedPeer) → HasTried peers self.old → OnOk result (HasTried (peers ++ peer ∷ []) self.new) }
+    {
         if self.refused.is_some() {
             self.stopped.push(peer)?;
             return Ok(());
         }
-        match peer.open(alloc, place, trigger) {
-            Ok(peer) => self.running.push(peer)?,
+        match peer.open(alloc, self.running.len(), trigger) {
+            Ok(peer) => {
+                self.running.push(peer)?;
+                Ok(())
+            }
             Err((peer, fault)) => {
                 self.stopped.push(peer)?;
                 self.refused = Some(Fault::from(fault));
+                Ok(())
             }
         }
-        Ok(())
     }
 
     // All peers run, or where one was refused all have stopped.
     fn end(self, alloc: Global) -> Result<(Stage, Option<Fault>), AllocError>
-        ensures { IfOk result (λ r. MatchOption r.1 (IsRunning r.0) (λ _. IsStopped r.0)) }
+        ensures ends { IfOk result (λ r. MatchOption r.1 (IsRunning r.0) (λ _. IsStopped r.0)) }
+        ensures opens { (peers : List StoppedPeer) → HasTried peers self → IfOk result (λ r. Opens peers r.0 r.1) }
     {
         let Opening {
             running,
@@ -243,10 +255,46 @@ fn is_named(conf: &PeerConf, name: &PeerName) -> bool
 }
 
 // Stops these peers.
-fn stop_each(alloc: Global, peers: Vec<Peer<StopDisk>>) -> Result<Vec<StoppedPeer>, AllocError> {
+fn stop_each(alloc: Global, peers: Vec<Peer<StopDisk>>) -> Result<Vec<StoppedPeer>, AllocError>
+    ensures { IfOk result (λ stopped. AllZip HasStopped peers.items stopped.items) }
+{
     let mut stopped = Vec::new(alloc);
     for peer in peers {
         stopped.push(peer.stop())?;
     }
     Ok(stopped)
+}
+
+// Gives each of these peers what a stop leaves of its disk by this choice.
+fn leave_each(
+    alloc: Global,
+    peers: Vec<StoppedPeer>,
+    choice: Choice,
+) -> Result<Vec<StoppedPeer>, AllocError>
+    ensures { IfOk result (λ left. AllZip (IsLeft choice) peers.items left.items) }
+{
+    let mut left = Vec::new(alloc);
+    for peer in peers {
+        left.push(peer.leave(choice)?)?;
+    }
+    Ok(left)
+}
+
+// Opens the stations of these peers in order, up to the first that is refused.
+fn open_each(
+    alloc: Global,
+    peers: Vec<StoppedPeer>,
+    trigger: &Rc<Cell<Trigger>>,
+) -> Result<(Stage, Option<Fault>), AllocError>
+    ensures { IfOk result (λ r. Opens peers.items r.0 r.1) }
+{
+    let mut opening = Opening {
+        running: Vec::new(alloc),
+        stopped: Vec::new(alloc),
+        refused: None,
+    };
+    for peer in peers {
+        opening.add(alloc, peer, trigger.clone()?)?;
+    }
+    opening.end(alloc)
 }

@@ -1,4 +1,9 @@
 // The steps of a drill, as a script has them (docs/FORMATS.md).
+ghost use Rattle.std.specs.Prelude.{None, Some, ℕ, option_map, IfOk, MatchOption};
+ghost use Rattle.drill.specs.Step.{SaysOn, SaysStep, text_of, word_of};
+ghost use Rattle.drill.specs.declared.action.Action.{Action};
+ghost use Rattle.drill.specs.declared.step.Step.{Step};
+
 use crate::action::Action;
 use crate::arming::Arming;
 use crate::lines::split_word;
@@ -34,8 +39,22 @@ impl<'a> Step<'a> {
     ///
     /// # Errors
     /// Memory was refused.
-    pub fn read(alloc: Global, line: &'a [u8]) -> Result<Option<Step<'a>>, AllocError> {
-        match split_word(line) {
+    pub fn read(alloc: Global, line: &'a [u8]) -> Result<Option<Step<'a>>, AllocError>
+        ensures { IfOk result (λ step. MatchOption step ((step : Step) → SaysStep (word_of line.now) (text_of line.now) step → ⊥) (SaysStep (word_of line.now) (text_of line.now))) }
+    {
+        let (word, text) = split_word(line);
+        Step::of_parts(alloc, word, text)
+    }
+
+    // The step that a word names, with what stands behind it.
+    fn of_parts(
+        alloc: Global,
+        word: &[u8],
+        text: Option<&'a [u8]>,
+    ) -> Result<Option<Step<'a>>, AllocError>
+        ensures { IfOk result (λ step. MatchOption step ((step : Step) → SaysStep word.now (option_map (λ t. t.now) text.entry) step → ⊥) (SaysStep word.now (option_map (λ t. t.now) text.entry))) }
+    {
+        match (word, text) {
             (word, None) => Ok(lone_step(word)),
             (b"line", Some(text)) => Ok(Some(Step::Line(text))),
             (b"connect", Some(name)) => match PeerName::read(alloc, name)? {
@@ -60,7 +79,9 @@ impl<'a> Step<'a> {
 }
 
 // A step of one word.
-fn lone_step<'a>(word: &[u8]) -> Option<Step<'a>> {
+fn lone_step<'a>(word: &[u8]) -> Option<Step<'a>>
+    ensures { MatchOption result ((step : Step) → SaysStep word.now None step → ⊥) (SaysStep word.now None) }
+{
     match word {
         b"line" => Some(Step::Line(b"")),
         b"flush" => Some(Step::Flush),
@@ -71,7 +92,9 @@ fn lone_step<'a>(word: &[u8]) -> Option<Step<'a>> {
 }
 
 // A step on one connection, whose number stands first behind the word.
-fn step_on<'a>(alloc: Global, word: &[u8], rest: &[u8]) -> Result<Option<Step<'a>>, AllocError> {
+fn step_on<'a>(alloc: Global, word: &[u8], rest: &[u8]) -> Result<Option<Step<'a>>, AllocError>
+    ensures { IfOk result (λ step. MatchOption step ((number : ℕ) (action : Action) → SaysOn word.now rest.now number action → ⊥) (SaysStep word.now (Some rest.now))) }
+{
     let (number, text) = split_word(rest);
     let Some(connection) = read_number(number) else {
         return Ok(None);

@@ -2,8 +2,9 @@
 ghost use Rattle.std.specs.Prelude.{◌<◌, ◌^◌};
 
 use crate::ending::Ending;
-use crate::tests::{Row, run};
+use crate::tests::{Row, check_broken_lines, check_last, check_rows, run};
 use std::alloc::{AllocError, Global};
+use std::fmt;
 use std::process::Abort;
 use std::test::Fail;
 
@@ -18,7 +19,6 @@ const FIRST_GATE: Row = (
         p mark 0 owes -\n\
         p taken 0 answered 0 dropped 0 owed 0 bytes 0\n\
         end 4\n",
-    Ending::Done,
 );
 
 const FIRST_GATE_HAPPENED: Row = (
@@ -32,7 +32,6 @@ const FIRST_GATE_HAPPENED: Row = (
         p mark 1 owes 1\n\
         p taken 1 answered 0 dropped 0 owed 1 bytes 10\n\
         end 4\n",
-    Ending::Done,
 );
 
 const FIRST_GATE_TORN: Row = (
@@ -46,7 +45,6 @@ const FIRST_GATE_TORN: Row = (
         p mark 1 owes 1\n\
         p taken 1 answered 0 dropped 0 owed 1 bytes 10\n\
         end 4\n",
-    Ending::Done,
 );
 
 const WRITE_TORN: Row = (
@@ -60,7 +58,6 @@ const WRITE_TORN: Row = (
         p mark 0 owes -\n\
         p taken 0 answered 0 dropped 0 owed 0 bytes 0\n\
         end 4\n",
-    Ending::Done,
 );
 
 const BETWEEN_GATES: Row = (
@@ -88,7 +85,6 @@ const BETWEEN_GATES: Row = (
         p mark 2 owes 1 2\n\
         p taken 2 answered 0 dropped 0 owed 2 bytes 20\n\
         end 11\n",
-    Ending::Done,
 );
 
 const INSIDE_RECOVERY: Row = (
@@ -105,7 +101,6 @@ const INSIDE_RECOVERY: Row = (
         p mark 1 owes 1\n\
         p taken 1 answered 0 dropped 0 owed 1 bytes 10\n\
         end 6\n",
-    Ending::Done,
 );
 
 const SECOND_PEER: Row = (
@@ -126,7 +121,6 @@ const SECOND_PEER: Row = (
         p taken 1 answered 0 dropped 0 owed 1 bytes 10\n\
         q taken 1 answered 0 dropped 0 owed 1 bytes 10\n\
         end 6\n",
-    Ending::Done,
 );
 
 // A stop is armed at one peer alone, a bare stop disarms it, and one that is not reached counts on.
@@ -155,7 +149,6 @@ const ARMED_AGAIN: Row = (
         p taken 1 answered 0 dropped 0 owed 1 bytes 10\n\
         q taken 2 answered 0 dropped 0 owed 2 bytes 20\n\
         end 11\n",
-    Ending::Done,
 );
 
 // The second flush makes the fifth call of the peer's disk.
@@ -177,76 +170,69 @@ const COUNTS_ON: Row = (
         p mark 1 owes 1\n\
         p taken 1 answered 0 dropped 0 owed 1 bytes 10\n\
         end 8\n",
-    Ending::Done,
 );
 
-const NO_PEER: Row = ("peer p\nstop q 1 0\n", "step 1: NoPeer\n", Ending::Refused);
-
-const NO_PEER_WHILE_STOPPED: Row = (
-    "peer p\nstop\nstop q 1 0\n",
-    "stopped\nstep 2: NoPeer\n",
-    Ending::Refused,
+// The greatest numbers that a stop may have.
+const GREATEST: Row = (
+    "peer p\n\
+        stop p 18446744073709551615 18446744073709551615 0000255\n",
+    "p taken 0 answered 0 dropped 0 owed 0 bytes 0\n\
+        end 1\n",
 );
 
-const STOP_WHILE_STOPPED: Row = (
-    "peer p\nstop\nstop\n",
-    "stopped\nstep 2: Stopped\n",
-    Ending::Refused,
-);
+const DONE: &[Row] = &[
+    FIRST_GATE,
+    FIRST_GATE_HAPPENED,
+    FIRST_GATE_TORN,
+    WRITE_TORN,
+    BETWEEN_GATES,
+    INSIDE_RECOVERY,
+    SECOND_PEER,
+    ARMED_AGAIN,
+    COUNTS_ON,
+    GREATEST,
+];
 
 #[test]
 fn stop_rows(rt: HostRuntime) -> Result<(), Fail> {
-    for (script, printed, exit) in [
-        FIRST_GATE,
-        FIRST_GATE_HAPPENED,
-        FIRST_GATE_TORN,
-        WRITE_TORN,
-        BETWEEN_GATES,
-        INSIDE_RECOVERY,
-        SECOND_PEER,
-        ARMED_AGAIN,
-        COUNTS_ON,
-        NO_PEER,
-        NO_PEER_WHILE_STOPPED,
-        STOP_WHILE_STOPPED,
-    ] {
-        let (got, end) = run(rt.alloc(), script.as_bytes())?;
-        assert_eq!(rt; got.as_slice(), printed.as_bytes(), "{script}");
-        assert_eq!(rt; end, exit, "{script}");
-    }
-    Ok(())
+    check_rows(&rt, rt.alloc(), DONE, Ending::Done)
 }
+
+const REFUSED: &[Row] = &[
+    ("peer p\nstop q 1 0\n", "step 1: NoPeer\n"),
+    ("peer p\nstop\nstop q 1 0\n", "stopped\nstep 2: NoPeer\n"),
+    ("peer p\nstop\nstop\n", "stopped\nstep 2: Stopped\n"),
+];
+
+#[test]
+fn refused_stops(rt: HostRuntime) -> Result<(), Fail> {
+    check_rows(&rt, rt.alloc(), REFUSED, Ending::Refused)
+}
+
+// Stops that break the rules.
+const BROKEN: &[&str] = &[
+    "stop p",
+    "stop p 1",
+    "stop p 1 0 0 0",
+    "stop p 0 0",
+    "stop p 00 0",
+    "stop p 1 0 256",
+    "stop p +1 0",
+    "stop p 1 -0",
+    "stop p 1 0 0x1",
+    "stop p 1 18446744073709551616",
+    "stop p 1  0",
+    "stop  p 1 0",
+    "stop p 1 0 ",
+    "stop p 1 ",
+    "stop .x 1 0",
+    "stop ~intake 1 0",
+    "stop ",
+];
 
 #[test]
 fn stops_that_break_the_rules(rt: HostRuntime) -> Result<(), Fail> {
-    for words in [
-        "p",
-        "p 1",
-        "p 1 0 0 0",
-        "p 0 0",
-        "p 00 0",
-        "p 1 0 256",
-        "p +1 0",
-        "p 1 -0",
-        "p 1 0 0x1",
-        "p 1 18446744073709551616",
-        "p 1  0",
-        " p 1 0",
-        "p 1 0 ",
-        "p 1 ",
-        ".x 1 0",
-        "~intake 1 0",
-        "",
-    ] {
-        let script = format!(in rt.alloc(); "peer p\nstop {words}\n")?;
-        let (got, exit) = run(rt.alloc(), script.as_bytes())?;
-        assert_eq!(rt; got.as_slice(), b"script 2\n".as_slice(), "{script}");
-        assert_eq!(rt; exit, Ending::Refused, "{script}");
-    }
-    let greatest = b"peer p\nstop p 18446744073709551615 18446744073709551615 0000255\n";
-    let (_, exit) = run(rt.alloc(), greatest)?;
-    assert_eq!(rt; exit, Ending::Done);
-    Ok(())
+    check_broken_lines(&rt, rt.alloc(), BROKEN)
 }
 
 // A drill that is stopped at each call of its last flush.
@@ -321,25 +307,40 @@ const SECOND_OF_TWO: Sweep = Sweep {
 };
 
 // How many counted calls of a disk there are in the opening of its tape.
-const OPENING_CALLS: u8 = 5;
+const OPENING_CALLS: u64 = 5;
 
 // How many choices are tried at each call: 8 of what happened, and 3 fills.
 const CHOICES: u64 = 24;
 
-// A stop as a script names it.
-#[derive(Clone, Copy, Debug)]
+// A stop at a peer's disk.
+#[derive(Clone, Copy)]
 struct StopAt {
+    peer: &'static str,
     call: u64,
     happened: u64,
     fill: u8,
 }
 
+// As a script names it.
+impl fmt::Display for StopAt {
+    fn fmt<W: fmt::Write>(&self, f: &mut fmt::Formatter<W>) -> fmt::Result {
+        let StopAt {
+            peer,
+            call,
+            happened,
+            fill,
+        } = *self;
+        write!(f, "stop {peer} {call} {happened} {fill}")
+    }
+}
+
 // The stop of this number, from 0: the first 24 are at the first call.
-fn stop_at(number: u64) -> StopAt
+fn stop_at(peer: &'static str, number: u64) -> StopAt
     requires { number < 2 ^ 32 }
 {
     let choice = number % CHOICES;
     StopAt {
+        peer,
         call: number / CHOICES + 1,
         happened: choice % 8,
         fill: match choice / 8 {
@@ -350,92 +351,105 @@ fn stop_at(number: u64) -> StopAt
     }
 }
 
-// How many of the lines are this one.
-fn count_lines(printed: &[u8], wanted: &[u8]) -> usize {
-    printed
-        .split(|octet| *octet == b'\n')
-        .filter(|line| *line == wanted)
-        .count()
-}
-
-// How many lines tell a mark.
-fn count_marks(printed: &[u8]) -> usize {
-    printed
-        .split(|octet| *octet == b'\n')
-        .filter(|line| line.windows(6).any(|part| part == b" mark ".as_slice()))
-        .count()
-}
-
-// Whether a restart printed something, and each line of that is among these, which are all different.
-fn are_fronts(printed: &[u8], fronts: &[&str]) -> bool {
-    let mut known = 0usize;
+// Whether the line is one of these.
+fn is_among(line: &str, fronts: &[&str]) -> bool {
     for front in fronts {
-        known = known.saturating_add(count_lines(printed, front.as_bytes()));
+        if *front == line {
+            return true;
+        }
     }
-    known != 0 && known == count_marks(printed)
+    false
 }
 
-// The script with this stop in its last flush.
-fn stopped_script(alloc: Global, sweep: &Sweep, stop: StopAt) -> Result<String, AllocError> {
-    let Sweep { before, peer, .. } = *sweep;
-    let StopAt {
-        call,
-        happened,
-        fill,
-    } = stop;
-    format!(in alloc; "{before}stop {peer} {call} {happened} {fill}\nflush\n")
+// Whether a restart told marks, and each of them is one of these.
+fn are_fronts(printed: &str, fronts: &[&str]) -> bool {
+    let mut told = false;
+    for line in printed.split('\n') {
+        if line.contains(" mark ") {
+            if !is_among(line, fronts) {
+                return false;
+            }
+            told = true;
+        }
+    }
+    told
+}
+
+// How many stops were met.
+fn count_stopped(printed: &str) -> usize {
+    let mut count = 0usize;
+    for line in printed.split('\n') {
+        if line == "stopped" {
+            count = count.saturating_add(1);
+        }
+    }
+    count
+}
+
+// Looks at what a restart printed of the peers.
+fn check_fronts(rt: &impl Abort, sweep: &Sweep, script: &str, printed: &str) {
+    assert!(rt; are_fronts(printed, sweep.fronts), "{script}");
+}
+
+// The script with this stop in its last flush, and a restart.
+fn restarted_script(alloc: Global, sweep: &Sweep, stop: StopAt) -> Result<String, AllocError> {
+    let before = sweep.before;
+    format!(in alloc; "{before}{stop}\nflush\nrestart\n")
 }
 
 // Runs the script with this stop and a restart, and then with the lines that come again. Tells whether the stop was met.
 fn stop_once(rt: &impl Abort, alloc: Global, sweep: &Sweep, stop: StopAt) -> Result<bool, Fail> {
-    let script = stopped_script(alloc, sweep, stop)?;
-    let restarted = format!(in alloc; "{script}restart\n")?;
-    let (got, _) = run(alloc, restarted.as_bytes())?;
-    if count_lines(&got, b"stopped") == 0 {
+    let script = restarted_script(alloc, sweep, stop)?;
+    let (printed, _) = run(alloc, &script)?;
+    if count_stopped(&printed) == 0 {
         return Ok(false);
     }
-    assert!(rt; are_fronts(&got, sweep.fronts), "{restarted}");
+    check_fronts(rt, sweep, &script, &printed);
     let again = sweep.again;
-    let whole = format!(in alloc; "{restarted}{again}flush\nstop\nrestart\nstop\n")?;
-    let (got, exit) = run(alloc, whole.as_bytes())?;
-    assert_eq!(rt; exit, Ending::Done, "{whole}");
-    assert!(rt; got.ends_with(sweep.end.as_bytes()), "{whole}");
+    let whole = format!(in alloc; "{script}{again}flush\nstop\nrestart\nstop\n")?;
+    check_last(rt, alloc, &whole, sweep.end, Ending::Done)?;
     Ok(true)
 }
 
-// Runs the script with this stop, and with one by the same choice at a call of the restart, and restarts again. Tells whether that
-// second stop was met; the second restart is refused where it was not.
+// The script with this stop in its last flush, and one by the same choice at a call of the restart, and a second restart.
+fn twice_stopped_script(
+    alloc: Global,
+    sweep: &Sweep,
+    stop: StopAt,
+    second_call: u64,
+) -> Result<String, AllocError> {
+    let before = sweep.before;
+    let second = StopAt {
+        call: second_call,
+        ..stop
+    };
+    format!(in alloc; "{before}{stop}\nflush\n{second}\nrestart\nrestart\n")
+}
+
+// Runs the script with both stops. Tells whether the second was met; the second restart is refused where it was not.
 fn stop_twice(
     rt: &impl Abort,
     alloc: Global,
     sweep: &Sweep,
     stop: StopAt,
-    second_call: u8,
+    second_call: u64,
 ) -> Result<bool, Fail> {
-    let script = stopped_script(alloc, sweep, stop)?;
-    let peer = sweep.peer;
-    let StopAt { happened, fill, .. } = stop;
-    let twice = format!(in alloc;
-        "{script}stop {peer} {second_call} {happened} {fill}\nrestart\nrestart\n"
-    )?;
-    let (got, exit) = run(alloc, twice.as_bytes())?;
-    assert!(rt; are_fronts(&got, sweep.fronts), "{twice}");
-    let met = count_lines(&got, b"stopped") == 2;
-    assert_eq!(rt; exit == Ending::Done, met, "{twice}");
+    let script = twice_stopped_script(alloc, sweep, stop, second_call)?;
+    let (printed, ending) = run(alloc, &script)?;
+    check_fronts(rt, sweep, &script, &printed);
+    let met = count_stopped(&printed) == 2;
+    assert_eq!(rt; ending == Ending::Done, met, "{script}");
     Ok(met)
 }
 
 // Stops the restart after this stop at each of its calls.
 fn sweep_restart(rt: &impl Abort, alloc: Global, sweep: &Sweep, stop: StopAt) -> Result<(), Fail> {
     for call in 1..=OPENING_CALLS {
-        assert!(rt;
-            stop_twice(rt, alloc, sweep, stop, call)?,
-            "{stop:?} {call}"
-        );
+        assert!(rt; stop_twice(rt, alloc, sweep, stop, call)?, "{stop} {call}");
     }
     assert!(rt;
         !stop_twice(rt, alloc, sweep, stop, OPENING_CALLS + 1)?,
-        "{stop:?}"
+        "{stop}"
     );
     Ok(())
 }
@@ -444,11 +458,11 @@ fn sweep_restart(rt: &impl Abort, alloc: Global, sweep: &Sweep, stop: StopAt) ->
 fn sweep_flush(rt: &impl Abort, alloc: Global, sweep: &Sweep) -> Result<(), Fail> {
     let stops = u64::from(sweep.calls) * CHOICES;
     for number in 0..stops {
-        let stop = stop_at(number);
-        assert!(rt; stop_once(rt, alloc, sweep, stop)?, "{stop:?}");
+        let stop = stop_at(sweep.peer, number);
+        assert!(rt; stop_once(rt, alloc, sweep, stop)?, "{stop}");
         sweep_restart(rt, alloc, sweep, stop)?;
     }
-    assert!(rt; !stop_once(rt, alloc, sweep, stop_at(stops))?);
+    assert!(rt; !stop_once(rt, alloc, sweep, stop_at(sweep.peer, stops))?);
     Ok(())
 }
 

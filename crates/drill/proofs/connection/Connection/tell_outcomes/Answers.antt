@@ -4,7 +4,6 @@ use Rattle.conn_core.specs.State.{untold_at}
 use Rattle.conn_core.specs.declared.options.CxnId.{CxnId}
 use Rattle.conn_core.specs.declared.outcome.Outcome.{Outcome}
 use Rattle.drill.specs.Exchange.{AllSettle}
-use Rattle.drill.specs.declared.peer.Peer.{Peer}
 use Rattle.drill.proofs.connection.Connection.tell_outcomes.Goals as goal
 
 pub loop-outcome-init : goal.loop-outcome-init
