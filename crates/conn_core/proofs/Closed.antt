@@ -1,20 +1,18 @@
--- Once the connection is closed, each debt that was accepted has come out.
+-- Once the connection is closed, no debt is held.
 use Rattle.std.proofs.Common.{◌≡◌, ℕ, ◌+◌, ◌<◌, ◌≤◌, Bool, true, false, List, [], ◌∷◌, ◌++◌, length, refl, sym, ap, subst, ◌∙◌, arith, Option, Some, None, append-nil}
 use Rattle.std.specs.Prelude.{◌||◌, if◌then◌else◌, is_some}
 use Rattle.std.proofs.lemmas.Bool.{false≢true}
 use Rattle.reply_reader.specs.Stream.{Given}
 use Rattle.ledger_core.specs.State.{Owing}
-use Rattle.conn_core.specs.Used.{has, times}
+use Rattle.conn_core.specs.Used.{has}
 use Rattle.conn_core.specs.Commands.{Command, Held, Quit}
 use Rattle.conn_core.specs.History.{Event, Offered, Put, Came, Faulted, Handed, Sent, Tick, Broke, Leave, Taken, accepted, answered_ask, backs, closes, first_reason, reason, story, ends, held, held_from, ended_places, ends_by_answer, puts, is_quit_due, with_puts, after, outside, noted}
 use Rattle.conn_core.specs.Stands.{Arises, Starts, Offers, Receives_reply, Receives_fault, Is_handed, Sends, Ticks, Breaks, Leaves, Takes_one, ready_when}
-use Rattle.conn_core.specs.Laws.{times_held, times_out}
 use Rattle.conn_core.specs.declared.options.Options.{Options}
 use Rattle.conn_core.specs.declared.reason.Reason.{Reason}
 use Rattle.conn_core.specs.declared.ready.Ready.TheVariants.{Yes}
-use Rattle.conn_core.proofs.HeldBack.{has-append, places, ended_places-backs}
+use Rattle.conn_core.proofs.HeldBack.{has-append, in-held, places, ended_places-backs}
 use Rattle.conn_core.proofs.Facts.{ended_places-append}
-use Rattle.conn_core.proofs.Once.{held_or_out, in-held}
 
 pub first_reason-none : (r : Option Reason) → first_reason r None ≡ r
 first_reason-none None = refl
@@ -166,11 +164,3 @@ none_held options h (Ticks g now a) closed = none_held-event options g (Tick now
 none_held options h (Breaks g a) closed = none_held-event options g Broke (none_held options g a) (reason options g) refl closed
 none_held options h (Leaves g a) closed = none_held-event options g Leave (none_held options g a) (reason options g) refl closed
 none_held options h (Takes_one g a few) closed = taken-held options g (none_held options g a) closed
-
--- once closed, each debt accepted has come out exactly once
-pub exactly_once : (options : Options) (h : List Event) (place : ℕ) → Arises options h → is_some (reason options h) ≡ true → place < length (accepted h)
-    → times_out options h place ≡ 1
-exactly_once options h place a closed few =
-    let none : times_held options h place ≡ 0 = ap (λ hs. times (places hs) place) (none_held options h a closed) in
-    let both = held_or_out options h place few in
-    omega arith

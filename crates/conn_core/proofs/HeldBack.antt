@@ -1,5 +1,5 @@
 -- The debts held: each that was accepted and has not come out, by its place.
-use Rattle.std.proofs.Common.{◌≡◌, ℕ, ◌+◌, ◌<◌, Bool, true, false, List, [], ◌∷◌, ◌++◌, length, refl, sym, ap, ◌∙◌, arith, find, Option, Some, cond, map, inl, inr}
+use Rattle.std.proofs.Common.{◌≡◌, ℕ, ◌+◌, ◌<◌, ◌≤◌, Bool, true, false, List, [], ◌∷◌, ◌++◌, length, refl, sym, ap, ◌∙◌, arith, find, Option, Some, cond, map, inl, inr}
 use Rattle.std.specs.Prelude.{◌==◌, ◌||◌, if◌then◌else◌}
 use Rattle.std.specs.Set.{remove_key}
 use Rattle.std.proofs.Math.Bool.{or-false}
@@ -118,3 +118,19 @@ find-below k held x m below e =
 
 pub AllBelow-append : (xs ys : List ℕ) (m : ℕ) → AllBelow xs m → AllBelow ys m → AllBelow (xs ++ ys) m
 AllBelow-append xs ys m p q k h = rw (has-append xs ys k, p k h) (q k h)
+
+-- a debt accepted that has not come out is held
+in-step : (b c : Bool) (y : Held) (left : List Held) (place : ℕ) → (y.place ≡ place → b ≡ false) → ((y.place ≡ place → ⊥) → has (places left) place ≡ true)
+    → has (places (if b then left else y ∷ left)) place ≡ true
+in-step b c y left place here there =
+    elim (eqb_tells y.place place) [
+      | inl same ↦ rw (here same.1, same.0) refl
+      | inr other ↦ (let h : has (places left) place ≡ true = there other.1 in
+          elim b as (λ v. has (places (if v then left else y ∷ left)) place ≡ true) [ true ↦ h | false ↦ rw other.0 h ])
+    ]
+
+pub in-held : (gone : List ℕ) (n : ℕ) (debts : List Owing) (place : ℕ) → n ≤ place → place < n + length debts → has gone place ≡ false
+    → has (places (held_from n debts gone)) place ≡ true
+in-held gone n [] place low high e = absurd (omega arith)
+in-held gone n (d ∷ debts) place low high e =
+    in-step (has gone n) false _ _ place (λ same. rw same e) (λ other. in-held gone (n + 1) debts place (omega arith) (omega arith) e)

@@ -2,30 +2,19 @@ mod Rows
 pub mod UsedUp
 pub mod HeldBack
 pub mod Facts
-pub mod Public
-pub mod Once
 pub mod Closed
-pub mod Numbered
-pub mod Right
-pub mod Switch
-pub mod Blocks
-pub mod Modes
-pub mod Steps
-pub mod Clock
-pub mod Replies
-pub mod Articles
-pub mod Receipts
-pub mod Firsts
-pub mod Tallies
-pub mod Behind
-pub mod PutOnce
-pub mod Twice
-pub mod Forgotten
-pub mod Named
-pub mod Lookups
-pub mod TakenLately
-pub mod Answering
-pub mod Losses
-pub mod Stirring
-pub mod Calls
-pub mod Reading
+mod Switch
+mod Blocks
+mod Modes
+mod Steps
+mod Clock
+mod Replies
+mod Articles
+mod Public
+mod Lookups
+mod TakenLately
+mod Answering
+mod Losses
+mod Stirring
+mod Calls
+mod Reading

@@ -3,7 +3,6 @@ pub mod Codes
 pub mod Commands
 pub mod History
 pub mod Kept
-pub mod Laws
 pub mod Left
 pub mod Machine
 pub mod Receipt

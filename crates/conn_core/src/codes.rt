@@ -16,16 +16,17 @@ pub(crate) enum Verb {
     Block,
 }
 
-// What a code says to a command.
+/// What a code says to a command (RFC 3977, section 6.3.2; RFC 4644, section 2). No call gives it out: the laws on
+/// transcripts speak of it.
 #[derive(Clone, Copy, Debug, PartialEq, Eq)]
-pub(crate) enum Meaning {
-    // The article is wanted.
+pub enum Meaning {
+    /// The article is wanted.
     Wanted,
-    // The block is to be sent.
+    /// The block is to be sent.
     SendBlock,
-    // The article may be offered later.
+    /// The article may be offered later.
     Later,
-    // The debt is answered for good.
+    /// The debt is answered for good.
     Final(FinalCode),
 }
 

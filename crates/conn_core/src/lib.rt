@@ -2,7 +2,8 @@
 //!
 //! May touch nothing but memory; it stands on `reply_reader` for replies, on `dot_codec` for blocks, on `ledger_core` for debts.
 //! The crates above use `Conn`: each call says what it makes of every transcript that the connection stands for
-//! (`specs/Stands.antt`, over the transcript of `specs/History.antt`); `laws` has what holds over whole transcripts.
+//! (`specs/Stands.antt`, over the transcript of `specs/History.antt`). What holds over whole transcripts is in the crate
+//! `conn_laws`.
 #![tactic(auto)]
 
 mod article;
@@ -11,7 +12,6 @@ mod codes;
 mod conn;
 mod deferral;
 mod kept;
-pub mod laws;
 mod lines;
 mod lookup;
 mod machine;
@@ -27,6 +27,7 @@ mod tests;
 mod verdict;
 
 pub use article::ArticleFault;
+pub use codes::Meaning;
 pub use conn::Conn;
 pub use deferral::Deferral;
 pub use offer::{Back, OfferFault};

@@ -1,7 +1,7 @@
 -- What a command names.
 use Rattle.conn_core.specs.Stands.{Stands}
-use Rattle.conn_core.proofs.Named.{all_named}
-use Rattle.conn_core.proofs.laws.commands_name_their_debts.Goals as goal
+use Rattle.conn_laws.proofs.Named.{all_named}
+use Rattle.conn_laws.proofs.commands_name_their_debts.Goals as goal
 
 pub returns : goal.returns
 unfolding Stands

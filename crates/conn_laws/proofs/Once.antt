@@ -1,6 +1,6 @@
 -- Each debt accepted is held or came out, once, and what came out is the debt that was accepted.
 use Rattle.std.proofs.Common.{◌≡◌, ℕ, suc, zero, ◌+◌, ◌<◌, ◌≤◌, Bool, true, false, List, [], ◌∷◌, ◌++◌, length, refl, sym, ap, subst, ◌∙◌, arith, find, Option, Some, None, cond, append_assoc, append-nil, inl, inr}
-use Rattle.std.specs.Prelude.{◌==◌, ◌||◌, if◌then◌else◌, option_map, slice_get}
+use Rattle.std.specs.Prelude.{◌==◌, ◌||◌, if◌then◌else◌, is_some, option_map, slice_get}
 use Rattle.std.specs.List.{AllByRecursion}
 use Rattle.std.proofs.lemmas.Bool.{false≢true, ne_eqb}
 use Rattle.std.proofs.lemmas.Bool.Decides.{eqb_tells}
@@ -10,7 +10,8 @@ use Rattle.conn_core.specs.Codes.{meaning}
 use Rattle.conn_core.specs.Used.{has, times}
 use Rattle.conn_core.specs.Commands.{Ask, Held, Want, Handing, Sendable, Gone, Unsendable, debt_in, held_for, is_at}
 use Rattle.conn_core.specs.History.{Event, Offered, Put, Came, Faulted, Handed, Sent, Tick, Broke, Leave, Taken, accepted, asks, answered, answered_now, answered_ask, phase, closes, closes_in, reason, story, ends, held, held_from, End, ended_places, backs, ends_by_meaning, ends_by_answer, ends_by_loss, held_wanting, ends_at_close, first_want}
-use Rattle.conn_core.specs.Laws.{AllAreTheirOwn, times_held, times_out}
+use Rattle.conn_core.specs.Stands.{Arises}
+use Rattle.conn_laws.specs.Laws.{AllAreTheirOwn, times_held, times_out}
 use Rattle.conn_core.specs.declared.options.Options.{Options}
 use Rattle.conn_core.specs.declared.phase.Phase.{Phase}
 use Rattle.conn_core.specs.declared.phase.Phase.TheVariants.{Greeting, Asking, Streaming, OneByOne, Leaving}
@@ -18,7 +19,8 @@ use Rattle.conn_core.specs.declared.reason.Reason.{Reason}
 use Rattle.conn_core.specs.declared.reason.Reason.TheVariants.{Quit as Left}
 use Rattle.conn_core.specs.declared.codes.Meaning.{Meaning}
 use Rattle.conn_core.specs.declared.codes.Meaning.TheVariants.{Wanted, SendBlock, Later, Final}
-use Rattle.conn_core.proofs.HeldBack.{find-is_at, places, ended_places-backs}
+use Rattle.conn_core.proofs.Closed.{none_held}
+use Rattle.conn_core.proofs.HeldBack.{find-is_at, in-held, places, ended_places-backs}
 use Rattle.conn_core.proofs.Facts.{ended_places-append, ends_below, places-below}
 
 pub times-append : (xs ys : List ℕ) (place : ℕ) → times (xs ++ ys) place ≡ times xs place + times ys place
@@ -89,22 +91,6 @@ held-once : (gone : List ℕ) (n : ℕ) (debts : List Owing) (place : ℕ) → t
 held-once gone n [] place = omega arith
 held-once gone n (d ∷ debts) place =
     once-step (has gone n) _ _ place (held-once gone (n + 1) debts place) (λ e. none-before gone (n + 1) debts place (omega arith))
-
--- a debt accepted that has not come out is held
-in-step : (b c : Bool) (y : Held) (left : List Held) (place : ℕ) → (y.place ≡ place → b ≡ false) → ((y.place ≡ place → ⊥) → has (places left) place ≡ true)
-    → has (places (if b then left else y ∷ left)) place ≡ true
-in-step b c y left place here there =
-    elim (eqb_tells y.place place) [
-      | inl same ↦ rw (here same.1, same.0) refl
-      | inr other ↦ (let h : has (places left) place ≡ true = there other.1 in
-          elim b as (λ v. has (places (if v then left else y ∷ left)) place ≡ true) [ true ↦ h | false ↦ rw other.0 h ])
-    ]
-
-pub in-held : (gone : List ℕ) (n : ℕ) (debts : List Owing) (place : ℕ) → n ≤ place → place < n + length debts → has gone place ≡ false
-    → has (places (held_from n debts gone)) place ≡ true
-in-held gone n [] place low high e = absurd (omega arith)
-in-held gone n (d ∷ debts) place low high e =
-    in-step (has gone n) false _ _ place (λ same. rw same e) (λ other. in-held gone (n + 1) debts place (omega arith) (omega arith) e)
 
 -- a debt that came out is not held
 out-step : (b : Bool) (hs : List Held) (gone : List ℕ) (place : ℕ) → has (places hs) place ≡ b → (has (places hs) place ≡ true → has gone place ≡ false)
@@ -383,3 +369,11 @@ all_own options (e ∷ h) =
     let all = All-append (IsOwnEnd (accepted h)) (ends options h) (ends_by options h e) (all_own options h) (own-by options h e) in
     subst (λ xs. AllByRecursion (IsOwnEnd (accepted (e ∷ h))) xs) (sym (ends-more options h e))
     (All-map (IsOwnEnd (accepted h)) (IsOwnEnd (accepted (e ∷ h))) (still-own h e) (ends options h ++ ends_by options h e) all)
+
+-- once closed, each debt accepted has come out exactly once
+pub exactly_once : (options : Options) (h : List Event) (place : ℕ) → Arises options h → is_some (reason options h) ≡ true → place < length (accepted h)
+    → times_out options h place ≡ 1
+exactly_once options h place a closed few =
+    let none : times_held options h place ≡ 0 = ap (λ hs. times (places hs) place) (none_held options h a closed) in
+    let both = held_or_out options h place few in
+    omega arith

@@ -1,8 +1,7 @@
 -- A debt accepted is held or came out.
 use Rattle.conn_core.specs.Stands.{Stands}
-use Rattle.conn_core.proofs.Closed.{exactly_once}
-use Rattle.conn_core.proofs.Once.{all_own, at_most_once, held_or_out}
-use Rattle.conn_core.proofs.laws.each_debt_comes_out_once.Goals as goal
+use Rattle.conn_laws.proofs.Once.{all_own, at_most_once, exactly_once, held_or_out}
+use Rattle.conn_laws.proofs.each_debt_comes_out_once.Goals as goal
 
 pub returns-clause-at_most : goal.returns-clause-at_most
 returns-clause-at_most c = at_most_once

@@ -1,20 +1,20 @@
 -- Each command about a debt names the message-id of the debt that was accepted at its place.
-use Rattle.std.proofs.Common.{◌≡◌, ℕ, suc, zero, ◌+◌, Bool, true, false, List, [], ◌∷◌, ◌++◌, length, refl, sym, ap, subst, ◌∙◌, find, Option, Some, None, append-nil}
+use Rattle.std.proofs.Common.{◌≡◌, ℕ, suc, zero, Bool, true, false, List, [], ◌∷◌, ◌++◌, refl, sym, ap, subst, ◌∙◌, Option, Some, None}
 use Rattle.std.specs.Prelude.{if◌then◌else◌, is_some, option_map, slice_get}
 use Rattle.std.specs.List.{AllByRecursion}
 use Rattle.reply_reader.specs.Stream.{Given}
 use Rattle.ledger_core.specs.State.{Owing}
 use Rattle.conn_core.specs.Codes.{meaning}
-use Rattle.conn_core.specs.Commands.{Ask, Command, Asks, Handing, Sendable, Gone, Unsendable, Held, Want, ask_with, block_of, check_of, held_for, is_at}
-use Rattle.conn_core.specs.History.{Event, Offered, Put, Came, Faulted, Handed, Sent, Tick, Broke, Leave, Taken, accepted, after, answered, answered_ask, asks, first_want, held, held_wanting, is_streaming, newcomer, phase, puts_answer, puts_article, puts_block, puts_greeting, reason, story, wants_at_once, with_puts}
+use Rattle.conn_core.specs.Commands.{Ask, Command, Asks, Handing, Sendable, Gone, Unsendable, Held, Want, ask_with, block_of, check_of, held_for}
+use Rattle.conn_core.specs.History.{Event, Offered, Put, Came, Faulted, Handed, Sent, Tick, Broke, Leave, accepted, after, answered, answered_ask, asks, first_want, held, held_wanting, is_streaming, newcomer, phase, puts_answer, puts_article, puts_block, puts_greeting, reason, story, wants_at_once, with_puts}
 use Rattle.conn_core.specs.Stands.{Arises, Starts, Offers, Receives_reply, Receives_fault, Is_handed, Sends, Ticks, Breaks, Leaves, Takes_one}
 use Rattle.conn_core.specs.declared.codes.Meaning.{Meaning}
 use Rattle.conn_core.specs.declared.codes.Meaning.TheVariants.{Wanted, SendBlock, Later, Final}
 use Rattle.conn_core.specs.declared.options.Options.{Options}
-use Rattle.conn_core.proofs.Behind.{greeting-none, holds-after, holds-greeted}
-use Rattle.conn_core.proofs.Once.{All-append, All-map, IsOwn, find-own, held-own}
-use Rattle.conn_core.proofs.Numbered.{All-get, get-last}
-use Rattle.conn_core.proofs.Right.{answer_is_first}
+use Rattle.conn_laws.proofs.Behind.{greeting-none, holds-after, holds-greeted}
+use Rattle.conn_laws.proofs.Once.{All-append, All-map, IsOwn, find-own, held-own}
+use Rattle.conn_laws.proofs.Numbered.{All-get, get-last}
+use Rattle.conn_laws.proofs.Right.{answer_is_first}
 
 abbrev id_in : Owing → List ℕ
 id_in debt = debt.1.1

@@ -9,19 +9,19 @@ use Rattle.conn_core.specs.Codes.{meaning}
 use Rattle.conn_core.specs.Used.{left_from, times}
 use Rattle.conn_core.specs.Commands.{Ask, Command, Asks, Handing, Sendable, Gone, Unsendable, Held, Want, ask_with, block_of, check_of, held_for, is_at, want_of}
 use Rattle.conn_core.specs.History.{Event, Offered, Put, Came, Faulted, Handed, Sent, Tick, Broke, Leave, Taken, accepted, after, answered, answered_ask, asks, closes, ended_places, ends, ends_at_close, ends_by_answer, ends_by_loss, first_reason, first_want, held, is_streaming, newcomer, outside, phase, puts_answer, puts_article, puts_block, puts_greeting, reason, story, wanted, wants_at_once, wants_by_answer, window, with_puts}
-use Rattle.conn_core.specs.Laws.{fits_in, open_commands, open_wants, times_held, times_out}
+use Rattle.conn_laws.specs.Laws.{fits_in, open_commands, open_wants, times_held, times_out}
 use Rattle.conn_core.specs.Stands.{Arises, Starts, Offers, Receives_reply, Receives_fault, Is_handed, Sends, Ticks, Breaks, Leaves, Takes_one}
 use Rattle.conn_core.specs.declared.codes.Meaning.{Meaning}
 use Rattle.conn_core.specs.declared.codes.Meaning.TheVariants.{Wanted, SendBlock, Later, Final}
 use Rattle.conn_core.specs.declared.options.Options.{Options}
 use Rattle.conn_core.specs.declared.reason.Reason.{Reason}
 use Rattle.conn_core.proofs.HeldBack.{find-is_at, places}
-use Rattle.conn_core.proofs.Once.{ends_by, held_or_out, neither-beyond, places-more, times-append}
+use Rattle.conn_laws.proofs.Once.{ends_by, held_or_out, neither-beyond, places-more, times-append}
 use Rattle.conn_core.proofs.Closed.{first_reason-none, needed-open, ready-open, reason-after}
-use Rattle.conn_core.proofs.Right.{answer_is_first}
-use Rattle.conn_core.proofs.Tallies.{tally, times-tally, wanted-handed, wanted-more, wanted-none, window-came, window-none, window-put}
-use Rattle.conn_core.proofs.Behind.{article-none, greeting-none, holds-after, holds-greeted}
-use Rattle.conn_core.proofs.Twice.{came-nothing, came-wanted, offered-wanted, one_at, wants_at}
+use Rattle.conn_laws.proofs.Right.{answer_is_first}
+use Rattle.conn_laws.proofs.Tallies.{tally, times-tally, wanted-handed, wanted-more, wanted-none, window-came, window-none, window-put}
+use Rattle.conn_laws.proofs.Behind.{article-none, greeting-none, holds-after, holds-greeted}
+use Rattle.conn_laws.proofs.Twice.{came-nothing, came-wanted, offered-wanted, one_at, wants_at}
 
 -- 1 for a command about this place
 abbrev asks_at : ℕ → Ask → ℕ

@@ -15,7 +15,7 @@ use Rattle.conn_core.specs.Codes.{meaning}
 use Rattle.conn_core.specs.Used.{first_left}
 use Rattle.conn_core.specs.Commands.{Ask, Held, Want, Handing, Sendable, Gone, Unsendable, held_for, is_at}
 use Rattle.conn_core.specs.History.{Event, Offered, Put, Came, Faulted, Handed, Sent, Tick, Broke, Leave, Taken, asks, answered, answered_now, answered_ask, phase, is_streaming, closes, first_reason, reason, story, ends, held, End, backs, ends_by_meaning, ends_by_answer, ends_by_loss, ends_at_close, first_want}
-use Rattle.conn_core.specs.Laws.{IsFirstOpen, IsAnswered, IsLost, IsRightAt, AllRight, cause_of, fits_in}
+use Rattle.conn_laws.specs.Laws.{IsFirstOpen, IsAnswered, IsLost, IsRightAt, AllRight, cause_of, fits_in}
 use Rattle.conn_core.specs.declared.codes.Verb.{Verb}
 use Rattle.conn_core.specs.declared.codes.Verb.TheVariants.{Check, Takethis, Ihave, Block}
 use Rattle.conn_core.specs.declared.options.Options.{Options}
@@ -28,8 +28,8 @@ use Rattle.conn_core.specs.declared.codes.Meaning.{Meaning}
 use Rattle.conn_core.specs.declared.codes.Meaning.TheVariants.{Wanted, SendBlock, Later, Final}
 use Rattle.conn_core.proofs.UsedUp.{first_left-is}
 use Rattle.conn_core.proofs.HeldBack.{find-is_at}
-use Rattle.conn_core.proofs.Once.{All-append, All-map, ends-more, ends_by}
-use Rattle.conn_core.proofs.Numbered.{number-held}
+use Rattle.conn_laws.proofs.Once.{All-append, All-map, ends-more, ends_by}
+use Rattle.conn_laws.proofs.Numbered.{number-held}
 
 answered-more : (options : Options) (h : List Event) (e : Event) (place code : ℕ) (says : Meaning) → IsAnswered options h place code says → IsAnswered options (e ∷ h) place code says
 answered-more options h e place code says a = record {

@@ -10,16 +10,16 @@ use Rattle.conn_core.specs.Codes.{meaning}
 use Rattle.conn_core.specs.Used.{left_from}
 use Rattle.conn_core.specs.Commands.{Ask, Command, Asks, Handing, Sendable, Gone, Unsendable, Held, Want, ask_with, block_of, check_of, held_for, is_at, want_of}
 use Rattle.conn_core.specs.History.{Event, Offered, Put, Came, Faulted, Handed, Sent, Tick, Broke, Leave, Taken, accepted, answered, answered_ask, asks, after, first_want, held, is_streaming, newcomer, phase, puts_answer, puts_article, puts_block, puts_greeting, reason, story, wanted, wants_at_once, wants_by_answer, window, with_puts}
-use Rattle.conn_core.specs.Laws.{is_verb, offers_article, sends_block, times_asked}
+use Rattle.conn_laws.specs.Laws.{is_verb, offers_article, sends_block, times_asked}
 use Rattle.conn_core.specs.Stands.{Arises, Starts, Offers, Receives_reply, Receives_fault, Is_handed, Sends, Ticks, Breaks, Leaves, Takes_one}
 use Rattle.conn_core.specs.declared.codes.Verb.{Verb}
 use Rattle.conn_core.specs.declared.codes.Verb.TheVariants.{Check, Takethis, Ihave, Block}
 use Rattle.conn_core.specs.declared.codes.Meaning.{Meaning}
 use Rattle.conn_core.specs.declared.codes.Meaning.TheVariants.{Wanted, SendBlock, Later, Final}
 use Rattle.conn_core.specs.declared.options.Options.{Options}
-use Rattle.conn_core.proofs.Behind.{article-none, greeting-none, holds-after, holds-greeted}
+use Rattle.conn_laws.proofs.Behind.{article-none, greeting-none, holds-after, holds-greeted}
 use Rattle.conn_core.proofs.HeldBack.{find-is_at}
-use Rattle.conn_core.proofs.Tallies.{asked, asked-tally, asks-put, tally, tally-least, wanted-handed, wanted-more, wanted-none, window-came, window-none, window-put}
+use Rattle.conn_laws.proofs.Tallies.{asked, asked-tally, asks-put, tally, tally-least, wanted-handed, wanted-more, wanted-none, window-came, window-none, window-put}
 
 -- 1 for this place
 abbrev pub one_at : ℕ → ℕ → ℕ

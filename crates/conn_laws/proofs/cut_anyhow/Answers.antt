@@ -1,6 +1,6 @@
 -- The octets decide, and not their pieces.
-use Rattle.conn_core.proofs.Receipts.{joined, received_once}
-use Rattle.conn_core.proofs.laws.cut_anyhow.Goals as goal
+use Rattle.conn_laws.proofs.Receipts.{joined, received_once}
+use Rattle.conn_laws.proofs.cut_anyhow.Goals as goal
 
 pub returns-clause-joined : goal.returns-clause-joined
 returns-clause-joined c = joined

@@ -1,7 +1,7 @@
 -- What is still to come of a debt held.
 use Rattle.conn_core.specs.Stands.{Stands}
-use Rattle.conn_core.proofs.Forgotten.{none_forgotten}
-use Rattle.conn_core.proofs.laws.no_debt_is_forgotten.Goals as goal
+use Rattle.conn_laws.proofs.Forgotten.{none_forgotten}
+use Rattle.conn_laws.proofs.no_debt_is_forgotten.Goals as goal
 
 pub returns : goal.returns
 unfolding Stands

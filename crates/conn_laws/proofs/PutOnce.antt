@@ -4,7 +4,7 @@ use Rattle.std.specs.Prelude.{◌==◌, ◌&&◌, if◌then◌else◌, is_some}
 use Rattle.conn_core.specs.Codes.{is_welcome, meaning}
 use Rattle.conn_core.specs.Commands.{Ask, Command, ModeStream, Asks, Quit, Handing, Sendable, Gone, Unsendable, Held, check_of}
 use Rattle.conn_core.specs.History.{Event, Offered, Put, Came, Faulted, Handed, Sent, Tick, Broke, Leave, after, answered_ask, held_wanting, is_leaving, is_mode, is_quit_due, is_streaming, newcomer, phase, phase_after, put_out, puts, puts_answer, puts_article, puts_block, puts_greeting, reason, story, wants_at_once, with_puts}
-use Rattle.conn_core.specs.Laws.{is_mode_stream, is_quit, times_put}
+use Rattle.conn_laws.specs.Laws.{is_mode_stream, is_quit, times_put}
 use Rattle.conn_core.specs.Stands.{Arises, Starts, Offers, Receives_reply, Receives_fault, Is_handed, Sends, Ticks, Breaks, Leaves, Takes_one}
 use Rattle.conn_core.specs.declared.codes.Meaning.{Meaning}
 use Rattle.conn_core.specs.declared.codes.Meaning.TheVariants.{Wanted, SendBlock, Later, Final}

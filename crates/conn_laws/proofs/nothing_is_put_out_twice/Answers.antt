@@ -1,8 +1,8 @@
 -- What is put out of a debt, and of a connection.
 use Rattle.conn_core.specs.Stands.{Stands}
-use Rattle.conn_core.proofs.PutOnce.{mode_once, quit_once}
-use Rattle.conn_core.proofs.Twice.{asked_once, offered_once, sent_once}
-use Rattle.conn_core.proofs.laws.nothing_is_put_out_twice.Goals as goal
+use Rattle.conn_laws.proofs.PutOnce.{mode_once, quit_once}
+use Rattle.conn_laws.proofs.Twice.{asked_once, offered_once, sent_once}
+use Rattle.conn_laws.proofs.nothing_is_put_out_twice.Goals as goal
 
 pub returns-clause-asks : goal.returns-clause-asks
 unfolding Stands

@@ -6,12 +6,12 @@ use Rattle.reply_reader.specs.Stream.{Given}
 use Rattle.conn_core.specs.Used.{first_left, left_from, times, with_place}
 use Rattle.conn_core.specs.Commands.{Ask, Asks, Handing, Want, is_of}
 use Rattle.conn_core.specs.History.{Event, Came, Handed, Put, answered, answered_ask, asks, first_want, is_streaming, phase, story, wanted, window}
-use Rattle.conn_core.specs.Laws.{fits_in, times_asked}
+use Rattle.conn_laws.specs.Laws.{fits_in, times_asked}
 use Rattle.conn_core.specs.declared.codes.Verb.{Verb}
 use Rattle.conn_core.specs.declared.options.Options.{Options}
 use Rattle.conn_core.proofs.UsedUp.{AllBelow, find-left_from, left_from-append, left_from-used}
 use Rattle.conn_core.proofs.Facts.{answered_below, handed_below}
-use Rattle.conn_core.proofs.Right.{answer_in}
+use Rattle.conn_laws.proofs.Right.{answer_in}
 
 module _ {A : Type 0} where
   -- the sum of what each item counts

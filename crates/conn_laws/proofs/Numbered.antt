@@ -12,7 +12,7 @@ use Rattle.conn_core.specs.declared.codes.Meaning.TheVariants.{Wanted, SendBlock
 use Rattle.conn_core.specs.declared.options.Options.{Options}
 use Rattle.conn_core.proofs.UsedUp.{first_left-is}
 use Rattle.conn_core.proofs.HeldBack.{find-is_at}
-use Rattle.conn_core.proofs.Once.{All-append, All-map, IsOwn, find-own, held-own}
+use Rattle.conn_laws.proofs.Once.{All-append, All-map, IsOwn, find-own, held-own}
 
 -- the number of a debt
 abbrev number_in : Owing → ℕ

@@ -1,0 +1,10 @@
+mod Once
+mod Numbered
+mod Right
+mod Tallies
+mod Behind
+mod Twice
+mod Forgotten
+mod Named
+mod PutOnce
+mod Receipts

@@ -1,0 +1,94 @@
+//! What holds of one connection over its whole transcript, whatever calls come in whatever order: each debt comes out
+//! once, as what was answered, none is forgotten, nothing is put out twice, and octets may come in any pieces.
+//!
+//! Runs nothing: each function has an empty body, and its contract is a law on the definitions of `conn_core`, above
+//! all `Stands` (`conn_core/specs/Stands.antt`), by which each call of `Conn` says what it makes of a transcript. The
+//! words that the laws add are in `specs/Laws.antt`. The crate stands beside the station and not below it: whoever
+//! promises something of a whole exchange, and not of one call, cites these laws.
+#![tactic(auto)]
+
+ghost use Rattle.std.specs.Prelude.{◌≡◌, ◌+◌, ◌≤◌, ◌<◌, ◌++◌, ℕ, List, Some, None, length, is_some, true};
+ghost use Rattle.article_store.specs.declared.store.Found.{Found};
+ghost use Rattle.reply_reader.specs.Stream.{Given};
+ghost use Rattle.conn_core.specs.Commands.{Ask, Handing};
+ghost use Rattle.conn_core.specs.History.{Event, accepted, answered_ask, asks, put_out, reason};
+ghost use Rattle.conn_core.specs.Receipt.{IsHandedAs, Receives};
+ghost use Rattle.conn_core.specs.Stands.{Stands};
+ghost use Rattle.conn_core.specs.State.{Holding};
+ghost use Rattle.conn_core.specs.declared.codes.Verb.{Verb};
+ghost use Rattle.conn_core.specs.declared.options.Options.{Options};
+ghost use Rattle.conn_laws.specs.Laws.{AllAreTheirOwn, AllNameTheirDebt, AllRight, IsFirstOpen};
+ghost use Rattle.conn_laws.specs.Laws.{is_mode_stream, is_quit, is_verb, offers_article, sends_block};
+ghost use Rattle.conn_laws.specs.Laws.{open_commands, open_wants, times_asked, times_held, times_out, times_put};
+
+/// Each debt accepted is held or came out, once: so it comes out at most once, and once closed exactly once. What
+/// comes out is the debt that was accepted.
+pub fn each_debt_comes_out_once()
+    ensures at_most { (options : Options) (h : List Event) (place : ℕ)
+        → times_out options h place ≤ 1 }
+    ensures held_or_out { (options : Options) (h : List Event) (place : ℕ)
+        → place < length (accepted h) → times_held options h place + times_out options h place ≡ 1 }
+    ensures exactly { (options : Options) (conn : Holding) (unread : List ℕ) (h : List Event)
+        (place : ℕ) → Stands options conn unread h
+        → is_some (reason options h) ≡ true → place < length (accepted h)
+        → times_out options h place ≡ 1 }
+    ensures own { (options : Options) (h : List Event) → AllAreTheirOwn options h }
+{}
+
+/// A verdict is a final answer to a command about that very debt which had none, a deferral a later one; for a debt
+/// that is lost an article of its number was handed in, and that was gone or could not be sent; and where a debt
+/// comes back there is a reason to close. The command that a reply answers is the first that it fits of those without
+/// an answer.
+pub fn verdicts_are_right()
+    ensures right { (options : Options) (h : List Event) → AllRight options h }
+    ensures first { (options : Options) (h : List Event) (reply : Given) (command : ℕ × Ask)
+        → answered_ask options h reply ≡ Some command → IsFirstOpen options h reply command }
+{}
+
+/// Each command about a debt names the message-id of the debt that was accepted at its place.
+pub fn commands_name_their_debts()
+    ensures { (options : Options) (conn : Holding) (unread : List ℕ) (h : List Event)
+        → Stands options conn unread h → AllNameTheirDebt h }
+{}
+
+/// While the connection is open, each debt held has exactly one command without an answer or one wanted article, and
+/// no other debt has any.
+pub fn no_debt_is_forgotten()
+    ensures { (options : Options) (conn : Holding) (unread : List ℕ) (h : List Event) (place : ℕ)
+        → Stands options conn unread h → reason options h ≡ None
+        → open_commands options h place + open_wants options h place ≡ times_held options h place }
+{}
+
+/// Nothing is put out twice: no command of one verb about one debt, no block of one debt, neither MODE STREAM nor
+/// QUIT. And a debt gets a TAKETHIS or an IHAVE, never both.
+pub fn nothing_is_put_out_twice()
+    ensures asks { (options : Options) (conn : Holding) (unread : List ℕ) (h : List Event)
+        (place : ℕ) (verb : Verb) → Stands options conn unread h
+        → times_asked (is_verb verb) place (asks h) ≤ 1 }
+    ensures blocks { (options : Options) (conn : Holding) (unread : List ℕ) (h : List Event)
+        (place : ℕ) → Stands options conn unread h → times_asked sends_block place (asks h) ≤ 1 }
+    ensures offers { (options : Options) (conn : Holding) (unread : List ℕ) (h : List Event)
+        (place : ℕ) → Stands options conn unread h → times_asked offers_article place (asks h) ≤ 1 }
+    ensures mode { (options : Options) (conn : Holding) (unread : List ℕ) (h : List Event)
+        → Stands options conn unread h → times_put is_mode_stream (put_out h) ≤ 1 }
+    ensures quit { (options : Options) (conn : Holding) (unread : List ℕ) (h : List Event)
+        → Stands options conn unread h → times_put is_quit (put_out h) ≤ 1 }
+{}
+
+/// The octets that come in decide, and not the pieces that they come in: two pieces, one after another, are what they
+/// are as one. And octets are received in one way only.
+pub fn cut_anyhow()
+    ensures joined { (options : Options) (unread first left second rest : List ℕ)
+        (h later last : List Event) → Receives options (unread ++ first) h later left
+        → Receives options (left ++ second) later last rest
+        → Receives options (unread ++ (first ++ second)) h last rest }
+    ensures once { (options : Options) (waiting left rest : List ℕ) (h later last : List Event)
+        → Receives options waiting h later left → Receives options waiting h last rest
+        → (later ≡ last) × (left ≡ rest) }
+{}
+
+/// What a found article is handed in as.
+pub fn handed_once()
+    ensures { (found : Found) (handing other : Handing)
+        → IsHandedAs found handing → IsHandedAs found other → handing ≡ other }
+{}
