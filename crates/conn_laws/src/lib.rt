@@ -7,7 +7,7 @@
 //! promises something of a whole exchange, and not of one call, cites these laws.
 #![tactic(auto)]
 
-ghost use Rattle.std.specs.Prelude.{◌≡◌, ◌+◌, ◌≤◌, ◌<◌, ◌++◌, ℕ, List, Some, None, length, is_some, true};
+ghost use Rattle.std.specs.Prelude.{◌≡◌, ◌+◌, ◌≤◌, ◌<◌, ◌++◌, ℕ, List, Option, Some, None, [], length, is_some, true};
 ghost use Rattle.article_store.specs.declared.store.Found.{Found};
 ghost use Rattle.reply_reader.specs.Stream.{Given};
 ghost use Rattle.conn_core.specs.Commands.{Ask, Handing};
