@@ -8,8 +8,6 @@
 mod backoff;
 mod later;
 mod laws;
-#[cfg(test)]
-mod tests;
 mod tree;
 
 pub use backoff::Backoff;

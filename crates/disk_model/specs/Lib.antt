@@ -5,5 +5,4 @@ pub mod InMemory
 pub mod Memory
 pub mod MemoryLaws
 pub mod Moments
-pub mod Pairs
 pub mod TornLaws

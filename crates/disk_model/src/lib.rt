@@ -15,8 +15,6 @@ mod fuse;
 mod memory;
 mod moment;
 mod octets;
-#[cfg(test)]
-mod tests;
 
 pub use choice::Choice;
 pub use fuse::FuseDisk;

@@ -15,6 +15,3 @@ pub use laws::{after_in_parts, counts_add_up, numbers_rise};
 pub use ledger::{Ledger, LedgerFault, ReplayFault, Totals};
 pub use note::{Cause, Debt, FinalCode, Note};
 pub use std::alloc::AllocError as NoMemory;
-
-#[cfg(test)]
-mod tests;

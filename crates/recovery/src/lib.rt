@@ -10,8 +10,6 @@ mod fault;
 mod laws;
 mod read;
 mod tape;
-#[cfg(test)]
-mod tests;
 
 pub use fault::TapeFault;
 pub use laws::tape_once;

@@ -12,8 +12,6 @@ pub mod laws;
 mod put;
 mod read;
 mod repair;
-#[cfg(test)]
-mod tests;
 
 pub use fault::{AppendFault, OpenFault, ReadFault};
 pub use journal::{Journal, Refused};

@@ -1,0 +1,199 @@
+// What a disk keeps, which images a stop leaves of it, and a fuse. The disks of journals and tapes are made here too.
+use crate::answers::assert_answer;
+use disk_model::{Choice, Disk, DiskFault, FuseDisk, MemDisk};
+use std::alloc::Global;
+use std::process::Abort;
+use std::test::Fail;
+
+// A call of a disk.
+#[derive(Clone, Copy)]
+enum Call<'a> {
+    Write(u64, &'a [u8]),
+    Cut(u64),
+    Sync,
+}
+
+fn make<D: Disk>(disk: &mut D, call: Call<'_>) -> Result<(), DiskFault> {
+    match call {
+        Call::Write(at, octets) => {
+            if disk.len() < at {
+                return Err(DiskFault);
+            }
+            disk.write_at(at, octets)
+        }
+        Call::Cut(len) => {
+            if disk.len() < len {
+                return Err(DiskFault);
+            }
+            disk.cut(len)
+        }
+        Call::Sync => disk.sync(),
+    }
+}
+
+// The disk that these calls leave of an empty one.
+fn disk_after(alloc: Global, calls: &[Call<'_>]) -> Result<MemDisk, Fail> {
+    let mut disk = MemDisk::new(alloc);
+    for call in calls {
+        make(&mut disk, *call)?;
+    }
+    Ok(disk)
+}
+
+// A disk of these octets, of which no stop takes any away.
+pub(crate) fn disk_of(alloc: Global, octets: &[u8]) -> Result<MemDisk, Fail> {
+    disk_after(alloc, &[Call::Write(0, octets), Call::Sync])
+}
+
+// All octets of a disk.
+pub(crate) fn octets_of<D: Disk>(alloc: Global, disk: &mut D) -> Result<Vec<u8>, Fail> {
+    let mut octets = vec![in alloc; 0; disk.len() as usize]?;
+    if disk.len() < octets.len() as u64 {
+        return Err(Fail::from("a disk that keeps its length"));
+    }
+    disk.read_at(0, &mut octets)?;
+    Ok(octets)
+}
+
+// The disk has these octets in all.
+pub(crate) fn assert_octets<A: Abort, D: Disk>(
+    rt: &A,
+    alloc: Global,
+    at: usize,
+    disk: &mut D,
+    want: &[u8],
+) -> Result<(), Fail> {
+    assert_answer(rt, at, &octets_of(alloc, disk)?.as_slice(), &want);
+    Ok(())
+}
+
+pub(crate) fn assert_faults<A: Abort, D: Disk>(rt: &A, at: usize, disk: &D, want: u64) {
+    assert_answer(rt, at, &disk.faults(), &want);
+}
+
+#[test]
+fn a_disk_keeps_what_is_written(rt: HostRuntime) -> Result<(), Fail> {
+    const THREE: Call<'static> = Call::Write(0, &[7, 8, 9]);
+    const TWO: Call<'static> = Call::Write(2, &[5, 6]);
+    const FIRST: Call<'static> = Call::Write(0, &[1]);
+    const ROWS: &[(&[Call<'static>], &[u8])] = &[
+        (&[], &[]),
+        (&[THREE, TWO, Call::Sync], &[7, 8, 5, 6]),
+        (&[THREE, TWO, Call::Sync, Call::Cut(1)], &[7]),
+        (&[THREE, TWO, Call::Cut(2), Call::Sync, FIRST], &[1, 8]),
+    ];
+    for (at, (calls, want)) in ROWS.iter().enumerate() {
+        let mut disk = disk_after(rt.alloc(), calls)?;
+        assert_octets(&rt, rt.alloc(), at, &mut disk, want)?;
+        assert_faults(&rt, at, &disk, 0);
+    }
+    Ok(())
+}
+
+// An image: which operations happened, the octet that fills the range of one that did not, and the octets that are
+// wanted.
+type Image = (u64, u8, &'static [u8]);
+
+// The disk has each of these images.
+fn assert_images<A: Abort>(
+    rt: &A,
+    alloc: Global,
+    disk: &MemDisk,
+    images: &[Image],
+) -> Result<(), Fail> {
+    for (at, (happened, fill, want)) in images.iter().enumerate() {
+        let choice = Choice {
+            happened: *happened,
+            fill: *fill,
+        };
+        assert_octets(rt, alloc, at, &mut disk.image(choice)?, want)?;
+    }
+    Ok(())
+}
+
+#[test]
+fn a_choice_names_an_image(rt: HostRuntime) -> Result<(), Fail> {
+    const THREE: Call<'static> = Call::Write(0, &[7, 8, 9]);
+    const FOURTH: Call<'static> = Call::Write(3, &[5]);
+    const FIRST: Call<'static> = Call::Write(0, &[1]);
+    const ROWS: &[(&[Call<'static>], &[Image])] = &[
+        (
+            &[THREE],
+            &[(1, 0, &[7, 8, 9]), (0, 0, &[]), (0, 165, &[165, 165, 165])],
+        ),
+        (
+            &[THREE, FOURTH],
+            &[(3, 0, &[7, 8, 9, 5]), (2, 0, &[0, 0, 0, 5])],
+        ),
+        (
+            &[THREE, FOURTH, Call::Cut(2)],
+            &[(3, 0, &[7, 8, 9, 5]), (7, 0, &[7, 8])],
+        ),
+        (
+            &[THREE, FOURTH, Call::Cut(2), Call::Sync, FIRST],
+            &[(0, 0, &[7, 8]), (0, 165, &[165, 8]), (1, 0, &[1, 8])],
+        ),
+    ];
+    for (calls, images) in ROWS {
+        assert_images(&rt, rt.alloc(), &disk_after(rt.alloc(), calls)?, images)?;
+    }
+    Ok(())
+}
+
+// A disk on which 65 octets were written, each by a call of its own.
+fn written_singly(alloc: Global) -> Result<MemDisk, Fail> {
+    let mut disk = MemDisk::new(alloc);
+    for at in 0..65 {
+        make(&mut disk, Call::Write(at, &[1]))?;
+    }
+    Ok(disk)
+}
+
+#[test]
+fn bit_63_tells_of_each_operation_from_63_on(rt: HostRuntime) -> Result<(), Fail> {
+    const LAST_TWO: [u8; 65] = [
+        0, 0, 0, 0, 0, 0, 0, 0, 0, 0, 0, 0, 0, 0, 0, 0, 0, 0, 0, 0, 0, 0, 0, 0, 0, 0, 0, 0, 0, 0,
+        0, 0, 0, 0, 0, 0, 0, 0, 0, 0, 0, 0, 0, 0, 0, 0, 0, 0, 0, 0, 0, 0, 0, 0, 0, 0, 0, 0, 0, 0,
+        0, 0, 0, 1, 1,
+    ];
+    const BUT_LAST_TWO: [u8; 65] = [
+        1, 1, 1, 1, 1, 1, 1, 1, 1, 1, 1, 1, 1, 1, 1, 1, 1, 1, 1, 1, 1, 1, 1, 1, 1, 1, 1, 1, 1, 1,
+        1, 1, 1, 1, 1, 1, 1, 1, 1, 1, 1, 1, 1, 1, 1, 1, 1, 1, 1, 1, 1, 1, 1, 1, 1, 1, 1, 1, 1, 1,
+        1, 1, 1, 165, 165,
+    ];
+    const IMAGES: &[Image] = &[
+        (1 << 63, 0, &LAST_TWO),
+        (u64::MAX >> 1, 0, &[1; 63]),
+        (u64::MAX >> 1, 165, &BUT_LAST_TWO),
+    ];
+    assert_images(&rt, rt.alloc(), &written_singly(rt.alloc())?, IMAGES)
+}
+
+// Each call is answered as is wanted, and leaves so many faults.
+fn assert_calls<A: Abort, D: Disk>(
+    rt: &A,
+    disk: &mut D,
+    calls: &[(Call<'_>, Result<(), DiskFault>, u64)],
+) {
+    for (at, (call, want, faults)) in calls.iter().enumerate() {
+        assert_answer(rt, at, &make(disk, *call), want);
+        assert_faults(rt, at, disk, *faults);
+    }
+}
+
+#[test]
+fn a_fuse_passes_its_calls_and_no_more(rt: HostRuntime) -> Result<(), Fail> {
+    const CALLS: &[(Call<'static>, Result<(), DiskFault>, u64)] = &[
+        (Call::Write(0, &[7, 8]), Ok(()), 0),
+        (Call::Sync, Ok(()), 0),
+        (Call::Write(2, &[9]), Err(DiskFault), 1),
+        (Call::Cut(0), Err(DiskFault), 2),
+        (Call::Sync, Err(DiskFault), 3),
+    ];
+    let mut disk = FuseDisk::new(MemDisk::new(rt.alloc()), 2);
+    assert_calls(&rt, &mut disk, CALLS);
+    assert_answer(&rt, CALLS.len(), &disk.len(), &2);
+    let mut within = disk.into_inner();
+    assert_faults(&rt, CALLS.len(), &within, 0);
+    assert_octets(&rt, rt.alloc(), CALLS.len(), &mut within, &[7, 8])
+}

@@ -1,0 +1,181 @@
+// Ledgers at which steps are taken.
+use crate::answers::assert_answer;
+use crate::samples::{Sample, TEXTS, Texts, note_of, texts};
+use ledger_core::{Ledger, LedgerFault, ReplayFault, Totals};
+use std::alloc::Global;
+use std::process::Abort;
+use std::test::Fail;
+
+// What is done to a ledger, or asked of it, and the answer that is wanted.
+#[derive(Clone, Copy)]
+enum Step {
+    Apply(Sample, Result<(), LedgerFault>),
+    Check(Sample, Result<(), LedgerFault>),
+    Owes(u64, bool),
+    // What is told of the debt of this number.
+    Debt(u64, Option<Texts<'static>>),
+    Numbers(&'static [u64]),
+    Totals(Totals),
+    Mark(u64),
+}
+
+fn apply(
+    alloc: Global,
+    ledger: &mut Ledger,
+    sample: Sample,
+) -> Result<Result<(), LedgerFault>, Fail> {
+    match ledger.apply(&note_of(alloc, sample)?) {
+        Err(LedgerFault::NoMemory) => Err(Fail::from(LedgerFault::NoMemory)),
+        answer => Ok(answer),
+    }
+}
+
+fn check(alloc: Global, ledger: &Ledger, sample: Sample) -> Result<Result<(), LedgerFault>, Fail> {
+    Ok(ledger.check(&note_of(alloc, sample)?))
+}
+
+fn told(ledger: &Ledger, number: u64) -> Option<Texts<'_>> {
+    match ledger.debt(number) {
+        Some((token, id)) => Some(texts(token, id)),
+        None => None,
+    }
+}
+
+fn take<A: Abort>(
+    rt: &A,
+    alloc: Global,
+    ledger: &mut Ledger,
+    at: usize,
+    step: Step,
+) -> Result<(), Fail> {
+    match step {
+        Step::Apply(sample, want) => assert_answer(rt, at, &apply(alloc, ledger, sample)?, &want),
+        Step::Check(sample, want) => assert_answer(rt, at, &check(alloc, ledger, sample)?, &want),
+        Step::Owes(number, want) => assert_answer(rt, at, &ledger.owes(number), &want),
+        Step::Debt(number, want) => assert_answer(rt, at, &told(ledger, number), &want),
+        Step::Numbers(want) => assert_answer(rt, at, &ledger.numbers(alloc)?.as_slice(), &want),
+        Step::Totals(want) => assert_answer(rt, at, &ledger.totals(), &want),
+        Step::Mark(want) => assert_answer(rt, at, &ledger.mark(), &want),
+    }
+    Ok(())
+}
+
+// Takes these steps, each of which has to answer as is wanted.
+fn run<A: Abort>(rt: &A, alloc: Global, mut ledger: Ledger, steps: &[Step]) -> Result<(), Fail> {
+    for (at, step) in steps.iter().enumerate() {
+        take(rt, alloc, &mut ledger, at, *step)?;
+    }
+    Ok(())
+}
+
+#[test]
+fn notes_leave_a_ledger(rt: HostRuntime) -> Result<(), Fail> {
+    const SCRIPTS: &[&[Step]] = &[
+        // Notes change it.
+        &[
+            Step::Mark(0),
+            Step::Apply(Sample::Owe(1), Ok(())),
+            Step::Apply(Sample::Owe(2), Ok(())),
+            Step::Apply(Sample::Owe(1), Err(LedgerFault::OldNumber)),
+            Step::Numbers(&[1, 2]),
+            Step::Apply(Sample::Final(1), Ok(())),
+            Step::Owes(1, false),
+            Step::Owes(2, true),
+            Step::Totals(Totals {
+                taken: 2,
+                answered: 1,
+                dropped: 0,
+                owed: 1,
+                owed_bytes: 10,
+            }),
+            Step::Apply(Sample::Final(1), Err(LedgerFault::NotOwed)),
+            Step::Apply(Sample::Drop(2), Ok(())),
+            Step::Apply(Sample::Seen(9), Ok(())),
+            Step::Apply(Sample::Seen(9), Err(LedgerFault::OldNumber)),
+            Step::Mark(9),
+            Step::Totals(Totals {
+                taken: 2,
+                answered: 1,
+                dropped: 1,
+                owed: 0,
+                owed_bytes: 0,
+            }),
+            Step::Numbers(&[]),
+        ],
+        // A check tells what a note would come to.
+        &[
+            Step::Check(Sample::Owe(1), Ok(())),
+            Step::Check(Sample::Final(1), Err(LedgerFault::NotOwed)),
+            Step::Apply(Sample::Owe(1), Ok(())),
+            Step::Check(Sample::Owe(1), Err(LedgerFault::OldNumber)),
+            Step::Check(Sample::Final(1), Ok(())),
+            Step::Check(Sample::Drop(1), Ok(())),
+            Step::Check(Sample::Drop(2), Err(LedgerFault::NotOwed)),
+            Step::Check(Sample::Seen(1), Err(LedgerFault::OldNumber)),
+            Step::Check(Sample::Seen(2), Ok(())),
+            Step::Mark(1),
+        ],
+        // A debt is found.
+        &[
+            Step::Apply(Sample::Owe(1), Ok(())),
+            Step::Apply(Sample::Owe(3), Ok(())),
+            Step::Debt(3, Some(TEXTS)),
+            Step::Debt(2, None),
+            Step::Apply(Sample::Final(3), Ok(())),
+            Step::Debt(3, None),
+        ],
+    ];
+    for steps in SCRIPTS {
+        run(&rt, rt.alloc(), Ledger::new(rt.alloc()), steps)?;
+    }
+    Ok(())
+}
+
+// Owe 1 of token `a/1` and id `<x@y>`, Final 1 with 239, and Seen 7.
+const OWE: &[u8] = &[
+    1, 0, 0, 0, 0, 0, 0, 0, 1, 3, 97, 47, 49, 5, 60, 120, 64, 121, 62,
+];
+
+const FINAL: &[u8] = &[2, 0, 0, 0, 0, 0, 0, 0, 1, 0, 239];
+
+const SEEN: &[u8] = &[5, 0, 0, 0, 0, 0, 0, 0, 7];
+
+fn replayed(alloc: Global, payloads: &[&[u8]]) -> Result<Result<Ledger, ReplayFault>, Fail> {
+    let mut copies = Vec::new(alloc);
+    for payload in payloads {
+        copies.push(payload.to_vec(alloc)?)?;
+    }
+    Ok(Ledger::replay(alloc, &copies))
+}
+
+#[test]
+fn replays(rt: HostRuntime) -> Result<(), Fail> {
+    const STEPS: &[Step] = &[
+        Step::Mark(7),
+        Step::Totals(Totals {
+            taken: 1,
+            answered: 1,
+            dropped: 0,
+            owed: 0,
+            owed_bytes: 0,
+        }),
+    ];
+    let ledger = replayed(rt.alloc(), &[OWE, FINAL, SEEN])??;
+    run(&rt, rt.alloc(), ledger, STEPS)
+}
+
+#[test]
+fn replay_stops(rt: HostRuntime) -> Result<(), Fail> {
+    // The second is an Owe without its last octet.
+    const CUT_SHORT: &[u8] = &[
+        1, 0, 0, 0, 0, 0, 0, 0, 1, 3, 97, 47, 49, 5, 60, 120, 64, 121,
+    ];
+    match replayed(rt.alloc(), &[OWE, CUT_SHORT, SEEN])? {
+        Ok(_) => Err(Fail::from("replayed")),
+        Err(ReplayFault::NoMemory) => Err(Fail::from(ReplayFault::NoMemory)),
+        Err(fault) => {
+            assert_answer(&rt, 0, &fault, &ReplayFault::Refused { index: 1 });
+            Ok(())
+        }
+    }
+}

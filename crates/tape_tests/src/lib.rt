@@ -1,0 +1,26 @@
+//! Tests of the disk model, the journal, the ledger, the tape and what waits: of what no clause of theirs says.
+//!
+//! May touch nothing but memory; it stands on the five crates that it tests, calls what is public in them, and nothing
+//! stands on it. The tests stand apart because a crate with tests in it is proved twice.
+//! Each crate has a module, whose rows are data: steps, each with the answer that is wanted. A function takes a step by
+//! one public call and says nothing of it in a clause, so its own check reads one contract; a row more costs nothing.
+#![tactic(auto)]
+
+#[cfg(test)]
+mod answers;
+#[cfg(test)]
+mod disks;
+#[cfg(test)]
+mod journals;
+#[cfg(test)]
+mod ledgers;
+#[cfg(test)]
+mod one_fault;
+#[cfg(test)]
+mod samples;
+#[cfg(test)]
+mod spellings;
+#[cfg(test)]
+mod tapes;
+#[cfg(test)]
+mod waits;

@@ -1,0 +1,141 @@
+// How notes are spelled on a tape, and what stands in them.
+use crate::answers::assert_answer;
+use crate::samples::{Sample, TEXTS, id, is_sample, note_of, texts, token};
+use ledger_core::{
+    Cause, Debt, FinalCode, after_in_parts, counts_add_up, decode, encode, numbers_rise,
+    one_spelling,
+};
+use std::alloc::Global;
+use std::test::Fail;
+
+// Owe 1 of token `a/1` and id `<x@y>`, Final 1 with 239, Drop 1 as missing, Seen 7.
+const OWE: [u8; 19] = [
+    1, 0, 0, 0, 0, 0, 0, 0, 1, 3, 97, 47, 49, 5, 60, 120, 64, 121, 62,
+];
+
+const FINAL: [u8; 11] = [2, 0, 0, 0, 0, 0, 0, 0, 1, 0, 239];
+
+const DROP: [u8; 10] = [3, 0, 0, 0, 0, 0, 0, 0, 1, 3];
+
+const SEEN: [u8; 9] = [5, 0, 0, 0, 0, 0, 0, 0, 7];
+
+const SPELLINGS: &[(Sample, &[u8])] = &[
+    (Sample::Owe(1), &OWE),
+    (Sample::Final(1), &FINAL),
+    (Sample::Drop(1), &DROP),
+    (Sample::Seen(7), &SEEN),
+];
+
+const OTHERS: &[&[u8]] = &[
+    &[],
+    // Each spelling without its last octet, and with one more.
+    &[
+        1, 0, 0, 0, 0, 0, 0, 0, 1, 3, 97, 47, 49, 5, 60, 120, 64, 121,
+    ],
+    &[2, 0, 0, 0, 0, 0, 0, 0, 1, 0],
+    &[3, 0, 0, 0, 0, 0, 0, 0, 1],
+    &[5, 0, 0, 0, 0, 0, 0, 0],
+    &[
+        1, 0, 0, 0, 0, 0, 0, 0, 1, 3, 97, 47, 49, 5, 60, 120, 64, 121, 62, 0,
+    ],
+    &[2, 0, 0, 0, 0, 0, 0, 0, 1, 0, 239, 0],
+    &[3, 0, 0, 0, 0, 0, 0, 0, 1, 3, 0],
+    &[5, 0, 0, 0, 0, 0, 0, 0, 7, 0],
+    // Tags, codes and causes that are none, and texts that are.
+    &[4, 0, 0, 0, 0, 0, 0, 0, 7],
+    &[6, 0, 0, 0, 0, 0, 0, 0, 7],
+    &[2, 0, 0, 0, 0, 0, 0, 0, 1, 0, 236],
+    &[3, 0, 0, 0, 0, 0, 0, 0, 1, 0],
+    &[3, 0, 0, 0, 0, 0, 0, 0, 1, 5],
+    &[1, 0, 0, 0, 0, 0, 0, 0, 1, 0, 5, 60, 120, 64, 121, 62],
+    &[1, 0, 0, 0, 0, 0, 0, 0, 1, 3, 97, 47, 49, 0],
+];
+
+const CODES: &[(u16, Option<FinalCode>)] = &[
+    (235, Some(FinalCode::IhaveReceived)),
+    (236, None),
+    (239, Some(FinalCode::TakethisReceived)),
+    (435, Some(FinalCode::IhaveNotWanted)),
+    (437, Some(FinalCode::IhaveRejected)),
+    (438, Some(FinalCode::CheckNotWanted)),
+    (439, Some(FinalCode::TakethisRejected)),
+];
+
+const CAUSES: &[(u8, Option<Cause>)] = &[
+    (0, None),
+    (1, Some(Cause::Limit)),
+    (2, Some(Cause::Deferred)),
+    (3, Some(Cause::Missing)),
+    (4, Some(Cause::Unsendable)),
+    (5, None),
+];
+
+// Each number is read as is wanted, and what it is read as has that number.
+#[test]
+fn codes(rt: HostRuntime) {
+    for (at, (number, want)) in CODES.iter().enumerate() {
+        assert_answer(&rt, at, &FinalCode::from_number(*number), want);
+        if let Some(code) = want {
+            assert_answer(&rt, at, &code.number(), number);
+        }
+    }
+}
+
+#[test]
+fn causes(rt: HostRuntime) {
+    for (at, (number, want)) in CAUSES.iter().enumerate() {
+        assert_answer(&rt, at, &Cause::from_number(*number), want);
+        if let Some(cause) = want {
+            assert_answer(&rt, at, &cause.number(), number);
+        }
+    }
+}
+
+#[test]
+fn debts(rt: HostRuntime) -> Result<(), Fail> {
+    let debt = Debt::new(7, token(rt.alloc())?, id(rt.alloc())?);
+    assert_answer(&rt, 0, &debt.number(), &7);
+    assert_answer(&rt, 0, &texts(debt.token(), debt.id()), &TEXTS);
+    Ok(())
+}
+
+fn spelled(alloc: Global, sample: Sample) -> Result<Vec<u8>, Fail> {
+    Ok(encode(alloc, &note_of(alloc, sample)?)?)
+}
+
+// Whether these octets are read as this note.
+fn reads_as(alloc: Global, octets: &[u8], want: Sample) -> Result<bool, Fail> {
+    match decode(alloc, octets)? {
+        Some(note) => Ok(is_sample(&note, want)),
+        None => Ok(false),
+    }
+}
+
+#[test]
+fn a_note_is_spelled_and_read(rt: HostRuntime) -> Result<(), Fail> {
+    for (at, (sample, octets)) in SPELLINGS.iter().enumerate() {
+        assert_answer(&rt, at, &spelled(rt.alloc(), *sample)?.as_slice(), octets);
+        assert_answer(&rt, at, &reads_as(rt.alloc(), octets, *sample)?, &true);
+    }
+    Ok(())
+}
+
+fn is_no_note(alloc: Global, octets: &[u8]) -> Result<bool, Fail> {
+    Ok(decode(alloc, octets)?.is_none())
+}
+
+#[test]
+fn reads_nothing_else(rt: HostRuntime) -> Result<(), Fail> {
+    for (at, octets) in OTHERS.iter().enumerate() {
+        assert_answer(&rt, at, &is_no_note(rt.alloc(), octets)?, &true);
+    }
+    Ok(())
+}
+
+#[test]
+fn laws() {
+    one_spelling();
+    after_in_parts();
+    counts_add_up();
+    numbers_rise();
+}

@@ -1,0 +1,543 @@
+// Tapes at which steps are taken, on disks that fail or that a stop leaves too.
+use crate::answers::assert_answer;
+use crate::disks::{assert_faults, assert_octets, disk_of};
+use crate::one_fault::OneFault;
+use crate::samples::{Sample, TEXTS, is_sample, note_of, texts};
+use disk_model::{Choice, Disk, FuseDisk, MemDisk};
+use ledger_core::{Cause, Debt, LedgerFault, Note, Totals};
+use recovery::{RefusedTape, Tape, TapeFault, tape_once};
+use std::alloc::Global;
+use std::ops::Range;
+use std::process::Abort;
+use std::test::Fail;
+
+// The tape of the Owe 1 of token `a/1` and id `<x@y>`.
+const OWED: [u8; 25] = [
+    0xa5, 0, 0, 0, 0x13, 1, 0, 0, 0, 0, 0, 0, 0, 1, 3, 0x61, 0x2f, 0x31, 5, 0x3c, 0x78, 0x40, 0x79,
+    0x3e, 0,
+];
+
+// That tape after the Final 1 with 239.
+const ANSWERED: [u8; 41] = [
+    0xa5, 0, 0, 0, 0x13, 1, 0, 0, 0, 0, 0, 0, 0, 1, 3, 0x61, 0x2f, 0x31, 5, 0x3c, 0x78, 0x40, 0x79,
+    0x3e, 0xa5, 0, 0, 0, 0x0b, 2, 0, 0, 0, 0, 0, 0, 0, 1, 0, 0xef, 0,
+];
+
+// The record of that Owe, and what a write that a stop tore has left behind a closed gate.
+const TORN: [u8; 28] = [
+    0xa5, 0, 0, 0, 0x13, 1, 0, 0, 0, 0, 0, 0, 0, 1, 3, 0x61, 0x2f, 0x31, 5, 0x3c, 0x78, 0x40, 0x79,
+    0x3e, 0, 0xa5, 0xa5, 0xa5,
+];
+
+// What is done to a tape, or asked of it, and the answer that is wanted.
+#[derive(Clone, Copy)]
+enum Step {
+    // A note that is refused has to be handed back.
+    Note(Sample, Result<(), TapeFault>),
+    // Each funnel line from this number on, below that one, is told as seen.
+    SeenEach(u64, u64),
+    DropAll(&'static [u64], Result<(), TapeFault>),
+    Flush(Result<u64, TapeFault>),
+    // The debt of this number is told with it, where there is one.
+    Debt(u64, Result<Option<u64>, TapeFault>),
+    Octets(u64, Option<u64>),
+    Owes(u64, bool),
+    IsBroken(bool),
+    Numbers(&'static [u64]),
+    Mark(u64),
+    Totals(Totals),
+    Room(usize),
+}
+
+fn note<D: Disk>(
+    alloc: Global,
+    tape: &mut Tape<D>,
+    sample: Sample,
+) -> Result<Result<(), TapeFault>, Fail> {
+    match tape.note(note_of(alloc, sample)?) {
+        Ok(()) => Ok(Ok(())),
+        Err((_, TapeFault::NoMemory)) => Err(Fail::from(TapeFault::NoMemory)),
+        Err((note, fault)) if is_sample(&note, sample) => Ok(Err(fault)),
+        Err(_) => Err(Fail::from("another note is handed back")),
+    }
+}
+
+fn see_each<D: Disk>(tape: &mut Tape<D>, first: u64, behind: u64) -> Result<(), Fail> {
+    for number in first..behind {
+        if let Err((_, fault)) = tape.note(Note::Seen { number }) {
+            return Err(Fail::from(fault));
+        }
+    }
+    Ok(())
+}
+
+fn drop_all<D: Disk>(tape: &mut Tape<D>, numbers: &[u64]) -> Result<Result<(), TapeFault>, Fail> {
+    match tape.drop_all(numbers, Cause::Limit) {
+        Err(TapeFault::NoMemory) => Err(Fail::from(TapeFault::NoMemory)),
+        answer => Ok(answer),
+    }
+}
+
+fn flush<D: Disk>(tape: &mut Tape<D>) -> Result<Result<u64, TapeFault>, Fail> {
+    match tape.flush() {
+        Err(TapeFault::NoMemory) => Err(Fail::from(TapeFault::NoMemory)),
+        answer => Ok(answer),
+    }
+}
+
+// The number of a debt, which has to be of the texts of each debt here.
+fn number_of(debt: &Debt) -> Result<u64, Fail> {
+    if texts(debt.token(), debt.id()) == TEXTS {
+        Ok(debt.number())
+    } else {
+        Err(Fail::from("another debt is told"))
+    }
+}
+
+fn told<D: Disk>(tape: &Tape<D>, number: u64) -> Result<Result<Option<u64>, TapeFault>, Fail> {
+    match tape.debt(number) {
+        Ok(Some(debt)) => Ok(Ok(Some(number_of(&debt)?))),
+        Ok(None) => Ok(Ok(None)),
+        Err(TapeFault::NoMemory) => Err(Fail::from(TapeFault::NoMemory)),
+        Err(fault) => Ok(Err(fault)),
+    }
+}
+
+fn take<A: Abort, D: Disk>(
+    rt: &A,
+    alloc: Global,
+    tape: &mut Tape<D>,
+    at: usize,
+    step: Step,
+) -> Result<(), Fail> {
+    match step {
+        Step::Note(sample, want) => assert_answer(rt, at, &note(alloc, tape, sample)?, &want),
+        Step::SeenEach(first, behind) => see_each(tape, first, behind)?,
+        Step::DropAll(numbers, want) => assert_answer(rt, at, &drop_all(tape, numbers)?, &want),
+        Step::Flush(want) => assert_answer(rt, at, &flush(tape)?, &want),
+        Step::Debt(number, want) => assert_answer(rt, at, &told(tape, number)?, &want),
+        Step::Octets(number, want) => assert_answer(rt, at, &tape.octets(number), &want),
+        Step::Owes(number, want) => assert_answer(rt, at, &tape.owes(number), &want),
+        Step::IsBroken(want) => assert_answer(rt, at, &tape.is_broken(), &want),
+        Step::Numbers(want) => assert_answer(rt, at, &tape.numbers()?.as_slice(), &want),
+        Step::Mark(want) => assert_answer(rt, at, &tape.mark(), &want),
+        Step::Totals(want) => assert_answer(rt, at, &tape.totals(), &want),
+        Step::Room(want) => assert_answer(rt, at, &tape.room(), &want),
+    }
+    Ok(())
+}
+
+// The tape of a disk, or the disk handed back and why.
+fn opened<D: Disk + Drop>(alloc: Global, disk: D) -> Result<Tape<D>, (TapeFault, D)> {
+    match Tape::open(alloc, disk) {
+        Ok(tape) => Ok(tape),
+        Err(refused) => {
+            let RefusedTape { disk, fault, .. } = refused;
+            Err((fault, disk))
+        }
+    }
+}
+
+// Takes these steps, each of which has to answer as is wanted. Answers the disk that they leave.
+fn play<A: Abort, D: Disk + Drop>(
+    rt: &A,
+    alloc: Global,
+    mut tape: Tape<D>,
+    steps: &[Step],
+) -> Result<D, Fail> {
+    for (at, step) in steps.iter().enumerate() {
+        take(rt, alloc, &mut tape, at, *step)?;
+    }
+    Ok(tape.into_disk())
+}
+
+// The same at the tape of this disk.
+fn run<A: Abort, D: Disk + Drop>(
+    rt: &A,
+    alloc: Global,
+    disk: D,
+    steps: &[Step],
+) -> Result<D, Fail> {
+    match opened(alloc, disk) {
+        Ok(tape) => play(rt, alloc, tape, steps),
+        Err((fault, _)) => Err(Fail::from(fault)),
+    }
+}
+
+const NOT_OWED: TapeFault = TapeFault::Note(LedgerFault::NotOwed);
+
+const OLD_NUMBER: TapeFault = TapeFault::Note(LedgerFault::OldNumber);
+
+// The steps at one opening of a tape, and what lies on the disk then where it is asked for.
+type Opening = (&'static [Step], Option<&'static [u8]>);
+
+// Opens the tape of a disk again and again.
+fn run_each<A: Abort>(
+    rt: &A,
+    alloc: Global,
+    mut disk: MemDisk,
+    openings: &[Opening],
+) -> Result<(), Fail> {
+    for (at, (steps, left)) in openings.iter().enumerate() {
+        disk = run(rt, alloc, disk, steps)?;
+        if let Some(left) = left {
+            assert_octets(rt, alloc, at, &mut disk, left)?;
+        }
+    }
+    Ok(())
+}
+
+#[test]
+fn steps_are_taken_at_a_tape(rt: HostRuntime) -> Result<(), Fail> {
+    // What lies on a disk, and what is done at each opening of its tape.
+    const SCRIPTS: &[(&[u8], &[Opening])] = &[
+        // Notes lie on the disk.
+        (
+            &[],
+            &[
+                (
+                    &[
+                        Step::Note(Sample::Owe(1), Ok(())),
+                        Step::Room(65535),
+                        Step::Flush(Ok(1)),
+                    ],
+                    Some(&OWED),
+                ),
+                (
+                    &[
+                        Step::Mark(1),
+                        Step::Owes(1, true),
+                        Step::Owes(2, false),
+                        Step::Numbers(&[1]),
+                        Step::Note(Sample::Final(1), Ok(())),
+                        Step::Flush(Ok(1)),
+                        Step::Flush(Ok(1)),
+                        Step::Totals(Totals {
+                            taken: 1,
+                            answered: 1,
+                            dropped: 0,
+                            owed: 0,
+                            owed_bytes: 0,
+                        }),
+                    ],
+                    Some(&ANSWERED),
+                ),
+                (&[Step::Mark(1)], Some(&ANSWERED)),
+            ],
+        ),
+        // A debt is told.
+        (
+            &OWED,
+            &[(&[Step::Debt(1, Ok(Some(1))), Step::Debt(2, Ok(None))], None)],
+        ),
+        // A refused note is handed back.
+        (
+            &[],
+            &[(
+                &[
+                    Step::SeenEach(1, 65537),
+                    Step::Room(0),
+                    Step::Note(Sample::Seen(65537), Err(TapeFault::PendingFull)),
+                    Step::Note(Sample::Final(1), Err(NOT_OWED)),
+                    Step::Note(Sample::Seen(1), Err(OLD_NUMBER)),
+                    Step::Flush(Ok(65536)),
+                    Step::Mark(65536),
+                    Step::Room(65536),
+                ],
+                None,
+            )],
+        ),
+        // The octets of a debt: three of token, five of message-id, and two.
+        (
+            &[],
+            &[(
+                &[
+                    Step::Note(Sample::Owe(1), Ok(())),
+                    Step::Note(Sample::Owe(2), Ok(())),
+                    Step::Note(Sample::Owe(3), Ok(())),
+                    Step::Flush(Ok(3)),
+                    Step::Octets(1, Some(10)),
+                    Step::Octets(3, Some(10)),
+                    Step::Octets(0, None),
+                    Step::Octets(4, None),
+                    Step::Totals(Totals {
+                        taken: 3,
+                        answered: 0,
+                        dropped: 0,
+                        owed: 3,
+                        owed_bytes: 30,
+                    }),
+                    Step::IsBroken(false),
+                ],
+                None,
+            )],
+        ),
+        // Several debts are dropped.
+        (
+            &[],
+            &[
+                (
+                    &[
+                        Step::Note(Sample::Owe(1), Ok(())),
+                        Step::Note(Sample::Owe(2), Ok(())),
+                        Step::Note(Sample::Owe(3), Ok(())),
+                        Step::Flush(Ok(3)),
+                        Step::DropAll(&[3, 1], Ok(())),
+                        Step::Numbers(&[2]),
+                        Step::Totals(Totals {
+                            taken: 3,
+                            answered: 0,
+                            dropped: 2,
+                            owed: 1,
+                            owed_bytes: 10,
+                        }),
+                        Step::Room(65534),
+                        Step::Flush(Ok(5)),
+                    ],
+                    None,
+                ),
+                (&[Step::Numbers(&[2])], None),
+            ],
+        ),
+        // Debts are dropped all or none.
+        (
+            &[],
+            &[(
+                &[
+                    Step::Note(Sample::Owe(1), Ok(())),
+                    Step::Note(Sample::Owe(2), Ok(())),
+                    Step::Note(Sample::Owe(3), Ok(())),
+                    Step::Flush(Ok(3)),
+                    Step::DropAll(&[1, 4], Err(NOT_OWED)),
+                    Step::DropAll(&[2, 1, 2], Err(NOT_OWED)),
+                    Step::DropAll(&[], Ok(())),
+                    Step::SeenEach(4, 65539),
+                    Step::Room(1),
+                    Step::DropAll(&[1, 2], Err(TapeFault::PendingFull)),
+                    Step::DropAll(&[1, 1], Err(NOT_OWED)),
+                    Step::Numbers(&[1, 2, 3]),
+                    Step::DropAll(&[1], Ok(())),
+                    Step::Room(0),
+                ],
+                None,
+            )],
+        ),
+        // What a torn write left is cut off.
+        (&TORN, &[(&[], Some(&OWED))]),
+    ];
+    for (octets, openings) in SCRIPTS {
+        run_each(&rt, rt.alloc(), disk_of(rt.alloc(), octets)?, openings)?;
+    }
+    Ok(())
+}
+
+// The mark of the tape of this disk, or why it is refused. No number but those owed was ever noted.
+fn front_of(alloc: Global, disk: MemDisk) -> Result<Result<u64, TapeFault>, Fail> {
+    match opened(alloc, disk) {
+        Ok(tape) => {
+            let mark = tape.mark();
+            let totals = tape.totals();
+            if totals.taken == mark && totals.owed == mark {
+                Ok(Ok(mark))
+            } else {
+                Err(Fail::from("other debts"))
+            }
+        }
+        Err((TapeFault::NoMemory, _)) => Err(Fail::from(TapeFault::NoMemory)),
+        Err((fault, _)) => Ok(Err(fault)),
+    }
+}
+
+#[test]
+fn what_is_cut_short_is_damaged(rt: HostRuntime) -> Result<(), Fail> {
+    for len in 0..25 {
+        let want = match len {
+            0 | 1 => Ok(0),
+            24 => Err(TapeFault::Damaged { segment: 0, at: 24 }),
+            _ => Err(TapeFault::Damaged { segment: 0, at: 0 }),
+        };
+        assert_answer(
+            &rt,
+            len,
+            &front_of(rt.alloc(), disk_of(rt.alloc(), &OWED[..len])?)?,
+            &want,
+        );
+    }
+    Ok(())
+}
+
+#[test]
+fn a_record_that_is_no_note_is_damage(rt: HostRuntime) -> Result<(), Fail> {
+    // No note, a Final of what is not owed, and an Owe twice; and where each is damaged.
+    const ROWS: &[(&[u8], u64)] = &[
+        (&[0xa5, 0, 0, 0, 0, 0], 0),
+        (
+            &[0xa5, 0, 0, 0, 0x0b, 2, 0, 0, 0, 0, 0, 0, 0, 1, 0, 0xef, 0],
+            0,
+        ),
+        (
+            &[
+                0xa5, 0, 0, 0, 0x13, 1, 0, 0, 0, 0, 0, 0, 0, 1, 3, 0x61, 0x2f, 0x31, 5, 0x3c, 0x78,
+                0x40, 0x79, 0x3e, 0xa5, 0, 0, 0, 0x13, 1, 0, 0, 0, 0, 0, 0, 0, 1, 3, 0x61, 0x2f,
+                0x31, 5, 0x3c, 0x78, 0x40, 0x79, 0x3e, 0,
+            ],
+            24,
+        ),
+    ];
+    for (row, (octets, place)) in ROWS.iter().enumerate() {
+        let want = Err(TapeFault::Damaged {
+            segment: 0,
+            at: *place,
+        });
+        assert_answer(
+            &rt,
+            row,
+            &front_of(rt.alloc(), disk_of(rt.alloc(), octets)?)?,
+            &want,
+        );
+    }
+    Ok(())
+}
+
+// An empty disk of which the last sync of the first flush fails: an opening syncs three times, and a flush twice.
+fn faulty(alloc: Global) -> OneFault<MemDisk> {
+    OneFault::new(MemDisk::new(alloc), 4)
+}
+
+#[test]
+fn a_failed_sync_breaks_the_tape(rt: HostRuntime) -> Result<(), Fail> {
+    // The steps, and those at the next opening: what was broken drops nothing, and what was written is owed still.
+    const ROWS: &[(&[Step], &[Step])] = &[
+        (
+            &[
+                Step::Note(Sample::Owe(1), Ok(())),
+                Step::Note(Sample::Owe(2), Ok(())),
+                Step::Note(Sample::Owe(3), Ok(())),
+                Step::Flush(Err(TapeFault::Disk)),
+                Step::Flush(Err(TapeFault::Broken)),
+                Step::Note(Sample::Final(1), Err(TapeFault::Broken)),
+                Step::Flush(Err(TapeFault::Broken)),
+                Step::Debt(1, Err(TapeFault::Broken)),
+            ],
+            &[Step::Numbers(&[1, 2, 3])],
+        ),
+        (
+            &[
+                Step::Note(Sample::Owe(1), Ok(())),
+                Step::Flush(Err(TapeFault::Disk)),
+                Step::IsBroken(true),
+                Step::DropAll(&[2], Err(TapeFault::Broken)),
+                Step::Octets(1, Some(10)),
+            ],
+            &[Step::Numbers(&[1])],
+        ),
+    ];
+    for (at, (steps, kept)) in ROWS.iter().enumerate() {
+        let disk = run(&rt, rt.alloc(), faulty(rt.alloc()), steps)?;
+        assert_faults(&rt, at, &disk, 1);
+        run(&rt, rt.alloc(), disk, kept)?;
+    }
+    Ok(())
+}
+
+// Opens the tape of a disk that fails after so many calls, and takes these steps where it is opened. No other fault
+// than one of the disk is met here. Answers the disk as a stop finds it.
+fn stopped<A: Abort>(
+    rt: &A,
+    alloc: Global,
+    disk: MemDisk,
+    calls: u64,
+    steps: &[Step],
+) -> Result<MemDisk, Fail> {
+    match opened(alloc, FuseDisk::new(disk, calls)) {
+        Ok(tape) => Ok(play(rt, alloc, tape, steps)?.into_inner()),
+        Err((TapeFault::Disk, disk)) => Ok(disk.into_inner()),
+        Err((fault, _)) => Err(Fail::from(fault)),
+    }
+}
+
+// How many debts there are, at least and at most.
+type Counts = (u64, u64);
+
+// What stands where a write did not happen, for each choice of what happened of three operations.
+const FILLS: [u8; 24] = [
+    0, 0, 0, 0, 0, 0, 0, 0, 0xa5, 0xa5, 0xa5, 0xa5, 0xa5, 0xa5, 0xa5, 0xa5, 0xff, 0xff, 0xff, 0xff,
+    0xff, 0xff, 0xff, 0xff,
+];
+
+// Each image of the disk that a choice names is the tape of so many of the first debts.
+fn assert_fronts<A: Abort>(
+    rt: &A,
+    alloc: Global,
+    disk: &MemDisk,
+    (least, most): Counts,
+) -> Result<(), Fail> {
+    for (at, fill) in FILLS.iter().enumerate() {
+        let choice = Choice {
+            happened: (at % 8) as u64,
+            fill: *fill,
+        };
+        let mark = front_of(alloc, disk.image(choice)?)??;
+        assert_answer(rt, at, &(least <= mark && mark <= most), &true);
+    }
+    Ok(())
+}
+
+// The same of what each stop leaves: on a disk of these octets that fails after so many calls, with these steps.
+fn assert_stops<A: Abort>(
+    rt: &A,
+    alloc: Global,
+    octets: &[u8],
+    calls: Range<u64>,
+    steps: &[Step],
+    counts: Counts,
+) -> Result<(), Fail> {
+    for calls in calls {
+        let disk = stopped(rt, alloc, disk_of(alloc, octets)?, calls, steps)?;
+        assert_fronts(rt, alloc, &disk, counts)?;
+    }
+    Ok(())
+}
+
+// Opening an empty disk takes five calls. The flush of two notes takes five, a write, a sync, a write for each gate
+// and a sync, and that of one takes four.
+#[test]
+fn a_stop_leaves_a_front(rt: HostRuntime) -> Result<(), Fail> {
+    const FIRST: &[Step] = &[
+        Step::Note(Sample::Owe(1), Ok(())),
+        Step::Note(Sample::Owe(2), Ok(())),
+        Step::Flush(Err(TapeFault::Disk)),
+    ];
+    const SECOND: &[Step] = &[
+        Step::Note(Sample::Owe(1), Ok(())),
+        Step::Note(Sample::Owe(2), Ok(())),
+        Step::Flush(Ok(2)),
+        Step::Note(Sample::Owe(3), Ok(())),
+        Step::Flush(Err(TapeFault::Disk)),
+    ];
+    const NEITHER: &[Step] = &[
+        Step::Note(Sample::Owe(1), Ok(())),
+        Step::Note(Sample::Owe(2), Ok(())),
+        Step::Flush(Ok(2)),
+        Step::Note(Sample::Owe(3), Ok(())),
+        Step::Flush(Ok(3)),
+    ];
+    // What lies on a disk, the stops from this call on, below that one, the steps, and how many debts are left. The
+    // last is of an opening that cuts off what a torn write left.
+    const STOPS: &[(&[u8], u64, u64, &[Step], Counts)] = &[
+        (&[], 0, 5, &[], (0, 0)),
+        (&[], 5, 10, FIRST, (0, 2)),
+        (&[], 10, 14, SECOND, (2, 3)),
+        (&[], 14, 17, NEITHER, (3, 3)),
+        (&TORN, 0, 12, &[], (1, 1)),
+    ];
+    for (octets, first, behind, steps, counts) in STOPS {
+        assert_stops(&rt, rt.alloc(), octets, *first..*behind, steps, *counts)?;
+    }
+    Ok(())
+}
+
+#[test]
+fn laws() {
+    tape_once();
+}

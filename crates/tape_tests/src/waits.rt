@@ -1,0 +1,262 @@
+// Numbers that wait for a moment, and how long a place is let alone once it failed.
+use crate::answers::assert_answer;
+use deferral::{Backoff, Later};
+use std::alloc::{AllocError, Global};
+use std::collections::BTreeMap;
+use std::process::Abort;
+use std::test::Fail;
+
+// What is done to the numbers that wait, or asked of them, and the answer that is wanted.
+#[derive(Clone, Copy)]
+enum Step {
+    // This number waits for this moment from now on, unless it waits already.
+    Put(u64, u64),
+    // It waits for this moment or for none from now on, if it waits.
+    Set(u64, Option<u64>, bool),
+    Remove(u64, bool),
+    Contains(u64, bool),
+    // The least number that is due at this moment, and the least from the first on that is.
+    DueLeast(u64, Option<u64>),
+    DueFrom(u64, u64, Option<u64>),
+}
+
+// What a try of a place came to.
+#[derive(Clone, Copy)]
+enum Try {
+    Failed,
+    Opened,
+}
+
+fn put(later: &mut Later, number: u64, due: u64) -> Result<(), AllocError> {
+    if later.contains(number) {
+        return Ok(());
+    }
+    later.put(number, due)
+}
+
+fn take<A: Abort>(rt: &A, later: &mut Later, at: usize, step: Step) -> Result<(), Fail> {
+    match step {
+        Step::Put(number, due) => put(later, number, due)?,
+        Step::Set(number, due, want) => assert_answer(rt, at, &later.set(number, due), &want),
+        Step::Remove(number, want) => assert_answer(rt, at, &later.remove(number), &want),
+        Step::Contains(number, want) => assert_answer(rt, at, &later.contains(number), &want),
+        Step::DueLeast(now, want) => assert_answer(rt, at, &later.due_least(now), &want),
+        Step::DueFrom(first, now, want) => {
+            assert_answer(rt, at, &later.due_from(first, now), &want)
+        }
+    }
+    Ok(())
+}
+
+// Takes these steps, each of which has to answer as is wanted.
+fn play<A: Abort>(rt: &A, later: &mut Later, steps: &[Step]) -> Result<(), Fail> {
+    for (at, step) in steps.iter().enumerate() {
+        take(rt, later, at, *step)?;
+    }
+    Ok(())
+}
+
+// Takes these steps where nothing waits at first.
+fn run<A: Abort>(rt: &A, alloc: Global, steps: &[Step]) -> Result<(), Fail> {
+    play(rt, &mut Later::new(alloc), steps)
+}
+
+fn note(backoff: &mut Backoff, tried: Try) {
+    match tried {
+        Try::Failed => backoff.failed(),
+        Try::Opened => backoff.opened(),
+    }
+}
+
+// A place that is tried so waits no time at first, and after each try as long as is wanted.
+fn assert_waits<A: Abort>(rt: &A, mut backoff: Backoff, tries: &[(Try, u64)]) {
+    assert_answer(rt, 0, &backoff.wait(), &0);
+    for (at, (tried, want)) in tries.iter().enumerate() {
+        note(&mut backoff, *tried);
+        assert_answer(rt, at, &backoff.wait(), want);
+    }
+}
+
+#[test]
+fn numbers_wait_for_their_moments(rt: HostRuntime) -> Result<(), Fail> {
+    const SCRIPTS: &[&[Step]] = &[
+        // Due at its moment.
+        &[
+            Step::Contains(1, false),
+            Step::Put(1, 160),
+            Step::Contains(1, true),
+            Step::DueLeast(159, None),
+            Step::DueLeast(160, Some(1)),
+        ],
+        // The least number, and not the one of the earliest moment.
+        &[
+            Step::Put(5, 10),
+            Step::Put(3, 20),
+            Step::DueLeast(9, None),
+            Step::DueLeast(15, Some(5)),
+            Step::DueLeast(20, Some(3)),
+            Step::DueLeast(15, Some(5)),
+        ],
+        // It waits no more once it is removed.
+        &[
+            Step::Remove(5, false),
+            Step::Put(5, 10),
+            Step::Put(3, 20),
+            Step::Put(u64::MAX, 0),
+            Step::Remove(4, false),
+            Step::Remove(5, true),
+            Step::Remove(5, false),
+            Step::Contains(5, false),
+            Step::DueLeast(15, Some(u64::MAX)),
+            Step::DueLeast(20, Some(3)),
+            Step::Remove(3, true),
+            Step::Remove(u64::MAX, true),
+            Step::DueLeast(u64::MAX, None),
+        ],
+        // Due at no moment until one is set.
+        &[
+            Step::Set(7, None, false),
+            Step::Put(7, 10),
+            Step::Set(8, Some(0), false),
+            Step::Contains(8, false),
+            Step::Set(7, None, true),
+            Step::Contains(7, true),
+            Step::DueLeast(u64::MAX, None),
+            Step::Put(9, u64::MAX),
+            Step::DueLeast(u64::MAX - 1, None),
+            Step::DueLeast(u64::MAX, Some(9)),
+            Step::Set(7, Some(20), true),
+            Step::DueLeast(19, None),
+            Step::DueLeast(20, Some(7)),
+            Step::Set(9, None, true),
+            Step::Remove(7, true),
+            Step::DueLeast(u64::MAX, None),
+            Step::Remove(9, true),
+            Step::Set(9, Some(0), false),
+        ],
+        // The least from a number on.
+        &[
+            Step::DueFrom(0, u64::MAX, None),
+            Step::Put(3, 10),
+            Step::Put(5, 10),
+            Step::Put(6, 10),
+            Step::Put(u64::MAX, 10),
+            Step::Set(6, None, true),
+            Step::DueFrom(0, 10, Some(3)),
+            Step::DueFrom(3, 10, Some(3)),
+            Step::DueFrom(4, 10, Some(5)),
+            Step::DueFrom(6, 10, Some(u64::MAX)),
+            Step::DueFrom(u64::MAX, 10, Some(u64::MAX)),
+            Step::DueFrom(4, 9, None),
+            Step::Remove(u64::MAX, true),
+            Step::DueFrom(6, 10, None),
+        ],
+    ];
+    for steps in SCRIPTS {
+        run(&rt, rt.alloc(), steps)?;
+    }
+    Ok(())
+}
+
+/// The least number at or above the first that is due, found by looking at each.
+fn plain_least(plain: &BTreeMap<u64, Option<u64>>, first: u64, now: u64) -> Option<u64> {
+    for (number, due) in plain {
+        if let Some(due) = *due
+            && first <= *number
+            && due <= now
+        {
+            return Some(*number);
+        }
+    }
+    None
+}
+
+/// Puts or removes a number in the plain map, or gives it another moment or none: as a step, with the answer of the
+/// plain map.
+fn change(plain: &mut BTreeMap<u64, Option<u64>>, number: u64, random: u64) -> Result<Step, Fail> {
+    let due = random >> 20 & 63;
+    if random >> 8 & 3 == 0 {
+        return Ok(Step::Remove(number, plain.remove(&number).is_some()));
+    }
+    if !plain.contains_key(&number) {
+        plain.insert(number, Some(due))?;
+        return Ok(Step::Put(number, due));
+    }
+    let moment = if due % 4 == 0 { None } else { Some(due) };
+    plain.insert(number, moment)?;
+    Ok(Step::Set(number, moment, true))
+}
+
+/// One step of the mix: a number is put, removed or given another moment or none, and the least due is asked.
+fn mix_once(
+    rt: &impl Abort,
+    later: &mut Later,
+    plain: &mut BTreeMap<u64, Option<u64>>,
+    random: u64,
+) -> Result<(), Fail> {
+    let number = random >> 32 & 0x8000_00ff;
+    let now = random >> 10 & 63;
+    let first = random >> 26 & 0x8000_00ff;
+    let changed = change(plain, number, random)?;
+    play(
+        rt,
+        later,
+        &[
+            changed,
+            Step::Contains(number, plain.contains_key(&number)),
+            Step::DueLeast(now, plain_least(plain, 0, now)),
+            Step::DueFrom(first, now, plain_least(plain, first, now)),
+        ],
+    )
+}
+
+fn mix(
+    rt: &impl Abort,
+    later: &mut Later,
+    plain: &mut BTreeMap<u64, Option<u64>>,
+) -> Result<(), Fail> {
+    let mut random = 1u64;
+    for _ in 0..2000 {
+        random = random
+            .wrapping_mul(6364136223846793005)
+            .wrapping_add(1442695040888963407);
+        mix_once(rt, later, plain, random)?;
+    }
+    Ok(())
+}
+
+#[test]
+fn as_a_plain_map_that_is_searched(rt: HostRuntime) -> Result<(), Fail> {
+    let mut later = Later::new(rt.alloc());
+    let mut plain = BTreeMap::new(rt.alloc());
+    mix(&rt, &mut later, &mut plain)
+}
+
+#[test]
+fn waits_double_up_to_the_most(rt: HostRuntime) {
+    // The first wait and the most, and what each try leaves. A first wait above the most is the most, and doubling
+    // stops at the greatest number.
+    const ROWS: &[(u64, u64, &[(Try, u64)])] = &[
+        (
+            30,
+            100,
+            &[
+                (Try::Failed, 30),
+                (Try::Failed, 60),
+                (Try::Failed, 100),
+                (Try::Failed, 100),
+                (Try::Opened, 0),
+                (Try::Failed, 30),
+            ],
+        ),
+        (300, 100, &[(Try::Failed, 100), (Try::Failed, 100)]),
+        (
+            1 << 63,
+            u64::MAX,
+            &[(Try::Failed, 1 << 63), (Try::Failed, u64::MAX)],
+        ),
+    ];
+    for (first, most, tries) in ROWS {
+        assert_waits(&rt, Backoff::new(*first, *most), tries);
+    }
+}
