@@ -2,15 +2,13 @@
 //!
 //! May touch the reader and the writer that it is given and nothing else; it stands on `peer_queue` and `conn_core` for what is owed and
 //! sent, on `feed_conf` and `funnel` for what is read, on `disk_model` for what a stop leaves.
-//! The crate above uses `run_script` (docs/FORMATS.md); what a line, an outcome, a stop and an opening make of each peer is said in `specs/`.
+//! The crates above use `run_script` (docs/FORMATS.md); what a line, an outcome, a stop and an opening make of each peer is said in `specs/`.
 #![tactic(auto)]
 
 mod action;
 mod arming;
 mod connection;
 mod ending;
-#[cfg(test)]
-mod exchange_tests;
 mod fault;
 mod lines;
 mod numbers;
@@ -21,10 +19,6 @@ mod script;
 mod stage;
 mod step;
 mod stop;
-#[cfg(test)]
-mod stop_tests;
-#[cfg(test)]
-mod tests;
 mod told;
 
 pub use ending::Ending;

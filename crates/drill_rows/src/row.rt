@@ -1,0 +1,60 @@
+// A row as the index names it.
+use drill::Ending;
+
+/// How a row's scripts are made of its file.
+#[derive(Clone, Copy)]
+pub enum Form {
+    /// `NAME.drill` is the script.
+    Script,
+    /// `NAME.long` is the script, in which a line with a range `{FIRST..LAST}` stands for a line for each number.
+    Long,
+    /// `NAME.each` is a template of many scripts.
+    Each,
+}
+
+impl Form {
+    /// The form of a file whose name ends so, behind its dot.
+    pub fn read(word: &str) -> Option<Form> {
+        match word {
+            "drill" => Some(Form::Script),
+            "long" => Some(Form::Long),
+            "each" => Some(Form::Each),
+            _ => None,
+        }
+    }
+}
+
+/// A row.
+#[derive(Clone, Copy)]
+pub struct Row<'a> {
+    /// Its file, without the folder.
+    pub file: &'a str,
+    /// What stands before the dot of that.
+    pub name: &'a str,
+    pub form: Form,
+    /// How each script ends.
+    pub ending: Ending,
+}
+
+impl<'a> Row<'a> {
+    /// Reads a line of the index: the row's file, one space, and how its scripts end.
+    pub fn read(line: &'a str) -> Option<Row<'a>> {
+        let (file, ending) = line.split_once(' ')?;
+        let (name, form) = file.split_once('.')?;
+        Some(Row {
+            file,
+            name,
+            form: Form::read(form)?,
+            ending: read_ending(ending)?,
+        })
+    }
+}
+
+fn read_ending(word: &str) -> Option<Ending> {
+    match word {
+        "done" => Some(Ending::Done),
+        "refused" => Some(Ending::Refused),
+        "no_memory" => Some(Ending::NoMemory),
+        _ => None,
+    }
+}

@@ -1,0 +1,102 @@
+// Runs the scripts of a row.
+use crate::fault::RowFault;
+use crate::long::write_out;
+use crate::outputs::{first_difference, read_outputs};
+use crate::row::{Form, Row};
+use crate::template::Template;
+use drill::{Ending, run_script};
+use std::alloc::Global;
+use std::fs;
+use std::rt::Files;
+
+// What each script of a row is to do.
+#[derive(Clone, Copy)]
+struct Wanted<'a> {
+    // One of these is printed.
+    outputs: &'a [String],
+    ending: Ending,
+}
+
+/// Runs each script of a row, up to the first that prints or ends otherwise than it should; tells how many they are.
+///
+/// # Errors
+/// What is wrong with the row.
+pub fn check_row<R: AllocGlobal + Files>(rt: &R, row: &Row) -> Result<u64, RowFault> {
+    let alloc = rt.alloc();
+    let name = row.name;
+    let text = fs::read_to_string(rt, row.file)?;
+    let printed = fs::read_to_string(rt, &format!(in alloc; "{name}.out")?)?;
+    match row.form {
+        Form::Script => check_one(alloc, &text, printed, row.ending),
+        Form::Long => {
+            let printed = write_out(alloc, &printed)?;
+            check_one(alloc, &write_out(alloc, &text)?, printed, row.ending)
+        }
+        Form::Each => check_each(
+            alloc,
+            &Template::read(alloc, &text)?,
+            &Wanted {
+                outputs: &read_outputs(alloc, &printed)?,
+                ending: row.ending,
+            },
+        ),
+    }
+}
+
+// A row of one script.
+fn check_one(
+    alloc: Global,
+    script: &str,
+    printed: String,
+    ending: Ending,
+) -> Result<u64, RowFault> {
+    let wanted = Wanted {
+        outputs: &[printed],
+        ending,
+    };
+    check_script(alloc, script, &wanted)?;
+    Ok(1)
+}
+
+// A row of the scripts of a template.
+fn check_each(alloc: Global, template: &Template, wanted: &Wanted) -> Result<u64, RowFault> {
+    let count = template.count();
+    if count == 0 {
+        return Err(RowFault::NoScript);
+    }
+    for number in 0..count {
+        let script = template.script(alloc, number)?;
+        match check_script(alloc, &script, wanted) {
+            Err(RowFault::Differs(what)) => return Err(told_of(alloc, &what, &script)),
+            checked => checked?,
+        }
+    }
+    Ok(count)
+}
+
+// What differs, of which of a template's scripts.
+fn told_of(alloc: Global, what: &str, script: &str) -> RowFault {
+    match format!(in alloc; "{what}, by the script {script:?}") {
+        Ok(told) => RowFault::Differs(told),
+        Err(refused) => RowFault::from(refused),
+    }
+}
+
+// Runs a script, and looks at what it prints and how it ends.
+fn check_script(alloc: Global, script: &str, wanted: &Wanted) -> Result<(), RowFault> {
+    let mut printed = Vec::new(alloc);
+    let mut reader = script.as_bytes();
+    let ending = run_script(alloc, &mut reader, &mut printed)?;
+    let Ok(printed) = String::from_utf8(printed) else {
+        return Err(RowFault::NoText);
+    };
+    if !wanted.outputs.contains(&printed) {
+        let difference = first_difference(wanted.outputs, &printed);
+        return Err(RowFault::Differs(difference.to_string(alloc)?));
+    }
+    if ending != wanted.ending {
+        let told = format!(in alloc; "wanted {:?} as its end, not {ending:?}", wanted.ending)?;
+        return Err(RowFault::Differs(told));
+    }
+    Ok(())
+}
