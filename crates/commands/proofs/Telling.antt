@@ -1,0 +1,24 @@
+-- The line that tells of a fault, where it was written and where it was not.
+use Rattle.std.proofs.Common.{ℕ, List, [], Option, None, Some, Err, refl}
+use Rattle.std.proofs.KnownBytes.{Keeps-refl}
+use Rattle.std.specs.declared.io.Error.{Error}
+use Rattle.std.specs.Prelude.{string_bytes}
+use Rattle.commands.specs.Ends.{Tells}
+use Rattle.commands.specs.Fault.{IsLineOf}
+use Rattle.commands.specs.Lines.{config_text, unread_text, input_text, output_text, mistake_text}
+use Rattle.commands.specs.declared.fault.Fault.{Fault}
+use Rattle.commands.specs.declared.fault.Fault.TheVariants.{NoMemory, Config, Unread, Input, Output, Mistake}
+
+-- each fault has a line, or none
+pub has_line : (fault : Fault) → (line : Option (List ℕ)) × IsLineOf fault line
+has_line NoMemory = (None, refl)
+has_line (Config fault) = (Some (config_text fault), refl)
+has_line (Unread path) = (Some (unread_text path.now), refl)
+has_line (Input error) = (Some (input_text []), ([], refl))
+has_line (Output error) = (Some (output_text []), ([], refl))
+has_line (Mistake what) = (Some (mistake_text (string_bytes what)), refl)
+
+-- a line that was not written
+pub line_is_lost : (held : Option (List ℕ)) (error : Error) (line : Option (List ℕ)) → Tells held held (Err error) line
+line_is_lost held error None = Keeps-refl held
+line_is_lost held error (Some line) = tt

@@ -1,0 +1,6 @@
+use Rattle.feed_conf.specs.ConfView.{conf_view}
+use Rattle.commands.proofs.check.checked.Goals as goal
+
+pub returns-in_ok-tell-in-Ok : goal.returns-in_ok-tell-in-Ok
+returns-in_ok-tell-in-Ok c =
+    (conf_view c.in-Ok.conf, (λ lines has. c.in-Ok.ensures.meaning lines has), c.in_ok-tell-in-Ok.ensures)

@@ -1,0 +1,98 @@
+-- What each order comes to: its exit status, what is on standard output, and the line on standard error, if any
+-- (docs/FORMATS.md).
+use Rattle.std.specs.Prelude.{◌≡◌, ◌⊎◌, ℕ, List, Option, None, Some, Result, Ok, Err, OnOk, string_bytes}
+use Rattle.std.specs.Io.KnownBytes.{Appends, Keeps}
+use Rattle.std.specs.declared.io.Error.{Error}
+use Rattle.drill.specs.declared.ending.Ending.{Ending}
+use Rattle.feed_conf.specs.Reading.{HaveTokens, lines_of}
+use Rattle.feed_conf.specs.Settings.{Outcome, meaning}
+use Rattle.feed_conf.specs.Tokens.{Token}
+use Rattle.feed_conf.specs.declared.fault.ConfFault.{ConfFault}
+use Rattle.commands.specs.Check.{check_text}
+use Rattle.commands.specs.Exit.{exit_of}
+use Rattle.commands.specs.Lines.{config_text, unread_text, input_text, output_text, mistake_text}
+use Rattle.commands.specs.declared.exit.Exit.{Exit}
+use Rattle.commands.specs.declared.exit.Exit.TheVariants.{Done, Refused, Usage, Unreadable, NoMemory}
+use Rattle.commands.specs.declared.order.Order.{Order}
+use Rattle.commands.specs.declared.order.Order.TheVariants.{DrillFromInput, Drill, Check, Tell, Mistake}
+
+-- what a configuration's text means: its settings, or its first fault
+abbrev pub Means : List ℕ → Result Outcome ConfFault → Type 0
+Means text meant = (lines : List (List Token)) → HaveTokens (lines_of text) lines → meaning lines ≡ meant
+
+-- memory was refused, of which nothing is said
+abbrev pub LacksMemory : Exit → Option (List ℕ) → Type 0
+LacksMemory exit line = (exit ≡ NoMemory) × (line ≡ None)
+
+-- standard output could not be written
+abbrev pub LosesOutput : Exit → Option (List ℕ) → Type 0
+LosesOutput exit line = (exit ≡ Unreadable) × ((reason : List ℕ) × (line ≡ Some (output_text reason)))
+
+-- standard input could not be read
+abbrev pub LosesInput : Exit → Option (List ℕ) → Type 0
+LosesInput exit line = (exit ≡ Unreadable) × ((reason : List ℕ) × (line ≡ Some (input_text reason)))
+
+-- the file at a path cannot be read
+abbrev pub MissesFile : (Option (List ℕ) → Type 0) → List ℕ → Exit → Option (List ℕ) → Type 0
+MissesFile says path exit line = says None × (exit ≡ Unreadable) × (line ≡ Some (unread_text path))
+
+-- a text was printed, or could not be
+abbrev pub Prints : List ℕ → Option (List ℕ) → Option (List ℕ) → Exit → Option (List ℕ) → Type 0
+Prints text old new exit line =
+    ((exit ≡ Done) × (line ≡ None) × Appends old new text)
+    ⊎ LosesOutput exit line
+    ⊎ LacksMemory exit line
+
+-- a drill was run, which says on standard output what became of it, or that could not be written
+abbrev pub Runs : Exit → Option (List ℕ) → Type 0
+Runs exit line =
+    ((ending : Ending) × (exit ≡ exit_of ending) × (line ≡ None))
+    ⊎ LosesOutput exit line
+    ⊎ LacksMemory exit line
+
+-- a configuration has settings, of which standard output gets what is told of them
+abbrev pub Passes : List ℕ → Option (List ℕ) → Option (List ℕ) → Exit → Option (List ℕ) → Type 0
+Passes text old new exit line =
+    (outcome : Outcome) × Means text (Ok outcome) × Prints (check_text outcome) old new exit line
+
+-- a configuration has a fault, which is the line on standard error
+abbrev pub Refuses : List ℕ → Exit → Option (List ℕ) → Type 0
+Refuses text exit line =
+    (fault : ConfFault) × Means text (Err fault) × (exit ≡ Refused) × (line ≡ Some (config_text fault))
+
+-- A check of the configuration in a file.
+abbrev pub Checks : (Option (List ℕ) → Type 0) → List ℕ →
+    Option (List ℕ) → Option (List ℕ) → Exit → Option (List ℕ) → Type 0
+Checks says path old new exit line =
+    ((text : List ℕ) × says (Some text) × Passes text old new exit line)
+    ⊎ ((text : List ℕ) × says (Some text) × Refuses text exit line × Keeps old new)
+    ⊎ (MissesFile says path exit line × Keeps old new)
+    ⊎ LacksMemory exit line
+
+-- A drill from standard input.
+abbrev pub DrillsInput : Exit → Option (List ℕ) → Type 0
+DrillsInput exit line = Runs exit line ⊎ LosesInput exit line
+
+-- A drill from a file.
+abbrev pub DrillsFile : (Option (List ℕ) → Type 0) → List ℕ →
+    Option (List ℕ) → Option (List ℕ) → Exit → Option (List ℕ) → Type 0
+DrillsFile says path old new exit line =
+    ((text : List ℕ) × says (Some text) × Runs exit line)
+    ⊎ (MissesFile says path exit line × Keeps old new)
+    ⊎ LacksMemory exit line
+
+-- What an order comes to, where this is said of the files, and standard output had and has these octets.
+abbrev pub Does : (List ℕ → Option (List ℕ) → Type 0) → Option (List ℕ) → Option (List ℕ) → Order →
+    Exit → Option (List ℕ) → Type 0
+Does says old new DrillFromInput exit line = DrillsInput exit line
+Does says old new (Drill path) exit line = DrillsFile (says path.now) path.now old new exit line
+Does says old new (Check path) exit line = Checks (says path.now) path.now old new exit line
+Does says old new (Tell text) exit line = Prints (string_bytes text) old new exit line
+Does says old new (Mistake what) exit line = (exit ≡ Usage) × (line ≡ Some (mistake_text (string_bytes what)))
+    × Keeps old new
+
+-- What a line, or none, makes of standard error, which had and has these octets; of one that could not be written
+-- nothing is known.
+abbrev pub Tells : Option (List ℕ) → Option (List ℕ) → Result Unit Error → Option (List ℕ) → Type 0
+Tells old new told None = Keeps old new
+Tells old new told (Some line) = OnOk told (Appends old new line)

@@ -1,0 +1,20 @@
+-- The exit statuses (docs/FORMATS.md).
+use Rattle.std.specs.Prelude.{ℕ}
+use Rattle.drill.specs.declared.ending.Ending.{Ending}
+use Rattle.drill.specs.declared.ending.Ending.TheVariants.{Done as DrillDone, Refused as DrillRefused}
+use Rattle.drill.specs.declared.ending.Ending.TheVariants.{NoMemory as DrillNoMemory}
+use Rattle.commands.specs.declared.exit.Exit.{Exit}
+use Rattle.commands.specs.declared.exit.Exit.TheVariants.{Done, Refused, Usage, Unreadable, NoMemory}
+
+abbrev pub status_of : Exit → ℕ
+status_of Done = 0
+status_of Refused = 1
+status_of Usage = 2
+status_of Unreadable = 4
+status_of NoMemory = 5
+
+-- how the program ends behind a drill
+abbrev pub exit_of : Ending → Exit
+exit_of DrillDone = Done
+exit_of DrillRefused = Refused
+exit_of DrillNoMemory = NoMemory

@@ -1,0 +1,42 @@
+-- Why an order did not end well.
+use Rattle.std.specs.Prelude.{◌≡◌, ◌≢◌, ◌⊎◌, ℕ, List, Option, None, Some, Result, Ok, Err, string_bytes}
+use Rattle.std.specs.IoError.{error_kind}
+use Rattle.std.specs.declared.io.Error.{Error}
+use Rattle.std.specs.declared.io.ErrorKind.TheVariants.{OutOfMemory}
+use Rattle.commands.specs.declared.exit.Exit.{Exit}
+use Rattle.commands.specs.declared.exit.Exit.TheVariants.{Refused, Usage, Unreadable, NoMemory as ExitNoMemory}
+use Rattle.commands.specs.declared.fault.Fault.{Fault}
+use Rattle.commands.specs.declared.fault.Fault.TheVariants.{NoMemory, Config, Unread, Input, Output, Mistake}
+use Rattle.commands.specs.Lines.{config_text, unread_text, input_text, output_text, mistake_text}
+
+-- the status that tells of a fault
+abbrev pub exit_of_fault : Fault → Exit
+exit_of_fault NoMemory = ExitNoMemory
+exit_of_fault (Config fault) = Refused
+exit_of_fault (Unread path) = Unreadable
+exit_of_fault (Input error) = Unreadable
+exit_of_fault (Output error) = Unreadable
+exit_of_fault (Mistake what) = Usage
+
+-- the line that tells of it; want of memory has none, and the reason why a stream failed is the system's
+abbrev pub IsLineOf : Fault → Option (List ℕ) → Type 0
+IsLineOf NoMemory line = line ≡ None
+IsLineOf (Config fault) line = line ≡ Some (config_text fault)
+IsLineOf (Unread path) line = line ≡ Some (unread_text path.now)
+IsLineOf (Input error) line = (reason : List ℕ) × (line ≡ Some (input_text reason))
+IsLineOf (Output error) line = (reason : List ℕ) × (line ≡ Some (output_text reason))
+IsLineOf (Mistake what) line = line ≡ Some (mistake_text (string_bytes what))
+
+-- an error that is told as this fault, but for want of memory, which is want of memory
+abbrev pub IsFaultOf : Error → Fault → Fault → Type 0
+IsFaultOf error told fault =
+    ((error_kind error ≡ OutOfMemory) × (fault ≡ NoMemory)) ⊎ ((error_kind error ≢ OutOfMemory) × (fault ≡ told))
+
+-- what an order may come to where it ended with a fault
+abbrev pub ComesBy : (Exit → Option (List ℕ) → Type 0) → Fault → Type 0
+ComesBy does fault = (line : Option (List ℕ)) → IsLineOf fault line → does (exit_of_fault fault) line
+
+-- what an order may come to, by its status and its line, where it ended well and where it ended with a fault
+abbrev pub Comes : (Exit → Option (List ℕ) → Type 0) → Result Exit Fault → Type 0
+Comes does (Ok exit) = does exit None
+Comes does (Err fault) = ComesBy does fault

@@ -1,0 +1,40 @@
+-- The lines on standard error (docs/FORMATS.md).
+use Rattle.std.specs.Prelude.{ℕ, List, [], ◌∷◌, ◌++◌, codes, decimal}
+use Rattle.feed_conf.specs.declared.fault.ConfFault.{ConfFault}
+use Rattle.feed_conf.specs.declared.fault.ConfFaultKind.{ConfFaultKind}
+use Rattle.feed_conf.specs.declared.fault.ConfFaultKind.TheVariants.{NoValue, BadNumber, BadBoolean, Unbalanced}
+use Rattle.feed_conf.specs.declared.fault.ConfFaultKind.TheVariants.{BadPeerName, SamePeer, LowAboveHigh, Range, NoMemory}
+
+-- the word for what is wrong with a configuration
+abbrev pub kind_text : ConfFaultKind → List ℕ
+kind_text NoValue = codes "NoValue"
+kind_text BadNumber = codes "BadNumber"
+kind_text BadBoolean = codes "BadBoolean"
+kind_text Unbalanced = codes "Unbalanced"
+kind_text BadPeerName = codes "BadPeerName"
+kind_text SamePeer = codes "SamePeer"
+kind_text LowAboveHigh = codes "LowAboveHigh"
+kind_text Range = codes "Range"
+kind_text NoMemory = codes "NoMemory"
+
+-- a configuration's fault
+abbrev pub config_text : ConfFault → List ℕ
+config_text fault = codes "config line " ++ decimal fault.line ++ codes ": " ++ kind_text fault.kind ++ 10 ∷ []
+
+-- a file that cannot be read
+abbrev pub unread_text : List ℕ → List ℕ
+unread_text path = codes "cannot read " ++ path ++ 10 ∷ []
+
+-- standard input that cannot be read, for this reason
+abbrev pub input_text : List ℕ → List ℕ
+input_text reason = codes "innfeed: cannot read standard input: " ++ reason ++ 10 ∷ []
+
+-- standard output that cannot be written, for this reason
+abbrev pub output_text : List ℕ → List ℕ
+output_text reason = codes "innfeed: cannot write standard output: " ++ reason ++ 10 ∷ []
+
+-- what is wrong with the words of the command line, and what they are to be
+abbrev pub mistake_text : List ℕ → List ℕ
+mistake_text what =
+    codes "innfeed: " ++ what
+    ++ codes "; usage: innfeed -c FILE -C | innfeed --drill FILE | innfeed < SCRIPT" ++ 10 ∷ []

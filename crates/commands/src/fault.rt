@@ -1,0 +1,167 @@
+// Why an order did not end well, and the line that says so on standard error (docs/FORMATS.md).
+ghost use Rattle.std.specs.Prelude.{◌≡◌, ◌≢◌, ◌++◌, ◌∷◌, [], ℕ, List, IfOk, codes, option_map};
+ghost use Rattle.commands.specs.Fault.{exit_of_fault, IsFaultOf, IsLineOf};
+ghost use Rattle.commands.specs.Lines.{config_text, kind_text, mistake_text, unread_text};
+ghost use Rattle.commands.specs.declared.fault.Fault.TheVariants.{NoMemory};
+
+use crate::exit::Exit;
+use feed_conf::{ConfFault, ConfFaultKind};
+use std::alloc::{AllocError, Global};
+use std::io::{self, ErrorKind};
+
+// What stands behind what is wrong with the words.
+const USAGE: &[u8] = b"; usage: innfeed -c FILE -C | innfeed --drill FILE | innfeed < SCRIPT\n";
+
+/// Why an order did not end well.
+#[derive(Drop)]
+pub enum Fault<'a> {
+    /// Memory was refused, of which nothing is said.
+    NoMemory,
+    /// The configuration has this fault.
+    Config(ConfFault),
+    /// The file at this path cannot be read.
+    Unread(&'a str),
+    /// Standard input cannot be read.
+    Input(io::Error),
+    /// Standard output cannot be written.
+    Output(io::Error),
+    /// This is wrong with the words of the command line.
+    Mistake(String),
+}
+
+impl From<AllocError> for Fault<'_> {
+    ghost from_gives = { λ _ fault. fault ≡ NoMemory };
+
+    fn from(_: AllocError) -> Self {
+        Fault::NoMemory
+    }
+}
+
+impl<'a> Fault<'a> {
+    /// Why the file at this path was not read.
+    pub fn of_file(path: &'a str, error: io::Error) -> Self
+        ensures { IsFaultOf error (Fault.Unread path.entry) result }
+    {
+        match error.kind() {
+            ErrorKind::OutOfMemory => Fault::NoMemory,
+            _ => Fault::Unread(path),
+        }
+    }
+
+    /// Why standard input was not read.
+    pub fn of_input(error: io::Error) -> Self
+        ensures { IsFaultOf error (Fault.Input error) result }
+    {
+        match error.kind() {
+            ErrorKind::OutOfMemory => Fault::NoMemory,
+            _ => Fault::Input(error),
+        }
+    }
+
+    /// Why standard output was not written.
+    pub fn of_output(error: io::Error) -> Self
+        ensures { IsFaultOf error (Fault.Output error) result }
+    {
+        match error.kind() {
+            ErrorKind::OutOfMemory => Fault::NoMemory,
+            _ => Fault::Output(error),
+        }
+    }
+
+    /// The status that tells of it.
+    pub fn exit(&self) -> Exit
+        ensures { result ≡ exit_of_fault self.now }
+    {
+        match self {
+            Fault::NoMemory => Exit::NoMemory,
+            Fault::Config(_) => Exit::Refused,
+            Fault::Unread(_) | Fault::Input(_) | Fault::Output(_) => Exit::Unreadable,
+            Fault::Mistake(_) => Exit::Usage,
+        }
+    }
+
+    /// The line that tells of it, with its end; want of memory has none.
+    ///
+    /// # Errors
+    /// Memory was refused.
+    pub fn line(&self, alloc: Global) -> Result<Option<Vec<u8>>, AllocError>
+        ensures { IfOk result
+            (λ line. IsLineOf self.now (option_map (λ octets. octets.items) line)) }
+    {
+        match self {
+            Fault::NoMemory => Ok(None),
+            Fault::Config(fault) => Ok(Some(config_line(alloc, fault)?)),
+            Fault::Unread(path) => Ok(Some(unread_line(alloc, path)?)),
+            Fault::Input(error) => {
+                Ok(Some(stream_line(alloc, b"cannot read standard input", error)?))
+            }
+            Fault::Output(error) => {
+                Ok(Some(stream_line(alloc, b"cannot write standard output", error)?))
+            }
+            Fault::Mistake(what) => Ok(Some(mistake_line(alloc, what.as_str())?)),
+        }
+    }
+}
+
+// `config line N: KIND`.
+fn config_line(alloc: Global, fault: &ConfFault) -> Result<Vec<u8>, AllocError>
+    ensures { IfOk result (λ line. line.items ≡ config_text fault.now) }
+{
+    let mut line = Vec::from_slice(alloc, b"config line ")?;
+    line.extend_from_slice(itoa::Buffer::new().format(fault.line).as_bytes())?;
+    line.extend_from_slice(b": ")?;
+    line.extend_from_slice(kind_word(fault.kind).as_bytes())?;
+    line.push(b'\n')?;
+    Ok(line)
+}
+
+// The word for what is wrong with a configuration.
+fn kind_word(kind: ConfFaultKind) -> &'static str
+    ensures { result.now ≡ kind_text kind }
+{
+    match kind {
+        ConfFaultKind::NoValue => "NoValue",
+        ConfFaultKind::BadNumber => "BadNumber",
+        ConfFaultKind::BadBoolean => "BadBoolean",
+        ConfFaultKind::Unbalanced => "Unbalanced",
+        ConfFaultKind::BadPeerName => "BadPeerName",
+        ConfFaultKind::SamePeer => "SamePeer",
+        ConfFaultKind::LowAboveHigh => "LowAboveHigh",
+        ConfFaultKind::Range => "Range",
+        ConfFaultKind::NoMemory => "NoMemory",
+    }
+}
+
+// `cannot read PATH`.
+fn unread_line(alloc: Global, path: &str) -> Result<Vec<u8>, AllocError>
+    ensures { IfOk result (λ line. line.items ≡ unread_text path.now) }
+{
+    let mut line = Vec::from_slice(alloc, b"cannot read ")?;
+    line.extend_from_slice(path.as_bytes())?;
+    line.push(b'\n')?;
+    Ok(line)
+}
+
+// `innfeed: WHAT: REASON`.
+fn stream_line(alloc: Global, what: &[u8], error: &io::Error) -> Result<Vec<u8>, AllocError>
+    ensures { IfOk result (λ line. (reason : List ℕ) ×
+        (line.items ≡ codes "innfeed: " ++ what.now ++ codes ": " ++ reason ++ 10 ∷ [])) }
+{
+    let reason = error.to_string(alloc)?;
+    let mut line = Vec::from_slice(alloc, b"innfeed: ")?;
+    line.extend_from_slice(what)?;
+    line.extend_from_slice(b": ")?;
+    line.extend_from_slice(reason.as_bytes())?;
+    line.push(b'\n')?;
+    Ok(line)
+}
+
+// `innfeed: WHAT; usage: ..`.
+fn mistake_line(alloc: Global, what: &str) -> Result<Vec<u8>, AllocError>
+    ensures { IfOk result (λ line. line.items ≡ mistake_text what.now) }
+{
+    let mut line = Vec::from_slice(alloc, b"innfeed: ")?;
+    line.extend_from_slice(what.as_bytes())?;
+    line.extend_from_slice(USAGE)?;
+    Ok(line)
+}

@@ -1,0 +1,22 @@
+//! What each order of the command line does: drills, checks of a configuration, and what is said where one fails.
+//!
+//! May touch the reader of files, the reader and the two writers that it is given and nothing else; it stands on
+//! `drill` and `feed_conf`. The program above uses `run`: its clause says which exit status comes with which text on
+//! standard output and which line on standard error (docs/FORMATS.md), and a status is never lost where that line cannot
+//! be written. What a drill prints is said by no clause; it is tested.
+#![tactic(auto)]
+
+mod check;
+mod exit;
+mod fault;
+mod files;
+mod order;
+mod runner;
+
+pub use exit::Exit;
+pub use files::ReadFile;
+pub use order::Order;
+pub use runner::{Ended, run};
+
+/// The version of innfeed.
+pub const VERSION: &str = "0.1.0";

@@ -1,0 +1,158 @@
+// What each order of the command line does (docs/FORMATS.md).
+ghost use Rattle.std.specs.Prelude.{◌≡◌, ◌≢◌, List, ℕ, Option, OnOk};
+ghost use Rattle.std.specs.Io.KnownBytes.{Appends};
+ghost use Rattle.commands.specs.Ends.{Checks, Does, DrillsFile, DrillsInput, Prints, Runs, Tells};
+ghost use Rattle.commands.specs.Fault.{Comes, IsLineOf};
+
+use crate::check::checked;
+use crate::exit::Exit;
+use crate::fault::Fault;
+use crate::files::ReadFile;
+use crate::order::Order;
+use drill::run_script;
+use std::alloc::Global;
+use std::io::{self, Read, Write};
+
+/// How an order ended.
+#[derive(Clone, Copy)]
+pub struct Ended {
+    /// The exit status.
+    pub exit: Exit,
+    /// Whether its line on standard error was written; `Ok` where it had none.
+    pub told: io::Result<()>,
+}
+
+/// Does what an order asks for, and writes one line on standard error where that does not end well, but none for want
+/// of memory and for a drill, which says on standard output what became of it. The status is the same whether that line
+/// could be written or not.
+pub fn run<F: ReadFile, S: Read, W: Write, E: Write>(
+    alloc: Global,
+    order: Order<'_>,
+    files: &F,
+    input: &mut S,
+    out: &mut W,
+    err: &mut E,
+) -> Ended
+    ensures does { (line : Option (List ℕ))
+        × Tells (E.contents err.old) (E.contents err.new) result.told line
+        × Does (F.says files.now) (W.contents out.old) (W.contents out.new)
+        order.entry result.exit line }
+    ensures unread { order.entry ≢ Order.DrillFromInput → input.new ≡ input.old }
+{
+    match perform(alloc, order, files, input, out) {
+        Ok(exit) => Ended { exit, told: Ok(()) },
+        Err(fault) => Ended {
+            exit: fault.exit(),
+            told: tell(alloc, &fault, err),
+        },
+    }
+}
+
+// Writes the line that tells of a fault.
+fn tell<E: Write>(alloc: Global, fault: &Fault<'_>, err: &mut E) -> io::Result<()>
+    ensures { (line : Option (List ℕ)) × IsLineOf fault.now line
+        × Tells (E.contents err.old) (E.contents err.new) result line }
+{
+    match fault.line(alloc) {
+        Ok(None) => Ok(()),
+        Ok(Some(line)) => write_whole(err, &line),
+        Err(refused) => Err(io::Error::from(refused)),
+    }
+}
+
+// Writes all of a text, and keeps none of it back.
+fn write_whole<W: Write>(writer: &mut W, text: &[u8]) -> io::Result<()>
+    ensures { OnOk result (Appends (W.contents writer.old) (W.contents writer.new) text.now) }
+{
+    writer.write_all(text)?;
+    writer.flush()
+}
+
+// Does what an order asks for.
+fn perform<'a, F: ReadFile, S: Read, W: Write>(
+    alloc: Global,
+    order: Order<'a>,
+    files: &F,
+    input: &mut S,
+    out: &mut W,
+) -> Result<Exit, Fault<'a>>
+    ensures does { Comes (Does (F.says files.now) (W.contents out.old) (W.contents out.new)
+        order.entry)
+        result }
+    ensures unread { order.entry ≢ Order.DrillFromInput → input.new ≡ input.old }
+{
+    match order {
+        Order::DrillFromInput => drill_input(alloc, input, out),
+        Order::Drill(path) => drill_file(alloc, files, path, out),
+        Order::Check(path) => check_file(alloc, files, path, out),
+        Order::Tell(text) => print(out, text.as_bytes()),
+        Order::Mistake(what) => Err(Fault::Mistake(what)),
+    }
+}
+
+fn drill_input<'a, S: Read, W: Write>(
+    alloc: Global,
+    input: &mut S,
+    out: &mut W,
+) -> Result<Exit, Fault<'a>>
+    ensures { Comes DrillsInput result }
+{
+    let mut script = Vec::new(alloc);
+    match input.read_to_end(&mut script) {
+        Ok(_) => drill(alloc, &script, out),
+        Err(error) => Err(Fault::of_input(error)),
+    }
+}
+
+fn drill_file<'a, F: ReadFile, W: Write>(
+    alloc: Global,
+    files: &F,
+    path: &'a str,
+    out: &mut W,
+) -> Result<Exit, Fault<'a>>
+    ensures { Comes
+        (DrillsFile (F.says files.now path.now) path.now (W.contents out.old) (W.contents out.new))
+        result }
+{
+    match files.read_file(alloc, path) {
+        Ok(script) => drill(alloc, &script, out),
+        Err(error) => Err(Fault::of_file(path, error)),
+    }
+}
+
+// Runs a drill script, which says on standard output what became of it.
+fn drill<'a, W: Write>(alloc: Global, script: &[u8], out: &mut W) -> Result<Exit, Fault<'a>>
+    ensures { Comes Runs result }
+{
+    let mut script = script;
+    match run_script(alloc, &mut script, out) {
+        Ok(ending) => Ok(Exit::from(ending)),
+        Err(error) => Err(Fault::of_output(error)),
+    }
+}
+
+fn check_file<'a, F: ReadFile, W: Write>(
+    alloc: Global,
+    files: &F,
+    path: &'a str,
+    out: &mut W,
+) -> Result<Exit, Fault<'a>>
+    ensures { Comes
+        (Checks (F.says files.now path.now) path.now (W.contents out.old) (W.contents out.new))
+        result }
+{
+    match files.read_file(alloc, path) {
+        Ok(text) => print(out, &checked(alloc, &text)?),
+        Err(error) => Err(Fault::of_file(path, error)),
+    }
+}
+
+// Prints a text on standard output.
+fn print<'a, W: Write>(out: &mut W, text: &[u8]) -> Result<Exit, Fault<'a>>
+    ensures { Comes (Prints text.now (W.contents out.old) (W.contents out.new)) result }
+{
+    match write_whole(out, text) {
+        Ok(()) => Ok(Exit::Done),
+        Err(error) => Err(Fault::of_output(error)),
+    }
+}
