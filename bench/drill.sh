@@ -1,13 +1,12 @@
 #!/usr/bin/env bash
 # How the time of a drill grows with its lines: 200,000 lines against 20,000, for two peers, with a flush behind each
-# 10,000 lines, and a stop and a restart at the end. It prints the ratio of the two times, measured in this one run
-# (the best of 3 each); linear growth is 10. It is no test: it fails on no ratio.
-set -eu
-top=$(cd "$(dirname "${BASH_SOURCE[0]}")/.." && pwd)
+# 10,000 lines, and a stop and a restart at the end; the best of three runs each. Linear growth is 10. It fails on no ratio.
+. "$(dirname "$(readlink -f "${BASH_SOURCE[0]}")")/lib.sh"
+build innfeed
 folder=$(mktemp -d)
 trap 'rm -rf "$folder"' EXIT
 
-# A drill of this many lines.
+# script LINES: a drill of so many lines.
 script() {
   awk -v lines="$1" 'BEGIN {
     print "peer one.example"; print "peer two.example"
@@ -19,23 +18,15 @@ script() {
   }'
 }
 
-# The best time of three runs, in milliseconds.
-best() {
-  local least=
-  for _ in 1 2 3; do
-    local begin end
-    begin=$(date +%s%N)
-    "$top/innfeed" <"$1" >"$folder/printed"
-    end=$(date +%s%N)
-    local took=$(((end - begin) / 1000000))
-    if [ -z "$least" ] || [ "$took" -lt "$least" ]; then least=$took; fi
-  done
-  echo "$least"
+# drill LINES: runs one, and tells the time.
+drill() {
+  local began
+  began=$(date +%s%N)
+  "$top/innfeed" <"$folder/$1" >"$folder/printed"
+  echo "$1 lines $(($(date +%s%N) - began)) nanoseconds"
 }
 
-script 20000 >"$folder/small"
-script 200000 >"$folder/large"
-"$top/innfeed" <"$folder/small" >/dev/null # builds the program where needed
-small=$(best "$folder/small")
-large=$(best "$folder/large")
-awk -v s="$small" -v l="$large" 'BEGIN { printf "drill, 20,000 to 200,000 lines: %d ms to %d ms, growth %.1f\n", s, l, l / (s > 0 ? s : 1) }'
+for lines in 20000 200000; do script "$lines" >"$folder/$lines"; done
+few=$(best 3 drill 20000)
+many=$(best 3 drill 200000)
+ratio "drill, $((few / 1000000)) ms for 20,000 lines, $((many / 1000000)) ms for 200,000, growth" "$many" "$few"

@@ -1,0 +1,23 @@
+# What the scripts in this folder share; each sources it.
+set -eu -o pipefail
+top=$(cd "$(dirname "$(readlink -f "${BASH_SOURCE[0]}")")/.." && pwd)
+. "$top/tools/build.sh"
+
+# The commit that is measured, with a + where the tree has been changed since.
+commit=$(git -C "$top" rev-parse --short HEAD)$([ -z "$(git -C "$top" status --porcelain)" ] || echo +)
+
+# bench NAME WORD ..: one run of a benchmark, which prints `COUNT WHAT N nanoseconds`.
+bench() { "$top/crates/bench/out/bench" "$@"; }
+
+# best RUNS COMMAND ..: the least nanoseconds of so many runs of a command that prints as `bench` does.
+best() {
+  local runs=$1 run
+  shift
+  for ((run = 0; run < runs; run++)); do "$@"; done | awk 'NR == 1 || $3 < least { least = $3 } END { print least }'
+}
+
+# ratio WORDS OURS OTHER: prints what is measured, how many times the other time ours is, and the commit.
+ratio() {
+  awk -v words="$1" -v ours="$2" -v other="$3" -v commit="$commit" \
+    'BEGIN { printf "%s: %.2f (%s)\n", words, ours / (other > 0 ? other : 1), commit }'
+}

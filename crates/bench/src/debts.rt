@@ -1,0 +1,217 @@
+// How fast a `Station` works off what it owes, all of it owed at once before the first debt is claimed.
+//
+// `run COUNT` owes so many debts over a disk in memory, and has a peer that wants none of them: each is claimed and
+// settled. `defer COUNT` owes as many, and has a peer that puts off each: all are claimed, deferred, and claimed again
+// once the moment has passed. The time is that of the calls of the station; the connection that answers is not in it.
+use crate::peer::{CONNECTION, IN_FLIGHT, answers_of, drain, ids_of, offer, streaming, token_of};
+use crate::time::{number, tell};
+use anyhow::{Context, Result, bail};
+use conn_core::{Conn, Outcome};
+use disk_model::MemDisk;
+use funnel::{MsgId, Token};
+use ledger_core::Debt;
+use peer_queue::{Limits, Station};
+use std::alloc::Global;
+use std::time::{Clock, Duration, Instant};
+
+// How many times as many debts as are under way are owed or settled before each flush.
+const BATCHES: u64 = 50;
+
+// What the peer does with each debt.
+#[derive(Clone, Copy)]
+enum Work {
+    // It wants none: each is settled.
+    Settle,
+    // It puts off each: each is deferred, and claimed again.
+    Defer,
+}
+
+// The connection to the peer, and what that answers to as many debts as are under way, made before the clock runs.
+#[derive(Drop)]
+struct Peer {
+    conn: Conn,
+    token: Token,
+    ids: Vec<MsgId>,
+    answers: Vec<u8>,
+}
+
+// What became of the debts.
+#[derive(Clone, Copy)]
+struct Told {
+    // How many were settled or deferred.
+    answered: u64,
+    // How many were claimed once their moment had passed.
+    claimed_again: u64,
+    // The time that the calls of the station took.
+    time: Duration,
+}
+
+pub fn run<R: AllocGlobal + Print + Clock>(rt: &R, words: &[String]) -> Result<()> {
+    let (work, count) = match words {
+        [] => return small(rt),
+        [work, count] if work.as_str() == "run" => (Work::Settle, number(count)?),
+        [work, count] if work.as_str() == "defer" => (Work::Defer, number(count)?),
+        _ => bail!("peer_queue [run COUNT | defer COUNT]"),
+    };
+    let told = worked_off(rt, work, count)?;
+    tell(rt, count, "debts", told.time)
+}
+
+fn small<R: AllocGlobal + Print + Clock>(rt: &R) -> Result<()> {
+    let told = worked_off(rt, Work::Settle, 2000)?;
+    println!(rt; "peer_queue: {} debts settled", told.answered)?;
+    let told = worked_off(rt, Work::Defer, 2000)?;
+    println!(rt;
+        "peer_queue: {} debts deferred, {} claimed again",
+        told.answered, told.claimed_again
+    )?;
+    Ok(())
+}
+
+// Owes so many debts, and works them off.
+fn worked_off<R: AllocGlobal + Clock>(rt: &R, work: Work, count: u64) -> Result<Told> {
+    let mut peer = peer_of(rt.alloc(), work)?;
+    let start = Instant::now(rt)?;
+    let mut station = owing(rt.alloc(), &peer, count)?;
+    let mut told = Told {
+        answered: 0,
+        claimed_again: 0,
+        time: start.elapsed(rt)?,
+    };
+    for round in 0..count / IN_FLIGHT {
+        work_off(rt, &mut station, &mut peer, &mut told, round)?;
+    }
+    let start = Instant::now(rt)?;
+    station.flush()?;
+    if let Work::Defer = work {
+        told.claimed_again = all_claimed(&mut station, count)?;
+    }
+    told.time = told.time.saturating_add(start.elapsed(rt)?);
+    Ok(told)
+}
+
+// Claims as many debts as may be under way, and tells the station what the peer answers, with a flush now and then.
+fn work_off<R: AllocGlobal + Clock>(
+    rt: &R,
+    station: &mut Station<MemDisk>,
+    peer: &mut Peer,
+    told: &mut Told,
+    round: u64,
+) -> Result<()> {
+    let start = Instant::now(rt)?;
+    let debts = claimed(rt.alloc(), station)?;
+    told.time = told.time.saturating_add(start.elapsed(rt)?);
+    let outcomes = outcomes_of(rt.alloc(), peer, debts)?;
+    let start = Instant::now(rt)?;
+    told.answered = told.answered.saturating_add(end_each(station, outcomes)?);
+    if round % BATCHES == 0 {
+        station.flush()?;
+    }
+    told.time = told.time.saturating_add(start.elapsed(rt)?);
+    Ok(())
+}
+
+fn peer_of(alloc: Global, work: Work) -> Result<Peer> {
+    let code = match work {
+        Work::Settle => b"438",
+        Work::Defer => b"431",
+    };
+    let ids = ids_of(alloc)?;
+    Ok(Peer {
+        conn: streaming(alloc)?,
+        token: token_of(alloc)?,
+        answers: answers_of(alloc, &ids, code)?,
+        ids,
+    })
+}
+
+// Offers a batch of debts, and gives what the peer makes of them.
+fn outcomes_of(alloc: Global, peer: &mut Peer, debts: Vec<Debt>) -> Result<Vec<Outcome>> {
+    for debt in debts {
+        offer(&mut peer.conn, debt)?;
+    }
+    drain(&mut peer.conn);
+    peer.conn.input(&peer.answers)?;
+    let mut outcomes = Vec::new(alloc);
+    for _ in 0..IN_FLIGHT {
+        outcomes.push(peer.conn.outcome().context("an outcome")?)?;
+    }
+    Ok(outcomes)
+}
+
+// A station over a disk in memory that owes so many debts, in whole batches, none of which pends.
+fn owing(alloc: Global, peer: &Peer, count: u64) -> Result<Station<MemDisk>> {
+    let limits = Limits {
+        backlog_limit: 0,
+        backlog_high: 0,
+        drop_deferred: false,
+    };
+    let mut station = match Station::open(alloc, MemDisk::new(alloc), limits) {
+        Ok(station) => station,
+        Err(refused) => return Err(refused.fault.into()),
+    };
+    for round in 0..count / IN_FLIGHT {
+        owe_batch(&mut station, peer, round)?;
+        if round % BATCHES == 0 {
+            station.flush()?;
+        }
+    }
+    station.flush()?;
+    Ok(station)
+}
+
+// Owes one debt of each id.
+fn owe_batch(station: &mut Station<MemDisk>, peer: &Peer, round: u64) -> Result<()> {
+    for (place, id) in peer.ids.iter().enumerate() {
+        let number = round.saturating_mul(IN_FLIGHT).saturating_add(place as u64);
+        station.owe(number.saturating_add(1), &peer.token, id)?;
+    }
+    Ok(())
+}
+
+// Claims as many debts as may be under way.
+fn claimed(alloc: Global, station: &mut Station<MemDisk>) -> Result<Vec<Debt>> {
+    let mut debts = Vec::new(alloc);
+    for _ in 0..IN_FLIGHT {
+        debts.push(station.claim(CONNECTION, 0)?.context("a debt")?)?;
+    }
+    Ok(debts)
+}
+
+// Claims so many debts that were deferred at the moment 0, and counts them.
+fn all_claimed(station: &mut Station<MemDisk>, most: u64) -> Result<u64> {
+    let mut count = 0u64;
+    for _ in 0..most {
+        if station.claim(CONNECTION, 60)?.is_some() {
+            count = count.saturating_add(1);
+        }
+    }
+    Ok(count)
+}
+
+// Settles or defers each, at the moment 0, and counts them.
+fn end_each(station: &mut Station<MemDisk>, outcomes: Vec<Outcome>) -> Result<u64> {
+    let mut count = 0u64;
+    for outcome in outcomes {
+        end(station, outcome)?;
+        count = count.saturating_add(1);
+    }
+    Ok(count)
+}
+
+fn end(station: &mut Station<MemDisk>, outcome: Outcome) -> Result<()> {
+    match outcome {
+        Outcome::Final(verdict) => {
+            if let Err((_, fault)) = station.settle(CONNECTION, verdict) {
+                return Err(fault.into());
+            }
+        }
+        Outcome::Deferred(deferral) => {
+            if let Err((_, fault)) = station.defer(CONNECTION, deferral, 0) {
+                return Err(fault.into());
+            }
+        }
+        Outcome::Lost(..) | Outcome::Back(_) => bail!("a debt was not answered"),
+    }
+    Ok(())
+}

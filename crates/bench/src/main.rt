@@ -1,0 +1,62 @@
+//! The benchmarks: each word but none names one, which stands in a module of its own.
+//!
+//! May touch its arguments, the clock and standard output; it stands on the public calls of what it measures.
+//! With no argument each benchmark runs once, small and quick, and prints what is the same on each run. `NAME` runs
+//! that one so, and `NAME WORD ..` does a piece of work at length and prints `COUNT WHAT N nanoseconds`, from which
+//! the scripts in bench/ print ratios. Nothing stands above it, and it promises nothing.
+#![tactic(auto)]
+
+mod articles;
+mod blocks;
+mod configurations;
+mod counted;
+mod debts;
+mod moments;
+mod openings;
+mod peer;
+mod replies;
+mod texts;
+mod time;
+
+use anyhow::{Result, bail};
+use std::env;
+use std::time::Clock;
+
+/// What is measured, each by the name of its crate.
+const NAMES: [&str; 7] = [
+    "conn_core",
+    "deferral",
+    "dot_codec",
+    "feed_conf",
+    "peer_queue",
+    "recovery",
+    "reply_reader",
+];
+
+fn main(rt: HostRuntime) -> Result<()> {
+    let words: Vec<String> = env::args(&rt)?.skip(1).collect(rt.alloc())?;
+    match words.as_slice() {
+        [] => run_each(&rt),
+        [name, rest @ ..] => run(&rt, name.as_str(), rest),
+    }
+}
+
+fn run_each<R: AllocGlobal + Print + Clock>(rt: &R) -> Result<()> {
+    for name in NAMES {
+        run(rt, name, &[])?;
+    }
+    Ok(())
+}
+
+fn run<R: AllocGlobal + Print + Clock>(rt: &R, name: &str, words: &[String]) -> Result<()> {
+    match name {
+        "conn_core" => articles::run(rt, words),
+        "deferral" => moments::run(rt, words),
+        "dot_codec" => blocks::run(rt, words),
+        "feed_conf" => configurations::run(rt, words),
+        "peer_queue" => debts::run(rt, words),
+        "recovery" => openings::run(rt, words),
+        "reply_reader" => replies::run(rt, words),
+        _ => bail!("no benchmark {name}"),
+    }
+}

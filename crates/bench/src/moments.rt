@@ -1,0 +1,147 @@
+// How the work of a `Later` grows with its numbers, in four patterns, its numbers put in by one of two orders.
+//
+// `PATTERN ORDER COUNT` does one: `together`, all are due at once, and each is taken out as the least due; `waiting`,
+// none is due, and it is asked once for each number; `again`, the least due is taken out and put in again for 60
+// seconds later, once for each number; `held`, each, in the order in which they were put in, is made due at no moment,
+// and the least due from it on is asked. The putting in of the numbers is in the time.
+ghost use Rattle.std.specs.Prelude.{◌<◌};
+
+use crate::time::{number, tell};
+use anyhow::{Result, bail};
+use deferral::Later;
+use std::alloc::Global;
+use std::time::{Clock, Instant};
+
+// In which order the numbers are put in: those below the count, each once.
+#[derive(Clone, Copy)]
+enum Order {
+    // From the least to the greatest.
+    Rising,
+    // Each far from the one before it, so that numbers beside one another lie far apart in memory.
+    Scattered,
+}
+
+// How far apart numbers in scattered order are, modulo their count. It is prime: each number comes once, but for a
+// count that it divides.
+const STRIDE: u64 = 461_803;
+
+impl Order {
+    fn named(name: &str) -> Result<Order> {
+        match name {
+            "rising" => Ok(Order::Rising),
+            "scattered" => Ok(Order::Scattered),
+            _ => bail!("no order of deferral: rising and scattered are"),
+        }
+    }
+
+    // The number that is put in at this turn.
+    fn number(self, turn: u32, count: u32) -> u64
+        requires { turn < count }
+    {
+        match self {
+            Order::Rising => u64::from(turn),
+            Order::Scattered => u64::from(turn) * STRIDE % u64::from(count),
+        }
+    }
+}
+
+pub fn run<R: AllocGlobal + Print + Clock>(rt: &R, words: &[String]) -> Result<()> {
+    match words {
+        [] => small(rt),
+        [pattern, order, count] => {
+            let order = Order::named(order)?;
+            let count = u32::try_from(number(count)?)?;
+            let start = Instant::now(rt)?;
+            let done = worked(rt.alloc(), pattern.as_str(), order, count)?;
+            tell(rt, done, "numbers", start.elapsed(rt)?)
+        }
+        _ => bail!("deferral [PATTERN ORDER COUNT]"),
+    }
+}
+
+fn small<R: AllocGlobal + Print>(rt: &R) -> Result<()> {
+    for pattern in ["together", "waiting", "again", "held"] {
+        let rising = worked(rt.alloc(), pattern, Order::Rising, 200)?;
+        let scattered = worked(rt.alloc(), pattern, Order::Scattered, 200)?;
+        println!(rt;
+            "deferral: {pattern}, {rising} of 200 rising numbers, {scattered} of 200 scattered"
+        )?;
+    }
+    Ok(())
+}
+
+// Works a pattern, and counts the numbers that it did its work on.
+fn worked(alloc: Global, pattern: &str, order: Order, count: u32) -> Result<u64> {
+    let mut later = filled(alloc, order, count)?;
+    match pattern {
+        "together" => Ok(together(&mut later, count)),
+        "waiting" => Ok(waiting(&later, count)),
+        "again" => again(&mut later, count),
+        "held" => Ok(held(&mut later, order, count)),
+        _ => bail!("no pattern of deferral: together, waiting, again and held are"),
+    }
+}
+
+// Puts a number in unless it waits, and says whether it was put in.
+fn put_new(later: &mut Later, number: u64, due: u64) -> Result<bool> {
+    if later.contains(number) {
+        return Ok(false);
+    }
+    later.put(number, due)?;
+    Ok(true)
+}
+
+// The numbers below this one, each of which waits for the moment 60.
+fn filled(alloc: Global, order: Order, count: u32) -> Result<Later> {
+    let mut later = Later::new(alloc);
+    for turn in 0..count {
+        put_new(&mut later, order.number(turn, count), 60)?;
+    }
+    Ok(later)
+}
+
+fn together(later: &mut Later, count: u32) -> u64 {
+    let mut worked = 0u64;
+    for _turn in 0..count {
+        if let Some(number) = later.due_least(60)
+            && later.remove(number)
+        {
+            worked = worked.saturating_add(1);
+        }
+    }
+    worked
+}
+
+fn waiting(later: &Later, count: u32) -> u64 {
+    let mut none = 0u64;
+    for now in 0..count {
+        if later.due_least(u64::from(now % 60)).is_none() {
+            none = none.saturating_add(1);
+        }
+    }
+    none
+}
+
+fn again(later: &mut Later, count: u32) -> Result<u64> {
+    let mut moved = 0u64;
+    for _turn in 0..count {
+        if let Some(number) = later.due_least(60) {
+            later.remove(number);
+            if put_new(later, number, 120)? {
+                moved = moved.saturating_add(1);
+            }
+        }
+    }
+    Ok(moved)
+}
+
+fn held(later: &mut Later, order: Order, count: u32) -> u64 {
+    let mut found = 0u64;
+    for turn in 0..count {
+        let number = order.number(turn, count);
+        if later.set(number, None) && later.due_from(number, 60).is_some() {
+            found = found.saturating_add(1);
+        }
+    }
+    found
+}

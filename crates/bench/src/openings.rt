@@ -1,0 +1,102 @@
+// How the opening of a tape grows with its notes, and how many disk calls a flush makes.
+//
+// `open NOTES TIMES` opens a tape of so many notes so many times; the building of the tape is not in the time.
+use crate::counted::CountedDisk;
+use crate::time::{number, tell};
+use anyhow::{Context, Result, bail};
+use disk_model::{Disk, MemDisk};
+use funnel::{MsgId, Token};
+use ledger_core::{Note, encode};
+use recovery::Tape;
+use std::alloc::Global;
+use std::time::{Clock, Instant};
+
+pub fn run<R: AllocGlobal + Print + Clock>(rt: &R, words: &[String]) -> Result<()> {
+    match words {
+        [] => small(rt),
+        [work, notes, times] if work.as_str() == "open" => {
+            measured(rt, number(notes)?, number(times)?)
+        }
+        _ => bail!("recovery [open NOTES TIMES]"),
+    }
+}
+
+fn small<R: AllocGlobal + Print>(rt: &R) -> Result<()> {
+    let alloc = rt.alloc();
+    let owed = opened(alloc, disk_with(alloc, 1000)?, 2)?;
+    println!(rt; "recovery: opened 2 times, {owed} owed")?;
+    let opening = calls_of(alloc, 0)?;
+    for notes in [1, 10, 100] {
+        let calls = calls_of(alloc, notes)?.saturating_sub(opening);
+        println!(rt; "recovery: a flush of {notes} notes makes {calls} calls")?;
+    }
+    Ok(())
+}
+
+fn measured<R: AllocGlobal + Print + Clock>(rt: &R, notes: u64, times: u64) -> Result<()> {
+    let disk = disk_with(rt.alloc(), notes)?;
+    let start = Instant::now(rt)?;
+    let owed = opened(rt.alloc(), disk, times)?;
+    tell(rt, owed, "owed", start.elapsed(rt)?)
+}
+
+// The note of this number: a token of 12 octets and a message-id of 20.
+fn owe(alloc: Global, number: u64) -> Result<Note> {
+    let token = Token::read(alloc, b"default/0001")?.context("a token")?;
+    let id = MsgId::read(alloc, b"<article@news.local>")?.context("a message-id")?;
+    Ok(Note::Owe { number, token, id })
+}
+
+// Appends the record of a note.
+fn push_record(octets: &mut Vec<u8>, payload: &[u8]) -> Result<()> {
+    let size = u32::try_from(payload.len())?;
+    octets.push(0xa5)?;
+    octets.extend_from_slice(&size.to_be_bytes())?;
+    octets.extend_from_slice(payload)?;
+    Ok(())
+}
+
+// A disk with the tape of so many debts, written at once.
+fn disk_with(alloc: Global, notes: u64) -> Result<MemDisk> {
+    let mut octets = Vec::new(alloc);
+    for number in 0..notes {
+        let payload = encode(alloc, &owe(alloc, number.saturating_add(1))?)?;
+        push_record(&mut octets, &payload)?;
+    }
+    octets.push(0)?;
+    let mut disk = MemDisk::new(alloc);
+    disk.write_at(0, &octets)?;
+    disk.sync()?;
+    Ok(disk)
+}
+
+fn open<D: Disk + Drop>(alloc: Global, disk: D) -> Result<Tape<D>> {
+    match Tape::open(alloc, disk) {
+        Ok(tape) => Ok(tape),
+        Err(refused) => Err(refused.fault.into()),
+    }
+}
+
+// Opens the tape on a disk so many times, and gives how many were owed the last time.
+fn opened(alloc: Global, disk: MemDisk, times: u64) -> Result<u64> {
+    let mut disk = disk;
+    let mut owed = 0;
+    for _time in 0..times {
+        let tape = open(alloc, disk)?;
+        owed = tape.totals().owed;
+        disk = tape.into_disk();
+    }
+    Ok(owed)
+}
+
+// How many disk calls that write, cut or sync an opening of an empty disk and a flush of so many notes make.
+fn calls_of(alloc: Global, notes: u64) -> Result<u64> {
+    let mut tape = open(alloc, CountedDisk::new(MemDisk::new(alloc)))?;
+    for number in 0..notes {
+        if let Err((_, fault)) = tape.note(owe(alloc, number.saturating_add(1))?) {
+            return Err(fault.into());
+        }
+    }
+    tape.flush()?;
+    Ok(tape.into_disk().calls())
+}
