@@ -22,8 +22,6 @@ mod phase;
 mod quiet;
 mod ready;
 mod reason;
-#[cfg(test)]
-mod tests;
 mod verdict;
 
 pub use article::ArticleFault;

@@ -11,10 +11,6 @@ mod laws;
 mod limits;
 mod place_index;
 mod station;
-#[cfg(test)]
-mod steps;
-#[cfg(test)]
-mod tests;
 
 pub use fault::StationFault;
 pub use laws::{each_number_has_one_place, reopened};

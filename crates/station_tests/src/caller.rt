@@ -1,0 +1,562 @@
+// Steps of a script: what is done to a station or by its peer, with the answer that is wanted.
+use crate::shared::{
+    LATER, Place, article, assert_same, connection, hand, input, names, offer, told,
+};
+use conn_core::{Conn, CxnId, Outcome};
+use disk_model::{Disk, FuseDisk, MemDisk};
+use funnel::{MsgId, Token};
+use ledger_core::{Cause, Debt, Totals};
+use peer_queue::{Limits, Owed, Shed, Station, StationFault, reopened};
+use std::alloc::Global;
+use std::process::Abort;
+use std::test::Fail;
+
+pub(crate) const ONE: CxnId = CxnId(1);
+
+pub(crate) const OTHER: CxnId = CxnId(2);
+
+pub(crate) const UNLIMITED: Limits = Limits {
+    backlog_limit: 0,
+    backlog_high: 0,
+    drop_deferred: false,
+};
+
+// How many calls of the disk the opening of a tape makes that owes three debts: two reads of each, one of the end
+// behind them, and a sync, a cut, a sync, a write and a sync.
+const OPENING_CALLS: u64 = 12;
+
+#[derive(Clone, Copy)]
+pub(crate) enum Step {
+    // The article of this number is owed.
+    Owe(u64, Result<Owed, StationFault>),
+    // A connection claims at this moment the debt of the number that is wanted, 0 where there is none. It holds it
+    // from then on.
+    Claim(CxnId, u64, Result<u64, StationFault>),
+    // The peer does not want the article of this number, which is held.
+    NotWanted(u64),
+    // The peer wants it to be offered later.
+    WantedLater(u64),
+    // The peer takes it.
+    Taken(u64),
+    // A connection ends a debt of this number: by the verdict on it, by the deferral at this moment, as lost, as
+    // given back. What is refused is handed back, and stays held.
+    Settle(CxnId, u64, Result<(), StationFault>),
+    Defer(CxnId, u64, u64, Result<(), StationFault>),
+    Lose(CxnId, u64, Result<(), StationFault>),
+    Back(CxnId, u64, Result<(), StationFault>),
+    // So many that a connection held are ready.
+    Release(CxnId, u64),
+    // These are shed, and whether more is to be.
+    Shed(&'static [u64], bool),
+    ShedRefused(StationFault),
+    Flush(Result<u64, StationFault>),
+    // The debt of this number is told to have the number that is wanted, 0 where there is none.
+    Debt(u64, Result<u64, StationFault>),
+    List(&'static [u64]),
+    // The list is a front of the second that has all of the first.
+    ListBetween(&'static [u64], &'static [u64]),
+    // What is counted of debts of ten octets each: taken, answered, dropped and owed.
+    Totals(u64, u64, u64, u64),
+    Mark(u64),
+}
+
+// How the disk of a station is opened again.
+#[derive(Clone, Copy)]
+pub(crate) enum Opening {
+    // As it is, with these limits.
+    Again(Limits),
+    // With these limits, and from the opening on it passes so many calls. The tape owes three debts.
+    Fused(Limits, u64),
+    // After a flush, with the station's own limits.
+    Flushed,
+}
+
+// A script of a station that owes the numbers from 1 to `owed`, all of which pend. The steps behind each opening
+// follow, and at the end these octets lie on the disk, where they are given.
+#[derive(Clone, Copy)]
+pub(crate) struct Script {
+    pub(crate) name: &'static str,
+    pub(crate) owed: u64,
+    pub(crate) limits: Limits,
+    pub(crate) steps: &'static [Step],
+    pub(crate) opened: &'static [(Opening, &'static [Step])],
+    pub(crate) tape: Option<&'static [u8]>,
+}
+
+// A station, and what connections hold of its debts: a debt that no peer answered as one that comes back.
+#[derive(Drop)]
+pub(crate) struct Caller {
+    alloc: Global,
+    station: Station<FuseDisk<MemDisk>>,
+    held: Vec<Outcome>,
+    place: Place,
+}
+
+// The caller of the station of this disk, which passes so many calls.
+fn open(
+    alloc: Global,
+    disk: MemDisk,
+    calls: u64,
+    limits: Limits,
+    place: Place,
+) -> Result<Caller, Fail> {
+    match Station::open(alloc, FuseDisk::new(disk, calls), limits) {
+        Ok(station) => Ok(calling(alloc, station, place)),
+        Err(refused) => Err(Fail::from(refused.fault)),
+    }
+}
+
+fn calling(alloc: Global, station: Station<FuseDisk<MemDisk>>, place: Place) -> Caller {
+    Caller {
+        alloc,
+        station,
+        held: Vec::new(alloc),
+        place,
+    }
+}
+
+// The caller of this script's station, before its first step.
+pub(crate) fn begin(
+    alloc: Global,
+    name: &'static str,
+    owed: u64,
+    limits: Limits,
+) -> Result<Caller, Fail> {
+    let disk = MemDisk::new(alloc);
+    let mut caller = open(alloc, disk, u64::MAX, limits, Place::first(name))?;
+    let (token, id) = names(alloc, b"<x@y>")?;
+    for number in 0..owed {
+        owe(&mut caller.station, number.saturating_add(1), &token, &id)?;
+    }
+    Ok(caller)
+}
+
+fn disk_of(caller: Caller) -> MemDisk {
+    caller.station.into_disk().into_inner()
+}
+
+// The caller of the same disk, opened again.
+fn opened_again(caller: Caller, opening: Opening) -> Result<Caller, Fail> {
+    let alloc = caller.alloc;
+    let place = caller.place;
+    match opening {
+        Opening::Again(limits) => open(alloc, disk_of(caller), u64::MAX, limits, place),
+        Opening::Fused(limits, calls) => {
+            let calls = calls.saturating_add(OPENING_CALLS);
+            open(alloc, disk_of(caller), calls, limits, place)
+        }
+        Opening::Flushed => match reopened(alloc, caller.station) {
+            Ok(station) => Ok(calling(alloc, station, place)),
+            Err((_, fault)) => Err(Fail::from(fault)),
+        },
+    }
+}
+
+// Takes these steps, each of which has to answer as is wanted.
+pub(crate) fn play<A: Abort>(rt: &A, caller: &mut Caller, steps: &[Step]) -> Result<(), Fail> {
+    for step in steps {
+        take(rt, caller, *step)?;
+        caller.place = caller.place.next();
+    }
+    Ok(())
+}
+
+// Takes the steps of this script, before and behind each opening.
+pub(crate) fn play_script<A: Abort>(rt: &A, alloc: Global, script: Script) -> Result<(), Fail> {
+    let mut caller = begin(alloc, script.name, script.owed, script.limits)?;
+    play(rt, &mut caller, script.steps)?;
+    for (opening, steps) in script.opened {
+        caller = opened_again(caller, *opening)?;
+        play(rt, &mut caller, steps)?;
+    }
+    match script.tape {
+        Some(octets) => assert_tape(rt, caller, octets),
+        None => Ok(()),
+    }
+}
+
+fn assert_tape<A: Abort>(rt: &A, caller: Caller, want: &[u8]) -> Result<(), Fail> {
+    let (alloc, place) = (caller.alloc, caller.place);
+    assert_octets(rt, alloc, place, disk_of(caller), want)
+}
+
+// These octets lie on the disk.
+pub(crate) fn assert_octets<A: Abort>(
+    rt: &A,
+    alloc: Global,
+    place: Place,
+    mut disk: MemDisk,
+    want: &[u8],
+) -> Result<(), Fail> {
+    let octets = octets_of(alloc, &mut disk)?;
+    assert_same(rt, place, &octets.as_slice(), &want);
+    Ok(())
+}
+
+fn octets_of(alloc: Global, disk: &mut MemDisk) -> Result<Vec<u8>, Fail> {
+    let mut octets = vec![in alloc; 0; disk.len() as usize]?;
+    if disk.len() < octets.len() as u64 {
+        return Err(Fail::from("a disk that keeps its length"));
+    }
+    disk.read_at(0, &mut octets)?;
+    Ok(octets)
+}
+
+fn take<A: Abort>(rt: &A, caller: &mut Caller, step: Step) -> Result<(), Fail> {
+    match step {
+        Step::Owe(number, want) => assert_owed(rt, caller, number, want),
+        Step::Claim(connection, now, want) => assert_claimed(rt, caller, connection, now, want),
+        Step::NotWanted(number) => answer(rt, caller, number, b"438 <x@y>\r\n", 438),
+        Step::WantedLater(number) => answer(rt, caller, number, b"431 <x@y>\r\n", LATER),
+        Step::Taken(number) => answer(rt, caller, number, b"238 <x@y>\r\n", 239),
+        Step::Settle(connection, number, want) => settle(rt, caller, connection, number, want),
+        Step::Defer(connection, number, now, want) => {
+            defer(rt, caller, connection, number, now, want)
+        }
+        Step::Lose(connection, number, want) => lose(rt, caller, connection, number, want),
+        Step::Back(connection, number, want) => back(rt, caller, connection, number, want),
+        Step::Shed(want, more) => assert_shed(rt, caller, want, more),
+        Step::ShedRefused(want) => assert_shed_refused(rt, caller, want),
+        Step::Debt(number, want) => assert_debt(rt, caller, number, want),
+        Step::List(want) => assert_listed(rt, caller, want),
+        Step::ListBetween(least, most) => assert_between(rt, caller, least, most),
+        _ => assert_told(rt, caller, step),
+    }
+}
+
+// A step that asks for a number, or for what is counted.
+fn assert_told<A: Abort>(rt: &A, caller: &mut Caller, step: Step) -> Result<(), Fail> {
+    match step {
+        Step::Flush(want) => {
+            let flushed = caller.station.flush();
+            assert_answer(rt, caller, flushed, want)?;
+        }
+        Step::Release(connection, want) => {
+            let released = caller.station.release(connection);
+            assert_answer(rt, caller, Ok(released), Ok(want))?;
+        }
+        Step::Mark(want) => assert_answer(rt, caller, Ok(caller.station.mark()), Ok(want))?,
+        Step::Totals(taken, answered, dropped, owed) => {
+            let want = Totals {
+                taken,
+                answered,
+                dropped,
+                owed,
+                owed_bytes: owed.saturating_mul(10),
+            };
+            assert_same(rt, caller.place, &caller.station.totals(), &want);
+        }
+        _ => {}
+    }
+    Ok(())
+}
+
+fn owe(
+    station: &mut Station<FuseDisk<MemDisk>>,
+    number: u64,
+    token: &Token,
+    id: &MsgId,
+) -> Result<Owed, StationFault> {
+    station.owe(number, token, id)
+}
+
+fn assert_owed<A: Abort>(
+    rt: &A,
+    caller: &mut Caller,
+    number: u64,
+    want: Result<Owed, StationFault>,
+) -> Result<(), Fail> {
+    let (token, id) = names(caller.alloc, b"<x@y>")?;
+    let owed = owe(&mut caller.station, number, &token, &id);
+    if owed == Err(StationFault::NoMemory) {
+        return Err(Fail::from(StationFault::NoMemory));
+    }
+    assert_same(rt, caller.place, &owed, &want);
+    Ok(())
+}
+
+// What is wanted of a call that takes memory, unless it was refused.
+fn assert_answer<A: Abort>(
+    rt: &A,
+    caller: &Caller,
+    answer: Result<u64, StationFault>,
+    want: Result<u64, StationFault>,
+) -> Result<(), Fail> {
+    if answer == Err(StationFault::NoMemory) {
+        return Err(Fail::from(StationFault::NoMemory));
+    }
+    assert_same(rt, caller.place, &answer, &want);
+    Ok(())
+}
+
+fn hold(caller: &mut Caller, held: Outcome) -> Result<(), Fail> {
+    Ok(caller.held.push(held)?)
+}
+
+// Each number is of an article of one token and one message-id.
+fn is_of_line(debt: &Debt) -> bool {
+    debt.token().bytes() == b"a/1".as_slice() && debt.id().bytes() == b"<x@y>".as_slice()
+}
+
+// The number of a debt, 0 where there is none.
+fn told_number<A: Abort>(rt: &A, place: Place, debt: &Option<Debt>) -> u64 {
+    match debt {
+        Some(debt) => {
+            assert_same(rt, place, &is_of_line(debt), &true);
+            debt.number()
+        }
+        None => 0,
+    }
+}
+
+// Holds what was claimed, and answers its number.
+fn keep<A: Abort>(rt: &A, caller: &mut Caller, debt: Option<Debt>) -> Result<u64, Fail> {
+    let number = told_number(rt, caller.place, &debt);
+    if let Some(debt) = debt {
+        hold(caller, Outcome::Back(debt))?;
+    }
+    Ok(number)
+}
+
+fn assert_claimed<A: Abort>(
+    rt: &A,
+    caller: &mut Caller,
+    connection: CxnId,
+    now: u64,
+    want: Result<u64, StationFault>,
+) -> Result<(), Fail> {
+    let claimed = match caller.station.claim(connection, now) {
+        Ok(debt) => Ok(keep(rt, caller, debt)?),
+        Err(fault) => Err(fault),
+    };
+    assert_answer(rt, caller, claimed, want)
+}
+
+// The first that is held of this number, which is held no longer.
+fn given(caller: &mut Caller, number: u64) -> Result<Outcome, Fail> {
+    let at = caller
+        .held
+        .iter()
+        .position(|held| told(held).0 == number)
+        .ok_or("a debt that is held")?;
+    Ok(caller.held.remove(at))
+}
+
+fn debt_given(caller: &mut Caller, number: u64) -> Result<Debt, Fail> {
+    match given(caller, number)? {
+        Outcome::Back(debt) => Ok(debt),
+        _ => Err(Fail::from("not a debt")),
+    }
+}
+
+// A connection in streaming mode that was offered this debt, after this line of the peer's.
+fn offered(alloc: Global, debt: Debt, line: &[u8]) -> Result<Conn, Fail> {
+    let mut conn = connection(alloc, ONE, true)?;
+    input(&mut conn, b"200\r\n203\r\n")?;
+    offer(&mut conn, debt)?;
+    input(&mut conn, line)?;
+    Ok(conn)
+}
+
+// The connection sends the article of this number, which the peer takes.
+fn send<A: Abort>(
+    rt: &A,
+    alloc: Global,
+    place: Place,
+    conn: &mut Conn,
+    number: u64,
+) -> Result<(), Fail> {
+    hand(conn, number, article(alloc, b"Subject: t\n\n.b\n")?)?;
+    let block = conn.output().ends_with(b"Subject: t\r\n\r\n..b\r\n.\r\n");
+    assert_same(rt, place, &block, &true);
+    input(conn, b"239 <x@y>\r\n")
+}
+
+// What a connection tells of this debt after this line of the peer's, and after the article where the peer wants it.
+fn answered<A: Abort>(
+    rt: &A,
+    alloc: Global,
+    place: Place,
+    debt: Debt,
+    line: &[u8],
+) -> Result<Outcome, Fail> {
+    let mut conn = offered(alloc, debt, line)?;
+    if let Some(number) = conn.need() {
+        send(rt, alloc, place, &mut conn, number)?;
+    }
+    Ok(conn.outcome().ok_or("an outcome")?)
+}
+
+// The peer answers the debt of this number by this line, and this is told of it.
+fn answer<A: Abort>(
+    rt: &A,
+    caller: &mut Caller,
+    number: u64,
+    line: &[u8],
+    code: u16,
+) -> Result<(), Fail> {
+    let debt = debt_given(caller, number)?;
+    let held = answered(rt, caller.alloc, caller.place, debt, line)?;
+    assert_same(rt, caller.place, &told(&held), &(number, code));
+    hold(caller, held)
+}
+
+// The end of a debt of this number, or the refusal with what was handed back.
+fn assert_ended<A: Abort>(
+    rt: &A,
+    caller: &mut Caller,
+    number: u64,
+    refused: Option<(Outcome, StationFault)>,
+    want: Result<(), StationFault>,
+) -> Result<(), Fail> {
+    let want = match want {
+        Ok(()) => Ok(number),
+        Err(fault) => Err(fault),
+    };
+    match refused {
+        None => assert_answer(rt, caller, Ok(number), want),
+        Some((held, fault)) => {
+            assert_answer(rt, caller, Err(fault), want)?;
+            hold_again(rt, caller, number, held)
+        }
+    }
+}
+
+// Holds what was handed back, which has to be of this number.
+fn hold_again<A: Abort>(
+    rt: &A,
+    caller: &mut Caller,
+    number: u64,
+    held: Outcome,
+) -> Result<(), Fail> {
+    assert_answer(rt, caller, Ok(told(&held).0), Ok(number))?;
+    hold(caller, held)
+}
+
+fn settle<A: Abort>(
+    rt: &A,
+    caller: &mut Caller,
+    connection: CxnId,
+    number: u64,
+    want: Result<(), StationFault>,
+) -> Result<(), Fail> {
+    let Outcome::Final(verdict) = given(caller, number)? else {
+        return Err(Fail::from("not a verdict"));
+    };
+    let refused = match caller.station.settle(connection, verdict) {
+        Ok(()) => None,
+        Err((verdict, fault)) => Some((Outcome::Final(verdict), fault)),
+    };
+    assert_ended(rt, caller, number, refused, want)
+}
+
+fn defer<A: Abort>(
+    rt: &A,
+    caller: &mut Caller,
+    connection: CxnId,
+    number: u64,
+    now: u64,
+    want: Result<(), StationFault>,
+) -> Result<(), Fail> {
+    let Outcome::Deferred(deferral) = given(caller, number)? else {
+        return Err(Fail::from("not a deferral"));
+    };
+    let refused = match caller.station.defer(connection, deferral, now) {
+        Ok(()) => None,
+        Err((deferral, fault)) => Some((Outcome::Deferred(deferral), fault)),
+    };
+    assert_ended(rt, caller, number, refused, want)
+}
+
+fn lose<A: Abort>(
+    rt: &A,
+    caller: &mut Caller,
+    connection: CxnId,
+    number: u64,
+    want: Result<(), StationFault>,
+) -> Result<(), Fail> {
+    let debt = debt_given(caller, number)?;
+    let refused = match caller.station.lose(connection, debt, Cause::Missing) {
+        Ok(()) => None,
+        Err((debt, fault)) => Some((Outcome::Back(debt), fault)),
+    };
+    assert_ended(rt, caller, number, refused, want)
+}
+
+fn back<A: Abort>(
+    rt: &A,
+    caller: &mut Caller,
+    connection: CxnId,
+    number: u64,
+    want: Result<(), StationFault>,
+) -> Result<(), Fail> {
+    let debt = debt_given(caller, number)?;
+    let refused = match caller.station.back(connection, debt) {
+        Ok(()) => None,
+        Err((debt, fault)) => Some((Outcome::Back(debt), fault)),
+    };
+    assert_ended(rt, caller, number, refused, want)
+}
+
+fn assert_numbers<A: Abort>(rt: &A, caller: &Caller, numbers: &[u64], want: &[u64]) {
+    assert_same(rt, caller.place, &numbers, &want);
+}
+
+fn assert_shed<A: Abort>(
+    rt: &A,
+    caller: &mut Caller,
+    want: &[u64],
+    want_more: bool,
+) -> Result<(), Fail> {
+    let Shed { numbers, more } = caller.station.shed()?;
+    assert_numbers(rt, caller, &numbers, want);
+    assert_same(rt, caller.place, &more, &want_more);
+    Ok(())
+}
+
+fn assert_shed_refused<A: Abort>(
+    rt: &A,
+    caller: &mut Caller,
+    want: StationFault,
+) -> Result<(), Fail> {
+    let shed = match caller.station.shed() {
+        Ok(_) => Ok(0),
+        Err(fault) => Err(fault),
+    };
+    assert_answer(rt, caller, shed, Err(want))
+}
+
+fn assert_debt<A: Abort>(
+    rt: &A,
+    caller: &mut Caller,
+    number: u64,
+    want: Result<u64, StationFault>,
+) -> Result<(), Fail> {
+    let told = match caller.station.debt(number) {
+        Ok(debt) => Ok(told_number(rt, caller.place, &debt)),
+        Err(fault) => Err(fault),
+    };
+    assert_answer(rt, caller, told, want)
+}
+
+fn listed(caller: &Caller) -> Result<Vec<u64>, Fail> {
+    Ok(caller.station.list()?)
+}
+
+fn assert_listed<A: Abort>(rt: &A, caller: &Caller, want: &[u64]) -> Result<(), Fail> {
+    let numbers = listed(caller)?;
+    assert_numbers(rt, caller, &numbers, want);
+    Ok(())
+}
+
+fn assert_between<A: Abort>(
+    rt: &A,
+    caller: &Caller,
+    least: &[u64],
+    most: &[u64],
+) -> Result<(), Fail> {
+    let numbers = listed(caller)?;
+    let told = (numbers.starts_with(least), most.starts_with(&numbers));
+    assert_same(rt, caller.place, &told, &(true, true));
+    Ok(())
+}

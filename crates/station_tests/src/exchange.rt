@@ -1,0 +1,283 @@
+// Steps of an exchange: what a feeder or its peer does at one connection, or what the connection is asked, with what
+// it is to tell.
+use crate::shared::{Place, article, assert_same, connection, hand, input, names, offer, told};
+use article_store::Found;
+use conn_core::{ArticleFault, Conn, CxnId, OfferFault, Ready, Reason};
+use ledger_core::Debt;
+use std::alloc::Global;
+use std::process::Abort;
+use std::test::Fail;
+
+const NUMBER: CxnId = CxnId(7);
+
+// How replies come in: what ends each line, and in pieces of how many octets.
+#[derive(Clone, Copy)]
+pub(crate) struct Wire {
+    end: &'static [u8],
+    piece: usize,
+}
+
+// Whole and octet by octet, ended by CR LF and by LF alone.
+pub(crate) const WIRES: [Wire; 4] = [
+    Wire {
+        end: b"\r\n",
+        piece: 4096,
+    },
+    Wire {
+        end: b"\n",
+        piece: 4096,
+    },
+    Wire {
+        end: b"\r\n",
+        piece: 1,
+    },
+    Wire {
+        end: b"\n",
+        piece: 1,
+    },
+];
+
+#[derive(Clone, Copy)]
+pub(crate) enum Step {
+    // A debt of this number and message-id is offered to a connection that is ready, and taken.
+    Offer(u64, &'static [u8]),
+    // A debt of this number is refused, and handed back.
+    NotOffered(u64, OfferFault),
+    // A reply without its line end.
+    Line(&'static [u8]),
+    // The article of this number, which is needed first, has this text, or is gone.
+    Text(u64, &'static [u8]),
+    Gone(u64),
+    // No article of this number is needed, and what is handed in for it comes back.
+    NotNeeded(u64),
+    Tick(u64),
+    Broken,
+    Quit,
+    // So many octets of the output were sent.
+    Sent(usize),
+    // All that is to be sent, which counts as sent from now on; and all that is, which stays.
+    Output(&'static [u8]),
+    Unsent(&'static [u8]),
+    // The next outcome: a number, and a code or what is told in its place.
+    Outcome(u64, u16),
+    Ready(Ready),
+    Need(Option<u64>),
+    Checks(bool),
+}
+
+// A mode stands: streaming mode, and a CHECK of the debt 1 is out; streaming mode; IHAVE mode.
+pub(crate) const CHECKED: &[Step] = &[
+    Step::Line(b"200"),
+    Step::Line(b"203"),
+    Step::Offer(1, b"<x@y>"),
+    Step::Output(b"MODE STREAM\r\nCHECK <x@y>\r\n"),
+];
+
+pub(crate) const STREAMING: &[Step] = &[
+    Step::Line(b"200"),
+    Step::Line(b"203"),
+    Step::Output(b"MODE STREAM\r\n"),
+];
+
+pub(crate) const PLAIN: &[Step] = &[Step::Line(b"200")];
+
+// A whole exchange: how it begins, and goes on. At its end all output was asked for, and each outcome, and the
+// connection is closed for this reason or open.
+#[derive(Clone, Copy)]
+pub(crate) struct Row {
+    pub(crate) name: &'static str,
+    pub(crate) streaming: bool,
+    pub(crate) start: &'static [Step],
+    pub(crate) steps: &'static [Step],
+    pub(crate) closed: Option<Reason>,
+}
+
+#[derive(Drop)]
+pub(crate) struct Exchange {
+    alloc: Global,
+    conn: Conn,
+    wire: Wire,
+    place: Place,
+}
+
+// The exchange of this row once it has begun.
+pub(crate) fn begin<A: Abort>(
+    rt: &A,
+    alloc: Global,
+    row: Row,
+    wire: Wire,
+) -> Result<Exchange, Fail> {
+    let mut exchange = Exchange {
+        alloc,
+        conn: connection(alloc, NUMBER, row.streaming)?,
+        wire,
+        place: Place::first(row.name),
+    };
+    play(rt, &mut exchange, row.start)?;
+    Ok(exchange)
+}
+
+// Takes these steps, each of which has to tell what is wanted.
+pub(crate) fn play<A: Abort>(rt: &A, exchange: &mut Exchange, steps: &[Step]) -> Result<(), Fail> {
+    for step in steps {
+        take(rt, exchange, *step)?;
+        exchange.place = exchange.place.next();
+    }
+    Ok(())
+}
+
+// Takes the steps of this row, with replies that come in so.
+pub(crate) fn play_row<A: Abort>(rt: &A, alloc: Global, row: Row, wire: Wire) -> Result<(), Fail> {
+    let mut exchange = begin(rt, alloc, row, wire)?;
+    play(rt, &mut exchange, row.steps)?;
+    end(rt, &mut exchange, row.closed);
+    Ok(())
+}
+
+// Takes the steps of each row in each way in which replies come in.
+pub(crate) fn play_rows<A: Abort>(rt: &A, alloc: Global, rows: &[Row]) -> Result<(), Fail> {
+    for row in rows {
+        for wire in WIRES {
+            play_row(rt, alloc, *row, wire)?;
+        }
+    }
+    Ok(())
+}
+
+fn take<A: Abort>(rt: &A, exchange: &mut Exchange, step: Step) -> Result<(), Fail> {
+    match step {
+        Step::Offer(number, id) => offer_debt(rt, exchange, number, id)?,
+        Step::NotOffered(number, fault) => assert_not_offered(rt, exchange, number, fault)?,
+        Step::Line(line) => reply(exchange, line)?,
+        Step::Text(number, text) => {
+            let found = article(exchange.alloc, text)?;
+            hand_in(rt, exchange, number, found)?;
+        }
+        Step::Gone(number) => hand_in(rt, exchange, number, Found::Gone)?,
+        Step::NotNeeded(number) => assert_not_needed(rt, exchange, number)?,
+        Step::Tick(now) => exchange.conn.tick(now),
+        Step::Broken => exchange.conn.broken(),
+        Step::Quit => exchange.conn.quit(),
+        Step::Sent(count) => sent(rt, exchange, count),
+        _ => assert_told(rt, exchange, step),
+    }
+    Ok(())
+}
+
+// A step that asks what the connection tells.
+fn assert_told<A: Abort>(rt: &A, exchange: &mut Exchange, step: Step) {
+    match step {
+        Step::Output(want) => {
+            assert_unsent(rt, exchange, want);
+            drain(exchange);
+        }
+        Step::Unsent(want) => assert_unsent(rt, exchange, want),
+        Step::Outcome(number, code) => assert_outcome(rt, exchange, Some((number, code))),
+        Step::Ready(want) => assert_ready(rt, exchange, want),
+        Step::Need(want) => assert_need(rt, exchange, want),
+        Step::Checks(want) => assert_same(rt, exchange.place, &exchange.conn.checks(), &want),
+        _ => {}
+    }
+}
+
+fn debt(alloc: Global, number: u64, id: &[u8]) -> Result<Debt, Fail> {
+    let (token, id) = names(alloc, id)?;
+    Ok(Debt::new(number, token, id))
+}
+
+fn offer_debt<A: Abort>(
+    rt: &A,
+    exchange: &mut Exchange,
+    number: u64,
+    id: &[u8],
+) -> Result<(), Fail> {
+    assert_ready(rt, exchange, Ready::Yes);
+    let debt = debt(exchange.alloc, number, id)?;
+    offer(&mut exchange.conn, debt)
+}
+
+fn assert_not_offered<A: Abort>(
+    rt: &A,
+    exchange: &mut Exchange,
+    number: u64,
+    fault: OfferFault,
+) -> Result<(), Fail> {
+    let debt = debt(exchange.alloc, number, b"<x@y>")?;
+    match exchange.conn.offer(debt) {
+        Ok(()) => return Err(Fail::from("a debt was taken that is to be refused")),
+        Err(back) => {
+            let told = (back.debt.number(), back.fault);
+            assert_same(rt, exchange.place, &told, &(number, fault));
+        }
+    }
+    Ok(())
+}
+
+// Feeds a reply in pieces.
+fn reply(exchange: &mut Exchange, line: &[u8]) -> Result<(), Fail> {
+    let mut octets = Vec::from_slice(exchange.alloc, line)?;
+    octets.extend_from_slice(exchange.wire.end)?;
+    for piece in octets.as_slice().chunks(exchange.wire.piece.max(1)) {
+        input(&mut exchange.conn, piece)?;
+    }
+    Ok(())
+}
+
+fn hand_in<A: Abort>(
+    rt: &A,
+    exchange: &mut Exchange,
+    number: u64,
+    found: Found,
+) -> Result<(), Fail> {
+    assert_need(rt, exchange, Some(number));
+    hand(&mut exchange.conn, number, found)
+}
+
+fn assert_not_needed<A: Abort>(rt: &A, exchange: &mut Exchange, number: u64) -> Result<(), Fail> {
+    match exchange.conn.article(number, Found::Gone) {
+        Ok(()) => return Err(Fail::from("an article was taken that is not needed")),
+        Err((found, fault)) => {
+            let told = (matches!(found, Found::Gone), fault);
+            assert_same(rt, exchange.place, &told, &(true, ArticleFault::NotNeeded));
+        }
+    }
+    Ok(())
+}
+
+fn sent<A: Abort>(rt: &A, exchange: &mut Exchange, count: usize) {
+    assert!(rt; count <= exchange.conn.output().len());
+    exchange.conn.sent(count);
+}
+
+fn drain(exchange: &mut Exchange) {
+    let count = exchange.conn.output().len();
+    exchange.conn.sent(count);
+}
+
+fn assert_unsent<A: Abort>(rt: &A, exchange: &Exchange, want: &[u8]) {
+    assert_same(rt, exchange.place, &exchange.conn.output(), &want);
+}
+
+fn assert_outcome<A: Abort>(rt: &A, exchange: &mut Exchange, want: Option<(u64, u16)>) {
+    let outcome = match exchange.conn.outcome() {
+        Some(outcome) => Some(told(&outcome)),
+        None => None,
+    };
+    assert_same(rt, exchange.place, &outcome, &want);
+}
+
+fn assert_ready<A: Abort>(rt: &A, exchange: &Exchange, want: Ready) {
+    assert_same(rt, exchange.place, &exchange.conn.ready(), &want);
+}
+
+fn assert_need<A: Abort>(rt: &A, exchange: &Exchange, want: Option<u64>) {
+    assert_same(rt, exchange.place, &exchange.conn.need(), &want);
+}
+
+// Nothing is left to be told, and the connection is closed for this reason or open.
+pub(crate) fn end<A: Abort>(rt: &A, exchange: &mut Exchange, closed: Option<Reason>) {
+    assert_unsent(rt, exchange, b"");
+    assert_outcome(rt, exchange, None);
+    assert_same(rt, exchange.place, &exchange.conn.closed(), &closed);
+    assert_same(rt, exchange.place, &exchange.conn.id(), &NUMBER);
+}

@@ -1,0 +1,21 @@
+//! The tests of connections and of stations, as data: steps, each with what it is to tell, and a runner for each of the
+//! two.
+//!
+//! May touch nothing but memory; it calls what `conn_core` and `peer_queue` make public, and nothing stands on it.
+//! It is a crate of its own so that those two are not proved a second time with their tests. A row more costs next to
+//! no proof, a function more does: so each public call is made in one small function here, which says nothing in a
+//! clause.
+#![tactic(auto)]
+
+#[cfg(test)]
+mod caller;
+#[cfg(test)]
+mod connections;
+#[cfg(test)]
+mod exchange;
+#[cfg(test)]
+mod servers;
+#[cfg(test)]
+mod shared;
+#[cfg(test)]
+mod stations;

@@ -1,0 +1,109 @@
+// What the steps of connections and those of stations share: debts, a connection, and the one comparison.
+use article_store::Found;
+use bytes::Bytes;
+use conn_core::{Conn, CxnId, Options, Outcome};
+use funnel::{MsgId, Token};
+use ledger_core::{Cause, Debt};
+use std::alloc::Global;
+use std::fmt::Debug;
+use std::process::Abort;
+use std::test::Fail;
+
+// What is told of a debt that no final reply ended, in place of the reply's code.
+pub(crate) const LATER: u16 = 1;
+
+pub(crate) const MISSING: u16 = 2;
+
+pub(crate) const UNSENDABLE: u16 = 3;
+
+pub(crate) const BACK: u16 = 4;
+
+pub(crate) const STREAMING: Options = Options {
+    streaming: true,
+    max_queue: 20,
+    check_high: 9500,
+    check_low: 9000,
+    check_filter: 20,
+    response_timeout: 300,
+};
+
+// Where a comparison stands: the row, and the place of the step in it.
+#[derive(Clone, Copy)]
+pub(crate) struct Place {
+    pub(crate) row: &'static str,
+    pub(crate) step: u64,
+}
+
+impl Place {
+    // The first step of this row.
+    pub(crate) fn first(row: &'static str) -> Self {
+        Place { row, step: 0 }
+    }
+
+    // The step behind this one.
+    pub(crate) fn next(self) -> Self {
+        Place {
+            step: self.step.saturating_add(1),
+            ..self
+        }
+    }
+}
+
+// What is told is what is wanted.
+pub(crate) fn assert_same<A: Abort, T: PartialEq + Debug>(
+    rt: &A,
+    place: Place,
+    told: &T,
+    want: &T,
+) {
+    assert_eq!(rt; *told, *want, "{}, step {}", place.row, place.step);
+}
+
+// A token of three octets and a message-id: of five octets it makes a debt of ten.
+pub(crate) fn names(alloc: Global, id: &[u8]) -> Result<(Token, MsgId), Fail> {
+    Ok((
+        Token::read(alloc, b"a/1")?.ok_or("a token")?,
+        MsgId::read(alloc, id)?.ok_or("a message-id")?,
+    ))
+}
+
+pub(crate) fn connection(alloc: Global, id: CxnId, streaming: bool) -> Result<Conn, Fail> {
+    let options = Options {
+        streaming,
+        ..STREAMING
+    };
+    Ok(Conn::new(alloc, id, options)?)
+}
+
+pub(crate) fn input(conn: &mut Conn, octets: &[u8]) -> Result<(), Fail> {
+    Ok(conn.input(octets)?)
+}
+
+pub(crate) fn offer(conn: &mut Conn, debt: Debt) -> Result<(), Fail> {
+    match conn.offer(debt) {
+        Ok(()) => Ok(()),
+        Err(back) => Err(Fail::from(back.fault)),
+    }
+}
+
+pub(crate) fn article(alloc: Global, text: &[u8]) -> Result<Found, Fail> {
+    Ok(Found::Article(Bytes::copy_from_slice(alloc, text)?))
+}
+
+pub(crate) fn hand(conn: &mut Conn, number: u64, found: Found) -> Result<(), Fail> {
+    match conn.article(number, found) {
+        Ok(()) => Ok(()),
+        Err((_, fault)) => Err(Fail::from(fault)),
+    }
+}
+
+// The number of a debt, and the code of the reply that ended it or what is told in its place.
+pub(crate) fn told(outcome: &Outcome) -> (u64, u16) {
+    match outcome {
+        Outcome::Final(verdict) => (verdict.debt().number(), verdict.code().number()),
+        Outcome::Deferred(deferral) => (deferral.debt().number(), LATER),
+        Outcome::Lost(debt, Cause::Missing) => (debt.number(), MISSING),
+        Outcome::Lost(debt, _) => (debt.number(), UNSENDABLE),
+        Outcome::Back(debt) => (debt.number(), BACK),
+    }
+}

@@ -1,0 +1,699 @@
+// Scripts of stations. A debt of a script has ten octets.
+use crate::caller::{
+    ONE, OTHER, Opening, Script, Step, UNLIMITED, assert_octets, begin, play, play_script,
+};
+use crate::shared::{Place, assert_same};
+use conn_core::CxnId;
+use disk_model::{Disk, MemDisk};
+use peer_queue::{Limits, Owed, Station, StationFault, deferred_until};
+use recovery::{RefusedTape, TapeFault};
+use std::alloc::Global;
+use std::process::Abort;
+use std::test::Fail;
+
+// The tape of the Owe 1 of token `a/1` and id `<x@y>`, and of its Final with 239.
+const ANSWERED: [u8; 41] = [
+    0xa5, 0, 0, 0, 0x13, 1, 0, 0, 0, 0, 0, 0, 0, 1, 3, 0x61, 0x2f, 0x31, 5, 0x3c, 0x78, 0x40, 0x79,
+    0x3e, 0xa5, 0, 0, 0, 0x0b, 2, 0, 0, 0, 0, 0, 0, 0, 1, 0, 0xef, 0,
+];
+
+// How many notes may pend.
+const MOST_PENDING: u64 = 65536;
+
+// There is room for two more.
+const NEARLY_FULL: u64 = 65534;
+
+const FULL: StationFault = StationFault::Tape(TapeFault::PendingFull);
+
+const NOT_HELD: StationFault = StationFault::NotHeld;
+
+const BROKEN: StationFault = StationFault::Broken;
+
+const DISK: StationFault = StationFault::Tape(TapeFault::Disk);
+
+const DROPPING: Limits = Limits {
+    backlog_limit: 0,
+    backlog_high: 0,
+    drop_deferred: true,
+};
+
+const SMALL: Limits = Limits {
+    backlog_limit: 10,
+    backlog_high: 20,
+    drop_deferred: false,
+};
+
+// Where the station is nearly full, five debts are above the limit.
+const JUST_ABOVE: Limits = Limits {
+    backlog_limit: 10 * NEARLY_FULL - 50,
+    backlog_high: 10 * NEARLY_FULL - 40,
+    drop_deferred: false,
+};
+
+const MIXED: Limits = Limits {
+    backlog_limit: 30,
+    backlog_high: 40,
+    drop_deferred: true,
+};
+
+const ENDING: &[Script] = &[
+    Script {
+        name: "two debts of one id",
+        owed: 2,
+        limits: UNLIMITED,
+        steps: &[
+            Step::Claim(ONE, 0, Ok(1)),
+            Step::Claim(ONE, 0, Ok(2)),
+            Step::NotWanted(2),
+            Step::Settle(ONE, 2, Ok(())),
+            Step::List(&[1]),
+            Step::Claim(ONE, 0, Ok(0)),
+            Step::NotWanted(1),
+            Step::Settle(ONE, 1, Ok(())),
+            Step::List(&[]),
+        ],
+        opened: &[],
+        tape: None,
+    },
+    Script {
+        name: "what is given back is ready",
+        owed: 2,
+        limits: UNLIMITED,
+        steps: &[
+            Step::Claim(ONE, 0, Ok(1)),
+            Step::Claim(OTHER, 0, Ok(2)),
+            Step::Back(ONE, 1, Ok(())),
+            Step::List(&[1, 2]),
+            Step::Claim(OTHER, 0, Ok(1)),
+        ],
+        opened: &[],
+        tape: None,
+    },
+    Script {
+        name: "what one connection held is released",
+        owed: 5,
+        limits: UNLIMITED,
+        steps: &[
+            Step::Claim(ONE, 0, Ok(1)),
+            Step::Claim(OTHER, 0, Ok(2)),
+            Step::Claim(ONE, 0, Ok(3)),
+            Step::Claim(OTHER, 0, Ok(4)),
+            Step::Release(CxnId(3), 0),
+            Step::Release(OTHER, 2),
+            Step::Release(OTHER, 0),
+            Step::Claim(ONE, 0, Ok(2)),
+            Step::Claim(ONE, 0, Ok(4)),
+            Step::Claim(ONE, 0, Ok(5)),
+            Step::Claim(ONE, 0, Ok(0)),
+            Step::Release(ONE, 5),
+            Step::List(&[1, 2, 3, 4, 5]),
+        ],
+        opened: &[],
+        tape: None,
+    },
+    Script {
+        name: "who does not hold is refused",
+        owed: 3,
+        limits: UNLIMITED,
+        steps: &[
+            Step::Claim(ONE, 0, Ok(1)),
+            Step::Claim(ONE, 0, Ok(2)),
+            Step::Claim(ONE, 0, Ok(3)),
+            Step::NotWanted(1),
+            Step::WantedLater(2),
+            Step::Totals(3, 0, 0, 3),
+            Step::Settle(OTHER, 1, Err(NOT_HELD)),
+            Step::Defer(OTHER, 2, 0, Err(NOT_HELD)),
+            Step::Lose(OTHER, 3, Err(NOT_HELD)),
+            Step::Claim(ONE, u64::MAX, Ok(0)),
+            Step::Release(ONE, 3),
+            Step::Settle(ONE, 1, Err(NOT_HELD)),
+            Step::Defer(ONE, 2, 0, Err(NOT_HELD)),
+            Step::Lose(ONE, 3, Err(NOT_HELD)),
+            Step::Totals(3, 0, 0, 3),
+        ],
+        opened: &[],
+        tape: None,
+    },
+    Script {
+        name: "who does not hold gives nothing back",
+        owed: 1,
+        limits: UNLIMITED,
+        steps: &[
+            Step::Claim(ONE, 0, Ok(1)),
+            Step::Back(OTHER, 1, Err(NOT_HELD)),
+            Step::Claim(ONE, 0, Ok(0)),
+            Step::Release(ONE, 1),
+            Step::Back(ONE, 1, Err(NOT_HELD)),
+        ],
+        opened: &[],
+        tape: None,
+    },
+    Script {
+        name: "an end comes once",
+        owed: 1,
+        limits: UNLIMITED,
+        steps: &[
+            Step::Claim(ONE, 0, Ok(1)),
+            Step::Release(ONE, 1),
+            Step::Claim(ONE, 0, Ok(1)),
+            Step::Lose(ONE, 1, Ok(())),
+            Step::NotWanted(1),
+            Step::Settle(ONE, 1, Err(NOT_HELD)),
+            Step::Totals(1, 0, 1, 0),
+        ],
+        opened: &[],
+        tape: None,
+    },
+    Script {
+        name: "what is lost is dropped",
+        owed: 2,
+        limits: UNLIMITED,
+        steps: &[
+            Step::Claim(ONE, 0, Ok(1)),
+            Step::Lose(ONE, 1, Ok(())),
+            Step::List(&[2]),
+            Step::Debt(1, Ok(0)),
+            Step::Claim(ONE, u64::MAX, Ok(2)),
+            Step::Release(ONE, 1),
+        ],
+        opened: &[],
+        tape: None,
+    },
+    Script {
+        name: "a debt is told",
+        owed: 1,
+        limits: UNLIMITED,
+        steps: &[
+            Step::Claim(ONE, 0, Ok(1)),
+            Step::Debt(1, Ok(1)),
+            Step::Debt(0, Ok(0)),
+            Step::Debt(2, Ok(0)),
+        ],
+        opened: &[],
+        tape: None,
+    },
+    Script {
+        name: "old numbers are owed already",
+        owed: 0,
+        limits: UNLIMITED,
+        steps: &[
+            Step::Mark(0),
+            Step::Owe(0, Ok(Owed::Already)),
+            Step::Owe(3, Ok(Owed::New)),
+            Step::Totals(1, 0, 0, 1),
+            Step::Owe(0, Ok(Owed::Already)),
+            Step::Owe(1, Ok(Owed::Already)),
+            Step::Owe(2, Ok(Owed::Already)),
+            Step::Owe(3, Ok(Owed::Already)),
+            Step::Totals(1, 0, 0, 1),
+            Step::Claim(ONE, 0, Ok(3)),
+            Step::Lose(ONE, 3, Ok(())),
+            Step::Owe(3, Ok(Owed::Already)),
+            Step::Mark(3),
+            Step::Claim(ONE, 0, Ok(0)),
+            Step::Owe(u64::MAX, Ok(Owed::New)),
+            Step::Claim(ONE, 0, Ok(u64::MAX)),
+            Step::Owe(u64::MAX, Ok(Owed::Already)),
+        ],
+        opened: &[],
+        tape: None,
+    },
+];
+
+const DEFERRING: &[Script] = &[
+    Script {
+        name: "a deferred debt waits a minute",
+        owed: 1,
+        limits: UNLIMITED,
+        steps: &[
+            Step::Claim(ONE, 0, Ok(1)),
+            Step::WantedLater(1),
+            Step::Defer(ONE, 1, 0, Ok(())),
+            Step::Claim(ONE, 59, Ok(0)),
+            Step::List(&[1]),
+            Step::Claim(ONE, 60, Ok(1)),
+            Step::Claim(ONE, 60, Ok(0)),
+        ],
+        opened: &[],
+        tape: None,
+    },
+    Script {
+        name: "a younger debt goes before a deferred one",
+        owed: 3,
+        limits: UNLIMITED,
+        steps: &[
+            Step::Claim(ONE, 100, Ok(1)),
+            Step::WantedLater(1),
+            Step::Defer(ONE, 1, 100, Ok(())),
+            Step::Claim(ONE, 159, Ok(2)),
+            Step::Claim(ONE, 160, Ok(1)),
+            Step::Claim(ONE, 160, Ok(3)),
+        ],
+        opened: &[],
+        tape: None,
+    },
+    Script {
+        name: "a deferred debt is dropped",
+        owed: 1,
+        limits: DROPPING,
+        steps: &[
+            Step::Claim(ONE, 0, Ok(1)),
+            Step::WantedLater(1),
+            Step::Defer(ONE, 1, 0, Ok(())),
+            Step::List(&[]),
+            Step::Totals(1, 0, 1, 0),
+            Step::Claim(ONE, u64::MAX, Ok(0)),
+        ],
+        opened: &[],
+        tape: None,
+    },
+    Script {
+        name: "a deferral ends at the last moment",
+        owed: 1,
+        limits: UNLIMITED,
+        steps: &[
+            Step::Claim(ONE, 0, Ok(1)),
+            Step::WantedLater(1),
+            Step::Defer(ONE, 1, u64::MAX - 10, Ok(())),
+            Step::Claim(ONE, u64::MAX - 1, Ok(0)),
+            Step::Claim(ONE, u64::MAX, Ok(1)),
+        ],
+        opened: &[],
+        tape: None,
+    },
+];
+
+const SHEDDING: &[Script] = &[
+    Script {
+        name: "nothing is shed without a limit",
+        owed: 3,
+        limits: UNLIMITED,
+        steps: &[Step::Shed(&[], false), Step::Totals(3, 0, 0, 3)],
+        opened: &[],
+        tape: None,
+    },
+    Script {
+        name: "the deferred are shed and the held are not",
+        owed: 4,
+        limits: SMALL,
+        steps: &[
+            Step::Claim(ONE, 0, Ok(1)),
+            Step::WantedLater(1),
+            Step::Defer(ONE, 1, 0, Ok(())),
+            Step::Claim(ONE, 0, Ok(2)),
+            Step::Claim(ONE, 0, Ok(3)),
+            Step::Claim(ONE, 0, Ok(4)),
+            Step::Shed(&[1], false),
+            Step::Claim(ONE, 60, Ok(0)),
+            Step::Shed(&[], false),
+            Step::Release(ONE, 3),
+            Step::Shed(&[2, 3], false),
+            Step::List(&[4]),
+        ],
+        opened: &[],
+        tape: None,
+    },
+];
+
+const SHED_TO_THE_ROOM: Script = Script {
+    name: "as much is shed as has room",
+    owed: NEARLY_FULL,
+    limits: JUST_ABOVE,
+    steps: &[
+        Step::Shed(&[1, 2], true),
+        Step::Shed(&[], true),
+        Step::Flush(Ok(MOST_PENDING)),
+        Step::Shed(&[3, 4, 5], false),
+    ],
+    opened: &[],
+    tape: None,
+};
+
+const PENDING_FULL: Script = Script {
+    name: "no more notes pend than may",
+    owed: MOST_PENDING,
+    limits: DROPPING,
+    steps: &[
+        Step::Claim(ONE, 0, Ok(1)),
+        Step::Claim(ONE, 0, Ok(2)),
+        Step::Claim(ONE, 0, Ok(3)),
+        Step::NotWanted(1),
+        Step::WantedLater(2),
+        Step::Totals(MOST_PENDING, 0, 0, MOST_PENDING),
+        Step::Owe(MOST_PENDING + 1, Err(FULL)),
+        Step::Settle(ONE, 1, Err(FULL)),
+        Step::Defer(ONE, 2, 0, Err(FULL)),
+        Step::Lose(ONE, 3, Err(FULL)),
+        Step::Totals(MOST_PENDING, 0, 0, MOST_PENDING),
+        Step::Mark(MOST_PENDING),
+        Step::Flush(Ok(MOST_PENDING)),
+        Step::Owe(MOST_PENDING + 1, Ok(Owed::New)),
+        Step::Settle(ONE, 1, Ok(())),
+        Step::Defer(ONE, 2, 0, Ok(())),
+        Step::Lose(ONE, 3, Ok(())),
+        Step::Flush(Ok(MOST_PENDING + 4)),
+    ],
+    opened: &[],
+    tape: None,
+};
+
+// Of the mixed run of ten debts two are answered, one is lost, one is deferred and dropped, three are shed, and one
+// stays held.
+const REOPENING: &[Script] = &[
+    Script {
+        name: "an article is taken",
+        owed: 0,
+        limits: UNLIMITED,
+        steps: &[
+            Step::Owe(1, Ok(Owed::New)),
+            Step::Claim(ONE, 0, Ok(1)),
+            Step::Taken(1),
+            Step::Settle(ONE, 1, Ok(())),
+            Step::Flush(Ok(2)),
+        ],
+        opened: &[],
+        tape: Some(&ANSWERED),
+    },
+    Script {
+        name: "all is ready after opening",
+        owed: 3,
+        limits: UNLIMITED,
+        steps: &[
+            Step::Flush(Ok(3)),
+            Step::Claim(ONE, 1000, Ok(1)),
+            Step::WantedLater(1),
+            Step::Defer(ONE, 1, 1000, Ok(())),
+            Step::Claim(ONE, 0, Ok(2)),
+            Step::Owe(4, Ok(Owed::New)),
+            Step::Mark(4),
+        ],
+        opened: &[(
+            Opening::Again(UNLIMITED),
+            &[
+                Step::Mark(3),
+                Step::Release(ONE, 0),
+                Step::Claim(OTHER, 0, Ok(1)),
+                Step::Claim(OTHER, 0, Ok(2)),
+                Step::Claim(OTHER, 0, Ok(3)),
+                Step::Claim(ONE, u64::MAX, Ok(0)),
+                Step::Owe(4, Ok(Owed::New)),
+            ],
+        )],
+        tape: None,
+    },
+    Script {
+        name: "what was flushed is opened again",
+        owed: 2,
+        limits: SMALL,
+        steps: &[Step::Claim(ONE, 0, Ok(1)), Step::Totals(2, 0, 0, 2)],
+        opened: &[(
+            Opening::Flushed,
+            &[
+                Step::Totals(2, 0, 0, 2),
+                Step::Owe(3, Ok(Owed::New)),
+                Step::Shed(&[1, 2], false),
+            ],
+        )],
+        tape: None,
+    },
+    Script {
+        name: "a failed flush breaks a station",
+        owed: 3,
+        limits: UNLIMITED,
+        steps: &[Step::Flush(Ok(3))],
+        opened: &[(
+            Opening::Fused(SMALL, 0),
+            &[
+                Step::Claim(ONE, 0, Ok(1)),
+                Step::Claim(ONE, 0, Ok(2)),
+                Step::Claim(ONE, 0, Ok(3)),
+                Step::NotWanted(1),
+                Step::WantedLater(2),
+                Step::Owe(4, Ok(Owed::New)),
+                Step::Flush(Err(DISK)),
+                Step::Owe(5, Err(BROKEN)),
+                Step::Claim(ONE, 0, Err(BROKEN)),
+                Step::Settle(ONE, 1, Err(BROKEN)),
+                Step::Defer(ONE, 2, 0, Err(BROKEN)),
+                Step::Lose(ONE, 3, Err(BROKEN)),
+                Step::Back(OTHER, 3, Err(BROKEN)),
+                Step::ShedRefused(BROKEN),
+                Step::Debt(1, Err(BROKEN)),
+                Step::Flush(Err(BROKEN)),
+            ],
+        )],
+        tape: None,
+    },
+    Script {
+        name: "a broken station still answers",
+        owed: 3,
+        limits: UNLIMITED,
+        steps: &[Step::Flush(Ok(3))],
+        opened: &[
+            (
+                Opening::Fused(UNLIMITED, 0),
+                &[
+                    Step::Owe(4, Ok(Owed::New)),
+                    Step::Claim(ONE, 0, Ok(1)),
+                    Step::Totals(4, 0, 0, 4),
+                    Step::Flush(Err(DISK)),
+                    Step::Release(ONE, 1),
+                    Step::Totals(4, 0, 0, 4),
+                    Step::Mark(4),
+                    Step::List(&[1, 2, 3, 4]),
+                ],
+            ),
+            (Opening::Again(UNLIMITED), &[Step::List(&[1, 2, 3])]),
+        ],
+        tape: None,
+    },
+    Script {
+        name: "what was taken is owed or has ended",
+        owed: 10,
+        limits: MIXED,
+        steps: &[
+            Step::Claim(ONE, 0, Ok(1)),
+            Step::NotWanted(1),
+            Step::Settle(ONE, 1, Ok(())),
+            Step::Claim(ONE, 0, Ok(2)),
+            Step::Claim(ONE, 0, Ok(3)),
+            Step::Claim(ONE, 0, Ok(4)),
+            Step::NotWanted(2),
+            Step::WantedLater(3),
+            Step::Settle(ONE, 2, Ok(())),
+            Step::Defer(ONE, 3, 0, Ok(())),
+            Step::Lose(ONE, 4, Ok(())),
+            Step::Claim(ONE, 0, Ok(5)),
+            Step::Shed(&[6, 7, 8], false),
+            Step::Flush(Ok(17)),
+            Step::Totals(10, 2, 5, 3),
+            Step::List(&[5, 9, 10]),
+        ],
+        opened: &[(Opening::Again(MIXED), &[Step::Totals(10, 2, 5, 3)])],
+        tape: None,
+    },
+];
+
+const FAILS: &[Step] = &[
+    Step::Owe(4, Ok(Owed::New)),
+    Step::Owe(5, Ok(Owed::New)),
+    Step::Flush(Err(DISK)),
+];
+
+const KEEPS: &[Step] = &[Step::ListBetween(&[1, 2, 3], &[1, 2, 3, 4, 5])];
+
+// A flush of the numbers 4 and 5 that fails after so many calls of the disk keeps the three before them, and nothing
+// else that was not owed: one write, a sync, a write for the gate of each of two notes, and a sync.
+const CUT: &[Script] = &[
+    Script {
+        name: "a flush that fails after no call",
+        owed: 3,
+        limits: UNLIMITED,
+        steps: &[Step::Flush(Ok(3))],
+        opened: &[
+            (Opening::Fused(UNLIMITED, 0), FAILS),
+            (Opening::Again(UNLIMITED), KEEPS),
+        ],
+        tape: None,
+    },
+    Script {
+        name: "a flush that fails after 1 call",
+        owed: 3,
+        limits: UNLIMITED,
+        steps: &[Step::Flush(Ok(3))],
+        opened: &[
+            (Opening::Fused(UNLIMITED, 1), FAILS),
+            (Opening::Again(UNLIMITED), KEEPS),
+        ],
+        tape: None,
+    },
+    Script {
+        name: "a flush that fails after 2 calls",
+        owed: 3,
+        limits: UNLIMITED,
+        steps: &[Step::Flush(Ok(3))],
+        opened: &[
+            (Opening::Fused(UNLIMITED, 2), FAILS),
+            (Opening::Again(UNLIMITED), KEEPS),
+        ],
+        tape: None,
+    },
+    Script {
+        name: "a flush that fails after 3 calls",
+        owed: 3,
+        limits: UNLIMITED,
+        steps: &[Step::Flush(Ok(3))],
+        opened: &[
+            (Opening::Fused(UNLIMITED, 3), FAILS),
+            (Opening::Again(UNLIMITED), KEEPS),
+        ],
+        tape: None,
+    },
+    Script {
+        name: "a flush that fails after 4 calls",
+        owed: 3,
+        limits: UNLIMITED,
+        steps: &[Step::Flush(Ok(3))],
+        opened: &[
+            (Opening::Fused(UNLIMITED, 4), FAILS),
+            (Opening::Again(UNLIMITED), KEEPS),
+        ],
+        tape: None,
+    },
+];
+
+// So many debts, of which the first is held, a limit and a high water: which are shed.
+const SHED: [(u64, u64, u64, &[u64]); 10] = [
+    (11, 100, 110, &[]),
+    (11, 100, 109, &[2]),
+    (12, 100, 110, &[2, 3]),
+    (12, 101, 110, &[2, 3]),
+    (12, 99, 110, &[2, 3, 4]),
+    (4, 10, 20, &[2, 3, 4]),
+    (4, 1, 20, &[2, 3, 4]),
+    (4, 20, 10, &[2, 3]),
+    (2, 20, 10, &[]),
+    (4, 0, 10, &[]),
+];
+
+const DEFERRED_UNTIL: [(u64, u64); 5] = [
+    (0, 60),
+    (u64::MAX - 61, u64::MAX - 1),
+    (u64::MAX - 60, u64::MAX),
+    (u64::MAX - 59, u64::MAX),
+    (u64::MAX, u64::MAX),
+];
+
+fn play_scripts<A: Abort>(rt: &A, alloc: Global, scripts: &[Script]) -> Result<(), Fail> {
+    for script in scripts {
+        play_script(rt, alloc, *script)?;
+    }
+    Ok(())
+}
+
+#[test]
+fn a_debt_ends_once_and_by_who_holds_it(rt: HostRuntime) -> Result<(), Fail> {
+    play_scripts(&rt, rt.alloc(), ENDING)
+}
+
+#[test]
+fn the_deferred_wait(rt: HostRuntime) -> Result<(), Fail> {
+    play_scripts(&rt, rt.alloc(), DEFERRING)
+}
+
+#[test]
+fn what_is_held_is_not_shed(rt: HostRuntime) -> Result<(), Fail> {
+    play_scripts(&rt, rt.alloc(), SHEDDING)
+}
+
+#[test]
+fn as_much_is_shed_as_has_room(rt: HostRuntime) -> Result<(), Fail> {
+    play_script(&rt, rt.alloc(), SHED_TO_THE_ROOM)
+}
+
+#[test]
+fn no_more_notes_pend_than_may(rt: HostRuntime) -> Result<(), Fail> {
+    play_script(&rt, rt.alloc(), PENDING_FULL)
+}
+
+#[test]
+fn a_disk_is_opened_again(rt: HostRuntime) -> Result<(), Fail> {
+    play_scripts(&rt, rt.alloc(), REOPENING)
+}
+
+#[test]
+fn a_flush_that_fails_midway_keeps_what_is_acknowledged(rt: HostRuntime) -> Result<(), Fail> {
+    play_scripts(&rt, rt.alloc(), CUT)
+}
+
+// Of so many debts, the first of which is held, these are shed.
+fn play_shed<A: Abort>(
+    rt: &A,
+    alloc: Global,
+    (count, backlog_limit, backlog_high, want): (u64, u64, u64, &'static [u64]),
+) -> Result<(), Fail> {
+    let limits = Limits {
+        backlog_limit,
+        backlog_high,
+        drop_deferred: false,
+    };
+    let dropped = want.len() as u64;
+    let mut caller = begin(alloc, "above the high water", count, limits)?;
+    play(
+        rt,
+        &mut caller,
+        &[
+            Step::Claim(ONE, 0, Ok(1)),
+            Step::Shed(want, false),
+            Step::Totals(count, 0, dropped, count.saturating_sub(dropped)),
+            Step::Release(ONE, 1),
+        ],
+    )
+}
+
+#[test]
+fn a_backlog_is_shed_above_its_high_water(rt: HostRuntime) -> Result<(), Fail> {
+    for row in SHED {
+        play_shed(&rt, rt.alloc(), row)?;
+    }
+    Ok(())
+}
+
+#[test]
+fn a_deferral_ends_a_minute_later_or_at_the_last_moment(rt: HostRuntime) {
+    for (now, until) in DEFERRED_UNTIL {
+        assert_eq!(rt; deferred_until(now), until, "at {now}");
+    }
+}
+
+fn write(disk: &mut MemDisk, octets: &[u8]) -> Result<(), Fail> {
+    Ok(disk.write_at(0, octets)?)
+}
+
+// The refusal to open a disk.
+fn not_opened(alloc: Global, disk: MemDisk) -> Result<RefusedTape<MemDisk>, Fail> {
+    match Station::open(alloc, disk, UNLIMITED) {
+        Ok(_) => Err(Fail::from("opened")),
+        Err(refused) => Ok(refused),
+    }
+}
+
+#[test]
+fn a_damaged_disk_is_handed_back(rt: HostRuntime) -> Result<(), Fail> {
+    let alloc = rt.alloc();
+    let mut disk = MemDisk::new(alloc);
+    write(&mut disk, &ANSWERED[..30])?;
+    let RefusedTape { disk, fault } = not_opened(alloc, disk)?;
+    if fault == TapeFault::NoMemory {
+        return Err(Fail::from(fault));
+    }
+    let place = Place::first("a damaged disk is handed back");
+    assert_same(
+        &rt,
+        place,
+        &fault,
+        &TapeFault::Damaged { segment: 0, at: 24 },
+    );
+    assert_octets(&rt, alloc, place, disk, &ANSWERED[..30])
+}
