@@ -1,4 +1,4 @@
--- What is told of settings (docs/FORMATS.md).
+-- What is told of settings (docs/MANUAL.md).
 use Rattle.std.specs.Prelude.{ℕ, Bool, true, false, List, [], ◌∷◌, ◌++◌, length, codes, decimal, flat_map}
 use Rattle.feed_conf.specs.Reading.{Report}
 use Rattle.feed_conf.specs.Settings.{Outcome}

@@ -1,5 +1,5 @@
 -- What each order comes to: its exit status, what is on standard output, and the line on standard error, if any
--- (docs/FORMATS.md).
+-- (docs/MANUAL.md).
 use Rattle.std.specs.Prelude.{◌≡◌, ◌⊎◌, ℕ, List, Option, None, Some, Result, Ok, Err, OnOk, string_bytes}
 use Rattle.std.specs.Io.KnownBytes.{Appends, Keeps}
 use Rattle.std.specs.declared.io.Error.{Error}

@@ -1,4 +1,4 @@
--- The exit statuses (docs/FORMATS.md).
+-- The exit statuses (docs/MANUAL.md).
 use Rattle.std.specs.Prelude.{ℕ}
 use Rattle.drill.specs.declared.ending.Ending.{Ending}
 use Rattle.drill.specs.declared.ending.Ending.TheVariants.{Done as DrillDone, Refused as DrillRefused}

@@ -1,4 +1,4 @@
--- The lines on standard error (docs/FORMATS.md).
+-- The lines on standard error (docs/MANUAL.md).
 use Rattle.std.specs.Prelude.{ℕ, List, [], ◌∷◌, ◌++◌, codes, decimal}
 use Rattle.feed_conf.specs.declared.fault.ConfFault.{ConfFault}
 use Rattle.feed_conf.specs.declared.fault.ConfFaultKind.{ConfFaultKind}

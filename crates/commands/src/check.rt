@@ -1,5 +1,5 @@
 // What is told of a configuration: what is ignored or limited in it, and how many peers it has
-// (docs/FORMATS.md).
+// (docs/MANUAL.md).
 ghost use Rattle.std.specs.Prelude.{◌≡◌, ◌≢◌, ◌++◌, ◌⊎◌, List, Ok, Err, IfOk, OnOk, MatchResult};
 ghost use Rattle.feed_conf.specs.ConfView.{conf_view};
 ghost use Rattle.feed_conf.specs.ReaderView.{report_view};

@@ -1,4 +1,4 @@
-// Why an order did not end well, and the line that says so on standard error (docs/FORMATS.md).
+// Why an order did not end well, and the line that says so on standard error (docs/MANUAL.md).
 ghost use Rattle.std.specs.Prelude.{◌≡◌, ◌≢◌, ◌++◌, ◌∷◌, [], ℕ, List, IfOk, codes, option_map};
 ghost use Rattle.commands.specs.Fault.{exit_of_fault, IsFaultOf, IsLineOf};
 ghost use Rattle.commands.specs.Lines.{config_text, kind_text, mistake_text, unread_text};

@@ -2,7 +2,7 @@
 //!
 //! May touch the reader of files, the reader and the two writers that it is given and nothing else; it stands on
 //! `drill` and `feed_conf`. The program above uses `run`: its clause says which exit status comes with which text on
-//! standard output and which line on standard error (docs/FORMATS.md), and a status is never lost where that line cannot
+//! standard output and which line on standard error (docs/MANUAL.md), and a status is never lost where that line cannot
 //! be written. What a drill prints is said by no clause; it is tested.
 #![tactic(auto)]
 

@@ -1,4 +1,4 @@
-// What each order of the command line does (docs/FORMATS.md).
+// What each order of the command line does (docs/MANUAL.md).
 ghost use Rattle.std.specs.Prelude.{◌≡◌, ◌≢◌, List, ℕ, Option, OnOk};
 ghost use Rattle.std.specs.Io.KnownBytes.{Appends};
 ghost use Rattle.commands.specs.Ends.{Checks, Does, DrillsFile, DrillsInput, Prints, Runs, Tells};

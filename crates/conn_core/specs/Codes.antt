@@ -10,8 +10,8 @@ use Rattle.conn_core.specs.declared.codes.Meaning.TheVariants.{Wanted, SendBlock
 use Rattle.conn_core.specs.declared.reason.Reason.{Reason}
 use Rattle.conn_core.specs.declared.reason.Reason.TheVariants.{Unmatched, Ended}
 
--- What a code says to a command; None: it does not belong to it (CHECK and TAKETHIS: RFC 4644, sections 2.4 and 2.5; IHAVE
--- and its block: RFC 3977, section 6.3.2).
+-- What a code says to a command; None: it does not belong to it (CHECK and TAKETHIS: RFC 4644, sections 2.4 and 2.5;
+-- IHAVE and its block: RFC 3977, section 6.3.2).
 abbrev pub meaning : Verb → ℕ → Option Meaning
 meaning Check code =
     if code == 238 then Some Wanted else if code == 431 then Some Later else if code == 438 then Some (Final CheckNotWanted) else None
@@ -34,7 +34,7 @@ ends_all code = code == 400 || code == 480 || code == 502
 abbrev pub stray : ℕ → Reason
 stray code = if ends_all code then Ended code else Unmatched
 
--- whether a reply names this message-id (RFC 4644, section 2.2)
+-- whether a reply names this message-id (RFC 4644, sections 2.4 and 2.5)
 abbrev pub names : Option (List ℕ) → List ℕ → Bool
 names None id = false
 names (Some named) id = bytes_eq named id
@@ -43,6 +43,6 @@ names (Some named) id = bytes_eq named id
 abbrev pub belongs : Given → Verb → Bool
 belongs reply verb = is_some (meaning verb reply.code)
 
--- whether a reply of streaming mode can be the answer to a command: it names the id too (RFC 4644, section 2.2)
+-- whether a reply of streaming mode can be the answer to a command: it names the id too (RFC 4644, sections 2.4 and 2.5)
 abbrev pub fits : Given → Verb → List ℕ → Bool
 fits reply verb id = belongs reply verb && names reply.id id

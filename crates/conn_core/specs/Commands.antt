@@ -90,7 +90,7 @@ ask_with false x block = record { verb = Ihave; place = x.place; id = x.debt.1.1
 abbrev pub block_of : Ask → Ask
 block_of ask = record { verb = Block; place = ask.place; id = ask.id; block = ask.block }
 
--- whether a reply fits a command in streaming mode, by its code and its id (RFC 4644, section 2.2)
+-- whether a reply fits a command in streaming mode, by its code and its id (RFC 4644, sections 2.4 and 2.5)
 abbrev pub fits_ask : Given → Ask → Bool
 fits_ask reply ask = fits reply ask.verb ask.id
 

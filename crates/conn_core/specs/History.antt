@@ -128,7 +128,7 @@ moment None still now = now
 moment (Some quiet) still now = if still then quiet else now
 
 -- the command that a reply answers: in streaming mode the first unanswered one that it fits, in IHAVE mode the first to which
--- its code belongs, else none (RFC 4644, section 2.2; RFC 3977, section 3.5)
+-- its code belongs, else none (RFC 4644, sections 2.4 and 2.5; RFC 3977, section 3.5)
 abbrev pub answered_now : Phase → Given → List ℕ → List Ask → Option (ℕ × Ask)
 answered_now Greeting reply answered asks = None
 answered_now Asking reply answered asks = None
@@ -160,13 +160,13 @@ module _ (options : Options) where
   phase (Put command ∷ h) = phase_put (phase h) command
   phase (e ∷ h) = phase h
 
-  -- the places of the commands that have an answer (RFC 4644, section 2.2)
+  -- the places of the commands that have an answer (RFC 4644, sections 2.4 and 2.5)
   abbrev pub answered : List Event → List ℕ
   answered [] = []
   answered (Came reply ∷ h) = with_place (answered_now (phase h) reply (answered h) (asks h)) (answered h)
   answered (e ∷ h) = answered h
 
-  -- the command that a reply answers, if it comes now, with its place (RFC 4644, section 2.2)
+  -- the command that a reply answers, if it comes now, with its place (RFC 4644, sections 2.4 and 2.5)
   abbrev pub answered_ask : List Event → Given → Option (ℕ × Ask)
   answered_ask h reply = answered_now (phase h) reply (answered h) (asks h)
 

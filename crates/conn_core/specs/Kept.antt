@@ -13,7 +13,8 @@ use Rattle.conn_core.specs.declared.codes.Meaning.TheVariants.{Wanted, SendBlock
 use Rattle.conn_core.specs.declared.machine.articles.Loss.{Loss}
 use Rattle.conn_core.specs.declared.machine.articles.Loss.TheVariants.{Missing, Unfit}
 
--- whether a reply can be the answer to an awaited command: in streaming mode it names the id too (RFC 4644, section 2.2)
+-- whether a reply can be the answer to an awaited command: in streaming mode it names the id too (RFC 4644, sections 2.4
+-- and 2.5)
 abbrev pub can_answer : (streaming : Bool) → Given → Awaited → Bool
 can_answer true reply = fits_awaited reply
 can_answer false reply = belongs_to_awaited reply

@@ -14,7 +14,7 @@ use funnel::MsgId;
 use reply_reader::Reply;
 use std::collections::VecDeque;
 
-// Whether a reply names this message-id (RFC 4644, section 2.2).
+// Whether a reply names this message-id (RFC 4644, sections 2.4 and 2.5).
 fn names(named: &Option<MsgId>, id: &MsgId) -> bool
     ensures { result ≡ names named.now id.now }
 {
@@ -24,7 +24,8 @@ fn names(named: &Option<MsgId>, id: &MsgId) -> bool
     }
 }
 
-// Whether a reply can be the answer to this command: in streaming mode it names the id too (RFC 4644, section 2.2).
+// Whether a reply can be the answer to this command: in streaming mode it names the id too (RFC 4644, sections 2.4 and
+// 2.5).
 fn can_answer(reply: &Reply, ask: &AwaitedAsk, streaming: bool) -> bool
     ensures { result ≡ can_answer streaming (given_of reply.now) ask.now }
 {

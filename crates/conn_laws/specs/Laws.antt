@@ -34,7 +34,8 @@ open_commands options h place = times (map (λ (ask : Ask). ask.place) (window o
 abbrev pub open_wants : Options → List Event → ℕ → ℕ
 open_wants options h place = times (map (λ (want : Want). want.place) (wanted options h)) place
 
--- each command about a debt names the message-id of the debt that was accepted at its place (RFC 4644, section 2.2)
+-- each command about a debt names the message-id of the debt that was accepted at its place (RFC 4644, sections 2.4 and
+-- 2.5)
 abbrev pub AllNameTheirDebt : List Event → Type 0
 AllNameTheirDebt h =
     AllByRecursion (λ (ask : Ask). option_map (λ (debt : Owing). debt.1.1) (slice_get (accepted h) ask.place) ≡ Some ask.id) (asks h)
@@ -43,12 +44,13 @@ AllNameTheirDebt h =
 abbrev pub AllAreTheirOwn : Options → List Event → Type 0
 AllAreTheirOwn options h = AllByRecursion (λ (x : End). slice_get (accepted h) x.place ≡ Some (debt_in x.outcome)) (ends options h)
 
--- whether a reply fits a command: in streaming mode by its code and its id, else by its code (RFC 4644, section 2.2; RFC 3977,
--- section 6.3.2)
+-- whether a reply fits a command: in streaming mode by its code and its id, else by its code (RFC 4644, sections 2.4 and
+-- 2.5; RFC 3977, section 6.3.2)
 abbrev pub fits_in : (streaming : Bool) → Given → Ask → Bool
 fits_in streaming reply ask = if streaming then fits_ask reply ask else belongs_to reply ask
 
--- of the commands put out, this is the first that the reply fits and that no earlier reply answers (RFC 4644, section 2.2)
+-- of the commands put out, this is the first that the reply fits and that no earlier reply answers (RFC 4644, sections
+-- 2.4 and 2.5)
 pub record IsFirstOpen (options : Options) (h : List Event) (reply : Given) (command : ℕ × Ask) : Type 0 where
   pub is_command : slice_get (asks h) command.0 ≡ Some command.1
   pub fit : fits_in (is_streaming (phase options h)) reply command.1 ≡ true

@@ -1,4 +1,4 @@
--- What the words of the command line ask for (docs/FORMATS.md).
+-- What the words of the command line ask for (docs/MANUAL.md).
 use Rattle.std.specs.Prelude.{◌≡◌, ◌≢◌, List, ℕ, Bool, true, false, Option, None, Some, codes}
 use Rattle.commands.specs.declared.order.Order.{Order}
 use Rattle.commands.specs.declared.order.Order.TheVariants.{DrillFromInput, Drill, Check, Tell, Mistake}

@@ -1,4 +1,4 @@
-// The words of the command line, and what they ask for (docs/FORMATS.md).
+// The words of the command line, and what they ask for (docs/MANUAL.md).
 ghost use Rattle.std.specs.Prelude.{◌≡◌, ◌≢◌, ◌≤◌, ◌↔◌, ◌⊎◌, Bool, length, Ok, Err, IfOk, codes, option_map};
 ghost use Rattle.std.specs.Prelude.{alloc_error};
 ghost use Rattle.clap.specs.Words.{first_value, found_of, kind_of, one_text};
