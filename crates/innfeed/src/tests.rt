@@ -89,20 +89,23 @@ fn split_words(alloc: Global, line: &str) -> Result<Vec<String>, AllocError> {
     Ok(words)
 }
 
+// Two texts, one behind the other.
+fn joined(alloc: Global, first: &str, second: &str) -> Result<String, AllocError> {
+    let mut text = String::from_str(alloc, first)?;
+    text.push_str(second)?;
+    Ok(text)
+}
+
 // What a line's words ask for.
 fn asked(alloc: Global, line: &str) -> Result<String, AllocError> {
     let words = split_words(alloc, line)?;
-    let order = read_words(alloc, &words)?;
-    let (name, what) = match &order {
-        Order::DrillFromInput => ("drill ", "input"),
-        Order::Drill(path) => ("drill ", *path),
-        Order::Check(path) => ("check ", *path),
-        Order::Tell(text) => ("tell ", text.as_str()),
-        Order::Mistake(what) => ("mistake ", what.as_str()),
-    };
-    let mut told = String::from_str(alloc, name)?;
-    told.push_str(what)?;
-    Ok(told)
+    match read_words(alloc, &words)? {
+        Order::DrillFromInput => joined(alloc, "drill ", "input"),
+        Order::Drill(path) => joined(alloc, "drill ", path),
+        Order::Check(path) => joined(alloc, "check ", path),
+        Order::Tell(text) => joined(alloc, "tell ", text.as_str()),
+        Order::Mistake(what) => joined(alloc, "mistake ", what.as_str()),
+    }
 }
 
 #[test]
