@@ -1,0 +1,35 @@
+// Two directions of octets, which move some at a time.
+ghost use Rattle.std.specs.Prelude.{◌≡◌, ◌≤◌, ℕ, List, Option, None, length, take};
+ghost use Rattle.event_loop.specs.Link.{moved, Tells};
+
+use crate::moved::Moved;
+
+/// Two directions of octets, which move some at a time. A call never waits.
+pub trait Link {
+    /// The octets that it took, oldest first, where it tells them.
+    ghost took: { Self → Option (List ℕ) } = { λ _. None };
+
+    /// The octets that it gave, oldest first, where it tells them.
+    ghost gave: { Self → Option (List ℕ) } = { λ _. None };
+
+    /// It takes nothing for now.
+    ghost full: { Self → Type 0 };
+
+    /// It gives nothing for now.
+    ghost dry: { Self → Type 0 };
+
+    /// Gives octets, the first that it has, into the front of `into`.
+    fn recv(&mut self, into: &mut [u8]) -> Moved
+        ensures within { moved result ≤ length into.new }
+        ensures gave { Tells (gave self.old) (take (moved result) into.new) (gave self.new) }
+        ensures took { took self.new ≡ took self.old }
+        ensures dry { result ≡ Moved.Later → dry self.new }
+        ensures full { full self.old → full self.new };
+
+    /// Takes octets, from the front of `from`.
+    fn send(&mut self, from: &[u8]) -> Moved
+        ensures within { moved result ≤ length from.now }
+        ensures took { Tells (took self.old) (take (moved result) from.now) (took self.new) }
+        ensures gave { gave self.new ≡ gave self.old }
+        ensures full { result ≡ Moved.Later → full self.new };
+}
