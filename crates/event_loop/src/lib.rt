@@ -10,9 +10,11 @@ pub mod laws;
 mod link;
 mod memory;
 mod moved;
+mod socket;
 mod turn;
 
 pub use link::Link;
 pub use memory::{End, MemLink};
 pub use moved::Moved;
+pub use socket::SocketLink;
 pub use turn::{Driven, drive, put_out, take_in};

@@ -76,7 +76,8 @@ impl MemLink {
     pub fn extend(&mut self, octets: &[u8]) -> Result<(), AllocError>
         ensures ok { OnOk result (self.new.source.items ≡ self.old.source.items ++ octets.now) }
         ensures unchanged { OnErr result (self.new.source.items ≡ self.old.source.items) }
-        ensures kept { (self.new.given ≡ self.old.given) × (self.new.sink.items ≡ self.old.sink.items) }
+        ensures given { self.new.given ≡ self.old.given }
+        ensures taken { self.new.sink.items ≡ self.old.sink.items }
     {
         self.source.extend_from_slice(octets)
     }

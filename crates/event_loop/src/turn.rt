@@ -24,12 +24,14 @@ pub enum Driven {
 /// Sends what is put out, once. It is `Later`, without a call, where nothing is. Where the link is closed or fails, the
 /// connection broke.
 pub fn put_out<L: Link>(conn: &mut Conn, link: &mut L) -> Moved
-    ensures stands { (options : Options) (unread : List ℕ) (h : List Event) → Stands options conn.old unread h
+    ensures stands { (options : Options) (unread : List ℕ) (h : List Event)
+        → Stands options conn.old unread h
         → Stands options conn.new (left_by result unread) (after_send options h result)
         × (moved result ≤ length (output options h))
         × Tells (L.took link.old) (take (moved result) (output options h)) (L.took link.new) }
     ensures gave { L.gave link.new ≡ L.gave link.old }
-    ensures full { (options : Options) (unread : List ℕ) (h : List Event) → Stands options conn.old unread h
+    ensures full { (options : Options) (unread : List ℕ) (h : List Event)
+        → Stands options conn.old unread h
         → result ≡ Moved.Later → (output options h ≡ []) ⊎ L.full link.new }
     ensures same_id { conn.new.id ≡ conn.old.id }
 {
@@ -48,7 +50,8 @@ pub fn put_out<L: Link>(conn: &mut Conn, link: &mut L) -> Moved
 /// Takes in what the link gives, once, by way of `buffer`. Where the link is closed or fails, the connection broke;
 /// where memory is refused it is closed as by `broken`, and the answer is still `Done`.
 pub fn take_in<L: Link>(conn: &mut Conn, link: &mut L, buffer: &mut [u8]) -> Moved
-    ensures stands { (options : Options) (unread : List ℕ) (h : List Event) → Stands options conn.old unread h
+    ensures stands { (options : Options) (unread : List ℕ) (h : List Event)
+        → Stands options conn.old unread h
         → (left : List ℕ) × (later : List Event) × Stands options conn.new left later
         × TakesIn options result (take (moved result) buffer.new) unread h left later }
     ensures within { moved result ≤ length buffer.new }
@@ -71,7 +74,8 @@ pub fn take_in<L: Link>(conn: &mut Conn, link: &mut L, buffer: &mut [u8]) -> Mov
 
 /// Makes at most so many turns, each a send and a receipt, until neither can move or the connection is closed.
 pub fn drive<L: Link>(conn: &mut Conn, link: &mut L, buffer: &mut [u8], turns: u64) -> Driven
-    ensures stands { (options : Options) (unread : List ℕ) (h : List Event) → Stands options conn.old unread h
+    ensures stands { (options : Options) (unread : List ℕ) (h : List Event)
+        → Stands options conn.old unread h
         → (left : List ℕ) × (later : List Event) × (steps : List Step)
         × Stands options conn.new left later
         × Moves options unread h (L.took link.old) (L.gave link.old)

@@ -1,0 +1,133 @@
+// A link over a socket that never waits, whose readiness is told once at each change.
+ghost use Rattle.std.specs.Prelude.{◌≡◌, ◌||◌, IfOk, false};
+ghost use Rattle.event_loop.specs.Link.{moved};
+ghost use Rattle.mio.specs.Event as spec;
+
+use crate::link::Link;
+use crate::moved::Moved;
+use mio::event::Event;
+use mio::net::TcpStream;
+use mio::{Interest, Registry, Token};
+use std::io::{self, ErrorKind, Read, Write};
+
+/// A link over a TCP stream of `mio`. It is told by [`SocketLink::note`] what the stream is ready for, and holds to
+/// that until a call finds that it is not: only then is it `Later`.
+#[derive(Drop)]
+pub struct SocketLink {
+    stream: TcpStream,
+    readable: bool,
+    writable: bool,
+    // The peer sends nothing behind what can still be read.
+    closing: bool,
+}
+
+impl SocketLink {
+    /// A link over this stream, not known to be ready for anything. What it takes goes out at once (TCP_NODELAY).
+    ///
+    /// # Errors
+    /// What the system says where that can't be set.
+    pub fn new(stream: TcpStream) -> io::Result<Self>
+        ensures reads { IfOk result (λ link. link.readable ≡ false) }
+        ensures writes { IfOk result (λ link. link.writable ≡ false) }
+        ensures closes { IfOk result (λ link. link.closing ≡ false) }
+    {
+        stream.set_nodelay(true)?;
+        Ok(SocketLink {
+            stream,
+            readable: false,
+            writable: false,
+            closing: false,
+        })
+    }
+
+    /// Has each change of what the stream is ready for reported under this token, and what it is ready for now. Once is
+    /// enough: dropping the link ends it.
+    ///
+    /// # Errors
+    /// What the system says where it can't be registered.
+    pub fn register(&mut self, registry: &Registry, token: Token) -> io::Result<()>
+        ensures same { self.new ≡ self.old }
+    {
+        registry.register(
+            &mut self.stream,
+            token,
+            Interest::READABLE | Interest::WRITABLE,
+        )
+    }
+
+    /// Why the stream failed, where it did: to be asked at the first report that it is writable, which ends connecting.
+    ///
+    /// # Errors
+    /// What the system says where it can't be asked.
+    pub fn take_error(&self) -> io::Result<Option<io::Error>> {
+        self.stream.take_error()
+    }
+
+    /// Notes what the stream was reported ready for. Where it failed each direction is tried once more, and tells so.
+    pub fn note(&mut self, event: &Event)
+        ensures reads { self.new.readable ≡ (self.old.readable || spec.is_readable event.now
+            || spec.is_read_closed event.now || spec.is_error event.now) }
+        ensures writes { self.new.writable ≡ (self.old.writable || spec.is_writable event.now
+            || spec.is_write_closed event.now || spec.is_error event.now) }
+        ensures closes { self.new.closing ≡ (self.old.closing || spec.is_read_closed event.now) }
+    {
+        self.readable = self.readable
+            || event.is_readable()
+            || event.is_read_closed()
+            || event.is_error();
+        self.writable = self.writable
+            || event.is_writable()
+            || event.is_write_closed()
+            || event.is_error();
+        self.closing = self.closing || event.is_read_closed();
+    }
+}
+
+impl Link for SocketLink {
+    ghost full = { λ link. link.writable ≡ false };
+
+    ghost dry = { λ link. link.readable ≡ false };
+
+    fn recv(&mut self, into: &mut [u8]) -> Moved {
+        if !self.readable {
+            return Moved::Later;
+        }
+        match self.stream.read(into) {
+            Ok(0) if !into.is_empty() => Moved::Closed,
+            Ok(count) => {
+                // Octets and the end of all can be one report: then a short read is not the last.
+                self.readable = self.closing || count == into.len();
+                Moved::Done(count)
+            }
+            Err(error) => {
+                self.readable = error.kind() != ErrorKind::WouldBlock;
+                refused(error.kind())
+            }
+        }
+    }
+
+    fn send(&mut self, from: &[u8]) -> Moved {
+        if !self.writable {
+            return Moved::Later;
+        }
+        match self.stream.write(from) {
+            Ok(count) => Moved::Done(count),
+            Err(error) => {
+                self.writable = error.kind() != ErrorKind::WouldBlock;
+                refused(error.kind())
+            }
+        }
+    }
+}
+
+// What a call that failed so did.
+fn refused(kind: ErrorKind) -> Moved
+    ensures none { moved result ≡ 0 }
+    ensures later { result ≡ Moved.Later → kind ≡ ErrorKind.WouldBlock }
+{
+    match kind {
+        ErrorKind::WouldBlock => Moved::Later,
+        ErrorKind::Interrupted => Moved::Done(0),
+        _ => Moved::Fault,
+    }
+}
