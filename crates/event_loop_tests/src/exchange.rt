@@ -1,0 +1,180 @@
+// An exchange over a link in memory, and what is to come of it where the link ends early.
+use crate::rows::{BACK, LATER, Step};
+use article_store::Found;
+use bytes::Bytes;
+use conn_core::{Conn, CxnId, Options, Outcome};
+use event_loop::{Driven, End, MemLink, drive};
+use funnel::{MsgId, Token};
+use ledger_core::Debt;
+use std::alloc::Global;
+use std::process::Abort;
+use std::test::Fail;
+
+pub(crate) const OPTIONS: Options = Options {
+    streaming: true,
+    max_queue: 20,
+    check_high: 9500,
+    check_low: 9000,
+    check_filter: 20,
+    response_timeout: 300,
+};
+
+// Turns that no exchange uses up.
+const ENOUGH: u64 = 1_000_000;
+
+// How a link goes: the most octets that it moves at a time, and where each direction ends.
+#[derive(Clone, Copy, Debug)]
+pub(crate) struct Way {
+    pub(crate) piece: usize,
+    pub(crate) gives: End,
+    pub(crate) takes: End,
+}
+
+#[derive(Drop)]
+pub(crate) struct Exchange {
+    alloc: Global,
+    way: Way,
+    conn: Conn,
+    link: MemLink,
+    // How the last drive ended.
+    driven: Driven,
+    // How many octets the server was to give so far, and those that it was to take.
+    said: usize,
+    sends: Vec<u8>,
+    // The debts that were taken, and those that were done, with a code or what is told in its place.
+    taken: Vec<u64>,
+    done: Vec<(u64, u16)>,
+}
+
+impl Exchange {
+    pub(crate) fn new(alloc: Global, way: Way) -> Result<Self, Fail> {
+        Ok(Exchange {
+            alloc,
+            way,
+            conn: Conn::new(alloc, CxnId(7), OPTIONS)?,
+            link: MemLink::new(alloc, Vec::new(alloc), way.piece, way.gives, way.takes),
+            driven: Driven::Turns,
+            said: 0,
+            sends: Vec::new(alloc),
+            taken: Vec::new(alloc),
+            done: Vec::new(alloc),
+        })
+    }
+
+    // Takes the steps of a row, and drives the connection behind each.
+    pub(crate) fn play(&mut self, row: &[Step]) -> Result<(), Fail> {
+        for step in row {
+            self.take(*step)?;
+            self.drive();
+        }
+        Ok(())
+    }
+
+    fn take(&mut self, step: Step) -> Result<(), Fail> {
+        match step {
+            Step::Says(line) => self.say(line)?,
+            Step::Ends(number, code, line) => {
+                self.say(line)?;
+                if self.is_whole() {
+                    self.done.push((number, code))?;
+                }
+            }
+            Step::Offer(number, id) => self.offer(number, id)?,
+            Step::Text(number, text) => self.hand(number, text)?,
+            Step::Sends(octets) => self.sends.extend_from_slice(octets)?,
+        }
+        Ok(())
+    }
+
+    fn drive(&mut self) {
+        let mut buffer = [0u8; 16];
+        self.driven = drive(&mut self.conn, &mut self.link, &mut buffer, ENOUGH);
+    }
+
+    fn say(&mut self, line: &[u8]) -> Result<(), Fail> {
+        self.link.extend(line)?;
+        self.link.extend(b"\r\n")?;
+        self.said = self.said.saturating_add(line.len()).saturating_add(2);
+        Ok(())
+    }
+
+    // Whether all that the server said so far came, and all that was to go out before went.
+    fn is_whole(&self) -> bool {
+        reaches(self.way.gives, self.said) && reaches(self.way.takes, self.sends.len())
+    }
+
+    fn offer(&mut self, number: u64, id: &[u8]) -> Result<(), Fail> {
+        let token = Token::read(self.alloc, b"a/1")?.ok_or("a token")?;
+        let id = MsgId::read(self.alloc, id)?.ok_or("a message-id")?;
+        if self.conn.offer(Debt::new(number, token, id)).is_ok() {
+            self.taken.push(number)?;
+        }
+        Ok(())
+    }
+
+    fn hand(&mut self, number: u64, text: &[u8]) -> Result<(), Fail> {
+        let found = Found::Article(Bytes::copy_from_slice(self.alloc, text)?);
+        // It is refused where the connection broke before.
+        let _ = self.conn.article(number, found);
+        Ok(())
+    }
+
+    // Each debt that was taken comes out once: by its final reply where the whole of that came.
+    pub(crate) fn assert_outcomes<A: Abort>(&mut self, rt: &A) -> Result<(), Fail> {
+        let mut told = Vec::new(self.alloc);
+        for _ in 0..ENOUGH {
+            match self.conn.outcome() {
+                Some(outcome) => told.push(told_of(&outcome))?,
+                None => break,
+            }
+        }
+        let mut wanted = self.done.clone()?;
+        if self.driven == Driven::Shut {
+            for number in &self.taken {
+                if !self.done.iter().any(|done| done.0 == *number) {
+                    wanted.push((*number, BACK))?;
+                }
+            }
+        }
+        assert_eq!(rt; told, wanted, "{:?}", self.way);
+        Ok(())
+    }
+
+    // What the link took is what was to go out: all of it, where nothing broke.
+    pub(crate) fn assert_taken<A: Abort>(&self, rt: &A) {
+        let taken = self.link.taken();
+        match self.driven {
+            Driven::Shut => assert!(rt; self.sends.starts_with(taken), "{:?}", self.way),
+            _ => assert_eq!(rt; taken, self.sends.as_slice(), "{:?}", self.way),
+        }
+    }
+
+    pub(crate) fn driven(&self) -> Driven {
+        self.driven
+    }
+
+    pub(crate) fn said(&self) -> usize {
+        self.said
+    }
+
+    pub(crate) fn sent(&self) -> usize {
+        self.sends.len()
+    }
+}
+
+// Whether a direction goes on for so many octets.
+fn reaches(end: End, count: usize) -> bool {
+    match end {
+        End::Never => true,
+        End::Closes(at) | End::Fails(at) => count <= at,
+    }
+}
+
+fn told_of(outcome: &Outcome) -> (u64, u16) {
+    match outcome {
+        Outcome::Final(verdict) => (verdict.debt().number(), verdict.code().number()),
+        Outcome::Deferred(deferral) => (deferral.debt().number(), LATER),
+        Outcome::Lost(debt, _) => (debt.number(), 0),
+        Outcome::Back(debt) => (debt.number(), BACK),
+    }
+}
