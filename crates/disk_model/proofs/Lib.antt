@@ -1,3 +1,4 @@
 pub mod Chosen
 mod Examples
 pub mod Kept
+pub mod Pieces

@@ -1,8 +1,11 @@
 pub mod Choice
 pub mod Disk
+pub mod File
+pub mod Flaky
 pub mod Fuse
 pub mod InMemory
 pub mod Memory
 pub mod MemoryLaws
 pub mod Moments
+pub mod RawFile
 pub mod TornLaws

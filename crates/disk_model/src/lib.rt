@@ -1,6 +1,6 @@
 //! Disks, as a journal sees them: what a read gives, and what a stop at any moment may leave.
 //!
-//! May touch nothing but memory: a real file joins as one more implementation of [`Disk`].
+//! Most of it may touch nothing but memory; `raw_file` and `directory` may touch files, each method by one call of the system.
 //! The crates above use the contract of [`Disk`] alone: content, images, moments, honesty, faults.
 //! The whole model is `specs/Disk.antt`; what proofs above it use is `specs/Moments.antt`.
 #![tactic(auto)]
@@ -11,14 +11,22 @@ ghost use Rattle.disk_model.specs.Disk.{Event, content, Image, Writes, Cuts, Syn
 use thiserror::Error;
 
 mod choice;
+mod directory;
+mod file;
+mod flaky;
 mod fuse;
 mod memory;
 mod moment;
 mod octets;
+mod raw_file;
 
 pub use choice::Choice;
+pub use directory::{DirectoryFault, TapeDirectory};
+pub use file::FileDisk;
+pub use flaky::FlakyDisk;
 pub use fuse::FuseDisk;
 pub use memory::MemDisk;
+pub use raw_file::{RawFault, RawFile};
 /// Memory was refused.
 pub use std::alloc::AllocError as NoMemory;
 

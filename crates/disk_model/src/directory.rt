@@ -1,0 +1,83 @@
+// The directory in which tapes lie as files.
+use crate::file::FileDisk;
+use std::alloc::Global;
+use std::fs::{File, OpenOptions, TryLockError};
+use std::io::{self, ErrorKind};
+use std::os::fd::AsRawFd;
+use std::rt::Files;
+use thiserror::Error;
+
+/// Why a directory is not to be had.
+#[derive(Debug, Drop, Error)]
+pub enum DirectoryFault {
+    /// Another process, or another open of this one, works on it.
+    #[error("another process works on it")]
+    Taken,
+    /// It could not be opened or locked.
+    #[error("{0}")]
+    Failed(io::Error),
+}
+
+/// A directory of tapes, locked as long as this lives, so that no other process that locks it works on its files (flock(2)).
+#[derive(Drop)]
+pub struct TapeDirectory {
+    alloc: Global,
+    path: String,
+    file: File,
+}
+
+impl TapeDirectory {
+    /// Opens the directory at this path and locks it, without waiting. No directory is made.
+    ///
+    /// # Errors
+    /// `Taken` where it is locked already, else why it could not be opened or locked.
+    pub fn lock<R: AllocGlobal + Files<File = File>>(
+        rt: &R,
+        path: &str,
+    ) -> Result<Self, DirectoryFault> {
+        let file = File::open(rt, path).map_err(DirectoryFault::Failed)?;
+        match file.try_lock() {
+            Ok(()) => {}
+            Err(TryLockError::WouldBlock) => return Err(DirectoryFault::Taken),
+            Err(TryLockError::Error(error)) => return Err(DirectoryFault::Failed(error)),
+        }
+        let alloc = rt.alloc();
+        let path = String::from_str(alloc, path).map_err(|refused| DirectoryFault::Failed(
+            refused.into(),
+        ))?;
+        Ok(TapeDirectory { alloc, path, file })
+    }
+
+    /// Opens the file of this name in it as a disk, and makes it where it is missing.
+    ///
+    /// What the system keeps of it in memory is made durable first and then given up, so that what is read is what the
+    /// device has: a sync that failed in an earlier process may have left the two different (fsync(2), NOTES).
+    ///
+    /// # Errors
+    /// The system's; `InvalidInput` where it is no regular file.
+    pub fn open<R: Files<File = File>>(&self, rt: &R, name: &str) -> io::Result<FileDisk<File>> {
+        let path = format!(in self.alloc; "{}/{}", self.path, name)?;
+        let file = OpenOptions::new()
+            .read(true)
+            .write(true)
+            .create(true)
+            .open(rt, path.as_str())?;
+        if !file.metadata()?.is_file() {
+            return Err(ErrorKind::InvalidInput.into());
+        }
+        file.sync_all()?;
+        let advised = libc::posix_fadvise(file.as_raw_fd(), 0, 0, libc::POSIX_FADV_DONTNEED);
+        if advised != 0 {
+            return Err(io::Error::from_raw_os_error(advised));
+        }
+        Ok(FileDisk::new(file))
+    }
+
+    /// Makes the names of all files opened so far durable. It has to succeed before the first of them is written.
+    ///
+    /// # Errors
+    /// The system's.
+    pub fn sync(&self) -> io::Result<()> {
+        self.file.sync_all()
+    }
+}

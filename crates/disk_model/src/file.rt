@@ -1,0 +1,233 @@
+// A file as a disk.
+ghost use Rattle.std.specs.Prelude.{◌≡◌, ◌+◌, ◌-◌, ◌<◌, ◌≤◌, ◌↔◌, ◌^◌, length, min, take, OnOk, OnErr, slice_range};
+ghost use Rattle.disk_model.specs.Disk.{content, Writes, Cuts, Syncs, CountsFaults};
+
+use crate::raw_file::{RawFault, RawFile};
+use crate::{Disk, DiskFault};
+
+// So many calls of one transfer may be interrupted.
+const MOST_INTERRUPTIONS: u64 = 1_000;
+
+/// A file as a disk. It is honest over an honest file.
+///
+/// Once a sync has failed every later one fails: the system may have forgotten what it could not write, and a later sync
+/// would not tell (fsync(2), NOTES). What the file has then is known only to who opens it anew.
+#[derive(Drop)]
+pub struct FileDisk<F: RawFile> {
+    file: F,
+    len: u64,
+    faults: u64,
+    lost: bool,
+    // The length is asked for once, and again where a call has failed in part.
+    pub ghost len_is: { F.honest file → len ≡ length (content (F.log file)) },
+}
+
+impl<F: RawFile> FileDisk<F> {
+    ghost use Rattle.disk_model.specs.File.{file_of, faults_of, has_lost};
+    ghost use Rattle.std.specs.Prelude.{false};
+
+    /// This file as a disk.
+    pub fn new(file: F) -> Self
+        ensures file { file_of result ≡ file }
+        ensures faults { faults_of result ≡ 0 }
+        ensures lost { has_lost result ≡ false }
+    {
+        let len = file.len();
+        FileDisk {
+            file,
+            len,
+            faults: 0,
+            lost: false,
+        }
+    }
+
+    // Counts a fault.
+    fn fault(&mut self) -> DiskFault
+        ensures counts { min (self.old.faults + 1) (2 ^ 64 - 1) ≤ self.new.faults }
+        ensures later { self.old.faults ≤ self.new.faults }
+        ensures file { self.new.file ≡ self.old.file }
+        ensures lost { self.new.lost ≡ self.old.lost }
+        ensures len { self.new.len ≡ self.old.len }
+    {
+        self.faults = self.faults.saturating_add(1);
+        DiskFault
+    }
+}
+
+// Reads until the slice is full.
+fn read_whole<F: RawFile>(file: &mut F, at: u64, into: &mut [u8]) -> Result<(), DiskFault>
+    requires { at + length into.old < 2 ^ 64 }
+    ensures honest { F.honest file.old ↔ F.honest file.new }
+    ensures read { F.honest file.old
+        → OnOk result (into.new ≡ slice_range (content (F.log file.old)) at (at + length into.old)) }
+    ensures log { F.honest file.old → F.log file.new ≡ F.log file.old }
+{
+    let turns = (into.len() as u64).saturating_add(MOST_INTERRUPTIONS);
+    let mut done = 0;
+    for _ in 0..turns {
+        if done == into.len() {
+            return Ok(());
+        }
+        match file.pread(at, into, done) {
+            // It ends here.
+            Ok(0) => return Err(DiskFault),
+            Ok(count) => done += count,
+            Err(RawFault::Failed) => return Err(DiskFault),
+            Err(RawFault::Interrupted) => {}
+        }
+    }
+    Err(DiskFault)
+}
+
+// Writes until all is out.
+fn write_whole<F: RawFile>(file: &mut F, at: u64, from: &[u8]) -> Result<(), DiskFault>
+    requires { at + length from.now < 2 ^ 64 }
+    ensures honest { F.honest file.old ↔ F.honest file.new }
+    ensures log { F.honest file.old → Writes at from.now (F.log file.old) result (F.log file.new) }
+{
+    let turns = (from.len() as u64).saturating_add(MOST_INTERRUPTIONS);
+    let mut done = 0;
+    for _ in 0..turns {
+        match file.pwrite(at, from, done) {
+            Ok(count) if done + count == from.len() => return Ok(()),
+            // It takes no more.
+            Ok(0) => return Err(DiskFault),
+            Ok(count) => done += count,
+            Err(RawFault::Failed) => return Err(DiskFault),
+            Err(RawFault::Interrupted) => {}
+        }
+    }
+    Err(DiskFault)
+}
+
+// Cuts it, again where that was interrupted.
+fn cut_once<F: RawFile>(file: &mut F, len: u64) -> Result<(), DiskFault>
+    ensures honest { F.honest file.old ↔ F.honest file.new }
+    ensures log { F.honest file.old → Cuts len (F.log file.old) result (F.log file.new) }
+{
+    for _ in 0..MOST_INTERRUPTIONS {
+        match file.truncate(len) {
+            Ok(()) => return Ok(()),
+            Err(RawFault::Failed) => return Err(DiskFault),
+            Err(RawFault::Interrupted) => {}
+        }
+    }
+    Err(DiskFault)
+}
+
+// Syncs it, again where that was interrupted.
+fn sync_once<F: RawFile>(file: &mut F) -> Result<(), DiskFault>
+    ensures honest { F.honest file.old ↔ F.honest file.new }
+    ensures log { F.honest file.old → Syncs (F.log file.old) result (F.log file.new) }
+{
+    for _ in 0..MOST_INTERRUPTIONS {
+        match file.sync() {
+            Ok(()) => return Ok(()),
+            Err(RawFault::Failed) => return Err(DiskFault),
+            Err(RawFault::Interrupted) => {}
+        }
+    }
+    Err(DiskFault)
+}
+
+/// Honest over an honest file. What has happened to it is what has happened to the file.
+impl<F: RawFile> Disk for FileDisk<F> {
+    ghost use Rattle.disk_model.specs.File.{file_of, length_kept, faults_of, has_lost, LosesOnce};
+
+    ghost honest = { λ d. F.honest d.file };
+
+    ghost log = { λ d. F.log d.file };
+
+    ghost size = { λ d. d.len };
+
+    ghost told = { λ d. d.faults };
+
+    ghost content_is_image = { λ d is. F.content_is_image d.file is };
+
+    fn len(&self) -> u64 {
+        self.len
+    }
+
+    fn read_at(&mut self, at: u64, into: &mut [u8]) -> Result<(), DiskFault>
+        requires { at + length into.old ≤ length_kept self.old }
+        ensures honest { F.honest (file_of self.old) ↔ F.honest (file_of self.new) }
+        ensures read { F.honest (file_of self.old) → OnOk result
+            (into.new ≡ slice_range (content (F.log (file_of self.old))) at (at + length into.old)) }
+        ensures log { F.honest (file_of self.old) → F.log (file_of self.new) ≡ F.log (file_of self.old) }
+        ensures cause { CountsFaults (faults_of self.old) (faults_of self.new) result }
+        ensures lost { has_lost self.new ≡ has_lost self.old }
+    {
+        // proof: it is a u64.
+        let _len = self.len;
+        match read_whole(&mut self.file, at, into) {
+            Ok(()) => Ok(()),
+            Err(DiskFault) => Err(self.fault()),
+        }
+    }
+
+    fn write_at(&mut self, at: u64, from: &[u8]) -> Result<(), DiskFault>
+        requires { at ≤ length_kept self.old }
+        ensures honest { F.honest (file_of self.old) ↔ F.honest (file_of self.new) }
+        ensures log { F.honest (file_of self.old)
+            → Writes at from.now (F.log (file_of self.old)) result (F.log (file_of self.new)) }
+        ensures cause { CountsFaults (faults_of self.old) (faults_of self.new) result }
+        ensures lost { has_lost self.new ≡ has_lost self.old }
+    {
+        let Some(end) = at.checked_add(from.len() as u64) else {
+            return Err(self.fault());
+        };
+        match write_whole(&mut self.file, at, from) {
+            Ok(()) => {
+                self.len = self.len.max(end);
+                Ok(())
+            }
+            Err(DiskFault) => {
+                self.len = self.file.len();
+                Err(self.fault())
+            }
+        }
+    }
+
+    fn cut(&mut self, len: u64) -> Result<(), DiskFault>
+        requires { len ≤ length_kept self.old }
+        ensures honest { F.honest (file_of self.old) ↔ F.honest (file_of self.new) }
+        ensures log { F.honest (file_of self.old)
+            → Cuts len (F.log (file_of self.old)) result (F.log (file_of self.new)) }
+        ensures cause { CountsFaults (faults_of self.old) (faults_of self.new) result }
+        ensures lost { has_lost self.new ≡ has_lost self.old }
+    {
+        match cut_once(&mut self.file, len) {
+            Ok(()) => {
+                self.len = len;
+                Ok(())
+            }
+            Err(DiskFault) => {
+                self.len = self.file.len();
+                Err(self.fault())
+            }
+        }
+    }
+
+    fn sync(&mut self) -> Result<(), DiskFault>
+        ensures honest { F.honest (file_of self.old) ↔ F.honest (file_of self.new) }
+        ensures log { F.honest (file_of self.old)
+            → Syncs (F.log (file_of self.old)) result (F.log (file_of self.new)) }
+        ensures cause { CountsFaults (faults_of self.old) (faults_of self.new) result }
+        ensures lost { LosesOnce self.old self.new result }
+    {
+        if self.lost {
+            return Err(self.fault());
+        }
+        match sync_once(&mut self.file) {
+            Ok(()) => Ok(()),
+            Err(DiskFault) => {
+                self.lost = true;
+                Err(self.fault())
+            }
+        }
+    }
+
+    fn faults(&self) -> u64 {
+        self.faults
+    }
+}

@@ -1,0 +1,107 @@
+// A file as the system has it: one call of the system a method.
+ghost use Rattle.std.specs.Prelude.{◌≡◌, ◌+◌, ◌<◌, ◌≤◌, ◌↔◌, ◌^◌, List, ℕ, length, IfOk, OnErr, []};
+ghost use Rattle.disk_model.specs.Disk.{Event, content, Image};
+ghost use Rattle.disk_model.specs.RawFile.{IsRead, UnderWay, WritesOn, Truncates, Flushes};
+
+use std::fs::File;
+use std::io::{self, ErrorKind};
+use std::os::unix::fs::FileExt;
+
+/// Why a call of the system did not do what it was asked for.
+#[derive(Clone, Copy, Debug, PartialEq, Eq)]
+pub enum RawFault {
+    /// A signal came first, and nothing was done.
+    Interrupted,
+    /// It failed, in part or whole.
+    Failed,
+}
+
+impl From<io::Error> for RawFault {
+    fn from(error: io::Error) -> Self {
+        match error.kind() {
+            ErrorKind::Interrupted => RawFault::Interrupted,
+            _ => RawFault::Failed,
+        }
+    }
+}
+
+/// A file, by calls of the system that may be short or interrupted.
+///
+/// The rules bind an honest file, one that keeps the disk model (`docs/DISK.md`). Of another one it is only told that a
+/// count of octets is at most what was asked for.
+pub trait RawFile {
+    /// Whether it keeps the disk model. No call changes it.
+    ghost honest: { Self → Type 0 };
+
+    /// What has happened to it, the newest first, as to a disk.
+    ghost log: { Self → List Event };
+
+    /// Its length in octets.
+    fn len(&self) -> u64
+        ensures { honest self.now → result ≡ length (content (log self.now)) };
+
+    /// Goes on with a read from this offset, of which so many octets are in already: reads some of the others behind
+    /// those, perhaps not all, and none at its end (pread(2)).
+    fn pread(&mut self, at: u64, into: &mut [u8], done: usize) -> Result<usize, RawFault>
+        requires done { done ≤ length into.old }
+        requires end { at + length into.old < 2 ^ 64 }
+        ensures honest { honest self.old ↔ honest self.new }
+        ensures within { IfOk result (λ n. done + n ≤ length into.new) }
+        ensures read { honest self.old → IsRead (content (log self.old)) at done into.old
+            → IfOk result (λ n. IsRead (content (log self.old)) at (done + n) into.new) }
+        ensures waits { honest self.old → IsRead (content (log self.old)) at done into.old
+            → OnErr result (IsRead (content (log self.old)) at done into.new) }
+        ensures log { honest self.old → log self.new ≡ log self.old };
+
+    /// Goes on with a write of these octets at this offset, of which so many are out already: writes some of the others
+    /// behind those, perhaps not all (pwrite(2)).
+    fn pwrite(&mut self, at: u64, from: &[u8], done: usize) -> Result<usize, RawFault>
+        requires done { done ≤ length from.now }
+        requires end { at + length from.now < 2 ^ 64 }
+        ensures honest { honest self.old ↔ honest self.new }
+        ensures within { IfOk result (λ n. done + n ≤ length from.now) }
+        ensures log { honest self.old → (before : List Event) → UnderWay at from.now done before (log self.old)
+            → WritesOn at from.now done before (log self.old) result (log self.new) };
+
+    /// Cuts it to this length (ftruncate(2)).
+    fn truncate(&mut self, len: u64) -> Result<(), RawFault>
+        ensures honest { honest self.old ↔ honest self.new }
+        ensures log { honest self.old → Truncates len (log self.old) result (log self.new) };
+
+    /// Makes its octets and its length durable (fdatasync(2)).
+    fn sync(&mut self) -> Result<(), RawFault>
+        ensures honest { honest self.old ↔ honest self.new }
+        ensures log { honest self.old → Flushes (log self.old) result (log self.new) };
+
+    /// The content is one of the images.
+    ghost content_is_image: { (file : Self) → honest file → Image (log file) (content (log file)) };
+}
+
+/// That a file of the system is honest is a premise, of which nothing can be proved: these bodies are to be read by eye.
+impl RawFile for File {
+    ghost honest = { λ _. ⊥ };
+
+    ghost log = { λ _. [] };
+
+    ghost content_is_image = { λ _ no. absurd no };
+
+    fn len(&self) -> u64 {
+        self.metadata().map_or(0, |metadata| metadata.len())
+    }
+
+    fn pread(&mut self, at: u64, into: &mut [u8], done: usize) -> Result<usize, RawFault> {
+        Ok(self.read_at(&mut into[done..], at + done as u64)?)
+    }
+
+    fn pwrite(&mut self, at: u64, from: &[u8], done: usize) -> Result<usize, RawFault> {
+        Ok(self.write_at(&from[done..], at + done as u64)?)
+    }
+
+    fn truncate(&mut self, len: u64) -> Result<(), RawFault> {
+        Ok(self.set_len(len)?)
+    }
+
+    fn sync(&mut self) -> Result<(), RawFault> {
+        Ok(self.sync_data()?)
+    }
+}
