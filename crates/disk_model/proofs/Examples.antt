@@ -1,7 +1,7 @@
 -- What the choices name on small disks, worked out by hand.
-use Rattle.std.proofs.Common.{◌≡◌, ℕ, zero, suc, List, [], ◌∷◌, refl}
+use Rattle.std.proofs.Common.{◌≡◌, ℕ, zero, suc, List, [], ◌∷◌, refl, lit≤}
 use Rattle.disk_model.specs.declared.choice.Choice.{Choice}
-use Rattle.disk_model.specs.Disk.{Event}
+use Rattle.disk_model.specs.Disk.{Event, Torn, Image}
 use Rattle.disk_model.specs.Disk.Event.{Made, Wrote, Tore, WasCut, FailedCut, Synced}
 use Rattle.disk_model.specs.Choice.{pending, chosen_image}
 
@@ -99,3 +99,18 @@ also_by_bit_63 = refl
 not_by_bit_62 : chosen_image (choosing 4611686018427387904 0) at_64 ≡ 1 ∷ []
 unfolding fill_up
 not_by_bit_62 = refl
+
+-- a write of two octets at 3 on an image of one octet may leave four, of which the last three are anything
+torn_short : Torn 3 2 (1 ∷ []) (1 ∷ 7 ∷ 8 ∷ 9 ∷ [])
+torn_short = record { before = refl; after = refl; no_shorter = lit≤ tt; no_longer = lit≤ tt }
+
+-- and may not touch what stands outside its range
+torn_outside : Torn 1 1 (1 ∷ 2 ∷ 3 ∷ []) (1 ∷ 9 ∷ 4 ∷ []) → ⊥
+torn_outside torn = cc torn.after
+
+torn_before : Torn 1 1 (1 ∷ 2 ∷ 3 ∷ []) (5 ∷ 9 ∷ 3 ∷ []) → ⊥
+torn_before torn = cc torn.before
+
+-- two gates that were opened by writes of one octet, of which the second alone happened
+two_gates : Image (Wrote 2 (0xa5 ∷ []) ∷ Wrote 0 (0xa5 ∷ []) ∷ Made (0 ∷ 1 ∷ 0 ∷ 2 ∷ []) ∷ []) (0 ∷ 1 ∷ 0xa5 ∷ 2 ∷ [])
+two_gates = (0 ∷ 1 ∷ 0 ∷ 2 ∷ [], (0 ∷ 1 ∷ 0 ∷ 2 ∷ [], refl, record { before = refl; after = refl; no_shorter = lit≤ tt; no_longer = lit≤ tt }), record { before = refl; after = refl; no_shorter = lit≤ tt; no_longer = lit≤ tt })

@@ -155,6 +155,7 @@ impl<F: RawFile> Disk for FileDisk<F> {
             (into.new ≡ slice_range (content (F.log (file_of self.old))) at (at + length into.old)) }
         ensures log { F.honest (file_of self.old) → F.log (file_of self.new) ≡ F.log (file_of self.old) }
         ensures cause { CountsFaults (faults_of self.old) (faults_of self.new) result }
+        ensures quiet { OnOk result (faults_of self.new ≡ faults_of self.old) }
         ensures lost { has_lost self.new ≡ has_lost self.old }
     {
         // proof: it is a u64.
@@ -171,6 +172,7 @@ impl<F: RawFile> Disk for FileDisk<F> {
         ensures log { F.honest (file_of self.old)
             → Writes at from.now (F.log (file_of self.old)) result (F.log (file_of self.new)) }
         ensures cause { CountsFaults (faults_of self.old) (faults_of self.new) result }
+        ensures quiet { OnOk result (faults_of self.new ≡ faults_of self.old) }
         ensures lost { has_lost self.new ≡ has_lost self.old }
     {
         let Some(end) = at.checked_add(from.len() as u64) else {
@@ -182,7 +184,7 @@ impl<F: RawFile> Disk for FileDisk<F> {
                 Ok(())
             }
             Err(DiskFault) => {
-                self.len = self.file.len();
+                self.len = self.file.len(); // Some of it may be there.
                 Err(self.fault())
             }
         }
@@ -194,6 +196,7 @@ impl<F: RawFile> Disk for FileDisk<F> {
         ensures log { F.honest (file_of self.old)
             → Cuts len (F.log (file_of self.old)) result (F.log (file_of self.new)) }
         ensures cause { CountsFaults (faults_of self.old) (faults_of self.new) result }
+        ensures quiet { OnOk result (faults_of self.new ≡ faults_of self.old) }
         ensures lost { has_lost self.new ≡ has_lost self.old }
     {
         match cut_once(&mut self.file, len) {
@@ -202,7 +205,7 @@ impl<F: RawFile> Disk for FileDisk<F> {
                 Ok(())
             }
             Err(DiskFault) => {
-                self.len = self.file.len();
+                self.len = self.file.len(); // It may have happened.
                 Err(self.fault())
             }
         }
@@ -213,6 +216,7 @@ impl<F: RawFile> Disk for FileDisk<F> {
         ensures log { F.honest (file_of self.old)
             → Syncs (F.log (file_of self.old)) result (F.log (file_of self.new)) }
         ensures cause { CountsFaults (faults_of self.old) (faults_of self.new) result }
+        ensures quiet { OnOk result (faults_of self.new ≡ faults_of self.old) }
         ensures lost { LosesOnce self.old self.new result }
     {
         if self.lost {

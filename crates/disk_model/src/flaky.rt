@@ -88,6 +88,7 @@ impl<D: Disk> Disk for FlakyDisk<D> {
             → OnOk result (into.new ≡ slice_range (content (D.log (inner self.old))) at (at + length into.old)) }
         ensures log { D.honest (inner self.old) → D.log (inner self.new) ≡ D.log (inner self.old) }
         ensures cause { CountsFaults (all_faults D.told self.old) (all_faults D.told self.new) result }
+        ensures quiet { OnOk result (all_faults D.told self.new ≡ all_faults D.told self.old) }
         ensures once { FailsOnce D.told self.old self.new result }
     {
         self.count()?;
@@ -100,6 +101,7 @@ impl<D: Disk> Disk for FlakyDisk<D> {
         ensures log { D.honest (inner self.old)
             → Writes at from.now (D.log (inner self.old)) result (D.log (inner self.new)) }
         ensures cause { CountsFaults (all_faults D.told self.old) (all_faults D.told self.new) result }
+        ensures quiet { OnOk result (all_faults D.told self.new ≡ all_faults D.told self.old) }
         ensures once { FailsOnce D.told self.old self.new result }
     {
         self.count()?;
@@ -112,6 +114,7 @@ impl<D: Disk> Disk for FlakyDisk<D> {
         ensures log { D.honest (inner self.old)
             → Cuts len (D.log (inner self.old)) result (D.log (inner self.new)) }
         ensures cause { CountsFaults (all_faults D.told self.old) (all_faults D.told self.new) result }
+        ensures quiet { OnOk result (all_faults D.told self.new ≡ all_faults D.told self.old) }
         ensures once { FailsOnce D.told self.old self.new result }
     {
         self.count()?;
@@ -123,6 +126,7 @@ impl<D: Disk> Disk for FlakyDisk<D> {
         ensures log { D.honest (inner self.old)
             → Syncs (D.log (inner self.old)) result (D.log (inner self.new)) }
         ensures cause { CountsFaults (all_faults D.told self.old) (all_faults D.told self.new) result }
+        ensures quiet { OnOk result (all_faults D.told self.new ≡ all_faults D.told self.old) }
         ensures once { FailsOnce D.told self.old self.new result }
     {
         self.count()?;

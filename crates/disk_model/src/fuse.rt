@@ -79,6 +79,7 @@ impl<D: Disk> Disk for FuseDisk<D> {
         ensures read { D.honest (inner self.old) → OnOk result (into.new ≡ slice_range (content (D.log (inner self.old))) at (at + length into.old)) }
         ensures log { D.honest (inner self.old) → D.log (inner self.new) ≡ D.log (inner self.old) }
         ensures cause { CountsFaults (all_faults self.old) (all_faults self.new) result }
+        ensures quiet { OnOk result (all_faults self.new ≡ all_faults self.old) }
         ensures fuse { Burns self.old self.new result }
     {
         self.spend()?;
@@ -90,6 +91,7 @@ impl<D: Disk> Disk for FuseDisk<D> {
         ensures honest { D.honest (inner self.old) ↔ D.honest (inner self.new) }
         ensures log { D.honest (inner self.old) → Writes at from.now (D.log (inner self.old)) result (D.log (inner self.new)) }
         ensures cause { CountsFaults (all_faults self.old) (all_faults self.new) result }
+        ensures quiet { OnOk result (all_faults self.new ≡ all_faults self.old) }
         ensures fuse { Burns self.old self.new result }
     {
         self.spend()?;
@@ -101,6 +103,7 @@ impl<D: Disk> Disk for FuseDisk<D> {
         ensures honest { D.honest (inner self.old) ↔ D.honest (inner self.new) }
         ensures log { D.honest (inner self.old) → Cuts len (D.log (inner self.old)) result (D.log (inner self.new)) }
         ensures cause { CountsFaults (all_faults self.old) (all_faults self.new) result }
+        ensures quiet { OnOk result (all_faults self.new ≡ all_faults self.old) }
         ensures fuse { Burns self.old self.new result }
     {
         self.spend()?;
@@ -111,6 +114,7 @@ impl<D: Disk> Disk for FuseDisk<D> {
         ensures honest { D.honest (inner self.old) ↔ D.honest (inner self.new) }
         ensures log { D.honest (inner self.old) → Syncs (D.log (inner self.old)) result (D.log (inner self.new)) }
         ensures cause { CountsFaults (all_faults self.old) (all_faults self.new) result }
+        ensures quiet { OnOk result (all_faults self.new ≡ all_faults self.old) }
         ensures fuse { Burns self.old self.new result }
     {
         self.spend()?;

@@ -63,27 +63,31 @@ pub trait Disk {
         ensures honest { honest self.old ↔ honest self.new }
         ensures read { honest self.old → OnOk result (into.new ≡ slice_range (content (log self.old)) at (at + length into.old)) }
         ensures log { honest self.old → log self.new ≡ log self.old }
-        ensures cause { CountsFaults (told self.old) (told self.new) result };
+        ensures cause { CountsFaults (told self.old) (told self.new) result }
+        ensures quiet { OnOk result (told self.new ≡ told self.old) };
 
     /// Writes these octets at this offset, at most at the end. One that failed may have happened in part.
     fn write_at(&mut self, at: u64, from: &[u8]) -> Result<(), DiskFault>
         requires { at ≤ size self.old }
         ensures honest { honest self.old ↔ honest self.new }
         ensures log { honest self.old → Writes at from.now (log self.old) result (log self.new) }
-        ensures cause { CountsFaults (told self.old) (told self.new) result };
+        ensures cause { CountsFaults (told self.old) (told self.new) result }
+        ensures quiet { OnOk result (told self.new ≡ told self.old) };
 
     /// Cuts it to this length. One that failed may have happened or not.
     fn cut(&mut self, len: u64) -> Result<(), DiskFault>
         requires { len ≤ size self.old }
         ensures honest { honest self.old ↔ honest self.new }
         ensures log { honest self.old → Cuts len (log self.old) result (log self.new) }
-        ensures cause { CountsFaults (told self.old) (told self.new) result };
+        ensures cause { CountsFaults (told self.old) (told self.new) result }
+        ensures quiet { OnOk result (told self.new ≡ told self.old) };
 
     /// Makes the content the only image. One that failed changes nothing.
     fn sync(&mut self) -> Result<(), DiskFault>
         ensures honest { honest self.old ↔ honest self.new }
         ensures log { honest self.old → Syncs (log self.old) result (log self.new) }
-        ensures cause { CountsFaults (told self.old) (told self.new) result };
+        ensures cause { CountsFaults (told self.old) (told self.new) result }
+        ensures quiet { OnOk result (told self.new ≡ told self.old) };
 
     /// How many faults it has told. At the greatest `u64` the count stays, and a fault is told without a rise.
     fn faults(&self) -> u64

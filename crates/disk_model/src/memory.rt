@@ -106,6 +106,7 @@ impl Disk for MemDisk {
         ensures read { OnOk result (into.new ≡ slice_range (content (events self.old)) at (at + length into.old)) }
         ensures log { events self.new ≡ events self.old }
         ensures cause { CountsFaults (faults_told self.old) (faults_told self.new) result }
+        ensures quiet { OnOk result (faults_told self.new ≡ faults_told self.old) }
         ensures succeeds { IsOk result }
         ensures unchanged { self.new ≡ self.old }
     {
@@ -119,6 +120,7 @@ impl Disk for MemDisk {
         requires { at ≤ length (held self.old) }
         ensures log { Writes at from.now (events self.old) result (events self.new) }
         ensures cause { CountsFaults (faults_told self.old) (faults_told self.new) result }
+        ensures quiet { OnOk result (faults_told self.new ≡ faults_told self.old) }
         ensures refused { IsRefusedWhole self.old self.new result }
     {
         match self.try_write(at, from) {
@@ -132,6 +134,7 @@ impl Disk for MemDisk {
         requires { len ≤ length (held self.old) }
         ensures log { Cuts len (events self.old) result (events self.new) }
         ensures cause { CountsFaults (faults_told self.old) (faults_told self.new) result }
+        ensures quiet { OnOk result (faults_told self.new ≡ faults_told self.old) }
         ensures refused { IsRefusedWhole self.old self.new result }
     {
         match self.try_cut(len) {
@@ -144,6 +147,7 @@ impl Disk for MemDisk {
     fn sync(&mut self) -> Result<(), DiskFault>
         ensures log { Syncs (events self.old) result (events self.new) }
         ensures cause { CountsFaults (faults_told self.old) (faults_told self.new) result }
+        ensures quiet { OnOk result (faults_told self.new ≡ faults_told self.old) }
         ensures refused { IsRefusedWhole self.old self.new result }
     {
         match keep(&mut self.moments, Moment::Sync) {

@@ -1,5 +1,5 @@
 // A stop that waits for a call of a disk, and the disks that it stops.
-ghost use Rattle.std.specs.Prelude.{◌≡◌, ◌+◌, ◌-◌, ◌^◌, ◌≤◌, length, min};
+ghost use Rattle.std.specs.Prelude.{◌≡◌, ◌+◌, ◌-◌, ◌^◌, ◌≤◌, length, min, OnOk};
 
 use disk_model::{Choice, Disk, DiskFault, MemDisk};
 use std::cell::Cell;
@@ -150,6 +150,7 @@ impl StopDisk {
         requires { at ≤ length (held (beneath self.old)) }
         ensures log { Writes at from.now (happened self.old) result (happened self.new) }
         ensures cause { CountsFaults (all_faults self.old) (all_faults self.new) result }
+        ensures quiet { OnOk result (all_faults self.new ≡ all_faults self.old) }
         ensures completes { fate ≡ Fate.Completes → Passes self.old self.new result }
         ensures stops { (choice : Choice) → fate ≡ Fate.Stops choice → Reaches (Wrote at from.now) self.old self.new result }
         ensures fails { fate ≡ Fate.Fails → Refuses self.old self.new result }
@@ -169,6 +170,7 @@ impl StopDisk {
         requires { len ≤ length (held (beneath self.old)) }
         ensures log { Cuts len (happened self.old) result (happened self.new) }
         ensures cause { CountsFaults (all_faults self.old) (all_faults self.new) result }
+        ensures quiet { OnOk result (all_faults self.new ≡ all_faults self.old) }
         ensures completes { fate ≡ Fate.Completes → Passes self.old self.new result }
         ensures stops { (choice : Choice) → fate ≡ Fate.Stops choice → Reaches (WasCut len) self.old self.new result }
         ensures fails { fate ≡ Fate.Fails → Refuses self.old self.new result }
@@ -187,6 +189,7 @@ impl StopDisk {
     fn sync_as(&mut self, fate: Fate) -> Result<(), DiskFault>
         ensures log { Syncs (happened self.old) result (happened self.new) }
         ensures cause { CountsFaults (all_faults self.old) (all_faults self.new) result }
+        ensures quiet { OnOk result (all_faults self.new ≡ all_faults self.old) }
         ensures completes { fate ≡ Fate.Completes → Passes self.old self.new result }
         ensures stops { (choice : Choice) → fate ≡ Fate.Stops choice → Refuses self.old self.new result }
         ensures fails { fate ≡ Fate.Fails → Refuses self.old self.new result }

@@ -7,7 +7,7 @@ use Rattle.ledger_core.specs.declared.note.FinalCode.{FinalCode}
 use Rattle.ledger_core.specs.State.{State, IsLegal, step}
 use Rattle.recovery.specs.Notes.{History, most_pending, noted}
 use Rattle.recovery.specs.Image.{Log}
-use Rattle.recovery.specs.Tape.{StandsFor as TapeStandsFor}
+use Rattle.recovery.specs.Tape.{IsOpenedTape, StandsFor as TapeStandsFor}
 use Rattle.recovery.specs.Words.{log_of as tape_log, disk_of as tape_disk, ledger_of as tape_ledger, pending_of as tape_pending, IsBroken as IsBrokenTape}
 use Rattle.conn_core.specs.declared.verdict.Verdict.{Verdict}
 use Rattle.conn_core.specs.declared.deferral.Deferral.{Deferral}
@@ -55,6 +55,10 @@ module _ {D : Type 0} {g : Ghosts D} where
   -- what has happened to it
   abbrev pub log_of : Station D g → Log
   log_of station = tape_log station.tape
+
+  -- the station was opened on a disk with this log, as its tape was
+  abbrev pub IsOpened : Log → Station D g → Type 0
+  IsOpened old station = IsOpenedTape old station.tape
 
   -- the ledger, pending notes included
   abbrev pub ledger_of : Station D g → State

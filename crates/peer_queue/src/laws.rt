@@ -1,15 +1,15 @@
 //! Laws of stations, each the contract of a function that does what it is about.
-ghost use Rattle.std.specs.Prelude.{◌≡◌, ◌↔◌, IfErr, IfOk};
+ghost use Rattle.std.specs.Prelude.{◌≡◌, ◌≢◌, ◌↔◌, ◌≤◌, ◌+◌, ◌-◌, ◌^◌, ℕ, min, IfErr, IfOk};
 ghost use Rattle.ledger_core.specs.State.{numbers};
 ghost use Rattle.recovery.specs.Image.{EachTape, Survives};
 ghost use Rattle.recovery.specs.Notes.{History, recovered};
 ghost use Rattle.peer_queue.specs.Place.{AreRising, all_ready, placed};
-ghost use Rattle.peer_queue.specs.Words.{IsBroken, StandsFor, Tells, ledger_of, limits_of, pending_of, places_of};
+ghost use Rattle.peer_queue.specs.Words.{IsBroken, StandsFor, Tells, disk_of, ledger_of, limits_of, pending_of, places_of};
 
 use crate::fault::station_fault;
 use crate::{Station, StationFault};
 use disk_model::Disk;
-use recovery::RefusedTape;
+use recovery::{RefusedTape, TapeFault};
 use std::alloc::Global;
 
 /// Each owed number has one place, and no other number has any.
@@ -35,6 +35,10 @@ pub fn reopened<D: Disk>(
     ensures fresh { IfOk result (λ opened. (IsBroken opened → ⊥) × (pending_of opened ≡ 0) × (limits_of opened ≡ limits_of station)) }
     ensures broken { Tells result StationFault.Broken ↔ IsBroken station }
     ensures survives { (h : History) → StandsFor station h → IfErr result (λ e. D.honest e.0 × EachTape (Survives h) (D.log e.0)) }
+    ensures undamaged { (h : History) → StandsFor station h
+        → IfErr result (λ e. (segment at : ℕ) → e.1 ≢ StationFault.Tape (TapeFault.Damaged segment at)) }
+    ensures cause { (h : History) → StandsFor station h → IfErr result (λ e.
+        e.1 ≡ StationFault.Tape TapeFault.Disk → min (D.told (disk_of station) + 1) (2 ^ 64 - 1) ≤ D.told e.0) }
 {
     let limits = station.limits;
     if let Err(fault) = station.flush() {

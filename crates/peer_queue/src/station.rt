@@ -14,7 +14,7 @@ use conn_core::{CxnId, Deferral, Verdict};
 use disk_model::Disk;
 use funnel::{MsgId, Token};
 use ledger_core::{Cause, Debt, Note, Totals};
-use recovery::{RefusedTape, Tape, TapeFault, tape_once};
+use recovery::{RefusedTape, Tape, TapeFault};
 use std::alloc::{AllocError, Global};
 
 /// All that one peer is owed.
@@ -42,14 +42,14 @@ impl<D: Disk> Station<D> {
     ghost use Rattle.ledger_core.specs.State.{IsOwed, Overflows, Owing, after};
     ghost use Rattle.recovery.specs.Image.{EachTape, IsNoTapeAt, IsTape, Survives, TapeFirstSync, TapeLeaves};
     ghost use Rattle.recovery.specs.Notes.{History, flushed, most_pending, noted_all, recovered};
-    ghost use Rattle.recovery.specs.Tape.{Recovers};
+    ghost use Rattle.recovery.specs.Tape.{IsRefusedTape, Recovers};
     ghost use Rattle.recovery.specs.Words.{IsFull, IsOpenFault};
     ghost use Rattle.peer_queue.specs.Place.{AreRising, Held, IsHeldBy, Later, Ready, all_gone, deferred_until, gone, held_count, least_candidate, moved, released, unheld};
     ghost use Rattle.peer_queue.specs.Index.{place_until};
     ghost use Rattle.peer_queue.specs.Shed.{IsShedSet, dropped};
     ghost use Rattle.peer_queue.specs.Station.{IsShed};
     ghost use Rattle.peer_queue.specs.Faults.{IsClaimFault, IsEndFault, IsFlushFault, IsOweFault};
-    ghost use Rattle.peer_queue.specs.Words.{IsBroken, IsEnd, IsOweOf, IsSame, IsSameTape, MeetsFull, Notes, Refuses, StandsFor, Tells, code_of, deferred_number, disk_of, ledger_of, limits_of, log_of, number_of, pending_of, places_of};
+    ghost use Rattle.peer_queue.specs.Words.{IsBroken, IsEnd, IsOpened, IsOweOf, IsSame, IsSameTape, MeetsFull, Notes, Refuses, StandsFor, Tells, code_of, deferred_number, disk_of, ledger_of, limits_of, log_of, number_of, pending_of, places_of};
 
     /// Opens the station of a disk, an empty one among them: all that its tape owes is ready.
     ///
@@ -60,20 +60,22 @@ impl<D: Disk> Station<D> {
         ensures recovers { (h : History) → D.honest disk → EachTape (Survives h) (D.log disk) → IfOk result (λ station. Recovers h (D.log disk) station.tape) }
         ensures survives { (h : History) → D.honest disk → EachTape (Survives h) (D.log disk) → IfErr result (λ e. TapeLeaves (Survives h) (D.log disk) (D.log e.disk)) }
         ensures undamaged { (h : History) → D.honest disk → EachTape (Survives h) (D.log disk) → IfErr result (λ e. (segment at : ℕ) → e.fault ≢ TapeFault.Damaged segment at) }
-        ensures first_sync { D.honest disk → IfOk result (λ station. (notes : List Note) → IsTape (content (D.log disk)) notes → StandsFor station (recovered notes) × TapeFirstSync (λ c. IsTape c notes) (D.log disk) (log_of station)) }
+        // At `Ok` the content was a tape; at `Err` a stop left an image from before, or one that reads as the content did.
+        ensures opened { D.honest disk → IfOk result (λ station. IsOpened (D.log disk) station) }
+        ensures err { D.honest disk → IfErr result (λ e. IsRefusedTape (D.log disk) e) }
         ensures damaged { D.honest disk → IfErr result (λ e. (segment at : ℕ) → e.fault ≡ TapeFault.Damaged segment at → (segment ≡ 0) × IsNoTapeAt (content (D.log disk)) at) }
         ensures cause { D.honest disk → IfErr result (λ e. e.fault ≡ TapeFault.Disk → min (D.told disk + 1) (2 ^ 64 - 1) ≤ D.told e.disk) }
         ensures kinds { IfErr result (λ e. IsOpenFault e.fault) }
         ensures ready { IfOk result (λ station. places_of station ≡ all_ready (numbers (ledger_of station))) }
         ensures fresh { IfOk result (λ station. (IsBroken station → ⊥) × (pending_of station ≡ 0) × (limits_of station ≡ limits)) }
         ensures honest { MatchResult result (λ station. D.honest disk ↔ D.honest (disk_of station)) (λ e. D.honest disk ↔ D.honest e.disk) }
+        ensures later { IfErr result (λ e. D.told disk ≤ D.told e.disk) }
+        ensures quiet { IfOk result (λ station. D.told (disk_of station) ≡ D.told disk) }
     {
         let tape = match Tape::open(alloc, disk) {
             Ok(tape) => tape,
             Err(refused) => return Err(refused),
         };
-        // Octets are a tape of one list of notes at most.
-        tape_once();
         match index_of(alloc, &tape) {
             Ok(index) => Ok(Station {
                 alloc,
@@ -99,7 +101,11 @@ impl<D: Disk> Station<D> {
         ensures places { result ≡ Ok Owed.New → places_of self.new ≡ places_of self.old ++ (number, Ready) ∷ [] }
         ensures broken { IsErrOf result StationFault.Broken ↔ IsBroken self.old }
         ensures count_full { IsErrOf result (StationFault.Tape (TapeFault.Note LedgerFault.CountFull)) → Overflows (ledger_of self.old) (Note.Owe number token.now id.now) }
-        ensures pending_full { IsErrOf result (StationFault.Tape TapeFault.PendingFull) → ((ledger_of self.old).mark < number) × (pending_of self.old ≡ most_pending) }
+        ensures pending_full { IsErrOf result (StationFault.Tape TapeFault.PendingFull)
+            → ((ledger_of self.old).mark < number) × (pending_of self.old ≡ most_pending)
+            × (Overflows (ledger_of self.old) (Note.Owe number token.now id.now) → ⊥) }
+        ensures no_memory { IsErrOf result StationFault.NoMemory
+            → (IsBroken self.old → ⊥) × ((ledger_of self.old).mark < number) }
         ensures never { Overflows (ledger_of self.old) (Note.Owe number token.now id.now) ⊎ ((ledger_of self.old).mark < number) × (pending_of self.old ≡ most_pending) → IsErr result }
         ensures kinds { IfErr result IsOweFault }
         ensures unchanged { OnErr result (IsSame self.old self.new) }
@@ -295,7 +301,8 @@ impl<D: Disk> Station<D> {
         ensures places { OnOk result (places_of self.new ≡ places_of self.old ++ (number, Ready) ∷ []) }
         ensures broken { IsErrOf result StationFault.Broken → ⊥ }
         ensures count_full { IsErrOf result (StationFault.Tape (TapeFault.Note LedgerFault.CountFull)) → Overflows (ledger_of self.old) note }
-        ensures pending_full { IsErrOf result (StationFault.Tape TapeFault.PendingFull) → pending_of self.old ≡ most_pending }
+        ensures pending_full { IsErrOf result (StationFault.Tape TapeFault.PendingFull)
+            → (pending_of self.old ≡ most_pending) × (Overflows (ledger_of self.old) note → ⊥) }
         ensures never { Overflows (ledger_of self.old) note ⊎ (pending_of self.old ≡ most_pending) → IsErr result }
         ensures kinds { IfErr result IsOweFault }
         ensures unchanged { OnErr result (IsSame self.old self.new) }
@@ -425,6 +432,7 @@ impl<D: Disk> Station<D> {
         ensures cause { (h : History) → StandsFor self.old h → IsErrOf result (StationFault.Tape TapeFault.Disk) → min (D.told (disk_of self.old) + 1) (2 ^ 64 - 1) ≤ D.told (disk_of self.new) }
         ensures honest { D.honest (disk_of self.old) ↔ D.honest (disk_of self.new) }
         ensures later { D.told (disk_of self.old) ≤ D.told (disk_of self.new) }
+        ensures quiet { OnOk result (D.told (disk_of self.new) ≡ D.told (disk_of self.old)) }
         ensures kinds { IfErr result IsFlushFault }
     {
         match self.tape.flush() {

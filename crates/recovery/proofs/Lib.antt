@@ -2,3 +2,4 @@ pub mod Drops
 pub mod Opens
 pub mod Payloads
 pub mod Stands
+mod Rows

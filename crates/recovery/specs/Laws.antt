@@ -1,14 +1,17 @@
 -- Laws of tapes and of histories, for this crate and those above.
-use Rattle.std.proofs.Common.{◌≡◌, ℕ, zero, suc, ◌≤◌, List, [], ◌∷◌, ◌++◌, length, take, drop, refl, sym, ap, subst, inl, inr, arith, length-append, take-append-drop}
+use Rattle.std.proofs.Common.{◌≡◌, ℕ, zero, suc, ◌<◌, ◌≤◌, List, [], ◌∷◌, ◌++◌, length, take, drop, refl, sym, ap, ◌∙◌, subst, inl, inr, ⊎_elim, arith, length-append, length-take, take-append-drop}
+use Rattle.std.specs.Prelude.{slice_get}
+use Rattle.std.proofs.lemmas.Bool.{cases_lt}
 use Rattle.std.proofs.lemmas.List.{take_all, take-append-le}
 use Rattle.disk_model.specs.Disk.{Event, Image, content}
 use Rattle.tape_journal.specs.Kept.{KeptFrom}
 use Rattle.tape_journal.specs.Segment.{Reads, ReadsAs, ReadsFrom}
-use Rattle.tape_journal.specs.SegmentLaws.{reads_once, read_or_damaged}
+use Rattle.tape_journal.specs.Segment.{records}
+use Rattle.tape_journal.specs.SegmentLaws.{reads_once, read_or_damaged, damaged_once}
 use Rattle.ledger_core.specs.declared.note.Note.{Note}
 use Rattle.ledger_core.specs.Laws.{AllLegal-append, AllLegal-front}
 use Rattle.ledger_core.specs.Note.{AreNotes, IsNote}
-use Rattle.ledger_core.specs.Replay.{Leaves}
+use Rattle.ledger_core.specs.Replay.{Leaves, StopsAt}
 use Rattle.ledger_core.specs.ReplayLaws.{never}
 use Rattle.ledger_core.specs.Spelling.{spelling, spellings}
 use Rattle.ledger_core.specs.SpellingLaws.{AreNotes-append, AreNotes-front, same-notes}
@@ -51,6 +54,43 @@ tape_nowhere_damaged octets notes at is (inl damaged) = read_or_damaged octets (
 tape_nowhere_damaged octets notes at is (inr (payloads, index, reads, stops, place)) =
     let same : spellings notes ≡ payloads = reads_once octets (spellings notes) payloads is.reads reads in
     never payloads index (after start notes) stops (subst (λ (ps : List (List ℕ)). Leaves ps (after start notes)) same (leaves_of notes is.legal))
+
+front_of : (payloads : List (List ℕ)) (i j : ℕ) → i < j → take i (take j payloads) ≡ take i payloads
+front_of payloads zero j within = refl
+front_of payloads (suc i) zero within = absurd (omega arith)
+front_of [] (suc i) (suc j) within = refl
+front_of (payload ∷ payloads) (suc i) (suc j) within = ap (λ (l : List (List ℕ)). payload ∷ l) (front_of payloads i j (omega arith))
+
+at_front : (payloads : List (List ℕ)) (i j : ℕ) → i < j → slice_get (take j payloads) i ≡ slice_get payloads i
+at_front payloads i zero within = absurd (omega arith)
+at_front [] i (suc j) within = refl
+at_front (payload ∷ payloads) zero (suc j) within = refl
+at_front (payload ∷ payloads) (suc i) (suc j) within = at_front payloads i j (omega arith)
+
+stops_before : (payloads : List (List ℕ)) (one other : ℕ) → one < other → StopsAt payloads one → StopsAt payloads other → ⊥
+stops_before payloads one other before a b =
+    let long : one < length (take other payloads) = omega (arith, length-take other payloads, b.0) in
+    never (take other payloads) one (after start b.1.0)
+    (long, (a.1.0, a.1.1, a.1.2, front_of payloads one other before ∙ a.1.3, λ note is here legal. a.1.4 note is (sym (at_front payloads one other before) ∙ here) legal))
+    (b.1.0, b.1.1, b.1.3, b.1.2, refl)
+
+-- reading stops at one payload at most
+pub stops_once : (payloads : List (List ℕ)) (one other : ℕ) → StopsAt payloads one → StopsAt payloads other → one ≡ other
+stops_once payloads one other a b =
+    ⊎_elim
+    (λ (h : one < other). absurd (stops_before payloads one other h a b))
+    (λ (h : other ≤ one). ⊎_elim (λ (k : other < one). absurd (stops_before payloads other one k b a)) (λ (k : one ≤ other). omega (arith, h, k)) (cases_lt other one))
+    (cases_lt one other)
+
+-- octets are no tape at one place at most
+pub nowhere_once : (octets : Octets) (one other : ℕ) → IsNoTapeAt octets one → IsNoTapeAt octets other → one ≡ other
+nowhere_once octets one other (inl a) (inl b) = damaged_once octets one other a b
+nowhere_once octets one other (inl a) (inr (payloads, index, reads, stops, place)) = absurd (read_or_damaged octets payloads one reads a)
+nowhere_once octets one other (inr (payloads, index, reads, stops, place)) (inl b) = absurd (read_or_damaged octets payloads other reads b)
+nowhere_once octets one other (inr (payloads, index, reads, stops, place)) (inr (payloads', index', reads', stops', place')) =
+    let same : payloads ≡ payloads' = reads_once octets payloads payloads' reads reads' in
+    let here : index ≡ index' = stops_once payloads' index index' (subst (λ ps. StopsAt ps index) same stops) stops' in
+    place ∙ (ap (λ ps. length (records (take index ps))) same ∙ (ap (λ i. length (records (take i payloads'))) here ∙ sym place'))
 
 -- other octets with the same payloads are a tape of the same notes
 pub tape_as : (octets other : Octets) (notes : List Note) → IsTape octets notes → ReadsAs octets other → IsTape other notes

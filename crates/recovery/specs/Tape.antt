@@ -4,6 +4,7 @@ use Rattle.disk_model.specs.Disk.{content}
 use Rattle.disk_model.specs.declared.Disk.{Ghosts}
 use Rattle.tape_journal.specs.Journal.{Holds}
 use Rattle.tape_journal.specs.Kept.{KeptFrom}
+use Rattle.tape_journal.specs.Segment.{Reads}
 use Rattle.tape_journal.specs.Words.{octets_of}
 use Rattle.ledger_core.specs.declared.note.Note.{Note}
 use Rattle.ledger_core.specs.Spelling.{spellings}
@@ -44,7 +45,7 @@ pub record IsOpenedTape {D : Type 0} {g : Ghosts D} (old : Log) (tape : Tape D g
 pub record IsRefusedTape {D : Type 0} {g : Ghosts D} (old : Log) (refused : RefusedTape D g) : Type 0 where
   pub honest : g.honest refused.disk
   pub moments : TapeLeaves (KeptFrom old) old (g.log refused.disk)
-  pub first_sync : (notes : List Note) → IsTape (content old) notes → TapeFirstSync (λ c. IsTape c notes) old (g.log refused.disk)
+  pub first_sync : (payloads : List (List ℕ)) → Reads (content old) payloads → TapeFirstSync (λ c. Reads c payloads) old (g.log refused.disk)
 
 -- A tape was opened on a disk each of whose images was a tape of the first of a history's notes with every acknowledged one:
 -- it stands for such a front of them, all acknowledged now, and so was each image at each moment.

@@ -7,4 +7,5 @@ ghost use Rattle.recovery.specs.Image.{IsTape, IsNoTapeAt};
 pub fn tape_once()
     ensures notes { (octets : List ℕ) (one other : List Note) → IsTape octets one → IsTape octets other → one ≡ other }
     ensures none { (octets : List ℕ) (notes : List Note) (at : ℕ) → IsTape octets notes → IsNoTapeAt octets at → ⊥ }
+    ensures place { (octets : List ℕ) (one other : ℕ) → IsNoTapeAt octets one → IsNoTapeAt octets other → one ≡ other }
 {}

@@ -56,7 +56,7 @@ impl<D: Disk> Tape<D> {
     ghost use Rattle.std.specs.List.Sorted.{IsStrictlyIncreasing};
     ghost use Rattle.disk_model.specs.Disk.{content};
     ghost use Rattle.tape_journal.specs.Journal.{appending, opening};
-    ghost use Rattle.tape_journal.specs.Segment.{records};
+    ghost use Rattle.tape_journal.specs.Segment.{records, IsDamagedAt};
     ghost use Rattle.ledger_core.specs.Ledger.{totals_of};
     ghost use Rattle.ledger_core.specs.declared.ledger.LedgerFault.{LedgerFault};
     ghost use Rattle.ledger_core.specs.declared.note.Note.{Note};
@@ -87,12 +87,14 @@ impl<D: Disk> Tape<D> {
 
         // Each fault has its cause.
         ensures damaged { D.honest disk → IfErr result (λ e. (segment at : ℕ) → e.fault ≡ TapeFault.Damaged segment at → (segment ≡ 0) × IsNoTapeAt (content (D.log disk)) at) }
+        ensures untouched { D.honest disk → IfErr result (λ e. (segment at : ℕ) → e.fault ≡ TapeFault.Damaged segment at → IsDamagedAt (content (D.log disk)) at → D.log e.disk ≡ D.log disk) }
         ensures cause { D.honest disk → IfErr result (λ e. e.fault ≡ TapeFault.Disk → min (D.told disk + 1) (2 ^ 64 - 1) ≤ D.told e.disk) }
         ensures kinds { IfErr result (λ e. IsOpenFault e.fault) }
 
         ensures works { IfOk result (λ tape. (IsBroken tape → ⊥) × (pending_of tape ≡ 0)) }
         ensures honest { MatchResult result (λ tape. D.honest disk ↔ D.honest (disk_of tape)) (λ e. D.honest disk ↔ D.honest e.disk) }
         ensures later { MatchResult result (λ tape. D.told disk ≤ D.told (disk_of tape)) (λ e. D.told disk ≤ D.told e.disk) }
+        ensures quiet { IfOk result (λ tape. D.told (disk_of tape) ≡ D.told disk) }
     {
         let (journal, payloads) = match Journal::open(alloc, disk) {
             Ok(opened) => opened,
@@ -297,6 +299,7 @@ impl<D: Disk> Tape<D> {
         ensures ledger { ledger_of self.new ≡ ledger_of self.old }
         ensures honest { D.honest (disk_of self.old) ↔ D.honest (disk_of self.new) }
         ensures later { D.told (disk_of self.old) ≤ D.told (disk_of self.new) }
+        ensures quiet { OnOk result (D.told (disk_of self.new) ≡ D.told (disk_of self.old)) }
     {
         if self.journal.is_broken() {
             return Err(TapeFault::Broken);
@@ -333,6 +336,7 @@ impl<D: Disk> Tape<D> {
         ensures ledger { ledger_of self.new ≡ ledger_of self.old }
         ensures honest { D.honest (disk_of self.old) ↔ D.honest (disk_of self.new) }
         ensures later { D.told (disk_of self.old) ≤ D.told (disk_of self.new) }
+        ensures quiet { OnOk result (D.told (disk_of self.new) ≡ D.told (disk_of self.old)) }
     {
         match self.journal.append_all(&self.pending) {
             Ok(()) => {

@@ -59,6 +59,7 @@ fn open_gates<D: Disk>(disk: &mut D, first: u64, payloads: &[Vec<u8>]) -> Result
     ensures calls { D.honest disk.old → (front : List (List ℕ)) → HasStaged (D.log disk.old) front (octets_of payloads.now) first → OnOk result (D.log disk.new ≡ gates_opened first (octets_of payloads.now) (D.log disk.old)) }
     ensures later { D.told disk.old ≤ D.told disk.new }
     ensures cause { D.honest disk.old → (front : List (List ℕ)) → HasStaged (D.log disk.old) front (octets_of payloads.now) first → CountsFaults (D.told disk.old) (D.told disk.new) result }
+    ensures quiet { OnOk result (D.told disk.new ≡ D.told disk.old) }
 {
     let mut at = first;
     for payload in payloads {
@@ -85,6 +86,7 @@ pub(crate) fn add_records<D: Disk>(
     ensures calls { D.honest disk.old → (all : List (List ℕ)) → AtRest (D.log disk.old) all → end ≡ length (records all) → OnOk result (D.log disk.new ≡ appending end (octets_of payloads.now) (D.log disk.old)) }
     ensures later { D.told disk.old ≤ D.told disk.new }
     ensures cause { D.honest disk.old → (all : List (List ℕ)) → AtRest (D.log disk.old) all → end ≡ length (records all) → CountsFaults (D.told disk.old) (D.told disk.new) result }
+    ensures quiet { OnOk result (D.told disk.new ≡ D.told disk.old) }
 {
     put_synced(disk, end + 1, staged)?;
     open_gates(disk, end, payloads)?;

@@ -71,6 +71,7 @@ impl<D: Disk> Journal<D> {
         ensures works { IfOk result (λ r. IsBroken r.0 → ⊥) }
         ensures honest { MatchResult result (λ r. D.honest disk ↔ D.honest (disk_of r.0)) (λ e. D.honest disk ↔ D.honest e.disk) }
         ensures later { MatchResult result (λ r. D.told disk ≤ D.told (disk_of r.0)) (λ e. D.told disk ≤ D.told e.disk) }
+        ensures quiet { IfOk result (λ r. D.told (disk_of r.0) ≡ D.told disk) }
     {
         match payloads_of(alloc, &mut disk) {
             Err(fault) => Err(Refused { disk, fault }),
@@ -148,6 +149,7 @@ impl<D: Disk> Journal<D> {
         ensures cause { (all : List (List ℕ)) → Holds self.old all → IsErrOf result AppendFault.Disk → min (D.told (disk_of self.old) + 1) (2 ^ 64 - 1) ≤ D.told (disk_of self.new) }
         ensures end { MatchResult result (λ _. end_of self.new ≡ end_of self.old + length (records (octets_of payloads.now))) (λ _. end_of self.new ≡ end_of self.old) }
         ensures honest { D.honest (disk_of self.old) ↔ D.honest (disk_of self.new) }
+        ensures quiet { OnOk result (D.told (disk_of self.new) ≡ D.told (disk_of self.old)) }
         ensures later { D.told (disk_of self.old) ≤ D.told (disk_of self.new) }
     {
         let added = self.room_for(payloads)?;
@@ -185,6 +187,8 @@ impl<D: Disk> Journal<D> {
         ensures end { end_of self.new ≡ end_of self.old }
         ensures works { IsBroken self.old ↔ IsBroken self.new }
         ensures honest { D.honest (disk_of self.old) ↔ D.honest (disk_of self.new) }
+        ensures quiet { OnOk result (D.told (disk_of self.new) ≡ D.told (disk_of self.old)) }
+        ensures refused { IsErrOf result ReadFault.Broken → self.new ≡ self.old }
         ensures later { D.told (disk_of self.old) ≤ D.told (disk_of self.new) }
     {
         if self.broken {

@@ -11,6 +11,7 @@ pub(crate) fn put<D: Disk>(disk: &mut D, at: u64, octets: &[u8]) -> Result<(), D
     ensures log { D.honest disk.old → at ≤ length (content (D.log disk.old)) → Writes at octets.now (D.log disk.old) result (D.log disk.new) }
     ensures later { D.told disk.old ≤ D.told disk.new }
     ensures cause { D.honest disk.old → at ≤ length (content (D.log disk.old)) → CountsFaults (D.told disk.old) (D.told disk.new) result }
+    ensures quiet { OnOk result (D.told disk.new ≡ D.told disk.old) }
 {
     if at > disk.len() {
         return Err(DiskFault);
@@ -27,6 +28,7 @@ pub(crate) fn put_synced<D: Disk>(disk: &mut D, at: u64, octets: &[u8]) -> Resul
     ensures after_sync { D.honest disk.old → (all : List ℕ) → IsOnly (D.log disk.old) all → at ≤ length all → AfterSync (λ c. c ≡ overwritten all at octets.now) (D.log disk.old) (D.log disk.new) }
     ensures later { D.told disk.old ≤ D.told disk.new }
     ensures cause { D.honest disk.old → at ≤ length (content (D.log disk.old)) → CountsFaults (D.told disk.old) (D.told disk.new) result }
+    ensures quiet { OnOk result (D.told disk.new ≡ D.told disk.old) }
 {
     put(disk, at, octets)?;
     disk.sync()

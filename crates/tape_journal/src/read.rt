@@ -33,6 +33,7 @@ fn fill<D: Disk>(disk: &mut D, at: u64, into: &mut [u8]) -> Result<(), DiskFault
     ensures octets { D.honest disk.old → OnOk result (into.new ≡ take (length into.old) (drop at (content (D.log disk.old)))) }
     ensures later { D.told disk.old ≤ D.told disk.new }
     ensures cause { D.honest disk.old → at + length into.old ≤ length (content (D.log disk.old)) → CountsFaults (D.told disk.old) (D.told disk.new) result }
+    ensures quiet { OnOk result (D.told disk.new ≡ D.told disk.old) }
 {
     let len = disk.len();
     if at > len || into.len() as u64 > len - at {
@@ -55,6 +56,7 @@ fn octets_at<D: Disk>(
     ensures later { D.told disk.old ≤ D.told disk.new }
     ensures damaged { (e : ℕ) → IsErrOf result (OpenFault.Damaged e) → ⊥ }
     ensures cause { D.honest disk.old → at + count ≤ length (content (D.log disk.old)) → IsErrOf result OpenFault.Disk → min (D.told disk.old + 1) (2 ^ 64 - 1) ≤ D.told disk.new }
+    ensures quiet { OnOk result (D.told disk.new ≡ D.told disk.old) }
 {
     let mut octets = vec![in alloc; 0u8; count]?;
     fill(disk, at, &mut octets)?;
@@ -105,6 +107,7 @@ pub(crate) fn record_at<D: Disk>(
     ensures damaged { D.honest disk.old → len ≡ length (content (D.log disk.old)) → (e : ℕ) → IsErrOf result (OpenFault.Damaged e) → (e ≡ at) × IsCutShort (drop at (content (D.log disk.old))) }
     ensures later { D.told disk.old ≤ D.told disk.new }
     ensures cause { D.honest disk.old → len ≡ length (content (D.log disk.old)) → IsErrOf result OpenFault.Disk → min (D.told disk.old + 1) (2 ^ 64 - 1) ≤ D.told disk.new }
+    ensures quiet { OnOk result (D.told disk.new ≡ D.told disk.old) }
 {
     let left = len - at;
     let mut octets = [0u8; 5];
@@ -132,6 +135,7 @@ pub(crate) fn payloads_of<D: Disk>(
     ensures damaged { D.honest disk.old → (e : ℕ) → IsErrOf result (OpenFault.Damaged e) → IsDamagedAt (content (D.log disk.old)) e }
     ensures later { D.told disk.old ≤ D.told disk.new }
     ensures cause { D.honest disk.old → IsErrOf result OpenFault.Disk → min (D.told disk.old + 1) (2 ^ 64 - 1) ≤ D.told disk.new }
+    ensures quiet { OnOk result (D.told disk.new ≡ D.told disk.old) }
 {
     let len = disk.len();
     let mut payloads = Vec::new(alloc);

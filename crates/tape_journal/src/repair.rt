@@ -17,6 +17,7 @@ fn trim<D: Disk>(disk: &mut D, end: u64) -> Result<(), DiskFault>
     ensures done { D.honest disk.old → OnOk result (IsOnly (D.log disk.new) (take (end + 1) (content (D.log disk.old)))) }
     ensures calls { D.honest disk.old → OnOk result (D.log disk.new ≡ Synced ∷ WasCut (min (length (content (D.log disk.old))) (end + 1)) ∷ Synced ∷ D.log disk.old) }
     ensures cause { CountsFaults (D.told disk.old) (D.told disk.new) result }
+    ensures quiet { OnOk result (D.told disk.new ≡ D.told disk.old) }
 {
     disk.sync()?;
     let len = disk.len().min(end + 1);
@@ -33,6 +34,7 @@ pub(crate) fn repair<D: Disk>(disk: &mut D, end: u64) -> Result<(), DiskFault>
     ensures calls { D.honest disk.old → (payloads : List (List ℕ)) → HasPayloads (content (D.log disk.old)) payloads end → OnOk result (D.log disk.new ≡ opening (length (content (D.log disk.old))) end (D.log disk.old)) }
     ensures later { D.told disk.old ≤ D.told disk.new }
     ensures cause { D.honest disk.old → (payloads : List (List ℕ)) → HasPayloads (content (D.log disk.old)) payloads end → CountsFaults (D.told disk.old) (D.told disk.new) result }
+    ensures quiet { OnOk result (D.told disk.new ≡ D.told disk.old) }
 {
     trim(disk, end)?;
     put_synced(disk, end, &[0])

@@ -1,4 +1,4 @@
-use Rattle.recovery.specs.Laws.{tape_once, tape_nowhere_damaged}
+use Rattle.recovery.specs.Laws.{tape_once, tape_nowhere_damaged, nowhere_once}
 use Rattle.recovery.proofs.laws.tape_once.Goals as goal
 
 pub returns-clause-notes : goal.returns-clause-notes
@@ -6,3 +6,6 @@ returns-clause-notes c = tape_once
 
 pub returns-clause-none : goal.returns-clause-none
 returns-clause-none c = tape_nowhere_damaged
+
+pub returns-clause-place : goal.returns-clause-place
+returns-clause-place c = nowhere_once

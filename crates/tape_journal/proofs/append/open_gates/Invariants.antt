@@ -12,6 +12,7 @@ invariant-loop-payload g l = record {
   place : l.at ≡ l.fn.first + length (records (take l.payload-index (octets_of l.payloads)));
   honest : g.D.Disk.honest l.fn.disk ↔ g.D.Disk.honest l.disk;
   later : g.D.Disk.told l.fn.disk ≤ g.D.Disk.told l.disk;
+  quiet : g.D.Disk.told l.disk ≡ g.D.Disk.told l.fn.disk;
   moments : g.D.Disk.honest l.fn.disk → (front : List (List ℕ)) → HasStaged (g.D.Disk.log l.fn.disk) front (octets_of l.payloads) l.fn.first → Leaves (Staged front (octets_of l.payloads)) (g.D.Disk.log l.fn.disk) (g.D.Disk.log l.disk);
   whole : g.D.Disk.honest l.fn.disk → (front : List (List ℕ)) → HasStaged (g.D.Disk.log l.fn.disk) front (octets_of l.payloads) l.fn.first → content (g.D.Disk.log l.disk) ≡ records (front ++ take l.payload-index (octets_of l.payloads)) ++ (closed (drop l.payload-index (octets_of l.payloads)) ++ 0 ∷ []);
   calls : g.D.Disk.honest l.fn.disk → (front : List (List ℕ)) → HasStaged (g.D.Disk.log l.fn.disk) front (octets_of l.payloads) l.fn.first → gates_opened l.fn.first (octets_of l.payloads) (g.D.Disk.log l.fn.disk) ≡ gates_opened l.at (drop l.payload-index (octets_of l.payloads)) (g.D.Disk.log l.disk);

@@ -40,4 +40,5 @@ loop-end-preserved g c =
           let all = content (g.D.Disk.log c.args.disk.now) in
           subst (λ (n : ℕ). HasRead all (octets_of c.push.new.self.items) n) place (subst (λ (ps : List (List ℕ)). HasRead all ps (c.loop-end.end + (5 + length c.in-Some.payload.items))) (sym items) more);
       later = omega (arith, i.later, c.record_at.ensures.later);
+      quiet = omega (arith, i.quiet, c.in_ok-record_at.ensures.quiet);
     }

@@ -12,6 +12,7 @@ invariant-loop-end g l = record {
   log : g.D.Disk.honest l.fn.disk → g.D.Disk.log l.disk ≡ g.D.Disk.log l.fn.disk;
   read : g.D.Disk.honest l.fn.disk → HasRead (content (g.D.Disk.log l.fn.disk)) (octets_of l.payloads.items) l.end;
   later : g.D.Disk.told l.fn.disk ≤ g.D.Disk.told l.disk;
+  quiet : g.D.Disk.told l.disk ≡ g.D.Disk.told l.fn.disk;
 }
 
 abbrev pub decreases-loop-end : goal.decreases-loop-end

@@ -1,10 +1,10 @@
 -- What was read are notes, which are legal in turn, and the ledger is their fold.
-use Rattle.std.proofs.Common.{◌≡◌, refl, ap, sym, ◌∙◌, inl}
-use Rattle.disk_model.specs.Disk.{content}
-use Rattle.disk_model.specs.Moments.{FirstSync-weaker}
+use Rattle.std.proofs.Common.{◌≡◌, ℕ, List, refl, ap, sym, ◌∙◌, inl, subst}
+use Rattle.disk_model.specs.Disk.{FirstSync, content}
 use Rattle.tape_journal.specs.Journal.{disk_of as journal_disk}
 use Rattle.tape_journal.specs.Segment.{Reads}
 use Rattle.tape_journal.specs.Words.{octets_of}
+use Rattle.tape_journal.specs.SegmentLaws.{read_or_damaged, reads_once}
 use Rattle.ledger_core.specs.Spelling.{spellings}
 use Rattle.recovery.specs.Image.{IsTape}
 use Rattle.recovery.specs.Laws.{tape_nowhere_damaged}
@@ -18,9 +18,7 @@ returns-in-Err-clause-err g c = λ honest.
     record {
       honest = refused.honest;
       moments = refused.moments;
-      first_sync = λ notes is.
-          FirstSync-weaker (λ octets. Reads octets (spellings notes)) (λ octets. IsTape octets notes) (λ octets reads. record { legal = is.legal; reads = reads })
-          (g.D.Disk.log c.args.disk) (g.D.Disk.log c.in-Err.refused.disk) (refused.first_sync (spellings notes) is.reads);
+      first_sync = refused.first_sync;
     }
 
 pub returns-in-Err-clause-survives : goal.returns-in-Err-clause-survives
@@ -56,7 +54,10 @@ returns-clause-err g c = λ honest.
     rw c.into_disk.ensures (record {
       honest = opened.holds.honest;
       moments = opened.moments;
-      first_sync = λ notes is. first_sync_of old (g.D.Disk.log (journal_disk c.in-Ok.opened.0)) (octets_of c.in-Ok.opened.1.items) notes opened.reads opened.first_sync is;
+      first_sync = λ payloads reads.
+          let new = g.D.Disk.log (journal_disk c.in-Ok.opened.0) in
+          let same : octets_of c.in-Ok.opened.1.items ≡ payloads = reads_once (content old) (octets_of c.in-Ok.opened.1.items) payloads opened.reads reads in
+          subst (λ (ps : List (List ℕ)). FirstSync (λ octets. Reads octets ps) old new) same opened.first_sync;
     })
 
 pub returns-clause-survives : goal.returns-clause-survives
@@ -71,3 +72,11 @@ returns-clause-undamaged g c = λ h honest each segment at told.
     let all = rw c.deref.ensures.value at c.in-Err-read_ledger.ensures.all in
     let no_memory = all leaves.0 leaves.1 in
     cc (no_memory, told)
+
+pub returns-in-Err-clause-untouched : goal.returns-in-Err-clause-untouched
+returns-in-Err-clause-untouched g c = λ honest segment at told damage.
+    (c.in-Err.ensures.damaged honest at (open_damaged c.in-Err.refused.fault segment at (sym c.open_fault-fault.ensures ∙ told))).1
+
+pub returns-clause-untouched : goal.returns-clause-untouched
+returns-clause-untouched g c = λ honest segment at told damage.
+    absurd (read_or_damaged (content (g.D.Disk.log c.args.disk)) (octets_of c.in-Ok.opened.1.items) at (c.in-Ok.ensures.ok honest).reads damage)
