@@ -3,7 +3,9 @@ use Rattle.std.proofs.Common.{◌≡◌, ℕ, zero, suc, ◌<◌, ◌≤◌, Lis
 use Rattle.std.specs.Prelude.{slice_get}
 use Rattle.std.proofs.lemmas.Bool.{cases_lt}
 use Rattle.std.proofs.lemmas.List.{take_all, take-append-le}
+use Rattle.disk_model.specs.declared.Disk.{Ghosts}
 use Rattle.disk_model.specs.Disk.{Event, Image, content}
+use Rattle.disk_model.specs.Moments.{FirstSync-weaker}
 use Rattle.tape_journal.specs.Kept.{KeptFrom}
 use Rattle.tape_journal.specs.Segment.{Reads, ReadsAs, ReadsFrom}
 use Rattle.tape_journal.specs.Segment.{records}
@@ -17,7 +19,11 @@ use Rattle.ledger_core.specs.Spelling.{spelling, spellings}
 use Rattle.ledger_core.specs.SpellingLaws.{AreNotes-append, AreNotes-front, same-notes}
 use Rattle.ledger_core.specs.State.{AllLegal, IsLegal, after, start}
 use Rattle.recovery.specs.Notes.{AreLegal, History, noted, recovered}
-use Rattle.recovery.specs.Image.{Octets, IsTape, IsNoTapeAt, Survives, EachTape}
+use Rattle.recovery.specs.Image.{Octets, Log, IsTape, IsNoTapeAt, Survives, EachTape, TapeFirstSync, TapeLeaves}
+use Rattle.recovery.specs.Tape.{IsOpenedTape, IsRefusedTape}
+use Rattle.recovery.specs.Words.{disk_of, log_of}
+use Rattle.recovery.specs.declared.tape.RefusedTape.{RefusedTape}
+use Rattle.recovery.specs.declared.tape.Tape.{Tape}
 
 -- ---- legal notes
 
@@ -154,3 +160,20 @@ Survives-kept h old octets now each (inl image) = each octets image
 Survives-kept h old octets now each (inr reads) =
     let here = each (content old) now in
     record { count = here.count; enough = here.enough; within = here.within; tape = tape_as (content old) octets (take here.count h.notes) here.tape reads }
+
+-- the disk of a tape that was opened, handed back as it is, is one that was refused
+pub refused_as_opened : {D : Type 0} {g : Ghosts D} (old : Log) (tape : Tape D g) (refused : RefusedTape D g)
+    → refused.disk ≡ disk_of tape → IsOpenedTape old tape → IsRefusedTape old refused
+refused_as_opened {D = D} {g = g} old tape refused same opened =
+    let back : disk_of tape ≡ refused.disk = sym same in
+    let first : (payloads : List (List ℕ)) → Reads (content old) payloads → TapeFirstSync (λ c. Reads c payloads) old (log_of tape) =
+        λ payloads reads.
+          let are : spellings opened.notes ≡ payloads = reads_once (content old) (spellings opened.notes) payloads opened.was.reads reads in
+          FirstSync-weaker (λ c. IsTape c opened.notes) (λ c. Reads c payloads)
+            (λ c is. subst (λ (ps : List (List ℕ)). Reads c ps) are is.reads) old (log_of tape) opened.first_sync in
+    record {
+      honest = subst (λ (d : D). g.honest d) back opened.stands.honest;
+      moments = subst (λ (d : D). TapeLeaves (KeptFrom old) old (g.log d)) back opened.moments;
+      first_sync = λ payloads reads.
+          subst (λ (d : D). TapeFirstSync (λ c. Reads c payloads) old (g.log d)) back (first payloads reads);
+    }

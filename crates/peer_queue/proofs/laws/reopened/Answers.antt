@@ -1,6 +1,10 @@
-use Rattle.std.proofs.Common.{ap, ◌∙◌}
+use Rattle.std.proofs.Common.{◌≡◌, ℕ, ap, sym, ◌∙◌}
 use Rattle.ledger_core.specs.State.{State, numbers}
+use Rattle.recovery.specs.declared.fault.TapeFault.{TapeFault}
+use Rattle.recovery.specs.declared.fault.TapeFault.TheVariants.{Damaged, Disk, Broken, TapeFull, PendingFull, NoMemory, Note}
 use Rattle.recovery.specs.Notes.{flushed}
+use Rattle.peer_queue.specs.declared.fault.StationFault.TheVariants.{Tape}
+use Rattle.peer_queue.specs.Faults.{station_fault}
 use Rattle.peer_queue.specs.Place.{all_ready}
 use Rattle.peer_queue.proofs.Reopens.{same_ledger, stands_whole, survives_now}
 use Rattle.peer_queue.proofs.laws.reopened.Goals as goal
@@ -28,3 +32,19 @@ returns-in-Err-open-clause-survives g c = λ h stands.
       c.in-Err-open.ensures.honest.0 left.0,
       survives_now h (g.D.Disk.log c.into_disk-2.result) (g.D.Disk.log c.in-Err-open.field-0.disk) stands.kept_within (c.in-Err-open.ensures.survives (flushed h) left.0 left.1),
     )
+
+-- a station tells of damage only where its tape does
+damaged_there : (fault : TapeFault) (segment at : ℕ) → station_fault fault ≡ Tape (Damaged segment at) → fault ≡ Damaged segment at
+damaged_there (Damaged s a) segment at told = cc
+damaged_there Disk segment at told = cc
+damaged_there Broken segment at told = cc
+damaged_there TapeFull segment at told = cc
+damaged_there PendingFull segment at told = cc
+damaged_there NoMemory segment at told = cc
+damaged_there (Note fault) segment at told = cc
+
+pub returns-in-Err-open-clause-undamaged : goal.returns-in-Err-open-clause-undamaged
+returns-in-Err-open-clause-undamaged g c = λ h stands segment at told.
+    let left = c.into_disk-2.ensures.survives (flushed h) (c.in_default.ensures.ok h stands) in
+    c.in-Err-open.ensures.undamaged (flushed h) left.0 left.1 segment at
+      (damaged_there c.in-Err-open.field-0.fault segment at (sym c.station_fault.ensures ∙ told))
