@@ -59,7 +59,8 @@ after_sync : chosen_image (choosing 1 165) (Wrote 2 (6 ∷ []) ∷ Wrote 0 (1 �
 after_sync = refl
 
 -- a write or a cut that failed did not happen, and is an operation all the same
-failed : chosen_image (choosing 7 165) (Wrote 0 (1 ∷ []) ∷ FailedCut 1 ∷ Tore 0 2 (4 ∷ 4 ∷ []) ∷ Made (7 ∷ 8 ∷ []) ∷ []) ≡ 1 ∷ 8 ∷ []
+failed : chosen_image (choosing 7 165) (Wrote 0 (1 ∷ []) ∷ FailedCut 1 ∷ Tore 0 2 (4 ∷ 4 ∷ []) ∷ Made
+    (7 ∷ 8 ∷ []) ∷ []) ≡ 1 ∷ 8 ∷ []
 failed = refl
 
 failed_counted : pending (Wrote 0 (1 ∷ []) ∷ FailedCut 1 ∷ Tore 0 2 (4 ∷ 4 ∷ []) ∷ Made (7 ∷ 8 ∷ []) ∷ []) ≡ 3
@@ -113,4 +114,24 @@ torn_before torn = cc torn.before
 
 -- two gates that were opened by writes of one octet, of which the second alone happened
 two_gates : Image (Wrote 2 (0xa5 ∷ []) ∷ Wrote 0 (0xa5 ∷ []) ∷ Made (0 ∷ 1 ∷ 0 ∷ 2 ∷ []) ∷ []) (0 ∷ 1 ∷ 0xa5 ∷ 2 ∷ [])
-two_gates = (0 ∷ 1 ∷ 0 ∷ 2 ∷ [], (0 ∷ 1 ∷ 0 ∷ 2 ∷ [], refl, record { before = refl; after = refl; no_shorter = lit≤ tt; no_longer = lit≤ tt }), record { before = refl; after = refl; no_shorter = lit≤ tt; no_longer = lit≤ tt })
+two_gates = (
+  0 ∷ 1 ∷ 0 ∷ 2 ∷ [],
+  (
+    0 ∷ 1 ∷ 0 ∷ 2 ∷ [],
+    refl,
+    record {
+      before = refl;
+      after = refl;
+      no_shorter =
+          lit≤ tt;
+      no_longer = lit≤ tt;
+    },
+  ),
+  record {
+    before = refl;
+    after = refl;
+    no_shorter = lit≤ tt;
+    no_longer =
+        lit≤ tt;
+  },
+)

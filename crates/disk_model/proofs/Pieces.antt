@@ -1,5 +1,6 @@
 -- A write that goes out in pieces, given up in its midst.
-use Rattle.std.proofs.Common.{◌≡◌, ◌⊎◌, ℕ, ◌+◌, ◌-◌, ◌<◌, ◌≤◌, zero, suc, min, max, List, ◌∷◌, ◌++◌, length, take, drop, Err, refl, inl, inr, ⊎_elim, sym, ap, ◌∙◌, subst, arith, length-take}
+use Rattle.std.proofs.Common.{◌≡◌, ◌⊎◌, ℕ, ◌+◌, ◌-◌, ◌<◌, ◌≤◌, zero, suc, min, max, List, ◌∷◌, ◌++◌, length, take}
+use Rattle.std.proofs.Common.{drop, Err, refl, inl, inr, ⊎_elim, sym, ap, ◌∙◌, subst, arith, length-take}
 use Rattle.std.proofs.lemmas.List.{drop-drop}
 use Rattle.std.proofs.lemmas.Bool.{cases_lt}
 use Rattle.disk_model.specs.declared.DiskFault.{DiskFault}
@@ -28,7 +29,8 @@ given_up at octets (suc done) before log fault within under_way =
     let old = content before in
     let count : length out ≡ suc done = length-take (suc done) octets ∙ omega arith in
     let torn : Torn at (length octets) old (overwritten old at out) =
-    Torn-wider at (length out) (length octets) old (overwritten old at out) (omega (arith, count)) (Torn-overwritten old at out) in
+    Torn-wider at (length out) (length octets) old (overwritten old at out) (omega (arith, count))
+    (Torn-overwritten old at out) in
     inr (inr (overwritten old at out, torn, under_way.goes_on (omega arith)))
 
 -- and so it is where a call more moved nothing, or had moved the last

@@ -1,5 +1,6 @@
 -- What a call of a flaky disk does (profile).
-use Rattle.std.specs.Prelude.{◌≡◌, ℕ, ◌+◌, ◌-◌, ◌^◌, ◌==◌, if◌then◌else◌, min, Bool, true, false, Option, None, Some, Result, IsErr}
+use Rattle.std.specs.Prelude.{◌≡◌, ℕ, ◌+◌, ◌-◌, ◌^◌, ◌==◌, if◌then◌else◌, min, Bool, true, false, Option, None, Some}
+use Rattle.std.specs.Prelude.{Result, IsErr}
 use Rattle.disk_model.specs.declared.DiskFault.{DiskFault}
 use Rattle.disk_model.specs.declared.flaky.FlakyDisk.{FlakyDisk}
 use Rattle.disk_model.specs.Disk.{CountsFaults}
@@ -30,8 +31,8 @@ abbrev pub left_after : Option ℕ → Option ℕ
 left_after None = None
 left_after (Some left) = if left == 0 then None else Some (left - 1)
 
--- One call of read_at, write_at, cut or sync. The one that is due fails, counts that, and the disk within is not asked. Any
--- other asks the disk within, and fails only where that disk does.
+-- One call of read_at, write_at, cut or sync. The one that is due fails, counts that, and the disk within is not
+-- asked. Any other asks the disk within, and fails only where that disk does.
 pub record FailsOnce {D T : Type 0} (told : D → ℕ) (old new : FlakyDisk D) (result : Result T DiskFault) : Type 0 where
   pub counts_down : calls_before new ≡ left_after (calls_before old)
   pub passes : is_due (calls_before old) ≡ false → CountsFaults (told (inner old)) (told (inner new)) result

@@ -1,5 +1,5 @@
--- What one call of the system does to a file that keeps the disk model (profile). A write that goes out in pieces is one
--- write: until its last piece is out it counts as a write that failed there.
+-- What one call of the system does to a file that keeps the disk model (profile). A write that goes out in pieces is
+-- one write: until its last piece is out it counts as a write that failed there.
 use Rattle.std.specs.Prelude.{◌≡◌, ℕ, ◌+◌, ◌<◌, List, ◌∷◌, length, take, slice_range, Result, Err, MatchResult}
 use Rattle.disk_model.specs.declared.DiskFault.{DiskFault}
 use Rattle.disk_model.specs.declared.raw_file.RawFault.{RawFault}
@@ -28,7 +28,8 @@ StopsWrite at octets before old Failed new = (fault : DiskFault) → Writes at o
 -- what a call that goes on with a write, of which so many octets are out, does
 abbrev pub WritesOn : ℕ → List ℕ → ℕ → (before old : List Event) → Result ℕ RawFault → (new : List Event) → Type 0
 WritesOn at octets done before old result new =
-    MatchResult result (λ n. Advances at octets (done + n) before new) (λ fault. StopsWrite at octets before old fault new)
+    MatchResult result (λ n. Advances at octets (done + n) before new) (λ fault.
+    StopsWrite at octets before old fault new)
 
 -- a cut that failed may have happened or not; one that was interrupted did not
 abbrev pub StopsCut : ℕ → (old : List Event) → RawFault → (new : List Event) → Type 0

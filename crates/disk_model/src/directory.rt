@@ -18,7 +18,8 @@ pub enum DirectoryFault {
     Failed(io::Error),
 }
 
-/// A directory of tapes, locked as long as this lives, so that no other process that locks it works on its files (flock(2)).
+/// A directory of tapes, locked as long as this lives, so that no other process that locks it works on its files
+/// (flock(2)).
 #[derive(Drop)]
 pub struct TapeDirectory {
     alloc: Global,

@@ -10,8 +10,8 @@ const MOST_INTERRUPTIONS: u64 = 1_000;
 
 /// A file as a disk. It is honest over an honest file.
 ///
-/// Once a sync has failed every later one fails: the system may have forgotten what it could not write, and a later sync
-/// would not tell (fsync(2), NOTES). What the file has then is known only to who opens it anew.
+/// Once a sync has failed every later one fails: the system may have forgotten what it could not write, and a later
+/// sync would not tell (fsync(2), NOTES). What the file has then is known only to who opens it anew.
 #[derive(Drop)]
 pub struct FileDisk<F: RawFile> {
     file: F,
@@ -153,7 +153,8 @@ impl<F: RawFile> Disk for FileDisk<F> {
         ensures honest { F.honest (file_of self.old) ↔ F.honest (file_of self.new) }
         ensures read { F.honest (file_of self.old) → OnOk result
             (into.new ≡ slice_range (content (F.log (file_of self.old))) at (at + length into.old)) }
-        ensures log { F.honest (file_of self.old) → F.log (file_of self.new) ≡ F.log (file_of self.old) }
+        ensures log { F.honest (file_of self.old)
+            → F.log (file_of self.new) ≡ F.log (file_of self.old) }
         ensures cause { CountsFaults (faults_of self.old) (faults_of self.new) result }
         ensures quiet { OnOk result (faults_of self.new ≡ faults_of self.old) }
         ensures lost { has_lost self.new ≡ has_lost self.old }

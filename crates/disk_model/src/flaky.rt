@@ -87,7 +87,8 @@ impl<D: Disk> Disk for FlakyDisk<D> {
         ensures read { D.honest (inner self.old)
             → OnOk result (into.new ≡ slice_range (content (D.log (inner self.old))) at (at + length into.old)) }
         ensures log { D.honest (inner self.old) → D.log (inner self.new) ≡ D.log (inner self.old) }
-        ensures cause { CountsFaults (all_faults D.told self.old) (all_faults D.told self.new) result }
+        ensures cause { CountsFaults (all_faults D.told self.old)
+            (all_faults D.told self.new) result }
         ensures quiet { OnOk result (all_faults D.told self.new ≡ all_faults D.told self.old) }
         ensures once { FailsOnce D.told self.old self.new result }
     {
@@ -100,7 +101,8 @@ impl<D: Disk> Disk for FlakyDisk<D> {
         ensures honest { D.honest (inner self.old) ↔ D.honest (inner self.new) }
         ensures log { D.honest (inner self.old)
             → Writes at from.now (D.log (inner self.old)) result (D.log (inner self.new)) }
-        ensures cause { CountsFaults (all_faults D.told self.old) (all_faults D.told self.new) result }
+        ensures cause { CountsFaults (all_faults D.told self.old)
+            (all_faults D.told self.new) result }
         ensures quiet { OnOk result (all_faults D.told self.new ≡ all_faults D.told self.old) }
         ensures once { FailsOnce D.told self.old self.new result }
     {
@@ -113,7 +115,8 @@ impl<D: Disk> Disk for FlakyDisk<D> {
         ensures honest { D.honest (inner self.old) ↔ D.honest (inner self.new) }
         ensures log { D.honest (inner self.old)
             → Cuts len (D.log (inner self.old)) result (D.log (inner self.new)) }
-        ensures cause { CountsFaults (all_faults D.told self.old) (all_faults D.told self.new) result }
+        ensures cause { CountsFaults (all_faults D.told self.old)
+            (all_faults D.told self.new) result }
         ensures quiet { OnOk result (all_faults D.told self.new ≡ all_faults D.told self.old) }
         ensures once { FailsOnce D.told self.old self.new result }
     {
@@ -125,7 +128,8 @@ impl<D: Disk> Disk for FlakyDisk<D> {
         ensures honest { D.honest (inner self.old) ↔ D.honest (inner self.new) }
         ensures log { D.honest (inner self.old)
             → Syncs (D.log (inner self.old)) result (D.log (inner self.new)) }
-        ensures cause { CountsFaults (all_faults D.told self.old) (all_faults D.told self.new) result }
+        ensures cause { CountsFaults (all_faults D.told self.old)
+            (all_faults D.told self.new) result }
         ensures quiet { OnOk result (all_faults D.told self.new ≡ all_faults D.told self.old) }
         ensures once { FailsOnce D.told self.old self.new result }
     {

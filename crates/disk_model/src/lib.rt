@@ -1,6 +1,7 @@
 //! Disks, as a journal sees them: what a read gives, and what a stop at any moment may leave.
 //!
-//! Most of it may touch nothing but memory; `raw_file` and `directory` may touch files, each method by one call of the system.
+//! Most of it may touch nothing but memory; `raw_file` and `directory` may touch files, each method by one call of the
+//! system.
 //! The crates above use the contract of [`Disk`] alone: content, images, moments, honesty, faults.
 //! The whole model is `specs/Disk.antt`; what proofs above it use is `specs/Moments.antt`.
 #![tactic(auto)]
@@ -61,7 +62,9 @@ pub trait Disk {
     fn read_at(&mut self, at: u64, into: &mut [u8]) -> Result<(), DiskFault>
         requires { at + length into.old ≤ size self.old }
         ensures honest { honest self.old ↔ honest self.new }
-        ensures read { honest self.old → OnOk result (into.new ≡ slice_range (content (log self.old)) at (at + length into.old)) }
+        ensures read { honest self.old
+            → OnOk result (into.new ≡ slice_range (content (log self.old)) at
+            (at + length into.old)) }
         ensures log { honest self.old → log self.new ≡ log self.old }
         ensures cause { CountsFaults (told self.old) (told self.new) result }
         ensures quiet { OnOk result (told self.new ≡ told self.old) };

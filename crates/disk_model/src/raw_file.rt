@@ -60,7 +60,8 @@ pub trait RawFile {
         requires end { at + length from.now < 2 ^ 64 }
         ensures honest { honest self.old ↔ honest self.new }
         ensures within { IfOk result (λ n. done + n ≤ length from.now) }
-        ensures log { honest self.old → (before : List Event) → UnderWay at from.now done before (log self.old)
+        ensures log { honest self.old → (before : List Event)
+            → UnderWay at from.now done before (log self.old)
             → WritesOn at from.now done before (log self.old) result (log self.new) };
 
     /// Cuts it to this length (ftruncate(2)).
@@ -77,7 +78,8 @@ pub trait RawFile {
     ghost content_is_image: { (file : Self) → honest file → Image (log file) (content (log file)) };
 }
 
-/// That a file of the system is honest is a premise, of which nothing can be proved: these bodies are to be read by eye.
+/// That a file of the system is honest is a premise, of which nothing can be proved: these bodies are to be read by
+/// eye.
 impl RawFile for File {
     ghost honest = { λ _. ⊥ };
 

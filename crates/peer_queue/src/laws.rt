@@ -4,7 +4,8 @@ ghost use Rattle.ledger_core.specs.State.{numbers};
 ghost use Rattle.recovery.specs.Image.{EachTape, Survives};
 ghost use Rattle.recovery.specs.Notes.{History, recovered};
 ghost use Rattle.peer_queue.specs.Place.{AreRising, all_ready, placed};
-ghost use Rattle.peer_queue.specs.Words.{IsBroken, StandsFor, Tells, disk_of, ledger_of, limits_of, pending_of, places_of};
+ghost use Rattle.peer_queue.specs.Words.{IsBroken, StandsFor, Tells, disk_of, ledger_of, limits_of, pending_of};
+ghost use Rattle.peer_queue.specs.Words.{places_of};
 
 use crate::fault::station_fault;
 use crate::{Station, StationFault};
@@ -23,18 +24,23 @@ pub fn each_number_has_one_place<D: Disk>(station: &Station<D>)
 /// A station whose flush answered Ok owes the same once its disk is opened again, and all of it is ready.
 ///
 /// # Errors
-/// Those of `flush`, then those of `open`. The disk is handed back: a stop leaves of it a tape of the first of the notes, with every
-/// note that was acknowledged before.
+/// Those of `flush`, then those of `open`. The disk is handed back: a stop leaves of it a tape of the first of the
+/// notes, with every note that was acknowledged before.
 pub fn reopened<D: Disk>(
     alloc: Global,
     mut station: Station<D>,
 ) -> Result<Station<D>, (D, StationFault)>
-    ensures stands { (h : History) → StandsFor station h → IfOk result (λ opened. StandsFor opened (recovered h.notes)) }
-    ensures ledger { (h : History) → StandsFor station h → IfOk result (λ opened. ledger_of opened ≡ ledger_of station) }
-    ensures ready { (h : History) → StandsFor station h → IfOk result (λ opened. places_of opened ≡ all_ready (numbers (ledger_of station))) }
-    ensures fresh { IfOk result (λ opened. (IsBroken opened → ⊥) × (pending_of opened ≡ 0) × (limits_of opened ≡ limits_of station)) }
+    ensures stands { (h : History) → StandsFor station h
+        → IfOk result (λ opened. StandsFor opened (recovered h.notes)) }
+    ensures ledger { (h : History) → StandsFor station h
+        → IfOk result (λ opened. ledger_of opened ≡ ledger_of station) }
+    ensures ready { (h : History) → StandsFor station h
+        → IfOk result (λ opened. places_of opened ≡ all_ready (numbers (ledger_of station))) }
+    ensures fresh { IfOk result (λ opened. (IsBroken opened → ⊥) × (pending_of opened ≡ 0)
+        × (limits_of opened ≡ limits_of station)) }
     ensures broken { Tells result StationFault.Broken ↔ IsBroken station }
-    ensures survives { (h : History) → StandsFor station h → IfErr result (λ e. D.honest e.0 × EachTape (Survives h) (D.log e.0)) }
+    ensures survives { (h : History) → StandsFor station h → IfErr result (λ e. D.honest e.0
+        × EachTape (Survives h) (D.log e.0)) }
     ensures undamaged { (h : History) → StandsFor station h
         → IfErr result (λ e. (segment at : ℕ) → e.1 ≢ StationFault.Tape (TapeFault.Damaged segment at)) }
     ensures cause { (h : History) → StandsFor station h → IfErr result (λ e.

@@ -39,4 +39,20 @@ no_note (Seen number) e = cc e
 
 -- one empty payload
 no_tape : IsNoTapeAt (0xa5 ∷ 0 ∷ 0 ∷ 0 ∷ 0 ∷ 0 ∷ []) 0
-no_tape = inr ([] ∷ [], 0, (lit≤ tt, (0 ∷ [], refl, lit< tt, tt)), (lit< tt, ([], tt, tt, refl, λ note is same legal. no_note note same)), refl)
+no_tape = inr (
+  [] ∷ [],
+  0,
+  (lit≤ tt, (0 ∷ [], refl, lit< tt, tt)),
+  (
+    lit< tt,
+    (
+      [],
+      tt,
+      tt,
+      refl,
+      λ note is same legal.
+          no_note note same,
+    ),
+  ),
+  refl,
+)

@@ -31,7 +31,8 @@ pub record StandsFor {D : Type 0} {g : Ghosts D} (tape : Tape D g) (h : History)
   pub images : EachTape (Survives h) (log_of tape)
   pub working : (IsBroken tape → ⊥) → IsWorking tape h
 
--- A tape was opened on a disk with this log: it stands for the notes of the content, all acknowledged; until the first sync
+-- A tape was opened on a disk with this log: it stands for the notes of the content, all acknowledged; until the first
+-- sync
 -- the images were those from before, and from it on each is a tape of the same notes.
 pub record IsOpenedTape {D : Type 0} {g : Ghosts D} (old : Log) (tape : Tape D g) : Type 0 where
   pub notes : List Note
@@ -40,14 +41,17 @@ pub record IsOpenedTape {D : Type 0} {g : Ghosts D} (old : Log) (tape : Tape D g
   pub moments : TapeLeaves (KeptFrom old) old (log_of tape)
   pub first_sync : TapeFirstSync (λ c. IsTape c notes) old (log_of tape)
 
--- A disk with this log was handed back: a stop left an image from before, or, from the first sync on, one that reads as the
+-- A disk with this log was handed back: a stop left an image from before, or, from the first sync on, one that reads
+-- as the
 -- content did.
 pub record IsRefusedTape {D : Type 0} {g : Ghosts D} (old : Log) (refused : RefusedTape D g) : Type 0 where
   pub honest : g.honest refused.disk
   pub moments : TapeLeaves (KeptFrom old) old (g.log refused.disk)
-  pub first_sync : (payloads : List (List ℕ)) → Reads (content old) payloads → TapeFirstSync (λ c. Reads c payloads) old (g.log refused.disk)
+  pub first_sync : (payloads : List (List ℕ)) → Reads (content old) payloads
+      → TapeFirstSync (λ c. Reads c payloads) old (g.log refused.disk)
 
--- A tape was opened on a disk each of whose images was a tape of the first of a history's notes with every acknowledged one:
+-- A tape was opened on a disk each of whose images was a tape of the first of a history's notes with every
+-- acknowledged one:
 -- it stands for such a front of them, all acknowledged now, and so was each image at each moment.
 pub record Recovers {D : Type 0} {g : Ghosts D} (h : History) (old : Log) (tape : Tape D g) : Type 0 where
   pub count : ℕ
