@@ -8,8 +8,6 @@
 
 mod mem;
 mod store;
-#[cfg(test)]
-mod tests;
 
 pub use mem::MemArticles;
 pub use std::alloc::AllocError as NoMemory;

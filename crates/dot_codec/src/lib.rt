@@ -10,8 +10,6 @@ mod fault;
 pub mod laws;
 mod read;
 mod scan;
-#[cfg(test)]
-mod tests;
 mod write;
 
 pub use fault::{BlockFault, BlockRefusal};

@@ -15,8 +15,6 @@ mod read;
 mod reader;
 mod settings;
 mod table;
-#[cfg(test)]
-mod tests;
 mod token;
 mod value;
 

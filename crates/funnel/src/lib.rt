@@ -10,8 +10,6 @@
 mod cutter;
 mod line;
 mod names;
-#[cfg(test)]
-mod tests;
 mod words;
 
 pub use cutter::{LineCutter, splits_once};

@@ -9,8 +9,6 @@ mod fault;
 pub mod laws;
 mod line;
 mod reader;
-#[cfg(test)]
-mod tests;
 mod unread;
 
 pub use fault::ReplyFault;

@@ -1,0 +1,127 @@
+// The store of articles: the crate article_store.
+ghost use Rattle.std.specs.Prelude.{IfOk, IfSome};
+ghost use Rattle.dot_codec.specs.Lines.{IsSendable};
+
+use crate::octets::{assert_told, put};
+use article_store::{Articles, Found, MemArticles, StoreFault};
+use bytes::Bytes;
+use funnel::Token;
+use std::alloc::{AllocError, Global};
+use std::test::Fail;
+
+// What is asked of a store about a token.
+#[derive(Clone, Copy)]
+enum Call {
+    Insert(&'static [u8]),
+    Remove,
+    Fetch,
+    HandOut,
+    // Of the store on the broken disk.
+    HandOutBroken,
+}
+
+// A store on a disk that cannot be read, which says nothing.
+#[derive(Drop)]
+struct BrokenDisk;
+
+impl Articles for BrokenDisk {
+    fn fetch(&mut self, _token: &Token) -> Result<Found, StoreFault> {
+        Err(StoreFault::Disk)
+    }
+}
+
+// The text under a token where it is handed out, by what any store promises.
+fn handed_out<A: Articles>(store: &mut A, token: &Token) -> Result<Option<Bytes>, StoreFault>
+    ensures sendable { IfOk result (λ found. IfSome found IsSendable) }
+    ensures said { IfOk result (λ found. IfSome found (λ text. A.says store.old token.now (Some text))) }
+{
+    match store.fetch(token)? {
+        Found::Article(text) => Ok(Some(text)),
+        Found::Gone | Found::Unsendable => Ok(None),
+    }
+}
+
+fn put_handed_out(
+    told: &mut Vec<u8>,
+    text: Result<Option<Bytes>, StoreFault>,
+) -> Result<(), AllocError> {
+    match text {
+        Ok(Some(text)) => put(told, text.as_slice()),
+        Ok(None) => put(told, b"none"),
+        Err(StoreFault::Disk) => put(told, b"Disk"),
+        Err(StoreFault::NoMemory) => Err(AllocError),
+    }
+}
+
+fn put_found(told: &mut Vec<u8>, found: Result<Found, StoreFault>) -> Result<(), AllocError> {
+    match found {
+        Ok(Found::Article(text)) => put(told, text.as_slice()),
+        Ok(Found::Gone) => put(told, b"gone"),
+        Ok(Found::Unsendable) => put(told, b"unsendable"),
+        Err(StoreFault::Disk) => put(told, b"Disk"),
+        Err(StoreFault::NoMemory) => Err(AllocError),
+    }
+}
+
+fn put_answer(
+    told: &mut Vec<u8>,
+    store: &mut MemArticles,
+    token: &Token,
+    call: Call,
+) -> Result<(), AllocError> {
+    match call {
+        Call::Insert(text) => store.insert(token, Bytes::from_static(text)),
+        Call::Remove => put(
+            told,
+            if store.remove(token) {
+                b"removed"
+            } else {
+                b"nothing"
+            },
+        ),
+        Call::Fetch => put_found(told, store.fetch(token)),
+        Call::HandOut => put_handed_out(told, handed_out(store, token)),
+        Call::HandOutBroken => put_handed_out(told, handed_out(&mut BrokenDisk, token)),
+    }
+}
+
+// What a store answers about this token; nothing where it takes a text in.
+fn answer(
+    alloc: Global,
+    store: &mut MemArticles,
+    token: &[u8],
+    call: Call,
+) -> Result<Vec<u8>, Fail> {
+    let token = Token::read(alloc, token)?.ok_or("a token")?;
+    let mut told = Vec::new(alloc);
+    put_answer(&mut told, store, &token, call)?;
+    Ok(told)
+}
+
+#[test]
+fn texts_stand_under_their_tokens(rt: HostRuntime) -> Result<(), Fail> {
+    let mut store = MemArticles::new(rt.alloc());
+    let rows: [(&[u8], Call, &[u8]); 16] = [
+        (b"a/1", Call::Fetch, b"gone|"),
+        (b"a/1", Call::Remove, b"nothing|"),
+        (b"a/1", Call::Insert(b"one\n"), b""),
+        (b"a/1", Call::Insert(b"two\n"), b""),
+        (b"a/1", Call::HandOut, b"two\n|"),
+        (b"a/1", Call::HandOut, b"two\n|"),
+        (b"a/2", Call::Fetch, b"gone|"),
+        (b"a/1", Call::Remove, b"removed|"),
+        (b"a/1", Call::Fetch, b"gone|"),
+        // Texts with no written form stay inside.
+        (b"a/1", Call::Insert(b""), b""),
+        (b"a/1", Call::Fetch, b"unsendable|"),
+        (b"a/1", Call::HandOut, b"none|"),
+        (b"a/1", Call::Insert(b"a\0"), b""),
+        (b"a/1", Call::Fetch, b"unsendable|"),
+        (b"a/1", Call::HandOut, b"none|"),
+        (b"a/1", Call::HandOutBroken, b"Disk|"),
+    ];
+    for (token, call, want) in rows {
+        assert_told(&rt, &answer(rt.alloc(), &mut store, token, call)?, want);
+    }
+    Ok(())
+}

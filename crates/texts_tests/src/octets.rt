@@ -1,0 +1,35 @@
+// What is told of an answer: its parts, each with a bar behind it. No row's text has a bar.
+//
+// A check pays for each value that has to be dropped past a call that may fail. So what makes many calls holds
+// references, and a row of many octets says what they are.
+use std::alloc::{AllocError, Global};
+use std::fmt::Display;
+use std::process::Abort;
+
+// Octets: a front, an octet so many times, and an end.
+pub(crate) type Long = (&'static [u8], u8, usize, &'static [u8]);
+
+pub(crate) fn long(alloc: Global, (front, octet, count, end): Long) -> Result<Vec<u8>, AllocError> {
+    let mut octets = Vec::from_slice(alloc, front)?;
+    octets.resize(front.len().saturating_add(count), octet)?;
+    octets.extend_from_slice(end)?;
+    Ok(octets)
+}
+
+// Puts one part more behind what is told.
+pub(crate) fn put(told: &mut Vec<u8>, part: &[u8]) -> Result<(), AllocError> {
+    told.extend_from_slice(part)?;
+    told.push(b'|')?;
+    Ok(())
+}
+
+// The same of a number or a fault, as it is printed.
+pub(crate) fn put_printed(told: &mut Vec<u8>, part: &impl Display) -> Result<(), AllocError> {
+    let printed = part.to_string(*told.allocator())?;
+    put(told, printed.as_bytes())
+}
+
+// The one place where octets are compared, which a check pays for once.
+pub(crate) fn assert_told(rt: &impl Abort, told: &[u8], want: &[u8]) {
+    assert_eq!(rt; told, want);
+}
