@@ -1,7 +1,8 @@
 #!/usr/bin/env bash
-# How the work of `Later` grows from 10,000 numbers to 100,000, for each pattern and each order of its numbers, the
-# putting in of the numbers included; the best of five runs of each. Ten times the numbers make ten times the calls, of
-# 17 levels of the tree at most in place of 14, so that the steps alone would make a ratio of about 12.
+# How the work of `Later` grows from 10,000 numbers to 100,000, for each pattern and each order of its numbers, by the
+# processor time of whole runs: the start of the program and the putting in of the numbers are in it. Ten times the
+# numbers make ten times the calls, of 17 levels of the tree at most in place of 14, so that the steps alone would make a
+# ratio of about 12.
 #
 # rising: the numbers are put in from the least to the greatest, as a funnel counts them. The aim is a ratio of under 14.
 #
@@ -15,8 +16,8 @@ build bench
 
 for order in rising scattered; do
   for pattern in together waiting again held; do
-    few=$(best 5 bench deferral "$pattern" "$order" 10000)
-    many=$(best 5 bench deferral "$pattern" "$order" 100000)
+    few=$(best 5 processor 10 bench deferral "$pattern" "$order" 10000)
+    many=$(best 5 processor 1 bench deferral "$pattern" "$order" 100000)
     ratio "Later, $pattern, $order, growth from 10,000 to 100,000 numbers" "$many" "$few"
   done
 done

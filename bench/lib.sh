@@ -9,6 +9,14 @@ commit=$(git -C "$top" rev-parse --short HEAD)$([ -z "$(git -C "$top" status --p
 # bench NAME WORD ..: one run of a benchmark, which prints `COUNT WHAT N nanoseconds`.
 bench() { "$top/crates/bench/out/bench" "$@"; }
 
+# processor TIMES COMMAND ..: the same of the processor time that one of so many runs takes, its start included.
+processor() {
+  local TIMEFORMAT='%3U %3S' times=$1 run
+  shift
+  { time for ((run = 0; run < times; run++)); do "$@" >/dev/null; done; } 2>&1 |
+    awk -v times="$times" '{ printf "%d runs %.0f nanoseconds\n", times, 1e9 * ($1 + $2) / times }'
+}
+
 # best RUNS COMMAND ..: the least nanoseconds of so many runs of a command that prints as `bench` does.
 best() {
   local runs=$1 run

@@ -46,6 +46,15 @@ struct Told {
     time: Duration,
 }
 
+impl Told {
+    // Adds the time since a start.
+    fn stop<R: Clock>(&mut self, rt: &R, start: Instant) -> Result<()> {
+        let time = start.elapsed(rt)?;
+        self.time = self.time.saturating_add(time);
+        Ok(())
+    }
+}
+
 pub fn run<R: AllocGlobal + Print + Clock>(rt: &R, words: &[String]) -> Result<()> {
     let (work, count) = match words {
         [] => return small(rt),
@@ -79,36 +88,57 @@ fn worked_off<R: AllocGlobal + Clock>(rt: &R, work: Work, count: u64) -> Result<
         time: start.elapsed(rt)?,
     };
     for round in 0..count / IN_FLIGHT {
-        work_off(rt, &mut station, &mut peer, &mut told, round)?;
+        let debts = claim_batch(rt, &mut station, &mut told)?;
+        let outcomes = outcomes_of(rt.alloc(), &mut peer, debts)?;
+        end_batch(rt, &mut station, outcomes, round, &mut told)?;
     }
-    let start = Instant::now(rt)?;
-    station.flush()?;
-    if let Work::Defer = work {
-        told.claimed_again = all_claimed(&mut station, count)?;
-    }
-    told.time = told.time.saturating_add(start.elapsed(rt)?);
+    end_all(rt, &mut station, work, count, &mut told)?;
     Ok(told)
 }
 
-// Claims as many debts as may be under way, and tells the station what the peer answers, with a flush now and then.
-fn work_off<R: AllocGlobal + Clock>(
+// Claims as many debts as may be under way.
+fn claim_batch<R: AllocGlobal + Clock>(
     rt: &R,
     station: &mut Station<MemDisk>,
-    peer: &mut Peer,
     told: &mut Told,
-    round: u64,
-) -> Result<()> {
+) -> Result<Vec<Debt>> {
     let start = Instant::now(rt)?;
     let debts = claimed(rt.alloc(), station)?;
-    told.time = told.time.saturating_add(start.elapsed(rt)?);
-    let outcomes = outcomes_of(rt.alloc(), peer, debts)?;
+    told.stop(rt, start)?;
+    Ok(debts)
+}
+
+// Tells the station what became of as many, with a flush now and then.
+fn end_batch<R: Clock>(
+    rt: &R,
+    station: &mut Station<MemDisk>,
+    outcomes: Vec<Outcome>,
+    round: u64,
+    told: &mut Told,
+) -> Result<()> {
     let start = Instant::now(rt)?;
-    told.answered = told.answered.saturating_add(end_each(station, outcomes)?);
+    let answered = end_each(station, outcomes)?;
+    told.answered = told.answered.saturating_add(answered);
     if round % BATCHES == 0 {
-        station.flush()?;
+        flush(station)?;
     }
-    told.time = told.time.saturating_add(start.elapsed(rt)?);
-    Ok(())
+    told.stop(rt, start)
+}
+
+// Flushes what pends, and claims what was put off again.
+fn end_all<R: Clock>(
+    rt: &R,
+    station: &mut Station<MemDisk>,
+    work: Work,
+    count: u64,
+    told: &mut Told,
+) -> Result<()> {
+    let start = Instant::now(rt)?;
+    flush(station)?;
+    if let Work::Defer = work {
+        told.claimed_again = all_claimed(station, count)?;
+    }
+    told.stop(rt, start)
 }
 
 fn peer_of(alloc: Global, work: Work) -> Result<Peer> {
@@ -141,23 +171,27 @@ fn outcomes_of(alloc: Global, peer: &mut Peer, debts: Vec<Debt>) -> Result<Vec<O
 
 // A station over a disk in memory that owes so many debts, in whole batches, none of which pends.
 fn owing(alloc: Global, peer: &Peer, count: u64) -> Result<Station<MemDisk>> {
+    let mut station = opened(alloc)?;
+    for round in 0..count / IN_FLIGHT {
+        owe_batch(&mut station, peer, round)?;
+        if round % BATCHES == 0 {
+            flush(&mut station)?;
+        }
+    }
+    flush(&mut station)?;
+    Ok(station)
+}
+
+fn opened(alloc: Global) -> Result<Station<MemDisk>> {
     let limits = Limits {
         backlog_limit: 0,
         backlog_high: 0,
         drop_deferred: false,
     };
-    let mut station = match Station::open(alloc, MemDisk::new(alloc), limits) {
-        Ok(station) => station,
-        Err(refused) => return Err(refused.fault.into()),
-    };
-    for round in 0..count / IN_FLIGHT {
-        owe_batch(&mut station, peer, round)?;
-        if round % BATCHES == 0 {
-            station.flush()?;
-        }
+    match Station::open(alloc, MemDisk::new(alloc), limits) {
+        Ok(station) => Ok(station),
+        Err(refused) => Err(refused.fault.into()),
     }
-    station.flush()?;
-    Ok(station)
 }
 
 // Owes one debt of each id.
@@ -169,11 +203,23 @@ fn owe_batch(station: &mut Station<MemDisk>, peer: &Peer, round: u64) -> Result<
     Ok(())
 }
 
+// proof: what a call of the station ensures is left behind here, so that its callers carry none of it.
+fn flush(station: &mut Station<MemDisk>) -> Result<()> {
+    station.flush()?;
+    Ok(())
+}
+
+// proof: as `flush`.
+fn claim(station: &mut Station<MemDisk>, now: u64) -> Result<Option<Debt>> {
+    let debt = station.claim(CONNECTION, now)?;
+    Ok(debt)
+}
+
 // Claims as many debts as may be under way.
 fn claimed(alloc: Global, station: &mut Station<MemDisk>) -> Result<Vec<Debt>> {
     let mut debts = Vec::new(alloc);
     for _ in 0..IN_FLIGHT {
-        debts.push(station.claim(CONNECTION, 0)?.context("a debt")?)?;
+        debts.push(claim(station, 0)?.context("a debt")?)?;
     }
     Ok(debts)
 }
@@ -182,7 +228,7 @@ fn claimed(alloc: Global, station: &mut Station<MemDisk>) -> Result<Vec<Debt>> {
 fn all_claimed(station: &mut Station<MemDisk>, most: u64) -> Result<u64> {
     let mut count = 0u64;
     for _ in 0..most {
-        if station.claim(CONNECTION, 60)?.is_some() {
+        if claim(station, 60)?.is_some() {
             count = count.saturating_add(1);
         }
     }

@@ -4,8 +4,6 @@
 // none is due, and it is asked once for each number; `again`, the least due is taken out and put in again for 60
 // seconds later, once for each number; `held`, each, in the order in which they were put in, is made due at no moment,
 // and the least due from it on is asked. The putting in of the numbers is in the time.
-ghost use Rattle.std.specs.Prelude.{◌<◌};
-
 use crate::time::{number, tell};
 use anyhow::{Result, bail};
 use deferral::Later;
@@ -35,12 +33,14 @@ impl Order {
     }
 
     // The number that is put in at this turn.
-    fn number(self, turn: u32, count: u32) -> u64
-        requires { turn < count }
-    {
+    fn number(self, turn: u32, count: u32) -> u64 {
+        let turn = u64::from(turn);
         match self {
-            Order::Rising => u64::from(turn),
-            Order::Scattered => u64::from(turn) * STRIDE % u64::from(count),
+            Order::Rising => turn,
+            Order::Scattered => turn
+                .saturating_mul(STRIDE)
+                .checked_rem(u64::from(count))
+                .unwrap_or(0),
         }
     }
 }
