@@ -13,7 +13,7 @@ build() {
   stale "$1" || return 0
   local line crate='' said='' began
   began=$(date +%s.%N)
-  echo "$1: building and proving the program first; from nothing this takes up to half an hour" >&2
+  echo "$1: building and proving the program first; from nothing this takes 10 to 45 minutes" >&2
   while IFS= read -r line; do
     said+=$line$'\n'
     case $line in
