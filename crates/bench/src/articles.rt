@@ -141,7 +141,7 @@ fn sent(alloc: Global, feed: &Feed, articles: u64) -> Result<Told> {
         offer_each(&mut conn, feed, round)?;
         told.octets = told.octets.saturating_add(drain(&mut conn));
         conn.input(&feed.wanted)?;
-        hand_in(&mut conn, &feed.texts)?;
+        hand_in_each(&mut conn, &feed.texts)?;
         told.octets = told.octets.saturating_add(drain(&mut conn));
         conn.input(&feed.taken)?;
         told.finals = told.finals.saturating_add(finals(&mut conn));
@@ -159,13 +159,18 @@ fn offer_each(conn: &mut Conn, feed: &Feed, round: u64) -> Result<()> {
 }
 
 // Hands in each article that is wanted.
-fn hand_in(conn: &mut Conn, texts: &[Bytes]) -> Result<()> {
+fn hand_in_each(conn: &mut Conn, texts: &[Bytes]) -> Result<()> {
     for _ in 0..IN_FLIGHT {
         let number = conn.need().context("an article is wanted")?;
         let text = in_turn(texts, number).context("a text")?;
-        if conn.article(number, Found::Article(text.clone()?)).is_err() {
-            bail!("an article was refused");
-        }
+        hand_in(conn, number, text.clone()?)?;
+    }
+    Ok(())
+}
+
+fn hand_in(conn: &mut Conn, number: u64, text: Bytes) -> Result<()> {
+    if conn.article(number, Found::Article(text)).is_err() {
+        bail!("an article was refused");
     }
     Ok(())
 }

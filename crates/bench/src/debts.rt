@@ -80,20 +80,43 @@ fn small<R: AllocGlobal + Print + Clock>(rt: &R) -> Result<()> {
 // Owes so many debts, and works them off.
 fn worked_off<R: AllocGlobal + Clock>(rt: &R, work: Work, count: u64) -> Result<Told> {
     let mut peer = peer_of(rt.alloc(), work)?;
-    let start = Instant::now(rt)?;
-    let mut station = owing(rt.alloc(), &peer, count)?;
+    worked_off_with(rt, &mut peer, work, count)
+}
+
+// proof: the connection and the station each in a frame of its own, so that no way out of either drops both.
+fn worked_off_with<R: AllocGlobal + Clock>(
+    rt: &R,
+    peer: &mut Peer,
+    work: Work,
+    count: u64,
+) -> Result<Told> {
     let mut told = Told {
         answered: 0,
         claimed_again: 0,
-        time: start.elapsed(rt)?,
+        time: Duration::ZERO,
     };
-    for round in 0..count / IN_FLIGHT {
-        let debts = claim_batch(rt, &mut station, &mut told)?;
-        let outcomes = outcomes_of(rt.alloc(), &mut peer, debts)?;
-        end_batch(rt, &mut station, outcomes, round, &mut told)?;
-    }
+    let start = Instant::now(rt)?;
+    let mut station = owing(rt.alloc(), peer, count)?;
+    told.stop(rt, start)?;
+    work_off(rt, &mut station, peer, count, &mut told)?;
     end_all(rt, &mut station, work, count, &mut told)?;
     Ok(told)
+}
+
+// Claims so many debts in batches, and tells the station what the peer answers.
+fn work_off<R: AllocGlobal + Clock>(
+    rt: &R,
+    station: &mut Station<MemDisk>,
+    peer: &mut Peer,
+    count: u64,
+    told: &mut Told,
+) -> Result<()> {
+    for round in 0..count / IN_FLIGHT {
+        let debts = claim_batch(rt, station, told)?;
+        let outcomes = outcomes_of(rt.alloc(), peer, debts)?;
+        end_batch(rt, station, outcomes, round, told)?;
+    }
+    Ok(())
 }
 
 // Claims as many debts as may be under way.
