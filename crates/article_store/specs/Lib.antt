@@ -1,2 +1,4 @@
 pub mod Finds
+pub mod Paths
+pub mod Reads
 pub mod Texts

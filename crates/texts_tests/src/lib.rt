@@ -10,6 +10,8 @@ mod articles;
 #[cfg(test)]
 mod blocks;
 #[cfg(test)]
+mod folders;
+#[cfg(test)]
 mod lines;
 #[cfg(test)]
 mod octets;

@@ -1,0 +1,220 @@
+// A store of articles that are files below a directory.
+ghost use Rattle.std.specs.Prelude.{ℕ, ◌≡◌, ◌≢◌, ◌∷◌, [], ◌++◌, ◌+◌, ◌≤◌, ◌<◌, length, take, drop, string_bytes};
+ghost use Rattle.std.specs.Prelude.{IfOk, IfErr, IfSome, OnOk, OnErr};
+ghost use Rattle.std.specs.Io.KnownBytes.{Consumes, IsAtEnd, Keeps};
+ghost use Rattle.article_store.specs.Finds.{IsFound};
+ghost use Rattle.article_store.specs.Paths.{root_of};
+ghost use Rattle.article_store.specs.Reads.{ConsumesAtMost, IsReadAs, answer_to};
+
+use crate::store::{Articles, Found, StoreFault};
+use bytes::Bytes;
+use dot_codec::is_sendable;
+use funnel::Token;
+use std::alloc::{AllocError, Global};
+use std::fs::File;
+use std::io::{self, ErrorKind, Read};
+use std::rt::Files;
+use std::str;
+
+// One octet more than the longest text that is sent: what is so long is not read on.
+const MOST: usize = 16_777_217;
+
+// The room that is made for the first file, in octets; most articles fit.
+const FIRST_ROOM: usize = 65_536;
+
+/// Articles that are files below a directory: the text of a token is the file at the directory's path, `/`, the token.
+/// Each fetch opens, reads and closes one file, and copies its text once. The path and the text are built in two
+/// buffers that are kept: of the longest path, and of at most 16,777,217 octets.
+#[derive(Drop)]
+pub struct Folder<F: Files + Drop> {
+    files: F,
+    alloc: Global,
+    root: String,
+    path: String,
+    buffer: Vec<u8>,
+}
+
+impl<F: Files + Drop> Folder<F> {
+    /// The files below the directory at this path, which is looked at by no call but `fetch`.
+    ///
+    /// # Errors
+    /// `NoMemory` where memory was refused.
+    pub fn new(files: F, alloc: Global, directory: &str) -> Result<Self, AllocError>
+        ensures { IfOk result (λ folder. root_of folder ≡ directory.now ++ 47 ∷ []) }
+    {
+        let mut root = String::from_str(alloc, directory)?;
+        root.push_str("/")?;
+        Ok(Folder {
+            files,
+            alloc,
+            root,
+            path: String::new(alloc),
+            buffer: Vec::new(alloc),
+        })
+    }
+
+    /// The path of a token's file, for a log.
+    ///
+    /// # Errors
+    /// [`StoreFault::NoMemory`] where memory was refused.
+    pub fn path_of(&mut self, token: &Token) -> Result<&str, StoreFault>
+        ensures { IfOk result (λ path. path.now ≡ root_of self.old ++ token.now) }
+    {
+        build_path(&mut self.path, &self.root, token)
+    }
+}
+
+impl<F: Files + Drop> Articles for Folder<F> {
+    /// What the file of the token has, as [`read_article`] tells it. `Gone` where there is no such file: nothing, or a
+    /// directory, or a part of the path that is none.
+    ///
+    /// # Errors
+    /// [`StoreFault::NoMemory`] where memory was refused; [`StoreFault::Disk`] where the file could not be opened or read
+    /// for any other reason.
+    fn fetch(&mut self, token: &Token) -> Result<Found, StoreFault>
+        ensures sendable { IfOk result IsFound }
+    {
+        let path = build_path(&mut self.path, &self.root, token)?;
+        match File::open(&self.files, path) {
+            Ok(mut file) => read_article(self.alloc, &mut file, &mut self.buffer),
+            Err(error) => missing(error.kind()),
+        }
+    }
+}
+
+/// What a reader gives, as an article: the whole text up to the reader's end, whatever its length is said to be, so that
+/// no part of a text is an article. Of more than 16,777,216 octets the first 16,777,217 are read, and no more: it is
+/// `Unsendable`. An interrupted read is tried again. The text is read into the buffer, which grows to that length at
+/// most, and is copied from there once.
+///
+/// `Gone` where a read tells that there is nothing, or a directory, or a path through what is none.
+///
+/// # Errors
+/// [`StoreFault::NoMemory`] where memory was refused; [`StoreFault::Disk`] where a read failed for any other reason.
+pub fn read_article<R: Read>(
+    alloc: Global,
+    reader: &mut R,
+    buffer: &mut Vec<u8>,
+) -> Result<Found, StoreFault>
+    ensures sendable { IfOk result IsFound }
+    ensures whole { IfSome (R.remaining reader.old) (λ text. IfOk result (IsReadAs text)) }
+    ensures limit { ConsumesAtMost 16777217 (R.remaining reader.old) (R.remaining reader.new) }
+{
+    match read_front(reader, buffer) {
+        Ok(count) => judge(alloc, &buffer[..count]),
+        Err(error) => missing(error.kind()),
+    }
+}
+
+// Builds the path of a token's file. A token is ASCII, so its octets are text.
+fn build_path<'p>(path: &'p mut String, root: &String, token: &Token) -> Result<&'p str, StoreFault>
+    ensures { IfOk result (λ built. built.now ≡ string_bytes root.now ++ token.now) }
+{
+    let Ok(name) = str::from_utf8(token.bytes()) else {
+        return Err(StoreFault::Disk);
+    };
+    path.clear();
+    path.push_str(root.as_str())?;
+    path.push_str(name)?;
+    Ok(path.as_str())
+}
+
+// Reads to the reader's end, but no more than `MOST` octets, into the front of a buffer, and tells how many came.
+fn read_front<R: Read>(reader: &mut R, buffer: &mut Vec<u8>) -> io::Result<usize>
+    ensures within { IfOk result (λ count. count ≤ length buffer.new.items) }
+    ensures short { IfOk result (λ count. count ≤ 16777217) }
+    ensures gave { IfOk result (λ count.
+        Consumes (R.remaining reader.old) (R.remaining reader.new) (take count buffer.new.items)) }
+    ensures end { IfOk result (λ count. count < 16777217 → IsAtEnd (R.remaining reader.new)) }
+    ensures limit { ConsumesAtMost 16777217 (R.remaining reader.old) (R.remaining reader.new) }
+{
+    let mut filled = 0;
+    for _ in 0..u64::MAX {
+        if filled >= MOST {
+            return Ok(filled);
+        }
+        match read_more(reader, buffer, filled) {
+            Ok(0) => return Ok(filled),
+            Ok(count) => filled += count,
+            Err(error) if error.kind() == ErrorKind::Interrupted => {}
+            Err(error) => return Err(error),
+        }
+    }
+    Err(io::Error::from(ErrorKind::TimedOut))
+}
+
+// One read behind the octets that are filled, and how many came: none at the reader's end alone.
+fn read_more<R: Read>(reader: &mut R, buffer: &mut Vec<u8>, filled: usize) -> io::Result<usize>
+    requires within { filled ≤ length buffer.old.items }
+    requires short { filled < 16777217 }
+    ensures front { take filled buffer.new.items ≡ take filled buffer.old.items }
+    ensures fits { IfOk result (λ count. filled + count ≤ length buffer.new.items) }
+    ensures most { IfOk result (λ count. filled + count ≤ 16777217) }
+    ensures gave { IfOk result (λ count. Consumes (R.remaining reader.old) (R.remaining reader.new)
+        (take count (drop filled buffer.new.items))) }
+    ensures end { IfOk result (λ count. count ≡ 0 → IsAtEnd (R.remaining reader.new)) }
+    ensures err { OnErr result (Keeps (R.remaining reader.old) (R.remaining reader.new)) }
+{
+    if filled >= buffer.len() {
+        make_room(buffer)?;
+    }
+    let end = buffer.len().min(MOST);
+    read_at(reader, buffer.as_mut_slice(), filled, end)
+}
+
+// One read into a part of a buffer, which has room.
+fn read_at<R: Read>(
+    reader: &mut R,
+    buffer: &mut [u8],
+    start: usize,
+    end: usize,
+) -> io::Result<usize>
+    requires some { start < end }
+    requires within { end ≤ length buffer.old }
+    ensures front { take start buffer.new ≡ take start buffer.old }
+    ensures fits { IfOk result (λ count. start + count ≤ end) }
+    ensures gave { IfOk result (λ count. Consumes (R.remaining reader.old) (R.remaining reader.new)
+        (take count (drop start buffer.new))) }
+    ensures end { IfOk result (λ count. count ≡ 0 → IsAtEnd (R.remaining reader.new)) }
+    ensures err { OnErr result (Keeps (R.remaining reader.old) (R.remaining reader.new)) }
+{
+    reader.read(&mut buffer[start..end])
+}
+
+// Doubles a buffer, up to `MOST` octets.
+fn make_room(buffer: &mut Vec<u8>) -> Result<(), AllocError>
+    requires { length buffer.old.items < 16777217 }
+    ensures longer { OnOk result (length buffer.old.items < length buffer.new.items) }
+    ensures front { (count : ℕ) → count ≤ length buffer.old.items
+        → take count buffer.new.items ≡ take count buffer.old.items }
+{
+    let room = buffer.len().saturating_mul(2).clamp(FIRST_ROOM, MOST);
+    buffer.resize(room, 0)
+}
+
+// What a whole text is: an article where it has a written form.
+fn judge(alloc: Global, text: &[u8]) -> Result<Found, StoreFault>
+    ensures sendable { IfOk result IsFound }
+    ensures said { IfOk result (IsReadAs text.now) }
+    ensures there { result ≢ Ok Found.Gone }
+    ensures memory { IfErr result (λ fault. fault ≡ StoreFault.NoMemory) }
+{
+    if is_sendable(text) {
+        Ok(Found::Article(Bytes::copy_from_slice(alloc, text)?))
+    } else {
+        Ok(Found::Unsendable)
+    }
+}
+
+// What it means that a file could not be opened or read. A directory opens, and then its read fails.
+fn missing(kind: ErrorKind) -> Result<Found, StoreFault>
+    ensures { result ≡ answer_to kind }
+{
+    match kind {
+        ErrorKind::NotFound => Ok(Found::Gone),
+        ErrorKind::NotADirectory => Ok(Found::Gone),
+        ErrorKind::IsADirectory => Ok(Found::Gone),
+        ErrorKind::OutOfMemory => Err(StoreFault::NoMemory),
+        _ => Err(StoreFault::Disk),
+    }
+}
