@@ -1,5 +1,6 @@
 -- Texts that are read piece by piece.
-use Rattle.std.proofs.Common.{◌≡◌, ◌≤◌, ◌<◌, ◌+◌, ◌++◌, ℕ, List, Option, None, Some, IfSome, length, take, drop, sym, ap, subst, ◌∙◌, arith, append-nil, length-append, length-take}
+use Rattle.std.proofs.Common.{◌≡◌, ◌≤◌, ◌<◌, ◌+◌, ◌++◌, ℕ, List, Option, None, Some, IfSome, length, take, drop}
+use Rattle.std.proofs.Common.{sym, ap, subst, ◌∙◌, arith, append-nil, length-append, length-take}
 use Rattle.std.proofs.Math.Seq.{take-add}
 use Rattle.std.proofs.KnownBytes.{Consumes-kept, Consumes-trans}
 use Rattle.std.specs.Io.KnownBytes.{Consumes, IsAtEnd, Keeps}
@@ -24,7 +25,8 @@ filled_more a b c xs ys f n front before read =
 -- the reader gave nothing more
 pub kept_front : (a b c : Option (List ℕ)) (xs ys : List ℕ) (f : ℕ) → take f ys ≡ take f xs
     → Consumes a b (take f xs) → Keeps b c → Consumes a c (take f ys)
-kept_front a b c xs ys f front before kept = subst (Consumes a c) (sym front) (Consumes-kept a b c (take f xs) before kept)
+kept_front a b c xs ys f front before kept =
+    subst (Consumes a c) (sym front) (Consumes-kept a b c (take f xs) before kept)
 
 -- what came before the reader's end is the text
 whole_text : (text front : List ℕ) (b : Option (List ℕ)) → Consumes (Some text) b front → IsAtEnd b → front ≡ text
@@ -38,10 +40,13 @@ no_longer text front (Some rest) p = omega (arith, ap length p, length-append fr
 
 -- what was read is what the text is: the whole text, or so much of it that it is too long
 pub read_as : (a b : Option (List ℕ)) (front : List ℕ) (found : Found) → Consumes a b front
-    → (length front < 16777217 → IsAtEnd b) → IsFound found → IsReadAs front found → IfSome a (λ text. IsReadAs text found)
+    → (length front < 16777217 → IsAtEnd b) → IsFound found → IsReadAs front found
+    → IfSome a (λ text. IsReadAs text found)
 read_as None b front found p end sendable judged = tt
 read_as (Some text) b front (Article read) p end sendable judged =
     judged ∙ whole_text text front b p (end (omega (arith, sendable.short, ap length judged)))
 read_as (Some text) b front Gone p end sendable judged = tt
 read_as (Some text) b front Unsendable p end sendable judged =
-    λ sent. judged (subst IsSendable (sym (whole_text text front b p (end (omega (arith, sent.short, no_longer text front b p))))) sent)
+    λ sent.
+    let shorter : length front < 16777217 = omega (arith, sent.short, no_longer text front b p) in
+    judged (subst IsSendable (sym (whole_text text front b p (end shorter))) sent)

@@ -69,8 +69,8 @@ impl<F: Files + Drop> Articles for Folder<F> {
     /// directory, or a part of the path that is none.
     ///
     /// # Errors
-    /// [`StoreFault::NoMemory`] where memory was refused; [`StoreFault::Disk`] where the file could not be opened or read
-    /// for any other reason.
+    /// [`StoreFault::NoMemory`] where memory was refused; [`StoreFault::Disk`] where the file could not be opened or
+    /// read for any other reason.
     fn fetch(&mut self, token: &Token) -> Result<Found, StoreFault>
         ensures sendable { IfOk result IsFound }
     {
@@ -82,10 +82,10 @@ impl<F: Files + Drop> Articles for Folder<F> {
     }
 }
 
-/// What a reader gives, as an article: the whole text up to the reader's end, whatever its length is said to be, so that
-/// no part of a text is an article. Of more than 16,777,216 octets the first 16,777,217 are read, and no more: it is
-/// `Unsendable`. An interrupted read is tried again. The text is read into the buffer, which grows to that length at
-/// most, and is copied from there once.
+/// What a reader gives, as an article: the whole text up to the reader's end, whatever its length is said to be, so
+/// that no part of a text is an article. Of more than 16,777,216 octets the first 16,777,217 are read, and no more:
+/// it is `Unsendable`. An interrupted read is tried again. The text is read into the buffer, which grows to that
+/// length at most, and is copied from there once.
 ///
 /// `Gone` where a read tells that there is nothing, or a directory, or a path through what is none.
 ///

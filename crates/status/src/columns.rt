@@ -1,0 +1,57 @@
+// The columns of a line: a text with spaces behind it or before it, up to the column's width.
+ghost use Rattle.std.specs.Prelude.{◌≤◌, OnOk, OnErr};
+ghost use Rattle.std.specs.Io.KnownBytes.{Appends};
+ghost use Rattle.status.specs.Fronts.{AppendsFront};
+ghost use Rattle.status.specs.Report.{left, number, spaces};
+
+use crate::lines::ReportFault;
+use crate::put::put;
+use funnel::PeerName;
+use std::io::Write;
+
+// The widest column.
+const WIDEST: usize = 20;
+
+const SPACES: [u8; WIDEST] = [b' '; WIDEST];
+
+// Writes a name at the left of a column.
+pub(crate) fn put_name<W: Write>(
+    out: &mut W,
+    width: usize,
+    name: &PeerName,
+) -> Result<(), ReportFault>
+    requires { width ≤ 20 }
+    ensures whole { OnOk result
+        (Appends (W.contents out.old) (W.contents out.new) (left width name.now)) }
+    ensures front { OnErr result
+        (AppendsFront (W.contents out.old) (W.contents out.new) (left width name.now)) }
+{
+    let octets = name.bytes();
+    put(out, octets)?;
+    put_spaces(out, width.saturating_sub(octets.len()))
+}
+
+// Writes a space, and a number at the right of a column.
+pub(crate) fn put_number<W: Write>(out: &mut W, width: usize, value: u64) -> Result<(), ReportFault>
+    requires { width ≤ 12 }
+    ensures whole { OnOk result
+        (Appends (W.contents out.old) (W.contents out.new) (number width value)) }
+    ensures front { OnErr result
+        (AppendsFront (W.contents out.old) (W.contents out.new) (number width value)) }
+{
+    let mut buffer = itoa::Buffer::new();
+    let digits = buffer.format(value).as_bytes();
+    put_spaces(out, width.saturating_sub(digits.len()) + 1)?;
+    put(out, digits)
+}
+
+// Writes so many spaces.
+fn put_spaces<W: Write>(out: &mut W, count: usize) -> Result<(), ReportFault>
+    requires { count ≤ 20 }
+    ensures whole { OnOk result
+        (Appends (W.contents out.old) (W.contents out.new) (spaces count)) }
+    ensures front { OnErr result
+        (AppendsFront (W.contents out.old) (W.contents out.new) (spaces count)) }
+{
+    put(out, &SPACES[..count])
+}

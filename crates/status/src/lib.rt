@@ -1,0 +1,13 @@
+//! The status report: a line for each peer, with what it was given and what it is owed.
+//!
+//! May touch nothing but the writer that it is given, and takes no memory; it stands on `funnel` for names and on
+//! `ledger_core` for what a ledger counts.
+//! The crates above use `report`: its clauses give the whole text (`specs/Report.antt`), and after a fault of the
+//! writer what came out is a front of it.
+#![tactic(auto)]
+
+mod columns;
+mod lines;
+mod put;
+
+pub use lines::{PeerStatus, ReportFault, report};
