@@ -18,4 +18,6 @@ mod octets;
 #[cfg(test)]
 mod replies;
 #[cfg(test)]
+mod reports;
+#[cfg(test)]
 mod settings;
