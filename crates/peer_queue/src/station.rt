@@ -40,7 +40,7 @@ impl<D: Disk> Station<D> {
     ghost use Rattle.ledger_core.specs.declared.ledger.LedgerFault.{LedgerFault};
     ghost use Rattle.ledger_core.specs.declared.note.Note.{Note};
     ghost use Rattle.ledger_core.specs.State.{IsOwed, Overflows, Owing, after};
-    ghost use Rattle.recovery.specs.Image.{EachTape, IsNoTapeAt, IsTape, Survives, TapeFirstSync, TapeLeaves};
+    ghost use Rattle.recovery.specs.Image.{EachTape, IsNoTapeAt, IsSomeTape, Survives, TapeLeaves};
     ghost use Rattle.recovery.specs.Notes.{History, flushed, most_pending, noted_all, recovered};
     ghost use Rattle.recovery.specs.Tape.{IsRefusedTape, Recovers};
     ghost use Rattle.recovery.specs.Words.{IsFull, IsOpenFault};
@@ -54,7 +54,8 @@ impl<D: Disk> Station<D> {
     /// Opens the station of a disk, an empty one among them: all that its tape owes is ready.
     ///
     /// # Errors
-    /// The tape's: `Damaged`, `Disk`, `NoMemory`. The disk is handed back.
+    /// The tape's: `Damaged`, `Disk`, `NoMemory`; then `NoMemory` of the station. The disk is handed back: as it was
+    /// where it is `Damaged`, and with the tape's end repaired where the station was refused memory.
     pub fn open(alloc: Global, disk: D, limits: Limits) -> Result<Station<D>, RefusedTape<D>>
         // Whatever a stop left of a history is opened to the ledger after a front of it that holds every acknowledged note.
         ensures recovers { (h : History) → D.honest disk → EachTape (Survives h) (D.log disk) → IfOk result (λ station. Recovers h (D.log disk) station.tape) }
@@ -64,6 +65,11 @@ impl<D: Disk> Station<D> {
         ensures opened { D.honest disk → IfOk result (λ station. IsOpened (D.log disk) station) }
         ensures err { D.honest disk → IfErr result (λ e. IsRefusedTape (D.log disk) e) }
         ensures damaged { D.honest disk → IfErr result (λ e. (segment at : ℕ) → e.fault ≡ TapeFault.Damaged segment at → (segment ≡ 0) × IsNoTapeAt (content (D.log disk)) at) }
+        // What is no tape is handed back as it was, and told before any `Disk` of a repair.
+        ensures untouched { D.honest disk → IfErr result (λ e. (segment at : ℕ)
+            → e.fault ≡ TapeFault.Damaged segment at → D.log e.disk ≡ D.log disk) }
+        ensures judged { D.honest disk → IfErr result (λ e. e.fault ≡ TapeFault.Disk
+            → (D.log e.disk ≡ D.log disk) ⊎ IsSomeTape (content (D.log disk))) }
         ensures cause { D.honest disk → IfErr result (λ e. e.fault ≡ TapeFault.Disk → min (D.told disk + 1) (2 ^ 64 - 1) ≤ D.told e.disk) }
         ensures kinds { IfErr result (λ e. IsOpenFault e.fault) }
         ensures ready { IfOk result (λ station. places_of station ≡ all_ready (numbers (ledger_of station))) }

@@ -1,24 +1,25 @@
 -- What an opening finds.
-use Rattle.std.proofs.Common.{◌≡◌, ℕ, List, [], length, take, sym, ap, ◌∙◌, subst, arith}
+use Rattle.std.proofs.Common.{◌≡◌, ℕ, List, [], length, take, sym, ap, ◌∙◌, subst, inl, arith}
 use Rattle.disk_model.specs.Disk.{Event, Image, FirstSync, content}
-use Rattle.disk_model.specs.Moments.{FirstSync-weaker}
+use Rattle.disk_model.specs.Disk.Leaves.{at_start}
+use Rattle.disk_model.specs.Moments.{FirstSync-weaker, Leaves-same}
 use Rattle.disk_model.specs.declared.Disk.{Ghosts}
 use Rattle.tape_journal.specs.Journal.{Holds, IsOpened, opening, disk_of as journal_disk}
+use Rattle.tape_journal.specs.Kept.{KeptFrom}
 use Rattle.tape_journal.specs.Segment.{Reads, records}
 use Rattle.tape_journal.specs.declared.journal.Journal.{Journal}
 use Rattle.tape_journal.specs.SegmentLaws.{reads_once}
-use Rattle.tape_journal.specs.declared.fault.OpenFault.{OpenFault}
-use Rattle.tape_journal.specs.declared.fault.OpenFault.TheVariants.{Damaged as JournalDamaged, Disk as JournalDisk, NoMemory as NoJournalMemory}
 use Rattle.ledger_core.specs.declared.note.Note.{Note}
 use Rattle.ledger_core.specs.Replay.{Leaves}
 use Rattle.ledger_core.specs.Spelling.{spellings}
 use Rattle.ledger_core.specs.State.{State, after, start}
 use Rattle.recovery.specs.Notes.{AreLegal, History, recovered}
-use Rattle.recovery.specs.Image.{IsTape, Survives, EachTape, TapeFirstSync}
+use Rattle.recovery.specs.Image.{IsTape, Survives, EachTape, TapeFirstSync, TapeLeaves}
 use Rattle.recovery.specs.Laws.{leaves_of}
-use Rattle.recovery.specs.Words.{ledger_of, open_fault}
-use Rattle.recovery.specs.Tape.{IsOpenedTape, Recovers, StandsFor}
-use Rattle.recovery.specs.declared.fault.TapeFault.TheVariants.{Damaged}
+use Rattle.recovery.specs.Words.{ledger_of}
+use Rattle.recovery.specs.Tape.{IsOpenedTape, IsRefusedTape, Recovers, StandsFor}
+use Rattle.recovery.specs.declared.fault.TapeFault.TheVariants.{Damaged, NoMemory}
+use Rattle.recovery.specs.declared.tape.RefusedTape.{RefusedTape}
 use Rattle.recovery.specs.declared.tape.Tape.{Tape}
 use Rattle.recovery.proofs.Stands.{stands_whole, open_moments}
 
@@ -68,11 +69,21 @@ recovered_tape {D} {g} h old tape payloads now each opened ledger none zero =
       moments = open_moments h old (g.log (journal_disk tape.journal)) now each opened.moments;
     }
 
--- the damage that a tape tells is its journal's
-pub open_damaged : (fault : OpenFault) (segment at : ℕ) → open_fault fault ≡ Damaged segment at → fault ≡ JournalDamaged at
-open_damaged (JournalDamaged place) segment at e = let same : place ≡ at = cc in ap JournalDamaged same
-open_damaged JournalDisk segment at e = cc
-open_damaged NoJournalMemory segment at e = cc
+-- a disk that is handed back as it was
+pub as_it_was : {D : Type 0} {g : Ghosts D} (old : List Event) (refused : RefusedTape D g) → g.honest refused.disk → g.log refused.disk ≡ old → IsRefusedTape old refused
+as_it_was old refused honest same = record {
+  honest = honest;
+  moments = Leaves-same (KeptFrom old) old old _ (at_start (λ c is. inl is)) same;
+  first_sync = λ payloads reads. inl same;
+}
+
+-- what survived of a history survives where nothing happens
+pub still_survives : (h : History) (old new : List Event) → EachTape (Survives h) old → new ≡ old → TapeLeaves (Survives h) old new
+still_survives h old new each same = Leaves-same (Survives h) old old new (at_start each) same
+
+-- want of memory is no damage
+pub no_damage : (segment at : ℕ) → NoMemory ≡ Damaged segment at → ⊥
+no_damage segment at e = cc
 
 -- of octets that survived of a history the payloads leave a ledger
 pub survived_leaves : (h : History) (old : List Event) (payloads : List (List ℕ)) → Image old (content old) → EachTape (Survives h) old → Reads (content old) payloads → (state : State) × Leaves payloads state

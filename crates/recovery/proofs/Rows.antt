@@ -1,11 +1,10 @@
 -- Tapes of a few octets, read by the definitions.
 use Rattle.std.specs.Prelude.{◌≡◌, ℕ, List, [], ◌∷◌, Some, refl}
-use Rattle.std.proofs.Common.{inl, inr, lit<, lit≤, arith}
+use Rattle.std.proofs.Common.{inr, lit<, lit≤}
 use Rattle.ledger_core.specs.declared.note.Note.{Note}
 use Rattle.ledger_core.specs.declared.note.Note.TheVariants.{Owe, Final, Drop, Seen}
 use Rattle.ledger_core.specs.Spelling.{spelling}
 use Rattle.recovery.specs.Image.{IsTape, IsNoTapeAt, Survives}
-use Rattle.recovery.specs.Notes.{History}
 
 -- `a/1`
 abbrev token : List ℕ

@@ -20,6 +20,10 @@ pub record IsTape (octets : Octets) (notes : List Note) : Type 0 where
   pub legal : AreLegal notes
   pub reads : Reads octets (spellings notes)
 
+-- the octets are a tape of some notes
+abbrev pub IsSomeTape : Octets → Type 0
+IsSomeTape octets = (notes : List Note) × IsTape octets notes
+
 -- The octets are no tape, and this is the place: the segment is damaged there, or it has payloads, and there stands the
 -- gate of the first of them that is no legal note in its turn.
 abbrev pub IsNoTapeAt : Octets → ℕ → Type 0

@@ -12,7 +12,7 @@ use thiserror::Error;
 #[derive(Clone, Copy, Debug, PartialEq, Eq, Error)]
 pub enum TapeFault {
     /// What lies on the disk is no tape: at this offset of this segment, in octets, a record is cut short, the end behind
-    /// a record is missing, or a record is no note that its ledger takes.
+    /// a record is missing, or a record is no note that its ledger takes. Nothing was written.
     #[error("Damaged")]
     Damaged { segment: u8, at: u64 },
     /// A call of the disk failed. After `flush` the tape is broken, and is to be opened again from its disk.

@@ -21,7 +21,7 @@ use crate::read::read_ledger;
 use disk_model::Disk;
 use ledger_core::{Cause, Debt, Ledger, LedgerFault, Note, Totals, encode};
 use std::alloc::{AllocError, Global};
-use tape_journal::Journal;
+use tape_journal::{Journal, Refused, Unrepaired};
 
 // How many notes may pend.
 const MOST_PENDING: usize = 65536;
@@ -34,6 +34,33 @@ pub struct RefusedTape<D: Disk> {
     /// Why it was refused: `Damaged`, `Disk` or `NoMemory`.
     pub fault: TapeFault,
     ghost is_refusal: { fault ≢ Broken },
+}
+
+impl<D: Disk> RefusedTape<D> {
+    ghost use Rattle.tape_journal.specs.Unrepaired.{read_disk};
+    ghost use Rattle.recovery.specs.Words.{open_fault};
+
+    // The disk as its journal handed it back.
+    fn of_journal(refused: Refused<D>) -> Self
+        ensures disk { result.disk ≡ refused.disk }
+        ensures fault { result.fault ≡ open_fault refused.fault }
+    {
+        let Refused { disk, fault, .. } = refused;
+        RefusedTape {
+            disk,
+            fault: open_fault(fault),
+        }
+    }
+
+    // The disk as it was read: nothing was written, since what was read is refused for this fault.
+    fn as_read(unrepaired: Unrepaired<D>, fault: TapeFault) -> Self
+        requires { fault ≢ Broken }
+        ensures disk { result.disk ≡ read_disk unrepaired }
+        ensures fault { result.fault ≡ fault }
+    {
+        let disk = unrepaired.into_disk();
+        RefusedTape { disk, fault }
+    }
 }
 
 /// What one peer is owed: its notes on a disk, those that pend, and the ledger that all of them leave.
@@ -52,26 +79,29 @@ pub struct Tape<D: Disk> {
 }
 
 impl<D: Disk> Tape<D> {
-    ghost use Rattle.std.specs.Prelude.{[], ◌∷◌, ◌++◌, ◌==◌, find, min, take, drop, MatchResult, IfErr, OnErr, IsOk, IsErrOf, IsSome, option_map};
+    ghost use Rattle.std.specs.Prelude.{◌⊎◌, [], ◌∷◌, ◌++◌, ◌==◌, find, min, take, drop};
+    ghost use Rattle.std.specs.Prelude.{MatchResult, IfErr, OnErr, IsOk, IsErrOf, IsSome, option_map};
     ghost use Rattle.std.specs.List.Sorted.{IsStrictlyIncreasing};
     ghost use Rattle.disk_model.specs.Disk.{content};
     ghost use Rattle.tape_journal.specs.Journal.{appending, opening};
-    ghost use Rattle.tape_journal.specs.Segment.{records, IsDamagedAt};
+    ghost use Rattle.tape_journal.specs.Segment.{records};
     ghost use Rattle.ledger_core.specs.Ledger.{totals_of};
     ghost use Rattle.ledger_core.specs.declared.ledger.LedgerFault.{LedgerFault};
     ghost use Rattle.ledger_core.specs.declared.note.Note.{Note};
     ghost use Rattle.ledger_core.specs.State.{IsLegal, IsOwed, Owing, line_octets, numbers, step};
     ghost use Rattle.recovery.specs.Notes.{AreOwed, History, noted, noted_all, flushed};
-    ghost use Rattle.recovery.specs.Image.{EachTape, IsTape, TapeLeaves, Survives};
+    ghost use Rattle.recovery.specs.Image.{EachTape, IsSomeTape, IsTape, TapeLeaves, Survives};
     ghost use Rattle.recovery.specs.Words.{disk_of, log_of, ledger_of, pending_of, IsBroken, IsFull, IsSame, RefusesNote, Tells, IsOpenFault, IsNoteFault, IsFlushFault, IsDebtFault, IsDropFault};
     ghost use Rattle.recovery.specs.Tape.{StandsFor, IsOpenedTape, IsRefusedTape, Recovers};
 
-    /// Opens the tape of a disk, an empty one among them. Its ledger is the fold of the notes that lie there; all of them are
-    /// acknowledged, and none pends. Linear in the tape.
+    /// Opens the tape of a disk, an empty one among them. Its ledger is the fold of the notes that lie there; all of them
+    /// are acknowledged, and none pends. The disk is read and its notes are judged first, which changes nothing; then its
+    /// end is repaired. Linear in the tape.
     ///
     /// # Errors
-    /// The disk is handed back. `Damaged` where its octets are no tape; the segment's own damage goes before a record that is no
-    /// legal note. `Disk`. `NoMemory`.
+    /// The disk is handed back. Tried in this order: what the reading meets first, `Damaged` where the segment has no
+    /// reading, `Disk`, or `NoMemory`; `Damaged` at the first record that is no legal note, or `NoMemory` of judging.
+    /// These leave the disk as it was, octet for octet. Then `Disk` of the repair, which leaves a tape of the same notes.
     pub fn open(alloc: Global, disk: D) -> Result<Tape<D>, RefusedTape<D>>
         ensures ok { D.honest disk → IfOk result (λ tape. IsOpenedTape (D.log disk) tape) }
         ensures err { D.honest disk → IfErr result (λ e. IsRefusedTape (D.log disk) e) }
@@ -87,7 +117,11 @@ impl<D: Disk> Tape<D> {
 
         // Each fault has its cause.
         ensures damaged { D.honest disk → IfErr result (λ e. (segment at : ℕ) → e.fault ≡ TapeFault.Damaged segment at → (segment ≡ 0) × IsNoTapeAt (content (D.log disk)) at) }
-        ensures untouched { D.honest disk → IfErr result (λ e. (segment at : ℕ) → e.fault ≡ TapeFault.Damaged segment at → IsDamagedAt (content (D.log disk)) at → D.log e.disk ≡ D.log disk) }
+        // A refused disk is as it was, but for a `Disk` of the repair; and only a tape is repaired.
+        ensures untouched { D.honest disk → IfErr result (λ e. e.fault ≢ TapeFault.Disk
+            → D.log e.disk ≡ D.log disk) }
+        ensures judged { D.honest disk → IfErr result (λ e. e.fault ≡ TapeFault.Disk
+            → (D.log e.disk ≡ D.log disk) ⊎ IsSomeTape (content (D.log disk))) }
         ensures cause { D.honest disk → IfErr result (λ e. e.fault ≡ TapeFault.Disk → min (D.told disk + 1) (2 ^ 64 - 1) ≤ D.told e.disk) }
         ensures kinds { IfErr result (λ e. IsOpenFault e.fault) }
 
@@ -96,28 +130,23 @@ impl<D: Disk> Tape<D> {
         ensures later { MatchResult result (λ tape. D.told disk ≤ D.told (disk_of tape)) (λ e. D.told disk ≤ D.told e.disk) }
         ensures quiet { IfOk result (λ tape. D.told (disk_of tape) ≡ D.told disk) }
     {
-        let (journal, payloads) = match Journal::open(alloc, disk) {
-            Ok(opened) => opened,
-            Err(refused) => {
-                let fault = open_fault(refused.fault);
-                return Err(RefusedTape {
-                    disk: refused.disk,
-                    fault,
-                });
-            }
+        let (unrepaired, payloads) = match Journal::read(alloc, disk) {
+            Ok(read) => read,
+            Err(refused) => return Err(RefusedTape::of_journal(refused)),
         };
-        match read_ledger(alloc, &payloads) {
-            Ok(ledger) => Ok(Tape {
+        let ledger = match read_ledger(alloc, &payloads) {
+            Ok(ledger) => ledger,
+            Err(fault) => return Err(RefusedTape::as_read(unrepaired, fault)),
+        };
+        match unrepaired.repair() {
+            Ok(journal) => Ok(Tape {
                 alloc,
                 journal,
                 ledger,
                 pending: Vec::new(alloc),
                 flushed: 0,
             }),
-            Err(fault) => Err(RefusedTape {
-                disk: journal.into_disk(),
-                fault,
-            }),
+            Err(refused) => Err(RefusedTape::of_journal(refused)),
         }
     }
 

@@ -7,6 +7,9 @@ use Rattle.disk_model.specs.Disk.{Event, content, Torn, Leaves, FirstSync, overw
 use Rattle.disk_model.specs.Disk.Event.{Synced}
 use Rattle.disk_model.specs.Disk.Leaves.{at_start, at_next}
 use Rattle.disk_model.specs.Moments.{Leaves-same, Leaves-then, Leaves-weaker}
+use Rattle.disk_model.specs.declared.Disk.{Ghosts}
+use Rattle.tape_journal.specs.declared.journal.Refused.{Refused}
+use Rattle.tape_journal.specs.Journal.{IsRefused}
 use Rattle.tape_journal.specs.Kept.{KeptFrom}
 use Rattle.tape_journal.specs.Segment.{records, at_rest, gated, open_gate, Ends, Reads, HasPayloads, AllShort}
 use Rattle.tape_journal.specs.SegmentLaws.{reads_on}
@@ -98,3 +101,11 @@ first_sync_kept old new payloads reads (inr synced) =
 pub first_sync_on : (P : List ℕ → Type 0) (old mid new : List Event) (one two three : Event) → mid ≡ one ∷ two ∷ three ∷ old → FirstSync P old mid → Leaves P mid new → FirstSync P old new
 first_sync_on P old mid new one two three is (inl same) run = absurd (omega (arith, ap length is, ap length same))
 first_sync_on P old mid new one two three is (inr first) run = inr (Leaves-then P (Synced ∷ old) mid new first run)
+
+-- a disk that is handed back as it was
+pub as_it_was : {D : Type 0} {g : Ghosts D} (old : List Event) (refused : Refused D g) → g.honest refused.disk → g.log refused.disk ≡ old → IsRefused old refused
+as_it_was old refused honest same = record {
+  honest = honest;
+  moments = Leaves-same (KeptFrom old) old old _ (at_start (λ c is. inl is)) same;
+  first_sync = λ payloads reads. inl same;
+}

@@ -4,4 +4,5 @@ pub mod Kept
 pub mod Segment
 pub mod SegmentLaws
 pub mod Stage
+pub mod Unrepaired
 pub mod Words

@@ -6,8 +6,7 @@ ghost use Rattle.tape_journal.specs.declared.fault.OpenFault.TheVariants.{Damage
 
 use crate::append::{add_records, are_short, length_of, staging_of};
 use crate::read::{payloads_of, record_at};
-use crate::repair::repair;
-use crate::{AppendFault, OpenFault, ReadFault};
+use crate::{AppendFault, OpenFault, ReadFault, Unrepaired};
 use disk_model::Disk;
 use std::alloc::Global;
 
@@ -53,13 +52,45 @@ impl<D: Disk> Journal<D> {
     ghost use Rattle.tape_journal.specs.Segment.{ReadsFrom, AllShort, IsRecord, records, longest_segment};
     ghost use Rattle.tape_journal.specs.Stage.{Staged};
     ghost use Rattle.tape_journal.specs.Journal.{disk_of, end_of, IsBroken, Holds, IsOpened, IsRefused, appending};
+    ghost use Rattle.tape_journal.specs.Unrepaired.{read_disk, Finds};
+
+    /// Reads the payloads of a disk, front to back, and writes nothing.
+    ///
+    /// # Errors
+    /// The first that the reading meets: `Damaged` at the offset where the content has no reading, `Disk`, `NoMemory`.
+    /// The disk is handed back as it was.
+    pub fn read(alloc: Global, mut disk: D) -> Result<(Unrepaired<D>, Vec<Vec<u8>>), Refused<D>>
+        ensures ok { D.honest disk → IfOk result (λ r. Finds r.0 (octets_of r.1.items)) }
+
+        // Nothing has happened to the disk, whatever is answered.
+        ensures unchanged { D.honest disk → MatchResult result
+            (λ r. D.log (read_disk r.0) ≡ D.log disk) (λ e. D.log e.disk ≡ D.log disk) }
+
+        // Each fault has its cause.
+        ensures damaged { D.honest disk → IfErr result (λ e. (at : ℕ)
+            → e.fault ≡ OpenFault.Damaged at → IsDamagedAt (content (D.log disk)) at) }
+        ensures cause { D.honest disk → IfErr result (λ e. e.fault ≡ OpenFault.Disk
+            → min (D.told disk + 1) (2 ^ 64 - 1) ≤ D.told e.disk) }
+
+        ensures honest { MatchResult result (λ r. D.honest disk ↔ D.honest (read_disk r.0))
+            (λ e. D.honest disk ↔ D.honest e.disk) }
+        ensures later { MatchResult result (λ r. D.told disk ≤ D.told (read_disk r.0))
+            (λ e. D.told disk ≤ D.told e.disk) }
+        ensures quiet { IfOk result (λ r. D.told (read_disk r.0) ≡ D.told disk) }
+    {
+        match payloads_of(alloc, &mut disk) {
+            Ok((payloads, end)) => Ok((Unrepaired { alloc, disk, end }, payloads)),
+            Err(fault) => Err(Refused { disk, fault }),
+        }
+    }
 
     /// Reads the payloads of a disk, front to back, and repairs its end: what stands behind the end gate is cut off.
     ///
     /// # Errors
     /// The first that the reading meets: `Damaged` at the offset where the content has no reading, `Disk`, `NoMemory`;
     /// then `Disk` of the repair. The disk is handed back.
-    pub fn open(alloc: Global, mut disk: D) -> Result<(Journal<D>, Vec<Vec<u8>>), Refused<D>>
+    #[tactic(auto, using(crate::proofs::Ending::as_it_was))]
+    pub fn open(alloc: Global, disk: D) -> Result<(Journal<D>, Vec<Vec<u8>>), Refused<D>>
         ensures ok { D.honest disk → IfOk result (λ r. IsOpened (D.log disk) r.0 (octets_of r.1.items)) }
         ensures err { D.honest disk → IfErr result (λ e. IsRefused (D.log disk) e) }
 
@@ -73,24 +104,9 @@ impl<D: Disk> Journal<D> {
         ensures later { MatchResult result (λ r. D.told disk ≤ D.told (disk_of r.0)) (λ e. D.told disk ≤ D.told e.disk) }
         ensures quiet { IfOk result (λ r. D.told (disk_of r.0) ≡ D.told disk) }
     {
-        match payloads_of(alloc, &mut disk) {
-            Err(fault) => Err(Refused { disk, fault }),
-            Ok((payloads, end)) => match repair(&mut disk, end) {
-                Err(_) => Err(Refused {
-                    disk,
-                    fault: OpenFault::Disk,
-                }),
-                Ok(()) => Ok((
-                    Journal {
-                        alloc,
-                        disk,
-                        end,
-                        broken: false,
-                    },
-                    payloads,
-                )),
-            },
-        }
+        let (unrepaired, payloads) = Journal::read(alloc, disk)?;
+        let journal = unrepaired.repair()?;
+        Ok((journal, payloads))
     }
 
     // The length of the records to add, where they are not refused at once.

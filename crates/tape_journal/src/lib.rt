@@ -12,8 +12,10 @@ pub mod laws;
 mod put;
 mod read;
 mod repair;
+mod unrepaired;
 
 pub use fault::{AppendFault, OpenFault, ReadFault};
 pub use journal::{Journal, Refused};
+pub use unrepaired::Unrepaired;
 /// Memory was refused.
 pub use std::alloc::AllocError as NoMemory;

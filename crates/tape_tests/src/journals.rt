@@ -1,6 +1,7 @@
 // Segments that are read, and journals at which steps are taken.
 use crate::answers::assert_answer;
-use crate::disks::{assert_octets, disk_of};
+use crate::disks::{assert_faults, assert_octets, disk_of};
+use crate::read_only::ReadOnly;
 use disk_model::{Disk, FuseDisk};
 use std::alloc::Global;
 use std::process::Abort;
@@ -45,6 +46,14 @@ fn opened<D: Disk + Drop>(
             let Refused { disk, fault, .. } = refused;
             Err((fault, disk))
         }
+    }
+}
+
+// The payloads of a disk on which nothing is written, and the disk as it was read.
+fn read<D: Disk + Drop>(alloc: Global, disk: D) -> Result<(Vec<Vec<u8>>, D), Fail> {
+    match Journal::read(alloc, disk) {
+        Ok((unrepaired, payloads)) => Ok((payloads, unrepaired.into_disk())),
+        Err(refused) => Err(Fail::from(refused.fault)),
     }
 }
 
@@ -128,10 +137,14 @@ fn a_segment_is_read(rt: HostRuntime) -> Result<(), Fail> {
     ];
     let alloc = rt.alloc();
     for (at, (segment, payloads, bytes)) in ROWS.iter().enumerate() {
-        let Ok((read, journal)) = opened(alloc, disk_of(alloc, segment)?) else {
+        let (found, mut disk) = read(alloc, ReadOnly::new(disk_of(alloc, segment)?))?;
+        assert_payloads(&rt, &found, payloads);
+        assert_faults(&rt, at, &disk, 0);
+        assert_octets(&rt, alloc, at, &mut disk, segment)?;
+        let Ok((found, journal)) = opened(alloc, disk_of(alloc, segment)?) else {
             return Err(Fail::from("a segment"));
         };
-        assert_payloads(&rt, &read, payloads);
+        assert_payloads(&rt, &found, payloads);
         assert_answer(&rt, at, &journal.bytes(), bytes);
     }
     Ok(())
@@ -159,8 +172,10 @@ fn damage_is_told_with_its_place(rt: HostRuntime) -> Result<(), Fail> {
     ];
     let alloc = rt.alloc();
     for (at, (segment, place)) in ROWS.iter().enumerate() {
-        let (fault, _) = fault_of(alloc, disk_of(alloc, segment)?)?;
+        let (fault, mut disk) = fault_of(alloc, ReadOnly::new(disk_of(alloc, segment)?))?;
         assert_answer(&rt, at, &fault, &OpenFault::Damaged { at: *place });
+        assert_faults(&rt, at, &disk, 0);
+        assert_octets(&rt, alloc, at, &mut disk, segment)?;
     }
     Ok(())
 }

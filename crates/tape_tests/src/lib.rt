@@ -15,7 +15,7 @@ mod journals;
 #[cfg(test)]
 mod ledgers;
 #[cfg(test)]
-mod one_fault;
+mod read_only;
 #[cfg(test)]
 mod samples;
 #[cfg(test)]

@@ -1,9 +1,9 @@
 // Tapes at which steps are taken, on disks that fail or that a stop leaves too.
 use crate::answers::assert_answer;
 use crate::disks::{assert_faults, assert_octets, disk_of};
-use crate::one_fault::OneFault;
+use crate::read_only::ReadOnly;
 use crate::samples::{Sample, TEXTS, is_sample, note_of, texts};
-use disk_model::{Choice, Disk, FuseDisk, MemDisk};
+use disk_model::{Choice, Disk, FlakyDisk, FuseDisk, MemDisk};
 use ledger_core::{Cause, Debt, LedgerFault, Note, Totals};
 use recovery::{RefusedTape, Tape, TapeFault, tape_once};
 use std::alloc::Global;
@@ -324,6 +324,8 @@ fn steps_are_taken_at_a_tape(rt: HostRuntime) -> Result<(), Fail> {
         ),
         // What a torn write left is cut off.
         (&TORN, &[(&[], Some(&OWED))]),
+        // A gate that is the last octet ends a tape, whatever it is.
+        (&[0xa5], &[(&[Step::Mark(0)], Some(&[0]))]),
     ];
     for (octets, openings) in SCRIPTS {
         run_each(&rt, rt.alloc(), disk_of(rt.alloc(), octets)?, openings)?;
@@ -348,28 +350,50 @@ fn front_of(alloc: Global, disk: MemDisk) -> Result<Result<u64, TapeFault>, Fail
     }
 }
 
+// Why the tape of this disk is refused, and the disk handed back.
+fn refused<D: Disk + Drop>(alloc: Global, disk: D) -> Result<(TapeFault, D), Fail> {
+    match opened(alloc, disk) {
+        Ok(_) => Err(Fail::from("opened")),
+        Err(refused) => Ok(refused),
+    }
+}
+
+// The tape of these octets is refused as damaged at this place, and its disk is handed back as it was: where each call
+// but a read would fail too, since none is made.
+fn assert_damaged<A: Abort>(
+    rt: &A,
+    alloc: Global,
+    row: usize,
+    octets: &[u8],
+    place: u64,
+) -> Result<(), Fail> {
+    let want = TapeFault::Damaged {
+        segment: 0,
+        at: place,
+    };
+    let (fault, mut disk) = refused(alloc, disk_of(alloc, octets)?)?;
+    assert_answer(rt, row, &fault, &want);
+    assert_octets(rt, alloc, row, &mut disk, octets)?;
+    let (fault, mut disk) = refused(alloc, ReadOnly::new(disk))?;
+    assert_answer(rt, row, &fault, &want);
+    assert_faults(rt, row, &disk, 0);
+    assert_octets(rt, alloc, row, &mut disk, octets)
+}
+
 #[test]
 fn what_is_cut_short_is_damaged(rt: HostRuntime) -> Result<(), Fail> {
-    for len in 0..25 {
-        let want = match len {
-            0 | 1 => Ok(0),
-            24 => Err(TapeFault::Damaged { segment: 0, at: 24 }),
-            _ => Err(TapeFault::Damaged { segment: 0, at: 0 }),
-        };
-        assert_answer(
-            &rt,
-            len,
-            &front_of(rt.alloc(), disk_of(rt.alloc(), &OWED[..len])?)?,
-            &want,
-        );
+    for len in 2..25 {
+        let place = if len == 24 { 24 } else { 0 };
+        assert_damaged(&rt, rt.alloc(), len, &OWED[..len], place)?;
     }
     Ok(())
 }
 
 #[test]
-fn a_record_that_is_no_note_is_damage(rt: HostRuntime) -> Result<(), Fail> {
-    // No note, a Final of what is not owed, and an Owe twice; and where each is damaged.
+fn a_damaged_tape_is_left_as_it_was(rt: HostRuntime) -> Result<(), Fail> {
+    // What lies on a disk, and where it is damaged.
     const ROWS: &[(&[u8], u64)] = &[
+        // No note, a Final of what is not owed, and an Owe twice.
         (&[0xa5, 0, 0, 0, 0, 0], 0),
         (
             &[0xa5, 0, 0, 0, 0x0b, 2, 0, 0, 0, 0, 0, 0, 0, 1, 0, 0xef, 0],
@@ -383,32 +407,57 @@ fn a_record_that_is_no_note_is_damage(rt: HostRuntime) -> Result<(), Fail> {
             ],
             24,
         ),
+        // No note, and octets behind an end gate of another value.
+        (&[0xa5, 0, 0, 0, 0, 7, 1, 2, 3], 0),
+        // The same behind a note, with a record and its open gate behind the end gate.
+        (
+            &[
+                0xa5, 0, 0, 0, 0x13, 1, 0, 0, 0, 0, 0, 0, 0, 1, 3, 0x61, 0x2f, 0x31, 5, 0x3c, 0x78,
+                0x40, 0x79, 0x3e, 0xa5, 0, 0, 0, 1, 9, 0xff, 0xa5, 0, 0, 0, 1, 9, 0,
+            ],
+            24,
+        ),
+        // No note, and no end behind it: the end is a gate, and has to be there.
+        (&[0xa5, 0, 0, 0, 1, 9], 6),
+        // No note, and a record behind it that is cut short: the segment's damage goes before.
+        (&[0xa5, 0, 0, 0, 0, 0xa5, 0], 5),
+        // A length behind a note that passes the file's end.
+        (
+            &[
+                0xa5, 0, 0, 0, 0x13, 1, 0, 0, 0, 0, 0, 0, 0, 1, 3, 0x61, 0x2f, 0x31, 5, 0x3c, 0x78,
+                0x40, 0x79, 0x3e, 0xa5, 0, 0, 0, 0x13, 1, 2,
+            ],
+            24,
+        ),
     ];
     for (row, (octets, place)) in ROWS.iter().enumerate() {
-        let want = Err(TapeFault::Damaged {
-            segment: 0,
-            at: *place,
-        });
-        assert_answer(
-            &rt,
-            row,
-            &front_of(rt.alloc(), disk_of(rt.alloc(), octets)?)?,
-            &want,
-        );
+        assert_damaged(&rt, rt.alloc(), row, octets, *place)?;
     }
     Ok(())
 }
 
-// An empty disk of which the last sync of the first flush fails: an opening syncs three times, and a flush twice.
-fn faulty(alloc: Global) -> OneFault<MemDisk> {
-    OneFault::new(MemDisk::new(alloc), 4)
+// What is a tape is refused for the disk alone, at the first call that is no read.
+#[test]
+fn a_tape_is_repaired(rt: HostRuntime) -> Result<(), Fail> {
+    const ROWS: &[&[u8]] = &[&[], &[0xa5], &OWED, &ANSWERED, &TORN];
+    for (row, octets) in ROWS.iter().enumerate() {
+        let disk = ReadOnly::new(disk_of(rt.alloc(), octets)?);
+        let (fault, mut disk) = refused(rt.alloc(), disk)?;
+        assert_answer(&rt, row, &fault, &TapeFault::Disk);
+        assert_faults(&rt, row, &disk, 1);
+        assert_octets(&rt, rt.alloc(), row, &mut disk, octets)?;
+    }
+    Ok(())
 }
 
 #[test]
 fn a_failed_sync_breaks_the_tape(rt: HostRuntime) -> Result<(), Fail> {
-    // The steps, and those at the next opening: what was broken drops nothing, and what was written is owed still.
-    const ROWS: &[(&[Step], &[Step])] = &[
+    // The call of an empty disk that fails, the last of the first flush, from 0; the steps, and those at the next
+    // opening: what was broken drops nothing, and what was written is owed still. Opening takes five calls, and a flush
+    // three and one for each note.
+    const ROWS: &[(u64, &[Step], &[Step])] = &[
         (
+            10,
             &[
                 Step::Note(Sample::Owe(1), Ok(())),
                 Step::Note(Sample::Owe(2), Ok(())),
@@ -422,6 +471,7 @@ fn a_failed_sync_breaks_the_tape(rt: HostRuntime) -> Result<(), Fail> {
             &[Step::Numbers(&[1, 2, 3])],
         ),
         (
+            8,
             &[
                 Step::Note(Sample::Owe(1), Ok(())),
                 Step::Flush(Err(TapeFault::Disk)),
@@ -432,8 +482,9 @@ fn a_failed_sync_breaks_the_tape(rt: HostRuntime) -> Result<(), Fail> {
             &[Step::Numbers(&[1])],
         ),
     ];
-    for (at, (steps, kept)) in ROWS.iter().enumerate() {
-        let disk = run(&rt, rt.alloc(), faulty(rt.alloc()), steps)?;
+    for (at, (calls, steps, kept)) in ROWS.iter().enumerate() {
+        let disk = FlakyDisk::new(MemDisk::new(rt.alloc()), *calls);
+        let disk = run(&rt, rt.alloc(), disk, steps)?;
         assert_faults(&rt, at, &disk, 1);
         run(&rt, rt.alloc(), disk, kept)?;
     }
