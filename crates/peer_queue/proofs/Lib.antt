@@ -1,3 +1,4 @@
+pub mod AllLater
 pub mod Claims
 pub mod EndFaults
 pub mod Ends

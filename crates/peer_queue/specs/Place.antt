@@ -75,6 +75,12 @@ is_held Ready = false
 is_held (Held connection) = true
 is_held (Later moment) = false
 
+-- neither ready nor held: it waits for a moment
+abbrev pub IsLater : Place → Type 0
+IsLater Ready = ⊥
+IsLater (Held connection) = ⊥
+IsLater (Later moment) = Unit {0}
+
 -- the number has a place, and no connection holds it
 abbrev pub IsUnheld : Places → ℕ → Type 0
 IsUnheld places number = option_map is_held (place_at places number) ≡ Some false

@@ -1,7 +1,8 @@
 // Where each debt is.
 ghost use Rattle.std.specs.Prelude.{◌≡◌, ◌↔◌, ◌++◌, [], ◌∷◌, ℕ, IfNone, IfOk, IfSome, IsTrue, OnErr, OnOk, ◌<◌, ◌^◌, nat_le, find, length};
+ghost use Rattle.std.specs.List.{All};
 ghost use Rattle.std.specs.List.Sorted.{IsStrictlyIncreasing};
-ghost use Rattle.peer_queue.specs.Place.{AreBelow, AreRising, AreUnheld, Held, IsHeldBy, IsUnheld, Ready, all_gone, all_ready, gone, held_count, least_candidate, moved, released, unheld};
+ghost use Rattle.peer_queue.specs.Place.{AreBelow, AreRising, AreUnheld, Held, IsHeldBy, IsLater, IsUnheld, Ready, all_gone, all_ready, gone, held_count, least_candidate, moved, released, unheld};
 ghost use Rattle.peer_queue.specs.Index.{place_until};
 
 use deferral::{Later, after_put, after_remove, after_set};
@@ -170,6 +171,16 @@ impl PlaceIndex {
         ensures rising { AreRising self.now }
     {
         self.agenda.due_from(first, u64::MAX)
+    }
+
+    /// Whether each number waits for a moment.
+    pub fn all_later(&self) -> bool
+        ensures { IsTrue result ↔ All (λ entry. IsLater entry.1) self.now }
+    {
+        match self.holders.first_key_value() {
+            Some(_) => false,
+            None => self.agenda.due_least(0).is_none(),
+        }
     }
 
     /// Takes out numbers that no connection holds.

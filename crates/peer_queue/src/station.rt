@@ -33,7 +33,7 @@ pub struct Station<D: Disk> {
 }
 
 impl<D: Disk> Station<D> {
-    ghost use Rattle.std.specs.Prelude.{◌⊎◌, ◌↔◌, ◌==◌, ◌++◌, [], ◌∷◌, true, false, min, nat_lt, find, MatchResult, IfErr, IfNone, IfSome, OnErr, IsErr, IsErrOf, IsOk, IsSome, Ok, None, Some};
+    ghost use Rattle.std.specs.Prelude.{◌⊎◌, ◌↔◌, ◌==◌, ◌++◌, [], ◌∷◌, true, false, min, nat_lt, find, MatchResult, IfErr, IfNone, IfSome, OnErr, IsErr, IsErrOf, IsOk, IsSome, IsTrue, Ok, None, Some};
     ghost use Rattle.std.specs.List.{Contains};
     ghost use Rattle.disk_model.specs.Disk.{content};
     ghost use Rattle.ledger_core.specs.Ledger.{totals_of};
@@ -44,7 +44,7 @@ impl<D: Disk> Station<D> {
     ghost use Rattle.recovery.specs.Notes.{History, flushed, most_pending, noted_all, recovered};
     ghost use Rattle.recovery.specs.Tape.{IsRefusedTape, Recovers};
     ghost use Rattle.recovery.specs.Words.{IsFull, IsOpenFault};
-    ghost use Rattle.peer_queue.specs.Place.{AreRising, Held, IsHeldBy, Later, Ready, all_gone, deferred_until, gone, held_count, least_candidate, moved, released, unheld};
+    ghost use Rattle.peer_queue.specs.Place.{AreRising, Held, IsHeldBy, IsLater, Later, Ready, all_gone, deferred_until, gone, held_count, least_candidate, moved, released, unheld};
     ghost use Rattle.peer_queue.specs.Index.{place_until};
     ghost use Rattle.peer_queue.specs.Shed.{IsShedSet, dropped};
     ghost use Rattle.peer_queue.specs.Station.{IsShed};
@@ -488,6 +488,21 @@ impl<D: Disk> Station<D> {
         ensures { result ≡ (ledger_of self.now).mark }
     {
         self.tape.mark()
+    }
+
+    /// The limits of its backlog. A broken station answers too.
+    pub fn limits(&self) -> Limits
+        ensures { result ≡ limits_of self.now }
+    {
+        self.limits
+    }
+
+    /// Whether no debt is ready and no connection holds one: each waits for a moment, which may be past. A broken
+    /// station answers too.
+    pub fn all_later(&self) -> bool
+        ensures { IsTrue result ↔ All (λ entry. IsLater entry.1) (places_of self.now) }
+    {
+        self.index.all_later()
     }
 
     /// The disk beneath. Notes that pend are gone. A broken station answers too.

@@ -1,0 +1,43 @@
+-- Which types of a post may cross threads: as the disks and the names may.
+use denote.RattleType.{RattleType}
+use denote.Param.Send.{IsSend, IsSync, sendable}
+use Rattle.std.proofs.Crossing.{crosses}
+use Rattle.std.proofs.MapsCrossing as maps
+use Rattle.std.proofs.MapsCrossingOver as sets
+use Rattle.std.proofs.sync.ledger.Share.TheSendSync as share
+use Rattle.recovery.proofs.tape.Tape.TheSendSync as tape
+use Rattle.flusher.proofs.tally.Tally.TheSendSync as tally
+use Rattle.flusher.proofs.post.Intake.TheSendSync as intake
+use Rattle.disk_model.specs.declared.Disk as disk
+use Rattle.flusher.specs.declared.naming.Naming as naming
+use Rattle.deferral.specs.contracts.later.Later as Later
+use Rattle.deferral.proofs.tree.Bounds.TheSendSync as bounds
+use Rattle.deferral.proofs.tree.Entry.TheSendSync as entry
+use Rattle.deferral.proofs.tree.Fork.TheLaws.TheKnot as knot
+use Rattle.peer_queue.specs.contracts.station.Station as Station
+use Rattle.flusher.specs.contracts.desk.Desk as Desk
+use Rattle.flusher.specs.contracts.post.PeerDesk as PeerDesk
+use Rattle.flusher.specs.contracts.post.Post as Post
+use Rattle.flusher.specs.contracts.signals.Signals as Signals
+use Rattle.flusher.proofs.signals.Latest.TheSendSync as latest
+
+Later-send : IsSend Later.the_field.row
+Later-send = search (knot.crosses, entry.the_field_send, bounds.the_field_send, sendable, crosses) depth 20
+
+pub Signals-sync : IsSync Signals.the_field.row
+Signals-sync = search (latest.the_field_send, sendable, crosses) depth 20
+
+module _ (D : RattleType) (g : disk.Ghosts D.Denot) where
+  Station-send : IsSend D → IsSend (Station.the_field D g).row
+  Station-send s = search (Later-send, tape.the_field_send, sendable, crosses, maps.crosses, sets.crosses) depth 20
+
+module _ (D N : RattleType) (g : disk.Ghosts D.Denot) (n : naming.Ghosts N.Denot) where
+  Desk-send : IsSend D → IsSend N → IsSync N → IsSend (Desk.the_field D N g n).row
+  Desk-send s t y = let a = Station-send D g s in search (share.the_send, sendable, crosses) depth 20
+
+  PeerDesk-sync : IsSend D → IsSend N → IsSync N → IsSync (PeerDesk.the_field D N g n).row
+  PeerDesk-sync s t y = let a = Desk-send s t y in search (sendable, crosses) depth 20
+
+  pub Post-sync : IsSend D → IsSend N → IsSync N → IsSync (Post.the_field D N g n).row
+  Post-sync s t y =
+      let a = PeerDesk-sync s t y in search (tally.the_field_send, intake.the_field_send, sendable, crosses) depth 20

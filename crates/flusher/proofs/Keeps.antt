@@ -1,0 +1,112 @@
+-- What a station's lock keeps is kept by the station's calls.
+use Rattle.std.proofs.Common.{◌≡◌, ℕ, ◌+◌, List, [], ◌∷◌, length, sym, ap, subst, arith}
+use Rattle.std.specs.Prelude.{Result, OnOk, OnErr, Ok, Err, ◌↔◌}
+use Rattle.std.proofs.Math.Logic.{∥∥₁_map}
+use Rattle.disk_model.specs.declared.Disk.{Ghosts}
+use Rattle.ledger_core.specs.declared.note.Note.{Note}
+use Rattle.ledger_core.specs.declared.note.Note.TheVariants.{Owe, Final, Drop}
+use Rattle.ledger_core.specs.declared.note.FinalCode.{FinalCode}
+use Rattle.ledger_core.specs.declared.note.Cause.{Cause}
+use Rattle.ledger_core.specs.declared.note.Cause.TheVariants.{Limit}
+use Rattle.ledger_core.specs.State.{State, step, after}
+use Rattle.recovery.specs.Notes.{History, noted, noted_all, flushed, drops}
+use Rattle.peer_queue.specs.Shed.{dropped}
+use Rattle.recovery.specs.Words.{disk_of as tape_disk, ledger_of as tape_ledger}
+use Rattle.recovery.specs.Tape.{StandsFor as TapeStandsFor}
+use Rattle.recovery.specs.declared.tape.Tape.{Tape}
+use Rattle.peer_queue.specs.declared.station.Station.{Station}
+use Rattle.peer_queue.specs.Words.{IsSame, IsSameTape, Notes, StandsFor, disk_of, ledger_of}
+use Rattle.flusher.specs.Kept.{IsKept}
+
+module _ {D : Type 0} {g : Ghosts D} where
+  noted_kept : (old new : Station D g) (note : Note) → Notes old new note → IsKept old → IsKept new
+  noted_kept old new note took kept honest = let k =
+      kept (subst g.honest took.disk honest) in (noted k.0 note, took.stands k.0 k.1)
+
+  same_kept : (old new : Station D g) → IsSame old new → IsKept old → IsKept new
+  same_kept old new same kept honest = let k = kept (subst g.honest same.disk honest) in (k.0, same.stands k.0 k.1)
+
+  tape_kept : (old new : Station D g) → IsSameTape old new → IsKept old → IsKept new
+  tape_kept old new same kept =
+      let P : Tape D g → Type 0 = λ tape. g.honest (tape_disk tape) → (h : History) × TapeStandsFor tape h in
+      subst P (sym same.tape) kept
+
+  pub keeps_noted : (old new : Station D g) (note : Note) → Notes old new note → ∥ IsKept old ∥₁ → ∥ IsKept new ∥₁
+  keeps_noted old new note took kept = ∥∥₁_map kept (noted_kept old new note took)
+
+  pub keeps_same : (old new : Station D g) → IsSame old new → ∥ IsKept old ∥₁ → ∥ IsKept new ∥₁
+  keeps_same old new same kept = ∥∥₁_map kept (same_kept old new same)
+
+  pub keeps_tape : (old new : Station D g) → IsSameTape old new → ∥ IsKept old ∥₁ → ∥ IsKept new ∥₁
+  keeps_tape old new same kept = ∥∥₁_map kept (tape_kept old new same)
+
+  flushed_kept : {A E : Type 0} (old new : Station D g) (result : Result A E)
+      → (g.honest (disk_of old) ↔ g.honest (disk_of new))
+      → ((h : History) → StandsFor old h → OnOk result (StandsFor new (flushed h)))
+      → ((h : History) → StandsFor old h → OnErr result (StandsFor new h)) → IsKept old → IsKept new
+  flushed_kept old new (Ok a) honest ok err kept is = let k = kept (honest.1 is) in (flushed k.0, ok k.0 k.1)
+  flushed_kept old new (Err e) honest ok err kept is = let k = kept (honest.1 is) in (k.0, err k.0 k.1)
+
+  pub keeps_flushed : {A E : Type 0} (old new : Station D g) (result : Result A E)
+      → (g.honest (disk_of old) ↔ g.honest (disk_of new))
+      → ((h : History) → StandsFor old h → OnOk result (StandsFor new (flushed h)))
+      → ((h : History) → StandsFor old h → OnErr result (StandsFor new h)) → ∥ IsKept old ∥₁ → ∥ IsKept new ∥₁
+  keeps_flushed old new result honest ok err kept = ∥∥₁_map kept (flushed_kept old new result honest ok err)
+
+  shed_kept : (old new : Station D g) (numbers : List ℕ) → disk_of new ≡ disk_of old
+      → ((h : History) → StandsFor old h → StandsFor new (noted_all h (dropped numbers))) → IsKept old → IsKept new
+  shed_kept old new numbers disk stands kept is = let k =
+      kept (subst g.honest disk is) in (noted_all k.0 (dropped numbers), stands k.0 k.1)
+
+  pub keeps_shed : (old new : Station D g) (numbers : List ℕ) → disk_of new ≡ disk_of old
+      → ((h : History) → StandsFor old h → StandsFor new (noted_all h (dropped numbers))) → ∥ IsKept old ∥₁
+      → ∥ IsKept new ∥₁
+  keeps_shed old new numbers disk stands kept = ∥∥₁_map kept (shed_kept old new numbers disk stands)
+
+  pub keeps_backed : {A E : Type 0} (P Q : Type 0) (old new : Station D g) (result : Result A E)
+      → OnOk result (IsSameTape old new × P × Q) → OnErr result (IsSame old new) → ∥ IsKept old ∥₁ → ∥ IsKept new ∥₁
+  keeps_backed P Q old new (Ok a) ok err kept = keeps_tape old new ok.0 kept
+  keeps_backed P Q old new (Err e) ok err kept = keeps_same old new err kept
+
+  pub ledger_backed : {A E : Type 0} (P Q : Type 0) (old new : Station D g) (result : Result A E)
+      → OnOk result (IsSameTape old new × P × Q) → OnErr result (IsSame old new) → ledger_of new ≡ ledger_of old
+  ledger_backed P Q old new (Ok a) ok err = ap tape_ledger ok.0.tape
+  ledger_backed P Q old new (Err e) ok err = err.ledger
+
+-- these are what the state counts
+abbrev pub Counted : ℕ → ℕ → ℕ → State → Type 0
+Counted a b c state = (a ≡ state.taken) × (b ≡ state.answered) × (c ≡ state.dropped)
+
+pub counted_along : (a b c : ℕ) (old new : State) → new ≡ old → Counted a b c old → Counted a b c new
+counted_along a b c old new same = subst (Counted a b c) (sym same)
+
+pub counted_owe : (a b c d n : ℕ) (token id : List ℕ) (old new : State) → new ≡ step old (Owe n token id) → d ≡ a + 1
+    → Counted a b c old → Counted d b c new
+counted_owe a b c d n token id old new same more was =
+    subst (Counted d b c) (sym same) (omega (arith, was.0, more), was.1, was.2)
+
+pub counted_final : (a b c d n : ℕ) (code : FinalCode) (old new : State) → new ≡ step old (Final n code) → d ≡ b + 1
+    → Counted a b c old → Counted a d c new
+counted_final a b c d n code old new same more was =
+    subst (Counted a d c) (sym same) (was.0, omega (arith, was.1, more), was.2)
+
+pub counted_drop : (a b c d n : ℕ) (cause : Cause) (old new : State) → new ≡ step old (Drop n cause) → d ≡ c + 1
+    → Counted a b c old → Counted a b d new
+counted_drop a b c d n cause old new same more was =
+    subst (Counted a b d) (sym same) (was.0, was.1, omega (arith, was.2, more))
+
+counted_drops : (a b c : ℕ) (cause : Cause) (numbers : List ℕ) (old : State) → Counted a b c old
+    → Counted a b (c + length numbers) (after old (drops cause numbers))
+counted_drops a b c cause [] old was = let zero : c + 0 ≡ c = omega arith in
+    subst (λ n. Counted a b n old) (sym zero) was
+counted_drops a b c cause (n ∷ ns) old was =
+    let e : (c + 1) + length ns ≡ c + length (n ∷ ns) = omega arith in
+    subst (λ m. Counted a b m (after (step old (Drop n cause)) (drops cause ns))) e
+    (counted_drops a b (c + 1) cause ns (step old (Drop n cause)) (was.0, was.1, omega (arith, was.2)))
+
+pub counted_shed : (a b c d : ℕ) (numbers : List ℕ) (old new : State) → new ≡ after old (dropped numbers)
+    → d ≡ c + length numbers → Counted a b c old → Counted a b d new
+counted_shed a b c d numbers old new same more was =
+    subst (Counted a b d) (sym same)
+    (subst (λ m. Counted a b m (after old (dropped numbers))) (sym more)
+    (counted_drops a b c Limit numbers old was))

@@ -1,0 +1,32 @@
+use Rattle.std.proofs.Common.{◌≡◌, ◌+◌, Ok, ap, sym, ◌∙◌, subst, arith, rules}
+use Rattle.ledger_core.specs.declared.note.Cause.TheVariants.{Deferred}
+use Rattle.recovery.specs.Words.{ledger_of as tape_ledger}
+use Rattle.peer_queue.specs.declared.station.Station.{Station}
+use Rattle.peer_queue.specs.Words.{ledger_of, number_of, code_of, deferred_number}
+use Rattle.flusher.specs.Kept.{IsKept}
+use Rattle.flusher.proofs.Keeps.{keeps_noted, keeps_same, keeps_tape, keeps_flushed, keeps_shed, counted_along}
+use Rattle.flusher.proofs.Keeps.{counted_owe, counted_final, counted_drop, counted_shed}
+use Rattle.flusher.proofs.desk.Desk.settle.Goals as goal
+
+pub invariant_of-self : goal.invariant_of-self
+invariant_of-self g c =
+    let old = c.args.self.now in
+    let same = c.in_err-settle.ensures.unchanged in
+    record {
+      kept = keeps_same old.station c.settle.new.self same old.kept;
+      one_part = old.one_part;
+      counted = counted_along _ _ _ (ledger_of old.station) (ledger_of c.settle.new.self) same.ledger old.counted;
+    }
+
+pub invariant_of-self-2 : goal.invariant_of-self-2
+invariant_of-self-2 g c =
+    let old = c.args.self.now in
+    let new = c.settle.new.self in
+    let took = c.in_ok-settle.ensures.ok in
+    let count = c.count.ensures.station in
+    record {
+      kept = keeps_noted old.station new _ took old.kept;
+      one_part = (old.one_part.0, count.1 ∙ old.one_part.1, old.one_part.2);
+      counted = counted_final _ _ _ _ (number_of c.args.verdict) (code_of c.args.verdict) (ledger_of old.station)
+          (ledger_of new) took.ledger count.0 old.counted;
+    }

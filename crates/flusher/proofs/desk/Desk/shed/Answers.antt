@@ -1,0 +1,33 @@
+use Rattle.std.proofs.Common.{◌≡◌, ◌+◌, length, Ok, ap, sym, ◌∙◌, subst, arith, rules}
+use Rattle.ledger_core.specs.declared.note.Cause.TheVariants.{Deferred}
+use Rattle.recovery.specs.Words.{ledger_of as tape_ledger}
+use Rattle.peer_queue.specs.declared.station.Station.{Station}
+use Rattle.peer_queue.specs.Words.{ledger_of, number_of, code_of, deferred_number}
+use Rattle.flusher.specs.Kept.{IsKept}
+use Rattle.flusher.proofs.Keeps.{keeps_noted, keeps_same, keeps_tape, keeps_flushed, keeps_shed, counted_along}
+use Rattle.flusher.proofs.Keeps.{counted_owe, counted_final, counted_drop, counted_shed}
+use Rattle.flusher.proofs.desk.Desk.shed.Goals as goal
+
+pub invariant_of-self : goal.invariant_of-self
+invariant_of-self g c =
+    let old = c.args.self.now in
+    let same = c.in_err-shed.ensures.unchanged in
+    record {
+      kept = keeps_same old.station c.shed.new.self same old.kept;
+      one_part = old.one_part;
+      counted = counted_along _ _ _ (ledger_of old.station) (ledger_of c.shed.new.self) same.ledger old.counted;
+    }
+
+pub invariant_of-self-2 : goal.invariant_of-self-2
+invariant_of-self-2 g c =
+    let old = c.args.self.now in
+    let new = c.shed.new.self in
+    let e = c.in_ok-shed.ensures in
+    let numbers = c.in_ok-shed.shed.numbers.items in
+    let count = c.count.ensures.station in
+    let more : c.count.new.station.amount ≡ old.dropped.amount + length numbers = search rules in
+    record {
+      kept = keeps_shed old.station new numbers c.shed.ensures.disk e.notes old.kept;
+      one_part = (old.one_part.0, old.one_part.1, count.1 ∙ old.one_part.2);
+      counted = counted_shed _ _ _ _ numbers (ledger_of old.station) (ledger_of new) e.ledger more old.counted;
+    }

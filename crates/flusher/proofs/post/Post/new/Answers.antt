@@ -1,0 +1,120 @@
+use Rattle.std.proofs.Common.{◌≡◌, ◌+◌, ◌≤◌, ◌++◌, [], ◌∷◌, map, length, ap, sym, ◌∙◌, subst, arith, rules}
+use Rattle.std.specs.Prelude.{sum_by}
+use Rattle.std.specs.Vec.{vec_capacity}
+use Rattle.peer_queue.specs.Words.{ledger_of}
+use Rattle.flusher.specs.Post.{sums_at, total}
+use Rattle.flusher.proofs.Lists.{nothing, moved, moved_plain, sum_snoc, length_snoc, all_moved}
+use Rattle.flusher.proofs.post.Post.new.Goals as goal
+
+pub loop-peer-init : goal.loop-peer-init
+loop-peer-init g c =
+    let peers = c.args.peers.items in
+    let gives = c.into_iter-peer-iterator.ensures.into_iter_gives.0 in
+    let left = c.into_iter-peer-iterator.result.rest.items in
+    let none : c.reserve.new.self.items ≡ [] = c.in_ok-reserve.ensures.items ∙ c.new-made.ensures.items in
+    let none_marks : c.reserve-2.new.self.items ≡ [] = c.in_ok-reserve-2.ensures.items ∙ c.new-marks.ensures.items in
+    let some : length left ≡ length peers = ap length gives in
+    let here : g.N.Naming.names.peers ≡ length peers = ap (λ n. n.peers) c.requires.names in
+    let zero : length c.reserve.new.self.items ≡ 0 = ap length none in
+    let zero_marks : length c.reserve-2.new.self.items ≡ 0 = ap length none_marks in (
+      tt,
+      tt,
+      (λ i. map (λ q. q.name) (none i) ++ map (λ p. p.name) (gives i)),
+      (λ i. map (λ q. q.opened) (none i) ++ map sums_at (gives i)),
+      (λ i. none_marks i ++ map (λ p. (ledger_of p.station).mark) (gives i)),
+      omega (arith, some, zero),
+      omega (arith, some, zero_marks),
+      search rules,
+      search rules,
+      c.new.ensures.1 ∙ (here ∙ sym some),
+      c.new-2.ensures.1 ∙ (here ∙ sym some),
+      c.new-3.ensures.1 ∙ (here ∙ sym some),
+      c.new.ensures.2,
+      c.new-2.ensures.2,
+      c.new-3.ensures.2,
+      c.new.ensures.0 ∙ sym (ap (λ m. (total (map (λ q. q.opened) m)).taken) none),
+      c.new-2.ensures.0 ∙ sym (ap (λ m. (total (map (λ q. q.opened) m)).answered) none),
+      c.new-3.ensures.0 ∙ sym (ap (λ m. (total (map (λ q. q.opened) m)).dropped) none),
+    )
+
+pub loop-peer-preserved : goal.loop-peer-preserved
+loop-peer-preserved g c =
+    let l = c.loop-peer in
+    let was = l.invariant in
+    let step = c.in-Some.ensures.steps.0 in
+    let left = c.next.new.self.rest.items in
+    let peer = c.in-Some.peer in
+    let one = c.desk.result in
+    let d = c.desk.ensures in
+    let made = c.push_reserved-in-loop-peer.ensures.items in
+    let marks = c.push_reserved.ensures.items in
+    let fewer : length l.peer-iterator.rest.items ≡ length left + 1 = ap length step ∙ omega arith in
+    let more : length c.push_reserved-in-loop-peer.new.self.items ≡ length l.made.items + 1 = ap length made
+    ∙ length_snoc _ _ in
+    let more_marks : length c.push_reserved.new.self.items ≡ length l.marks.items + 1 = ap length marks
+    ∙ length_snoc _ _ in (
+      tt,
+      tt,
+      ap (λ m. map (λ q. q.name) m ++ map (λ p. p.name) left) made
+          ∙ (moved (λ p. p.name) (λ q. q.name) l.made.items one peer left d.name
+          ∙ (sym (ap (λ r. map (λ q. q.name) l.made.items ++ map (λ p. p.name) r) step) ∙ was.2)),
+      ap (λ m. map (λ q. q.opened) m ++ map sums_at left) made
+          ∙ (moved sums_at (λ q. q.opened) l.made.items one peer left d.opened
+          ∙ (sym (ap (λ r. map (λ q. q.opened) l.made.items ++ map sums_at r) step) ∙ was.3)),
+      ap (λ m. m ++ map (λ p. (ledger_of p.station).mark) left) marks
+          ∙ (moved_plain (λ p. (ledger_of p.station).mark) l.marks.items c.mark.result peer left c.mark.ensures
+          ∙ (sym (ap (λ r. l.marks.items ++ map (λ p. (ledger_of p.station).mark) r) step) ∙ was.4)),
+      omega (arith, more, fewer, was.5),
+      omega (arith, more_marks, fewer, was.6),
+      search rules,
+      search rules,
+      omega (arith, fewer, d.parts.0, was.9),
+      omega (arith, fewer, d.parts.1, was.10),
+      omega (arith, fewer, d.parts.2, was.11),
+      d.nothing.0,
+      d.nothing.1,
+      d.nothing.2,
+      d.totals.0 ∙ (ap (λ n. n + one.opened.taken) was.15
+          ∙ sym (ap (λ m. (total (map (λ q. q.opened) m)).taken) made
+          ∙ sum_snoc (λ s. s.taken) (λ q. q.opened) l.made.items one)),
+      d.totals.1 ∙ (ap (λ n. n + one.opened.answered) was.16
+          ∙ sym (ap (λ m. (total (map (λ q. q.opened) m)).answered) made
+          ∙ sum_snoc (λ s. s.answered) (λ q. q.opened) l.made.items one)),
+      d.totals.2 ∙ (ap (λ n. n + one.opened.dropped) was.17
+          ∙ sym (ap (λ m. (total (map (λ q. q.opened) m)).dropped) made
+          ∙ sum_snoc (λ s. s.dropped) (λ q. q.opened) l.made.items one)),
+    )
+
+pub invariant_of-post : goal.invariant_of-post
+invariant_of-post g c =
+    let l = c.loop-peer in
+    let none : l.peer-iterator.rest.items ≡ [] = nothing _ (search rules) in
+    let zero : length l.peer-iterator.rest.items ≡ 0 = ap length none in
+    let all : length l.made.items ≡ length c.args.peers.items = omega (arith, zero, l.invariant.5) in
+    let opened : map (λ q. q.opened) l.made.items ≡ map sums_at c.args.peers.items = sym (all_moved _)
+    ∙ (sym (ap (λ r. map (λ q. q.opened) l.made.items ++ map sums_at r) none) ∙ l.invariant.3) in
+    (all ∙ sym (ap (λ n. n.peers) c.requires.names), ap total opened ∙ sym (ap (λ n. n.opened) c.requires.names))
+
+pub close-requires-clause-total : goal.close-requires-clause-total
+close-requires-clause-total g c =
+    let l = c.loop-peer in
+    let none : l.peer-iterator.rest.items ≡ [] = nothing _ (search rules) in
+    let opened : map (λ q. q.opened) l.made.items ≡ map sums_at c.args.peers.items = sym (all_moved _)
+    ∙ (sym (ap (λ r. map (λ q. q.opened) l.made.items ++ map sums_at r) none) ∙ l.invariant.3) in
+    l.invariant.15 ∙ (ap (λ m. (total m).taken) opened ∙ sym (ap (λ n. n.opened.taken) c.requires.names))
+
+pub close-requires-2-clause-total : goal.close-requires-2-clause-total
+close-requires-2-clause-total g c =
+    let l = c.loop-peer in
+    let none : l.peer-iterator.rest.items ≡ [] = nothing _ (search rules) in
+    let opened : map (λ q. q.opened) l.made.items ≡ map sums_at c.args.peers.items = sym (all_moved _)
+    ∙ (sym (ap (λ r. map (λ q. q.opened) l.made.items ++ map sums_at r) none) ∙ l.invariant.3) in
+    l.invariant.16 ∙ (ap (λ m. (total m).answered) opened ∙ sym (ap (λ n. n.opened.answered) c.requires.names))
+
+pub close-requires-3-clause-total : goal.close-requires-3-clause-total
+close-requires-3-clause-total g c =
+    let l = c.loop-peer in
+    let none : l.peer-iterator.rest.items ≡ [] = nothing _ (search rules) in
+    let opened : map (λ q. q.opened) l.made.items ≡ map sums_at c.args.peers.items = sym (all_moved _)
+    ∙ (sym (ap (λ r. map (λ q. q.opened) l.made.items ++ map sums_at r) none) ∙ l.invariant.3) in
+    l.invariant.17 ∙ (ap (λ m. (total m).dropped) opened ∙ sym (ap (λ n. n.opened.dropped) c.requires.names))

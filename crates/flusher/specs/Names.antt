@@ -1,0 +1,39 @@
+-- The names of the six counting ledgers.
+use Rattle.std.specs.Prelude.{ℕ}
+use Rattle.ledger_core.specs.State.{State}
+
+-- how many debts were taken, answered and dropped
+pub record Counts : Type 0 where
+  pub taken : ℕ
+  pub answered : ℕ
+  pub dropped : ℕ
+
+-- what a ledger counts
+abbrev pub counts_of : State → Counts
+counts_of state = record { taken = state.taken; answered = state.answered; dropped = state.dropped }
+
+-- Two ledgers of one count: the one whose shares the workers have, and the one whose shares lie beside the stations
+pub record Pair : Type 0 where
+  pub workers : ℕ
+  pub stations : ℕ
+
+-- The names of the ledgers, how many stations there are, and what all of them had counted when the ledgers were opened.
+pub record Names : Type 0 where
+  pub taken : Pair
+  pub answered : Pair
+  pub dropped : Pair
+  pub peers : ℕ
+  pub opened : Counts
+
+abbrev pub no_pair : Pair
+no_pair = record { workers = 0; stations = 0 }
+
+-- of no ledger
+abbrev pub no_names : Names
+no_names = record {
+  taken = no_pair;
+  answered = no_pair;
+  dropped = no_pair;
+  peers = 0;
+  opened = record { taken = 0; answered = 0; dropped = 0 };
+}

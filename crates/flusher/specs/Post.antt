@@ -1,0 +1,51 @@
+-- What is seen of a post.
+use Rattle.std.specs.Prelude.{◌≡◌, ℕ, List, map, sum_by, length}
+use Rattle.disk_model.specs.declared.Disk.{Ghosts}
+use Rattle.ledger_core.specs.State.{State}
+use Rattle.peer_queue.specs.Words.{ledger_of}
+use Rattle.flusher.specs.Names.{Counts, Names, Pair}
+use Rattle.flusher.specs.declared.naming.BlankPair.{BlankPair}
+use Rattle.flusher.specs.declared.naming.Blanks.{Blanks}
+use Rattle.flusher.specs.declared.peer.Peer.{Peer}
+use Rattle.flusher.specs.declared.peer.Sums.{Sums}
+use Rattle.flusher.specs.declared.post.ClosedPeer.{ClosedPeer}
+
+-- the names of the peers, and what their stations had counted when it was made
+pub record View : Type 0 where
+  pub names : List (List ℕ)
+  pub opened : List Sums
+
+-- what a ledger counts
+abbrev pub sums_of : State → Sums
+sums_of state = record { taken = state.taken; answered = state.answered; dropped = state.dropped }
+
+-- all of these added up
+abbrev pub total : List Sums → Counts
+total sums = record {
+  taken = sum_by (λ (s : Sums). s.taken) sums;
+  answered = sum_by (λ (s : Sums). s.answered) sums;
+  dropped = sum_by (λ (s : Sums). s.dropped) sums;
+}
+
+abbrev pub pair_of : BlankPair → Pair
+pair_of pair = record { workers = pair.workers.name; stations = pair.stations.name }
+
+module _ {D : Type 0} {g : Ghosts D} where
+  -- what the station of a peer counts
+  abbrev pub sums_at : Peer D g → Sums
+  sums_at peer = sums_of (ledger_of peer.station)
+
+  -- the names of these ledgers, for these peers
+  abbrev pub names_of : Blanks → List (Peer D g) → Names
+  names_of blanks peers =
+      record {
+        taken = pair_of blanks.taken;
+        answered = pair_of blanks.answered;
+        dropped = pair_of blanks.dropped;
+        peers = length peers;
+        opened = total (map sums_at peers);
+      }
+
+  -- what the station counts of a peer that was taken from a post
+  abbrev pub sums_in : ClosedPeer D g → Sums
+  sums_in peer = sums_of (ledger_of peer.station)

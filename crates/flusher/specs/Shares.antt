@@ -1,0 +1,16 @@
+-- What the workers' shares have counted.
+use Rattle.std.specs.Prelude.{◌≡◌, ℕ, List}
+
+-- how many debts the intake counted as taken, and the mark of each station as it knows it
+pub record IntakeCount : Type 0 where
+  pub taken : ℕ
+  pub marks : List ℕ
+
+-- how many debts a feeder counted as answered, and as dropped
+pub record FeederCount : Type 0 where
+  pub answered : ℕ
+  pub dropped : ℕ
+
+-- nothing is counted
+abbrev pub IsUnused : FeederCount → Type 0
+IsUnused share = (share.answered ≡ 0) × (share.dropped ≡ 0)

@@ -1,0 +1,379 @@
+// What workers ask of a post.
+ghost use Rattle.std.specs.Prelude.{◌≡◌, ◌+◌, ◌-◌, ◌<◌, ◌≤◌, ◌^◌, [], length, slice_index_or, true, false};
+ghost use Rattle.std.specs.Prelude.{if◌then◌else◌, IfOk, IfErr, OnOk, OnErr, max, nat_lt};
+ghost use Rattle.flusher.specs.Ended.{IsCounted};
+ghost use Rattle.flusher.specs.Marks.{IsRaised, IsRaisedBy, IsTakenAt, rises};
+
+use crate::desk::Desk;
+use crate::fault::TakeFault;
+use crate::naming::TakenByIntake;
+use crate::pace::{Pace, Place, Who};
+use crate::post::Intake;
+use crate::share::{FeederShare, IntakeShare};
+use crate::{Naming, Post, PostFault};
+use conn_core::{CxnId, Outcome};
+use disk_model::Disk;
+use funnel::{FunnelLine, LineFault, read_line};
+use ledger_core::{Debt, Note, Totals};
+use peer_queue::{Shed, StationFault};
+use recovery::TapeFault;
+use std::sync::Wait;
+use std::sync::ledger::Share;
+
+/// What became of a debt that a feeder finished.
+#[derive(Clone, Copy, Debug, PartialEq, Eq)]
+pub enum Ended {
+    Answered,
+    Dropped,
+    Later,
+    Ready,
+}
+
+/// All lines up to this number are acknowledged. `Post::flush_all` alone makes one.
+#[derive(Clone, Copy, Debug, PartialEq, Eq)]
+pub struct Receipt {
+    number: u64,
+}
+
+impl Receipt {
+    /// The number.
+    pub fn number(&self) -> u64
+        ensures { result ≡ self.now.number }
+    {
+        self.number
+    }
+}
+
+impl<D: Disk, N: Naming> Post<D, N> {
+    /// How many peers there are.
+    pub fn peers(&self) -> usize
+        ensures { result ≡ length self.now.names }
+    {
+        self.peers.len()
+    }
+
+    /// What a peer's station counts.
+    pub fn totals<R: Wait>(&self, rt: &R, peer: usize) -> Totals
+        requires { peer < length self.now.names }
+        ensures sum { result.taken ≡ result.owed + result.answered + result.dropped }
+    {
+        self.peers[peer].desk.lock(rt).station.totals()
+    }
+
+    /// Whether no debt of a peer is ready, and no connection holds one.
+    pub fn all_later<R: Wait>(&self, rt: &R, peer: usize) -> bool
+        requires { peer < length self.now.names }
+    {
+        self.peers[peer].desk.lock(rt).station.all_later()
+    }
+
+    /// Claims the least candidate of a peer.
+    pub fn claim<R: Wait>(
+        &self,
+        rt: &R,
+        peer: usize,
+        connection: CxnId,
+        now: u64,
+    ) -> Result<Option<Debt>, PostFault>
+        requires { peer < length self.now.names }
+    {
+        match self.peers[peer].desk.lock(rt).claim(connection, now) {
+            Ok(debt) => Ok(debt),
+            Err(fault) => Err(PostFault::Station { peer, fault }),
+        }
+    }
+
+    /// Makes all ready that this connection held.
+    pub fn release<R: Wait>(&self, rt: &R, peer: usize, connection: CxnId) -> u64
+        requires { peer < length self.now.names }
+    {
+        self.peers[peer].desk.lock(rt).release(connection)
+    }
+
+    /// Drops what exceeds a peer's limit, and counts it.
+    pub fn shed<R: Wait>(
+        &self,
+        rt: &R,
+        peer: usize,
+        mine: &mut FeederShare<N>,
+    ) -> Result<Shed, PostFault>
+        requires { peer < length self.now.names }
+        ensures counted { IfOk result
+            (λ shed. (mine.new.dropped ≡ mine.old.dropped + length shed.numbers.items)
+            × (mine.new.answered ≡ mine.old.answered)) }
+        ensures unchanged { OnErr result
+            ((mine.new.answered ≡ mine.old.answered) × (mine.new.dropped ≡ mine.old.dropped)) }
+    {
+        let mut desk = self.peers[peer].desk.lock(rt);
+        let mut tally = self.tally.lock(rt);
+        if tally.dropped.is_full() {
+            return Err(PostFault::CountFull);
+        }
+        match desk.shed(&mut tally.dropped, &mut mine.dropped) {
+            Ok(shed) => Ok(shed),
+            Err(fault) => Err(PostFault::Station { peer, fault }),
+        }
+    }
+
+    /// Finishes what became of a debt, and counts it.
+    pub fn finish<R: Wait>(
+        &self,
+        rt: &R,
+        peer: usize,
+        connection: CxnId,
+        outcome: Outcome,
+        now: u64,
+        mine: &mut FeederShare<N>,
+    ) -> Result<Ended, (Outcome, PostFault)>
+        requires { peer < length self.now.names }
+        ensures counted { IfOk result
+            (λ ended. IsCounted outcome ended mine.old.answered mine.old.dropped mine.new.answered mine.new.dropped) }
+        ensures handed { IfErr result (λ e. e.0 ≡ outcome) }
+        ensures unchanged { OnErr result
+            ((mine.new.answered ≡ mine.old.answered) × (mine.new.dropped ≡ mine.old.dropped)) }
+    {
+        let mut desk = self.peers[peer].desk.lock(rt);
+        match outcome {
+            Outcome::Final(verdict) => {
+                let mut tally = self.tally.lock(rt);
+                if tally.answered.is_full() {
+                    return Err((Outcome::Final(verdict), PostFault::CountFull));
+                }
+                match desk.settle(&mut tally.answered, &mut mine.answered, connection, verdict) {
+                    Ok(()) => Ok(Ended::Answered),
+                    Err((verdict, fault)) => {
+                        Err((Outcome::Final(verdict), PostFault::Station { peer, fault }))
+                    }
+                }
+            }
+            Outcome::Deferred(deferral) => {
+                let mut tally = self.tally.lock(rt);
+                if tally.dropped.is_full() {
+                    return Err((Outcome::Deferred(deferral), PostFault::CountFull));
+                }
+                match desk.defer(
+                    &mut tally.dropped,
+                    &mut mine.dropped,
+                    connection,
+                    deferral,
+                    now,
+                ) {
+                    Ok(true) => Ok(Ended::Dropped),
+                    Ok(false) => Ok(Ended::Later),
+                    Err((deferral, fault)) => {
+                        Err((
+                            Outcome::Deferred(deferral),
+                            PostFault::Station { peer, fault },
+                        ))
+                    }
+                }
+            }
+            Outcome::Lost(debt, cause) => {
+                let mut tally = self.tally.lock(rt);
+                if tally.dropped.is_full() {
+                    return Err((Outcome::Lost(debt, cause), PostFault::CountFull));
+                }
+                match desk.lose(
+                    &mut tally.dropped,
+                    &mut mine.dropped,
+                    connection,
+                    debt,
+                    cause,
+                ) {
+                    Ok(()) => Ok(Ended::Dropped),
+                    Err((debt, fault)) => {
+                        Err((
+                            Outcome::Lost(debt, cause),
+                            PostFault::Station { peer, fault },
+                        ))
+                    }
+                }
+            }
+            Outcome::Back(debt) => match desk.back(connection, debt) {
+                Ok(()) => Ok(Ended::Ready),
+                Err((debt, fault)) => {
+                    Err((Outcome::Back(debt), PostFault::Station { peer, fault }))
+                }
+            },
+        }
+    }
+
+    /// Takes a funnel line at each station whose peer it names, and answers its number. Where it is refused, it is to
+    /// be given again.
+    #[tactic(auto, using(crate::proofs::Rises::rises_same))]
+    pub fn take_line<R: Wait>(
+        &self,
+        rt: &R,
+        line: &[u8],
+        share: &mut IntakeShare<N>,
+    ) -> Result<u64, PostFault>
+        ensures marks { length share.new.marks ≡ length share.old.marks }
+        ensures raised { IfOk result
+            (λ n. IsRaised n line.now self.now.names share.old.marks share.new.marks) }
+        ensures counted { share.new.taken ≡ share.old.taken
+            + rises share.old.marks share.new.marks }
+    {
+        let last = self.intake.lock(rt).last;
+        let Some(number) = last.checked_add(1) else {
+            return Err(PostFault::CountFull);
+        };
+        let IntakeShare { taken, marks } = share;
+        self.take_read(rt, number, line, taken, marks)?;
+        self.intake.lock(rt).last = number;
+        Ok(number)
+    }
+
+    // Takes a line of this number at each station whose peer it names.
+    #[tactic(auto, using(crate::proofs::Rises::rises_same))]
+    fn take_read<R: Wait>(
+        &self,
+        rt: &R,
+        number: u64,
+        line: &[u8],
+        taken: &mut Share<TakenByIntake<N>>,
+        marks: &mut Vec<u64>,
+    ) -> Result<(), PostFault>
+        requires marks { length marks.old.items ≡ length self.now.names }
+        requires part { taken.old.parts ≡ 1 }
+        ensures marks { length marks.new.items ≡ length marks.old.items }
+        ensures raised { OnOk result
+            (IsRaised number line.now self.now.names marks.old.items marks.new.items) }
+        ensures counted { taken.new.amount ≡ taken.old.amount
+            + rises marks.old.items marks.new.items }
+        ensures part { taken.new.parts ≡ 1 }
+    {
+        match read_line(self.alloc, line) {
+            Ok(line) => self.take_good(rt, number, &line, taken, marks),
+            Err(LineFault::NoMemory) => Err(PostFault::NoMemory),
+            Err(LineFault::TooLong) => Ok(()),
+            Err(LineFault::NoToken) => Ok(()),
+            Err(LineFault::BadToken) => Ok(()),
+            Err(LineFault::BadId) => Ok(()),
+        }
+    }
+
+    // Takes a good line at each station whose peer it names, in order.
+    fn take_good<R: Wait>(
+        &self,
+        rt: &R,
+        number: u64,
+        line: &FunnelLine,
+        taken: &mut Share<TakenByIntake<N>>,
+        marks: &mut Vec<u64>,
+    ) -> Result<(), PostFault>
+        requires marks { length marks.old.items ≡ length self.now.names }
+        requires part { taken.old.parts ≡ 1 }
+        ensures marks { length marks.new.items ≡ length marks.old.items }
+        ensures raised { OnOk result
+            (IsRaisedBy number line.now.peers.items self.now.names marks.old.items marks.new.items) }
+        ensures counted { taken.new.amount ≡ taken.old.amount
+            + rises marks.old.items marks.new.items }
+        ensures part { taken.new.parts ≡ 1 }
+    {
+        for peer in 0..self.peers.len() {
+            self.take_named(rt, peer, number, line, taken, marks)?;
+        }
+        Ok(())
+    }
+
+    // Takes a good line at a station, if the line names its peer.
+    fn take_named<R: Wait>(
+        &self,
+        rt: &R,
+        peer: usize,
+        number: u64,
+        line: &FunnelLine,
+        taken: &mut Share<TakenByIntake<N>>,
+        marks: &mut Vec<u64>,
+    ) -> Result<(), PostFault>
+        requires peer { peer < length self.now.names }
+        requires marks { length marks.old.items ≡ length self.now.names }
+        requires part { taken.old.parts ≡ 1 }
+        ensures taken { OnOk result
+            (IsTakenAt number line.now.peers.items
+            (slice_index_or self.now.names peer []) peer marks.old.items marks.new.items
+            taken.old.amount taken.new.amount) }
+        ensures unchanged { OnErr result
+            ((marks.new.items ≡ marks.old.items) × (taken.new.amount ≡ taken.old.amount)) }
+        ensures part { taken.new.parts ≡ 1 }
+    {
+        if !line.names(&self.peers[peer].name) {
+            return Ok(());
+        }
+        let mut mark = marks[peer];
+        self.take_at(rt, peer, number, line, taken, &mut mark)?;
+        marks[peer] = mark;
+        Ok(())
+    }
+
+    // Takes a good line at a station.
+    fn take_at<R: Wait>(
+        &self,
+        rt: &R,
+        peer: usize,
+        number: u64,
+        line: &FunnelLine,
+        taken: &mut Share<TakenByIntake<N>>,
+        mark: &mut u64,
+    ) -> Result<(), PostFault>
+        requires peer { peer < length self.now.names }
+        requires part { taken.old.parts ≡ 1 }
+        ensures marked { OnOk result (mark.new ≡ max mark.old number) }
+        ensures counted { OnOk result
+            (taken.new.amount ≡ taken.old.amount + (if nat_lt mark.old number then 1 else 0)) }
+        ensures unchanged { OnErr result
+            ((mark.new ≡ mark.old) × (taken.new.amount ≡ taken.old.amount)) }
+        ensures part { taken.new.parts ≡ 1 }
+    {
+        let mut desk = self.peers[peer].desk.lock(rt);
+        let mut tally = self.tally.lock(rt);
+        if tally.taken.is_full() {
+            return Err(PostFault::CountFull);
+        }
+        match desk.take(&mut tally.taken, taken, mark, number, line) {
+            Ok(()) => Ok(()),
+            Err(TakeFault::Stranger) => Err(PostFault::Stranger { peer }),
+            Err(TakeFault::Station(fault)) => Err(PostFault::Station { peer, fault }),
+        }
+    }
+
+    /// Puts all that pends on the disks: the stations' notes by name, and then, with the number that the last line had
+    /// before, the
+    /// intake's.
+    pub fn flush_all<P: Pace, R: Wait>(&self, rt: &R, pace: &P) -> Result<Receipt, PostFault> {
+        let number = self.intake.lock(rt).last;
+        for peer in 0..self.peers.len() {
+            self.flush_one(rt, pace, peer)?;
+            pace.turn(Who::Flusher, Place::AfterFlush);
+        }
+        match self.intake.lock(rt).seal(number) {
+            Ok(()) => Ok(Receipt { number }),
+            Err(fault) => Err(PostFault::Intake(fault)),
+        }
+    }
+
+    // Flushes one station.
+    fn flush_one<P: Pace, R: Wait>(&self, rt: &R, pace: &P, peer: usize) -> Result<(), PostFault>
+        requires { peer < length self.now.names }
+    {
+        let mut desk = self.peers[peer].desk.lock(rt);
+        pace.turn(Who::Flusher, Place::InFlush);
+        match desk.flush() {
+            Ok(_) => Ok(()),
+            Err(fault) => Err(PostFault::Station { peer, fault }),
+        }
+    }
+}
+
+impl<D: Disk> Intake<D> {
+    // Notes that all lines up to this number are acknowledged.
+    fn seal(&mut self, number: u64) -> Result<(), TapeFault> {
+        if number > self.tape.mark()
+            && let Err((_, fault)) = self.tape.note(Note::Seen { number })
+        {
+            return Err(fault);
+        }
+        self.tape.flush()?;
+        Ok(())
+    }
+}

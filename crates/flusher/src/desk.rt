@@ -1,0 +1,217 @@
+// What a station's lock keeps.
+ghost use Rattle.std.specs.Prelude.{◌≡◌, ◌+◌, ◌<◌, ◌≤◌, ◌^◌, IfOk, IfErr, OnOk, OnErr, true, false, if◌then◌else◌, max};
+ghost use Rattle.std.specs.Prelude.{length, nat_lt};
+ghost use Rattle.peer_queue.specs.Words.{IsSame, IsSameTape, Notes, code_of, ledger_of, limits_of, number_of};
+ghost use Rattle.peer_queue.specs.Words.{places_of, pending_of};
+ghost use Rattle.peer_queue.specs.Place.{least_candidate, held_count};
+ghost use Rattle.ledger_core.specs.declared.note.Note.{Note};
+ghost use Rattle.flusher.specs.Kept.{IsKept};
+
+use crate::Naming;
+use crate::fault::TakeFault;
+use crate::naming::{
+    AnsweredAtStations, AnsweredByFeeders, DroppedAtStations, DroppedByFeeders, TakenAtStations,
+    TakenByIntake,
+};
+use crate::tally::Books;
+use conn_core::{CxnId, Deferral, Verdict};
+use disk_model::Disk;
+use funnel::FunnelLine;
+use ledger_core::{Cause, Debt};
+use peer_queue::{Owed, Shed, Station, StationFault};
+use std::sync::ledger::Share;
+
+/// A station, and its shares of what the stations have counted.
+#[derive(Drop)]
+pub struct Desk<D: Disk, N: Naming> {
+    pub(crate) station: Station<D>,
+    pub(crate) taken: Share<TakenAtStations<N>>,
+    pub(crate) answered: Share<AnsweredAtStations<N>>,
+    pub(crate) dropped: Share<DroppedAtStations<N>>,
+    ghost kept: { ∥ IsKept station ∥₁ },
+    ghost one_part: { (taken.parts ≡ 1) × (answered.parts ≡ 1) × (dropped.parts ≡ 1) },
+    ghost counted: { (taken.amount ≡ (ledger_of station).taken) × (answered.amount ≡ (ledger_of station).answered)
+        × (dropped.amount ≡ (ledger_of station).dropped) },
+}
+
+impl<D: Disk, N: Naming> Desk<D, N> {
+    /// Takes a good line, where its number is above the mark, and counts it.
+    pub fn take(
+        &mut self,
+        books: &mut Books<TakenByIntake<N>, TakenAtStations<N>>,
+        mine: &mut Share<TakenByIntake<N>>,
+        mark: &mut u64,
+        number: u64,
+        line: &FunnelLine,
+    ) -> Result<(), TakeFault>
+        requires part { mine.old.parts ≡ 1 }
+        requires room { books.old + 1 < 2 ^ 64 }
+        ensures marked { OnOk result (mark.new ≡ max mark.old number) }
+        ensures counted { OnOk result
+            (mine.new.amount ≡ mine.old.amount + (if nat_lt mark.old number then 1 else 0)) }
+        ensures unchanged { OnErr result
+            ((mark.new ≡ mark.old) × (mine.new.amount ≡ mine.old.amount)) }
+        ensures part { mine.new.parts ≡ 1 }
+    {
+        let Desk { station, taken, .. } = self;
+        if station.mark() != *mark {
+            return Err(TakeFault::Stranger);
+        }
+        match station.owe(number, &line.token, &line.id) {
+            Ok(Owed::New) => {
+                books.count(mine, taken, 1);
+                *mark = number;
+                Ok(())
+            }
+            Ok(Owed::Already) => Ok(()),
+            Err(fault) => Err(TakeFault::Station(fault)),
+        }
+    }
+
+    /// Settles a debt, and counts it.
+    pub fn settle(
+        &mut self,
+        books: &mut Books<AnsweredByFeeders<N>, AnsweredAtStations<N>>,
+        mine: &mut Share<AnsweredByFeeders<N>>,
+        connection: CxnId,
+        verdict: Verdict,
+    ) -> Result<(), (Verdict, StationFault)>
+        requires part { mine.old.parts ≡ 1 }
+        requires room { books.old + 1 < 2 ^ 64 }
+        ensures noted { OnOk result
+            (Notes self.old.station self.new.station
+            (Note.Final (number_of verdict) (code_of verdict))) }
+        ensures counted { OnOk result (mine.new.amount ≡ mine.old.amount + 1) }
+        ensures handed { IfErr result (λ e. e.0 ≡ verdict) }
+        ensures unchanged { OnErr result
+            (IsSame self.old.station self.new.station × (mine.new.amount ≡ mine.old.amount)) }
+        ensures part { mine.new.parts ≡ 1 }
+    {
+        let Desk {
+            station,
+            answered,
+            ..
+        } = self;
+        station.settle(connection, verdict)?;
+        books.count(mine, answered, 1);
+        Ok(())
+    }
+
+    /// Puts a debt off or drops it, and counts it where it drops it. True: it was dropped.
+    pub fn defer(
+        &mut self,
+        books: &mut Books<DroppedByFeeders<N>, DroppedAtStations<N>>,
+        mine: &mut Share<DroppedByFeeders<N>>,
+        connection: CxnId,
+        deferral: Deferral,
+        now: u64,
+    ) -> Result<bool, (Deferral, StationFault)>
+        requires part { mine.old.parts ≡ 1 }
+        requires room { books.old + 1 < 2 ^ 64 }
+        ensures drops { IfOk result (λ drops. drops ≡ (limits_of self.old.station).drop_deferred) }
+        ensures counted { IfOk result
+            (λ drops. mine.new.amount ≡ mine.old.amount + (if drops then 1 else 0)) }
+        ensures handed { IfErr result (λ e. e.0 ≡ deferral) }
+        ensures unchanged { OnErr result
+            (IsSame self.old.station self.new.station × (mine.new.amount ≡ mine.old.amount)) }
+        ensures part { mine.new.parts ≡ 1 }
+    {
+        let Desk {
+            station,
+            dropped,
+            ..
+        } = self;
+        let drops = station.limits().drop_deferred;
+        station.defer(connection, deferral, now)?;
+        if drops {
+            books.count(mine, dropped, 1);
+        }
+        Ok(drops)
+    }
+
+    /// Drops a debt whose article cannot be sent, and counts it.
+    pub fn lose(
+        &mut self,
+        books: &mut Books<DroppedByFeeders<N>, DroppedAtStations<N>>,
+        mine: &mut Share<DroppedByFeeders<N>>,
+        connection: CxnId,
+        debt: Debt,
+        cause: Cause,
+    ) -> Result<(), (Debt, StationFault)>
+        requires part { mine.old.parts ≡ 1 }
+        requires room { books.old + 1 < 2 ^ 64 }
+        ensures noted { OnOk result
+            (Notes self.old.station self.new.station (Note.Drop debt.0 cause)) }
+        ensures counted { OnOk result (mine.new.amount ≡ mine.old.amount + 1) }
+        ensures handed { IfErr result (λ e. e.0 ≡ debt) }
+        ensures unchanged { OnErr result
+            (IsSame self.old.station self.new.station × (mine.new.amount ≡ mine.old.amount)) }
+        ensures part { mine.new.parts ≡ 1 }
+    {
+        let Desk {
+            station,
+            dropped,
+            ..
+        } = self;
+        station.lose(connection, debt, cause)?;
+        books.count(mine, dropped, 1);
+        Ok(())
+    }
+
+    /// Takes a debt back.
+    pub fn back(&mut self, connection: CxnId, debt: Debt) -> Result<(), (Debt, StationFault)>
+        ensures handed { IfErr result (λ e. e.0 ≡ debt) }
+        ensures ok { OnOk result (IsSameTape self.old.station self.new.station) }
+        ensures unchanged { OnErr result (IsSame self.old.station self.new.station) }
+    {
+        self.station.back(connection, debt)
+    }
+
+    /// Claims the least candidate.
+    pub fn claim(&mut self, connection: CxnId, now: u64) -> Result<Option<Debt>, StationFault>
+        ensures tape { IsSameTape self.old.station self.new.station }
+    {
+        self.station.claim(connection, now)
+    }
+
+    /// Makes all ready that this connection held.
+    pub fn release(&mut self, connection: CxnId) -> u64
+        ensures count { result ≡ held_count connection.0 (places_of self.old.station) }
+        ensures tape { IsSameTape self.old.station self.new.station }
+    {
+        self.station.release(connection)
+    }
+
+    /// Drops what exceeds the limit, and counts it.
+    pub fn shed(
+        &mut self,
+        books: &mut Books<DroppedByFeeders<N>, DroppedAtStations<N>>,
+        mine: &mut Share<DroppedByFeeders<N>>,
+    ) -> Result<Shed, StationFault>
+        requires part { mine.old.parts ≡ 1 }
+        requires room { books.old + 65536 < 2 ^ 64 }
+        ensures counted { IfOk result
+            (λ shed. mine.new.amount ≡ mine.old.amount + length shed.numbers.items) }
+        ensures unchanged { OnErr result
+            (IsSame self.old.station self.new.station × (mine.new.amount ≡ mine.old.amount)) }
+        ensures part { mine.new.parts ≡ 1 }
+    {
+        let Desk {
+            station,
+            dropped,
+            ..
+        } = self;
+        let shed = station.shed()?;
+        books.count(mine, dropped, shed.numbers.len() as u64);
+        Ok(shed)
+    }
+
+    /// Puts the notes that pend on the disk.
+    pub fn flush(&mut self) -> Result<u64, StationFault>
+        ensures ledger { ledger_of self.new.station ≡ ledger_of self.old.station }
+        ensures places { places_of self.new.station ≡ places_of self.old.station }
+        ensures none_pends { OnOk result (pending_of self.new.station ≡ 0) }
+    {
+        self.station.flush()
+    }
+}

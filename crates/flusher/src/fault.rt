@@ -1,0 +1,31 @@
+// Why a call of a post was refused.
+use peer_queue::StationFault;
+use recovery::TapeFault;
+use thiserror::Error;
+
+/// Why a call of a post is refused.
+#[derive(Clone, Copy, Debug, PartialEq, Eq, Error)]
+pub enum PostFault {
+    /// The station of this peer refused.
+    #[error("Station {fault}")]
+    Station { peer: usize, fault: StationFault },
+    /// The intake tape refused.
+    #[error("Intake {0}")]
+    Intake(TapeFault),
+    /// The line's number, or a tally, would pass its greatest value.
+    #[error("CountFull")]
+    CountFull,
+    /// The mark of this peer's station is not the share's.
+    #[error("Stranger")]
+    Stranger { peer: usize },
+    /// Memory was refused.
+    #[error("NoMemory")]
+    NoMemory,
+}
+
+// Why a station did not take a line.
+#[derive(Clone, Copy, Debug, PartialEq, Eq)]
+pub(crate) enum TakeFault {
+    Stranger,
+    Station(StationFault),
+}

@@ -1,0 +1,41 @@
+// What the workers hold of the counting ledgers.
+use crate::Naming;
+use crate::naming::{AnsweredByFeeders, DroppedByFeeders, TakenByIntake};
+use std::marker::Model;
+use std::sync::ledger::Share;
+
+/// What the intake has counted, and each station's mark as it knows it, in the order of the peers.
+#[derive(Drop)]
+pub struct IntakeShare<N: Naming> {
+    pub(crate) taken: Share<TakenByIntake<N>>,
+    pub(crate) marks: Vec<u64>,
+}
+
+impl<N: Naming> Model for IntakeShare<N> {
+    ghost use Rattle.std.specs.Prelude.{◌≡◌, length};
+    ghost use Rattle.flusher.specs.Shares.{IntakeCount};
+
+    ghost Value = { IntakeCount };
+
+    ghost view = { λ share. record { taken = share.taken.amount; marks = share.marks.items } };
+
+    ghost invariant = { λ share. (share.taken.parts ≡ 1) × (length share.marks.items ≡ N.names.peers) };
+}
+
+/// What a feeder has counted.
+#[derive(Drop)]
+pub struct FeederShare<N: Naming> {
+    pub(crate) answered: Share<AnsweredByFeeders<N>>,
+    pub(crate) dropped: Share<DroppedByFeeders<N>>,
+}
+
+impl<N: Naming> Model for FeederShare<N> {
+    ghost use Rattle.std.specs.Prelude.{◌≡◌};
+    ghost use Rattle.flusher.specs.Shares.{FeederCount};
+
+    ghost Value = { FeederCount };
+
+    ghost view = { λ share. record { answered = share.answered.amount; dropped = share.dropped.amount } };
+
+    ghost invariant = { λ share. (share.answered.parts ≡ 1) × (share.dropped.parts ≡ 1) };
+}

@@ -1,0 +1,150 @@
+// What the threads of a run tell one another.
+use crate::Receipt;
+use std::sync::atomic::{AtomicBool, AtomicU64, Ordering};
+use std::sync::{Mutex, Wait};
+use std::time::Duration;
+
+// The longest time without a flush, in seconds.
+const PERIOD: u64 = 1;
+
+/// What the threads of a run tell one another: orders of a flush, what came of them, and that the end is near.
+///
+/// One value serves one run, and all of its threads share it.
+#[derive(Drop)]
+pub struct Signals {
+    // Changes with each signal: who waits for one sleeps while this stays as it was seen.
+    changes: AtomicU64,
+    // How many orders have come.
+    orders: AtomicU64,
+    latest: Mutex<Latest>,
+    last_phase: AtomicBool,
+    // The flusher is to end.
+    over: AtomicBool,
+    stopped: AtomicBool,
+}
+
+// The latest flush that went well.
+#[derive(Drop)]
+struct Latest {
+    // How many orders had come before it began.
+    orders: u64,
+    receipt: Option<Receipt>,
+}
+
+impl Signals {
+    /// Nothing is ordered.
+    pub fn new() -> Signals {
+        Signals {
+            changes: AtomicU64::new(0),
+            orders: AtomicU64::new(0),
+            latest: Mutex::new(Latest {
+                orders: 0,
+                receipt: None,
+            }),
+            last_phase: AtomicBool::new(false),
+            over: AtomicBool::new(false),
+            stopped: AtomicBool::new(false),
+        }
+    }
+
+    /// Orders a flush. All orders that come before a flush begins are one.
+    pub fn order(&self) {
+        self.orders.fetch_add(1, Ordering::SeqCst);
+        self.tell();
+    }
+
+    /// Waits for the receipt of a flush that began after each order up to now, and so the caller's own. None where all
+    /// were stopped
+    /// before it came: by a fault, which the worker that met it has.
+    pub fn receipt<R: Wait>(&self, rt: &R) -> Option<Receipt> {
+        let orders = self.orders.load(Ordering::SeqCst);
+        for _ in rt.forever() {
+            let seen = self.changes.load(Ordering::SeqCst);
+            let latest = self.receipt_since(rt, orders);
+            if latest.is_some() || self.is_stopped() {
+                return latest;
+            }
+            self.changes.park(rt, low(seen));
+        }
+        unreachable!()
+    }
+
+    /// Tells that the funnel is at its end: what is ready or held is to be worked off.
+    pub fn begin_last_phase(&self) {
+        self.last_phase.store(true, Ordering::SeqCst);
+        self.tell();
+    }
+
+    /// Whether the last phase has begun.
+    pub fn is_last_phase(&self) -> bool {
+        self.last_phase.load(Ordering::SeqCst)
+    }
+
+    /// Tells everyone to end at once: a worker met a fault, or a thread could not be started.
+    pub fn stop(&self) {
+        self.stopped.store(true, Ordering::SeqCst);
+        self.tell();
+    }
+
+    /// Whether everyone is to end at once.
+    pub fn is_stopped(&self) -> bool {
+        self.stopped.load(Ordering::SeqCst)
+    }
+
+    // The receipt of a flush that began after so many orders.
+    fn receipt_since<R: Wait>(&self, rt: &R, orders: u64) -> Option<Receipt> {
+        let latest = self.latest.lock(rt);
+        if latest.orders >= orders {
+            latest.receipt
+        } else {
+            None
+        }
+    }
+
+    // Waits for an order beyond those that a flush has answered, for a second at most, and tells how many orders have
+    // come. None where
+    // the flusher is to end.
+    pub(crate) fn next_flush<R: Wait>(&self, rt: &R, answered: u64) -> Option<u64> {
+        let seen = self.changes.load(Ordering::SeqCst);
+        if self.orders.load(Ordering::SeqCst) == answered && !self.is_over() {
+            self.changes
+                .park_timeout(rt, low(seen), Duration::from_secs(PERIOD));
+        }
+        if self.is_over() {
+            None
+        } else {
+            Some(self.orders.load(Ordering::SeqCst))
+        }
+    }
+
+    // Tells the receipt of a flush that began after so many orders.
+    pub(crate) fn answer<R: Wait>(&self, rt: &R, orders: u64, receipt: Receipt) {
+        *self.latest.lock(rt) = Latest {
+            orders,
+            receipt: Some(receipt),
+        };
+        self.tell();
+    }
+
+    // Tells the flusher to end: no other worker is left.
+    pub(crate) fn end_flusher(&self) {
+        self.over.store(true, Ordering::SeqCst);
+        self.tell();
+    }
+
+    // Whether the flusher is to end.
+    fn is_over(&self) -> bool {
+        self.over.load(Ordering::SeqCst) || self.is_stopped()
+    }
+
+    // Wakes all who wait. What is told was written before, so that none sleeps on.
+    fn tell(&self) {
+        self.changes.fetch_add(1, Ordering::SeqCst);
+        self.changes.wake_all();
+    }
+}
+
+// The low 32 bits, on which a sleep goes.
+fn low(changes: u64) -> u32 {
+    (changes & 0xffff_ffff) as u32
+}

@@ -1,0 +1,136 @@
+// The books of the counting ledgers.
+ghost use Rattle.std.specs.Prelude.{◌≡◌, ℕ, ◌+◌, ◌-◌, ◌^◌, ◌<◌, ◌≤◌, IsTrue, ◌↔◌};
+
+use crate::Naming;
+use crate::naming::{
+    AnsweredAtStations, AnsweredByFeeders, AtStations, DroppedAtStations, DroppedByFeeders,
+    TakenAtStations, TakenByIntake,
+};
+use std::marker::Model;
+use std::sync::ledger::{Blank, Book, Ledger, Share};
+
+// The most that one call counts.
+const MOST_AT_ONCE: u64 = 65_536;
+
+/// The books of one count: what the workers were told, and beside it what the stations say.
+#[derive(Drop)]
+pub struct Books<W: Ledger, S: AtStations> {
+    count: u64,
+    workers: Book<W>,
+    stations: Book<S>,
+    // No part of the stations' ledger.
+    rest: Share<S>,
+}
+
+impl<W: Ledger, S: AtStations> Model for Books<W, S> {
+    ghost Value = { ℕ };
+
+    ghost view = { λ b. b.count };
+
+    ghost invariant = { λ b. (b.workers.total ≡ b.count) × (b.stations.total ≡ S.opened + b.workers.total)
+        × (b.rest.parts ≡ 0) × (b.rest.amount ≡ 0) };
+}
+
+impl<W: Ledger, S: AtStations> Books<W, S> {
+    /// Whether there is no room for what one call may count.
+    pub fn is_full(&self) -> bool
+        ensures { IsTrue result ↔ (2 ^ 64 ≤ self.now + 65537) }
+    {
+        self.count >= u64::MAX - MOST_AT_ONCE
+    }
+
+    /// Counts these, told to a worker, at a station.
+    pub fn count(&mut self, worker: &mut Share<W>, station: &mut Share<S>, more: u64)
+        requires parts { (0 < worker.old.parts) × (0 < station.old.parts) }
+        requires room { self.old + more < 2 ^ 64 }
+        ensures count { self.new ≡ self.old + more }
+        ensures worker { (worker.new.amount ≡ worker.old.amount + more)
+            × (worker.new.parts ≡ worker.old.parts) }
+        ensures station { (station.new.amount ≡ station.old.amount + more)
+            × (station.new.parts ≡ station.old.parts) }
+    {
+        let Books {
+            count,
+            workers,
+            stations,
+            rest: _,
+        } = self;
+        workers.add(worker, more);
+        stations.add(station, more);
+        *count += more;
+    }
+}
+
+/// The books of the three counts.
+#[derive(Drop)]
+pub struct Tally<N: Naming> {
+    pub taken: Books<TakenByIntake<N>, TakenAtStations<N>>,
+    pub answered: Books<AnsweredByFeeders<N>, AnsweredAtStations<N>>,
+    pub dropped: Books<DroppedByFeeders<N>, DroppedAtStations<N>>,
+}
+
+/// A ledger beside the stations that is being cut.
+#[derive(Drop)]
+pub struct Opening<S: AtStations> {
+    book: Book<S>,
+    rest: Share<S>,
+}
+
+impl<S: AtStations> Opening<S> {
+    /// All of it.
+    pub fn new(blank: Blank) -> Opening<S>
+        requires { (blank.name ≡ S.name) × (blank.parts ≡ S.parts) }
+        ensures { (result.book.total ≡ 0) × (result.rest.parts ≡ S.parts)
+            × (result.rest.amount ≡ 0) }
+    {
+        let (book, rest) = blank.open::<S>();
+        Opening { book, rest }
+    }
+
+    /// One part of it, which has this amount.
+    pub fn cut(&mut self, amount: u64) -> Share<S>
+        requires { (0 < self.old.rest.parts) × (self.old.rest.amount ≡ 0) }
+        ensures share { (result.parts ≡ 1) × (result.amount ≡ amount) }
+        ensures rest { (self.new.rest.parts + 1 ≡ self.old.rest.parts)
+            × (self.new.rest.amount ≡ 0) }
+        ensures total { self.new.book.total ≡ self.old.book.total + amount }
+    {
+        let Opening { book, rest } = self;
+        let mut share = rest.split_off(1, 0);
+        book.add(&mut share, amount);
+        share
+    }
+
+    /// The books, once every part is cut off.
+    pub fn close<W: Ledger>(self, workers: Book<W>) -> Books<W, S>
+        requires cut { (self.rest.parts ≡ 0) × (self.rest.amount ≡ 0) }
+        requires total { self.book.total ≡ S.opened }
+        requires workers { workers.total ≡ 0 }
+        ensures { result ≡ 0 }
+    {
+        let Opening { book, rest } = self;
+        Books {
+            count: 0,
+            workers,
+            stations: book,
+            rest,
+        }
+    }
+}
+
+impl<W: Ledger, S: AtStations> Books<W, S> {
+    /// Takes the books apart: what was counted, and the three tokens.
+    pub fn parts(self) -> (u64, Book<W>, Book<S>, Share<S>)
+        ensures count { (result.0 ≡ self) × (result.1.total ≡ self) }
+        ensures stations { result.2.total ≡ S.opened + self }
+        ensures rest { (result.3.parts ≡ 0) × (result.3.amount ≡ 0) }
+    {
+        let Books {
+            count,
+            workers,
+            stations,
+            rest,
+        } = self;
+        (count, workers, stations, rest)
+    }
+}

@@ -1,0 +1,139 @@
+// Workers in threads of their own.
+use crate::signals::Signals;
+use crate::{Naming, Pace, Post};
+use disk_model::Disk;
+use std::rt::Clock;
+use std::sync::Wait;
+use std::thread;
+use std::thread::Threads;
+
+/// A worker on a post.
+pub trait Work<D: Disk, N: Naming> {
+    /// Works until it is done, or everyone is to end.
+    fn run<R: AllocGlobal + Wait + Clock, P: Pace>(
+        &mut self,
+        rt: &R,
+        post: &Post<D, N>,
+        signals: &Signals,
+        pace: &P,
+    );
+}
+
+/// A thread could not be started.
+#[derive(Clone, Copy, Debug, PartialEq, Eq)]
+pub struct NoThread;
+
+/// Runs two feeders and the flusher, each in a thread of its own, and the intake in this one, until all have ended, and
+/// gives the three back. The flusher is told to end once the feeders have ended.
+///
+/// # Errors
+/// `NoThread` where a thread could not be started: all were stopped and have ended, and the three workers are lost.
+pub fn run_threads<
+    D: Disk + Send,
+    N: Naming + Send + Sync,
+    W: Work<D, N> + Drop + Send,
+    F: Work<D, N> + Drop + Send,
+    I: Work<D, N>,
+    P: Pace + Sync,
+    R: AllocGlobal + Threads + Wait + Clock + Sync,
+>(
+    rt: &R,
+    post: &Post<D, N>,
+    signals: &Signals,
+    feeders: (W, W),
+    flusher: F,
+    intake: &mut I,
+    pace: &P,
+) -> Result<(W, W, F), NoThread> {
+    let (first, second) = feeders;
+    thread::scope(
+        thread::scope_env(),
+        rt,
+        |scope| -> Result<(W, W, F), NoThread> {
+            let Ok(last) = scope.spawn(move || worked(rt, post, signals, flusher, pace)) else {
+                return Err(NoThread);
+            };
+            let ended = run_feeders(rt, post, signals, first, second, intake, pace);
+            signals.end_flusher();
+            let flusher = last.join(rt);
+            match ended {
+                Ok((first, second)) => Ok((first, second, flusher)),
+                Err(fault) => Err(fault),
+            }
+        },
+    )
+}
+
+// Runs two feeders in threads of their own and the intake in this one. A scope starts one thread.
+fn run_feeders<
+    D: Disk + Send,
+    N: Naming + Send + Sync,
+    W: Work<D, N> + Drop + Send,
+    I: Work<D, N>,
+    P: Pace + Sync,
+    R: AllocGlobal + Threads + Wait + Clock + Sync,
+>(
+    rt: &R,
+    post: &Post<D, N>,
+    signals: &Signals,
+    first: W,
+    second: W,
+    intake: &mut I,
+    pace: &P,
+) -> Result<(W, W), NoThread> {
+    thread::scope(
+        thread::scope_env(),
+        rt,
+        |scope| -> Result<(W, W), NoThread> {
+            let Ok(one) = scope.spawn(move || worked(rt, post, signals, first, pace)) else {
+                signals.stop();
+                return Err(NoThread);
+            };
+            let ended = run_feeder(rt, post, signals, second, intake, pace);
+            let first = one.join(rt);
+            match ended {
+                Ok(second) => Ok((first, second)),
+                Err(fault) => Err(fault),
+            }
+        },
+    )
+}
+
+// Runs a feeder in a thread of its own and the intake in this one.
+fn run_feeder<
+    D: Disk + Send,
+    N: Naming + Send + Sync,
+    W: Work<D, N> + Drop + Send,
+    I: Work<D, N>,
+    P: Pace + Sync,
+    R: AllocGlobal + Threads + Wait + Clock + Sync,
+>(
+    rt: &R,
+    post: &Post<D, N>,
+    signals: &Signals,
+    feeder: W,
+    intake: &mut I,
+    pace: &P,
+) -> Result<W, NoThread> {
+    thread::scope(thread::scope_env(), rt, |scope| -> Result<W, NoThread> {
+        let Ok(one) = scope.spawn(move || worked(rt, post, signals, feeder, pace)) else {
+            signals.stop();
+            return Err(NoThread);
+        };
+        intake.run(rt, post, signals, pace);
+        Ok(one.join(rt))
+    })
+}
+
+// Works until it is done.
+fn worked<D: Disk, N: Naming, W: Work<D, N>, P: Pace, R: AllocGlobal + Wait + Clock>(
+    rt: &R,
+    post: &Post<D, N>,
+    signals: &Signals,
+    worker: W,
+    pace: &P,
+) -> W {
+    let mut worker = worker;
+    worker.run(rt, post, signals, pace);
+    worker
+}

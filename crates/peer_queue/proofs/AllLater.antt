@@ -1,0 +1,98 @@
+-- Whether each number waits for a moment.
+use Rattle.std.proofs.Common.{◌≡◌, ◌==◌, ℕ, zero, suc, ◌<◌, ◌≤◌, Bool, true, false, cond, Option, Some, None, List, []}
+use Rattle.std.proofs.Common.{◌∷◌, refl, sym, ap, ◌∙◌, subst, arith}
+use Rattle.std.specs.Prelude.{◌↔◌, IfNone, IfSome, IsSome, IsTrue, is_some, length, not}
+use Rattle.std.specs.Ordering.{is_eq, nat_cmp}
+use Rattle.std.specs.Map.{lookup}
+use Rattle.std.specs.BTreeMap.{BTreeMap, btree_map_len, get}
+use Rattle.std.specs.List.{All}
+use Rattle.std.proofs.lemmas.Bool.{eqb-true, eq-eqb, ne_eqb}
+use Rattle.std.proofs.lemmas.List.Elements.{All-nil, All-cons, All-head, All-tail}
+use Rattle.deferral.specs.Due.{Waiting, IsDue, IsRising, due_of}
+use Rattle.peer_queue.specs.Place.{IsLater, Place, Places}
+use Rattle.peer_queue.specs.Index.{Holders, place_by, place_until, places_by}
+use Rattle.peer_queue.proofs.Moves.{above_at, at_head, in_tail}
+
+-- each of them waits for a moment
+abbrev pub AreLater : Places → Type 0
+AreLater places = All (λ (entry : ℕ × Place). IsLater entry.1) places
+
+later_place : (holder due : Option ℕ) → (due ≡ None → ⊥) → (due ≡ Some zero → ⊥) → IsLater (place_by holder due)
+later_place holder None held ready = absurd (held refl)
+later_place holder (Some zero) held ready = absurd (ready refl)
+later_place holder (Some (suc moment)) held ready = tt
+
+due_head : (x : ℕ × Option ℕ) (xs : Waiting) (d : Option ℕ) → x.1 ≡ d → due_of (x ∷ xs) x.0 ≡ Some d
+due_head x xs d is = ap (λ (b : Bool). cond b (Some x.1) (due_of xs x.0)) (eq-eqb x.0 x.0 refl) ∙ ap Some is
+
+due_tail : (x : ℕ × Option ℕ) (xs : Waiting) (n : ℕ) (d : Option ℕ) → IsRising (x ∷ xs) → due_of xs n ≡ Some d
+    → due_of (x ∷ xs) n ≡ Some d
+due_tail x xs n d rising is =
+    let above : x.0 < n = above_at x.0 n xs rising.0 (subst IsSome (sym is) refl) in
+    ap (λ (b : Bool). cond b (Some x.1) (due_of xs n)) (ne_eqb x.0 n (omega arith)) ∙ is
+
+-- where none is held and none is due at once, each waits
+pub are_later : (h : Holders) (agenda : Waiting) → IsRising agenda → ((n : ℕ) → due_of agenda n ≡ Some None → ⊥)
+    → ((n : ℕ) → IsDue agenda 0 n → ⊥) → AreLater (places_by h agenda)
+are_later h [] rising held ready = All-nil (λ (entry : ℕ × Place). IsLater entry.1)
+are_later h (x ∷ xs) rising held ready =
+    All-cons (λ (entry : ℕ × Place). IsLater entry.1) (x.0, place_by (h x.0) x.1) (places_by h xs)
+    (later_place (h x.0) x.1 (λ is. held x.0 (due_head x xs None is))
+    (λ is. ready x.0 (at_head 0 x xs 0 is (omega arith))))
+    (are_later h xs rising.1 (λ n is. held n (due_tail x xs n None rising is))
+    (λ n due. ready n (in_tail 0 n x xs rising due)))
+
+-- where each waits, this one does
+pub later_at : (h : Holders) (agenda : Waiting) (n : ℕ) (d : Option ℕ) → AreLater (places_by h agenda)
+    → due_of agenda n ≡ Some d → IsLater (place_by (h n) d)
+later_at h [] n d all is = cc
+later_at h (x ∷ xs) n d all is =
+    on (x.0 == n) refl is (λ there. later_at h xs n d
+    (All-tail (λ (entry : ℕ × Place). IsLater entry.1) (x.0, place_by (h x.0) x.1) (places_by h xs) all) there)
+  where
+    on : (b : Bool) → (x.0 == n) ≡ b → cond b (Some x.1) (due_of xs n) ≡ Some d
+        → (due_of xs n ≡ Some d → IsLater (place_by (h n) d)) → IsLater (place_by (h n) d)
+    on true e here rest =
+        let same : x.1 ≡ d = cc in
+        let first = All-head (λ (entry : ℕ × Place). IsLater entry.1) (x.0, place_by (h x.0) x.1)
+        (places_by h xs) all in
+        subst (λ (due : Option ℕ). IsLater (place_by (h n) due)) same
+        (subst (λ (m : ℕ). IsLater (place_by (h m) x.1)) (eqb-true x.0 n e) first)
+    on false e there rest = rest there
+
+-- so that none is held
+pub none_held : (h : Holders) (agenda : Waiting) (n : ℕ) → AreLater (places_by h agenda) → due_of agenda n ≡ Some None
+    → ⊥
+none_held h agenda n all is = later_at h agenda n None all is
+
+at_once : (due : ℕ) → due ≤ 0 → IsLater (place_until due) → ⊥
+at_once zero low later = later
+at_once (suc due) low later = omega (arith, low)
+
+-- and none is due at once
+pub none_due : (h : Holders) (agenda : Waiting) (n : ℕ) → AreLater (places_by h agenda) → IsDue agenda 0 n → ⊥
+none_due h agenda n all due = at_once due.0 due.2 (later_at h agenda n (Some due.0) all due.1)
+
+-- ---- what the two tests tell
+
+lookup_empty : {K X : Type 0} (test : K → Bool) (entries : List (K × X)) → (0 < length entries → ⊥)
+    → lookup test entries ≡ None
+lookup_empty test [] empty = refl
+lookup_empty test (e ∷ entries) empty = absurd (empty (omega arith))
+
+-- where no number has a holder, none is held
+pub none_in : (holders : BTreeMap ℕ ℕ) (n : ℕ) → (IsSome {T = ℕ × ℕ} None ↔ (0 < btree_map_len holders))
+    → IsSome (get nat_cmp holders n) → ⊥
+none_in holders n empty held =
+    let gone : get nat_cmp holders n ≡ None =
+    lookup_empty (λ k. is_eq (nat_cmp n k)) holders.entries (λ some. let has = empty.1 some in cc) in
+    let some : IsSome {T = ℕ} None = subst IsSome gone held in
+    cc
+
+-- where the least that is due is none exactly if this holds, so it is told
+pub told : {A : Type 0} (r : Option ℕ) (b : Bool) (P : ℕ → Type 0) (N : Type 0) → is_some r ≡ not b → IfSome r P
+    → IfNone r N → (N → A) → (A → (n : ℕ) → P n → ⊥) → IsTrue b ↔ A
+told (Some n) true P N is some none up down = absurd (cc)
+told (Some n) false P N is some none up down = (λ e. absurd (cc), λ a. absurd (down a n some))
+told None true P N is some none up down = (λ e. up none, λ a. refl)
+told None false P N is some none up down = absurd (cc)
