@@ -1,10 +1,13 @@
-//! Tests of `commands` over its one public call: statuses, and what stands on standard output and on standard error.
+//! Tests of `commands` and `words`, over the one public call of each: what the words of a command line ask for,
+//! statuses, and what stands on standard output and on standard error.
 //!
 //! Files, streams and their faults are in memory. Nothing stands above it.
 #![tactic(auto)]
 
 #[cfg(test)]
 mod checks;
+#[cfg(test)]
+mod command_lines;
 #[cfg(test)]
 mod drills;
 #[cfg(test)]

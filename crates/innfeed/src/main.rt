@@ -1,15 +1,12 @@
 //! `innfeed`, the outgoing feeder of a news server: the program.
 //!
 //! It may touch its arguments, the files that they name, standard input and both outputs; the work is done by
-//! `commands`. It reads the words of the command line into an order, which `commands::run` does with the system's
-//! files and streams. Nothing stands above it: what it promises is what that call's contract promises, and what its
-//! tests show.
+//! `commands`. The words of the command line become an order by `words::read_words`, which `commands::run` does with
+//! the system's files and streams. Nothing stands above it: what it promises is what those calls' contracts promise,
+//! and what their tests show.
 #![tactic(auto)]
 
 mod files;
-#[cfg(test)]
-mod tests;
-mod words;
 
 use commands::{Exit, Order, run};
 use files::SystemFiles;

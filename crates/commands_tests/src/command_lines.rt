@@ -1,9 +1,9 @@
 // The words of the command line.
 
-use crate::words::read_words;
 use commands::Order;
 use std::alloc::{AllocError, Global};
 use std::test::Fail;
+use words::read_words;
 
 // The words of a line, with one space between them, and what they ask for: a name, and what it names.
 const ROWS: [(&str, &str); 29] = [

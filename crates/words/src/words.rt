@@ -2,7 +2,7 @@
 ghost use Rattle.std.specs.Prelude.{◌≡◌, ◌≢◌, ◌≤◌, ◌↔◌, ◌⊎◌, Bool, length, Ok, Err, IfOk, codes, option_map};
 ghost use Rattle.std.specs.Prelude.{alloc_error};
 ghost use Rattle.clap.specs.Words.{first_value, found_of, kind_of, one_text};
-ghost use Rattle.innfeed.specs.Words.{Asks, IsFlag, IsMistaken, IsTold};
+ghost use Rattle.words.specs.Words.{Asks, IsFlag, IsMistaken, IsTold};
 
 use clap::error::ErrorKind;
 use clap::{Arg, ArgAction, ArgMatches, Command, Error};
