@@ -41,14 +41,16 @@ fn lines_are_read(rt: HostRuntime) -> Result<(), Fail> {
     Ok(())
 }
 
-// Lines of 8,192 octets, a CR among them, and of one more.
+// Lines of 8,192 octets, a CR among them, and of one more; and a message-id of 251.
 #[test]
 fn long_lines_are_read(rt: HostRuntime) -> Result<(), Fail> {
-    let rows: [(Long, &[u8]); 4] = [
+    let rows: [(Long, &[u8]); 6] = [
         ((b"a/1 <x@y>", b' ', 8182, b"\r"), b"a/1|<x@y>|"),
         ((b"a/1 <x@y>", b' ', 8183, b"\r"), b"TooLong|"),
         ((b"", b'a', 8192, b""), b"BadToken|"),
         ((b"", b'a', 8193, b""), b"TooLong|"),
+        ((b"", b' ', 8193, b""), b"TooLong|"),
+        ((b"a/1 <", b'x', 247, b"@y>"), b"BadId|"),
     ];
     for (line, want) in rows {
         let line = long(rt.alloc(), line)?;
