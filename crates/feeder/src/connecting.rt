@@ -1,0 +1,77 @@
+// Making connections.
+use crate::connection::Connection;
+use crate::{Feeder, PeerPlan};
+use article_store::Articles;
+use conn_core::{Conn, CxnId};
+use event_loop::SocketLink;
+use flusher::Naming;
+use mio::Token;
+use mio::net::TcpStream;
+use std::alloc::Global;
+use std::io::{self, ErrorKind};
+use std::net::{Net, ToSocketAddrs};
+
+impl<S: Articles + Drop, C: Net + Drop, N: Naming> Feeder<S, C, N> {
+    /// Begins to connect each place that is due.
+    pub(crate) fn connect_due(&mut self, now: u64, last_phase: bool) {
+        for at in 0..self.places.len() {
+            self.connect_if_due(at, now, last_phase);
+        }
+    }
+
+    // Begins to connect a place, where it is due. One that fails at once is lost.
+    fn connect_if_due(&mut self, at: usize, now: u64, last_phase: bool) {
+        let is_due = match self.places.get(at) {
+            Some(place) => place.is_due(now, last_phase),
+            None => false,
+        };
+        if is_due
+            && self.connect(at).is_err()
+            && let Some(place) = self.places.get_mut(at)
+        {
+            place.lost(now);
+        }
+    }
+
+    // Begins to connect a place, to the next address of its peer.
+    fn connect(&mut self, at: usize) -> io::Result<()> {
+        let Some(place) = self.places.get_mut(at) else {
+            return Err(io::Error::from(ErrorKind::NotFound));
+        };
+        let Some(plan) = self.plans.get_mut(place.plan()) else {
+            return Err(io::Error::from(ErrorKind::NotFound));
+        };
+        if place.is_waiting() {
+            let _ = look_up_again(self.alloc, &self.net, plan);
+        }
+        let address = plan.address(place.tries());
+        place.tried();
+        let Some(address) = address else {
+            return Err(io::Error::from(ErrorKind::AddrNotAvailable));
+        };
+        let mut link = SocketLink::new(TcpStream::connect(&self.net, address)?)?;
+        let Some(next) = self.number.checked_add(2) else {
+            return Err(io::Error::from(ErrorKind::QuotaExceeded));
+        };
+        let conn = Conn::new(self.alloc, CxnId(self.number), plan.options)?;
+        self.connections.reserve(1)?;
+        link.register(self.poll.registry(), Token(self.connections.vacant_key()))?;
+        let made = Connection::new(self.alloc, conn, link, plan.peer, at);
+        let _ = self.connections.insert_reserved(made);
+        self.number = next;
+        Ok(())
+    }
+}
+
+// Looks a peer's host up again. What is found takes the place of its addresses; else they stay.
+fn look_up_again<C: Net>(alloc: Global, net: &C, plan: &mut PeerPlan) -> io::Result<()> {
+    let found = (plan.host.as_str(), plan.port).to_socket_addrs(net)?;
+    let mut addresses = Vec::new(alloc);
+    for address in found {
+        addresses.push(address)?;
+    }
+    if !addresses.is_empty() {
+        plan.addresses = addresses;
+    }
+    Ok(())
+}

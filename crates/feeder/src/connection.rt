@@ -1,0 +1,257 @@
+// One connection: a connection's value, its socket, and what it holds.
+use article_store::Articles;
+use conn_core::{Conn, CxnId, Outcome, Ready, Reason};
+use event_loop::{Moved, SocketLink, put_out, take_in};
+use funnel::Token;
+use ledger_core::Debt;
+use mio::event::Event;
+use std::alloc::{AllocError, Global};
+use std::collections::BTreeMap;
+
+// How many octets of output are enough: they are sent before another article is read.
+const ENOUGH: usize = 65_536;
+
+// How many calls of a socket, one after another, are enough before other connections have their turn.
+const CALLS: u64 = 64;
+
+/// A connection of a feeder.
+#[derive(Drop)]
+pub(crate) struct Connection {
+    conn: Conn,
+    link: SocketLink,
+    // The place of its peer at the post.
+    peer: usize,
+    // Its place among the feeder's.
+    place: usize,
+    // The socket was not yet reported ready.
+    is_connecting: bool,
+    is_greeted: bool,
+    // Something happened on it, or may have.
+    is_touched: bool,
+    // Where the articles lie of the debts that it holds.
+    held: BTreeMap<u64, Token>,
+    // An outcome that the station could not take yet: it goes before all others.
+    kept: Option<Outcome>,
+}
+
+impl Connection {
+    /// One that is being made, for this place of this peer.
+    pub fn new(alloc: Global, conn: Conn, link: SocketLink, peer: usize, place: usize) -> Self {
+        Connection {
+            conn,
+            link,
+            peer,
+            place,
+            is_connecting: true,
+            is_greeted: false,
+            is_touched: false,
+            held: BTreeMap::new(alloc),
+            kept: None,
+        }
+    }
+
+    /// Its number.
+    pub fn id(&self) -> CxnId {
+        self.conn.id()
+    }
+
+    /// The place of its peer at the post.
+    pub fn peer(&self) -> usize {
+        self.peer
+    }
+
+    /// Its place among the feeder's.
+    pub fn place(&self) -> usize {
+        self.place
+    }
+
+    /// Why it closed, once it has.
+    pub fn closed(&self) -> Option<Reason> {
+        self.conn.closed()
+    }
+
+    /// Whether it is to be looked at now.
+    pub fn is_touched(&self) -> bool {
+        self.is_touched || self.kept.is_some()
+    }
+
+    /// Whether it could go on at once.
+    pub fn is_unfinished(&self) -> bool {
+        self.is_touched
+    }
+
+    /// Whether an outcome of it waits for a flush.
+    pub fn is_waiting(&self) -> bool {
+        self.kept.is_some()
+    }
+
+    /// Whether it holds debts.
+    pub fn is_holding(&self) -> bool {
+        self.kept.is_some() || !self.held.is_empty()
+    }
+
+    /// Whether it is to be dropped: it closed, and all its outcomes were taken.
+    pub fn is_over(&self) -> bool {
+        self.kept.is_none() && self.conn.closed().is_some()
+    }
+
+    /// It is to be looked at.
+    pub fn touch(&mut self) {
+        self.is_touched = true;
+    }
+
+    /// It was looked at.
+    pub fn rest(&mut self) {
+        self.is_touched = false;
+    }
+
+    /// Notes what its socket was reported ready for. The first report that it can be written ends connecting, well or
+    /// not.
+    pub fn note(&mut self, event: &Event) {
+        self.is_touched = true;
+        self.link.note(event);
+        if self.is_connecting && (event.is_writable() || event.is_error()) {
+            self.is_connecting = false;
+            match self.link.take_error() {
+                Ok(None) => {}
+                _ => self.conn.broken(),
+            }
+        }
+    }
+
+    /// A second has passed.
+    pub fn tick(&mut self, now: u64) {
+        self.is_touched = true;
+        self.conn.tick(now);
+    }
+
+    /// Whether its peer has agreed to a mode since it was asked last.
+    pub fn is_newly_greeted(&mut self) -> bool {
+        if self.is_greeted || !self.is_ready() {
+            return false;
+        }
+        self.is_greeted = true;
+        true
+    }
+
+    /// Whether a debt can be offered.
+    pub fn is_ready(&self) -> bool {
+        matches!(self.conn.ready(), Ready::Yes)
+    }
+
+    /// Asks the peer to end it in good order; one whose peer has not agreed to a mode breaks.
+    pub fn leave(&mut self) {
+        self.is_touched = true;
+        if self.is_greeted {
+            self.conn.quit();
+        } else {
+            self.conn.broken();
+        }
+    }
+
+    /// It broke.
+    pub fn broken(&mut self) {
+        self.conn.broken();
+    }
+
+    /// Takes in what has come.
+    pub fn receive(&mut self, buffer: &mut [u8]) {
+        for _ in 0..CALLS {
+            if self.conn.closed().is_some() {
+                return;
+            }
+            match take_in(&mut self.conn, &mut self.link, buffer) {
+                Moved::Done(_) => {}
+                Moved::Later | Moved::Closed | Moved::Fault => return,
+            }
+        }
+        self.is_touched = true;
+    }
+
+    /// Sends what is put out.
+    pub fn send(&mut self) {
+        for _ in 0..CALLS {
+            match put_out(&mut self.conn, &mut self.link) {
+                Moved::Done(_) => {}
+                Moved::Later | Moved::Closed | Moved::Fault => return,
+            }
+        }
+        self.is_touched = true;
+    }
+
+    /// Whether all was sent that was put out, and more can be put out at once.
+    pub fn can_go_on(&self) -> bool {
+        self.conn.output().is_empty() && self.conn.need().is_some()
+    }
+
+    /// The next outcome, and what it was about is held no more.
+    pub fn next_outcome(&mut self) -> Option<Outcome> {
+        if let Some(kept) = self.kept.take() {
+            return Some(kept);
+        }
+        let outcome = self.conn.outcome()?;
+        let _ = self.held.remove(&number_of(&outcome));
+        Some(outcome)
+    }
+
+    /// Keeps an outcome that was not taken.
+    pub fn keep(&mut self, outcome: Outcome) {
+        self.kept = Some(outcome);
+    }
+
+    /// Offers a debt to the peer. One that is refused is kept, to go back.
+    pub fn offer(&mut self, debt: Debt) {
+        let number = debt.number();
+        if self.hold(&debt).is_err() {
+            self.kept = Some(Outcome::Back(debt));
+            return;
+        }
+        if let Err(back) = self.conn.offer(debt) {
+            let _ = self.held.remove(&number);
+            self.kept = Some(Outcome::Back(back.debt));
+        }
+    }
+
+    // Notes where the article of a debt lies.
+    fn hold(&mut self, debt: &Debt) -> Result<(), AllocError> {
+        let token = debt.token().clone()?;
+        let _ = self.held.insert(debt.number(), token)?;
+        Ok(())
+    }
+
+    /// Hands in the articles that are wanted, until enough is put out. It breaks where one can't be read.
+    pub fn hand_in<S: Articles>(&mut self, store: &mut S) {
+        for _ in 0..u64::MAX {
+            if self.conn.output().len() >= ENOUGH {
+                return;
+            }
+            let Some(number) = self.conn.need() else {
+                return;
+            };
+            if !self.hand(number, store) {
+                self.conn.broken();
+                return;
+            }
+        }
+    }
+
+    // Hands in the article of this number, and tells whether it was taken.
+    fn hand<S: Articles>(&mut self, number: u64, store: &mut S) -> bool {
+        let Some(token) = self.held.get(&number) else {
+            return false;
+        };
+        match store.fetch(token) {
+            Ok(found) => self.conn.article(number, found).is_ok(),
+            Err(_) => false,
+        }
+    }
+}
+
+// The number of the debt that an outcome is about.
+fn number_of(outcome: &Outcome) -> u64 {
+    match outcome {
+        Outcome::Final(verdict) => verdict.debt().number(),
+        Outcome::Deferred(deferral) => deferral.debt().number(),
+        Outcome::Lost(debt, _) | Outcome::Back(debt) => debt.number(),
+    }
+}

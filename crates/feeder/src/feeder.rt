@@ -1,0 +1,117 @@
+// A feeder: its connections, their places, and what it works with.
+ghost use Rattle.std.specs.Prelude.{◌≡◌, ◌+◌, ◌-◌, ◌/◌, ◌%◌};
+
+use crate::connection::Connection;
+use crate::{FeederFault, PeerPlan, Place};
+use article_store::Articles;
+use flusher::{FeederShare, Naming};
+use mio::{Events, Poll, Token, Waker};
+use slab::Slab;
+use std::alloc::{AllocError, Global};
+use std::io;
+use std::net::Net;
+use std::time::Instant;
+
+// How many octets one receipt takes in at most.
+const BUFFER: usize = 65_536;
+
+// How many reports one wait gives at most.
+const EVENTS: usize = 256;
+
+/// The token of the wakers. Connections have their keys.
+pub(crate) const WAKER: Token = Token(usize::MAX);
+
+/// One thread's work: its connections to all peers. It owns all that it works with, and so goes into its thread by
+/// value and comes back.
+#[derive(Drop)]
+pub struct Feeder<S: Articles + Drop, C: Net + Drop, N: Naming> {
+    /// What it has counted.
+    pub share: FeederShare<N>,
+    /// Why it ended before its work was done, if it did.
+    pub fault: Option<FeederFault>,
+    pub(crate) alloc: Global,
+    pub(crate) net: C,
+    pub(crate) store: S,
+    pub(crate) start: Instant,
+    pub(crate) which: u8,
+    pub(crate) plans: Vec<PeerPlan>,
+    pub(crate) places: Vec<Place>,
+    pub(crate) connections: Slab<Connection>,
+    pub(crate) poll: Poll,
+    pub(crate) events: Events,
+    pub(crate) buffer: Vec<u8>,
+    // The number of the next connection.
+    pub(crate) number: u64,
+    // The last second that passed for the connections.
+    pub(crate) ticked: Option<u64>,
+}
+
+impl<S: Articles + Drop, C: Net + Drop, N: Naming> Feeder<S, C, N> {
+    /// A feeder, the first (0) or the second (1): connection k of each peer is its where k mod 2 is `which`. Articles
+    /// come from `store`; `start` is the moment 0 of all threads, and `net` the leave to open sockets.
+    ///
+    /// # Errors
+    /// What the system says where no poll can be made; want of memory.
+    pub fn new(
+        alloc: Global,
+        net: C,
+        store: S,
+        which: u8,
+        plans: Vec<PeerPlan>,
+        start: Instant,
+        share: FeederShare<N>,
+    ) -> io::Result<Self> {
+        let poll = Poll::new(&net)?;
+        let events = Events::with_capacity(alloc, EVENTS)?;
+        let buffer = vec![in alloc; 0u8; BUFFER]?;
+        let places = places_of(alloc, &plans, which)?;
+        Ok(Feeder {
+            share,
+            fault: None,
+            alloc,
+            net,
+            store,
+            start,
+            which,
+            plans,
+            places,
+            connections: Slab::new(alloc),
+            poll,
+            events,
+            buffer,
+            number: u64::from(which),
+            ticked: None,
+        })
+    }
+
+    /// What wakes it, from any thread: it then looks at all its connections. It is of no use once the feeder is gone.
+    ///
+    /// # Errors
+    /// What the system says where none can be made.
+    pub fn waker(&self) -> io::Result<Waker> {
+        Waker::new(self.poll.registry(), WAKER)
+    }
+}
+
+// The places of all peers that are this feeder's.
+fn places_of(alloc: Global, plans: &Vec<PeerPlan>, which: u8) -> Result<Vec<Place>, AllocError> {
+    let mut places = Vec::new(alloc);
+    for at in 0..plans.len() {
+        let plan = &plans[at];
+        for _ in 0..share_of(plan.connections, which) {
+            places.push(Place::new(at, plan.first_wait, plan.most_wait))?;
+        }
+    }
+    Ok(places)
+}
+
+// How many of so many connections, numbered from 0, are this feeder's: those whose number mod 2 it is.
+fn share_of(connections: u64, which: u8) -> u64
+    ensures { result ≡ (connections + 1 - which % 2) / 2 }
+{
+    if which % 2 == 0 {
+        connections / 2 + connections % 2
+    } else {
+        connections / 2
+    }
+}

@@ -1,0 +1,38 @@
+// What a feeder has to know of a peer.
+use conn_core::Options;
+use funnel::PeerName;
+use std::net::SocketAddr;
+
+/// How a peer is fed.
+#[derive(Drop)]
+pub struct PeerPlan {
+    /// The place of its station at the post.
+    pub peer: usize,
+    /// Its name.
+    pub name: PeerName,
+    /// Where it is (`ip-name`): a name or an address, which is looked up again where a connection failed.
+    pub host: String,
+    /// Its port (`port-number`).
+    pub port: u16,
+    /// The addresses of its host, as they were looked up; they are tried in turn, one a try.
+    pub addresses: Vec<SocketAddr>,
+    /// How each connection to it works.
+    pub options: Options,
+    /// How many connections it is to have (`max-connections`).
+    pub connections: u64,
+    /// How long a place waits after its first failure, in seconds (`initial-reconnect-time`).
+    pub first_wait: u64,
+    /// How long it waits at most, in seconds (`max-reconnect-time`).
+    pub most_wait: u64,
+}
+
+impl PeerPlan {
+    /// The address for a try, by how many tries there were before: none where the peer has no address.
+    pub fn address(&self, tries: u64) -> Option<SocketAddr> {
+        let count = self.addresses.len() as u64;
+        if count == 0 {
+            return None;
+        }
+        self.addresses.get((tries % count) as usize).copied()
+    }
+}

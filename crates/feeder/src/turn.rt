@@ -1,0 +1,232 @@
+// The turns of a feeder, until its work is done.
+use crate::desk::Desk;
+use crate::feeder::WAKER;
+use crate::moment::{Haste, Moment, millis};
+use crate::visit::visit;
+use crate::{Feeder, FeederFault};
+use article_store::Articles;
+use conn_core::Reason;
+use disk_model::Disk;
+use flusher::{Naming, Pace, Post, Signals, Who, Work};
+use std::net::Net;
+use std::rt::Clock;
+use std::sync::Wait;
+
+impl<D: Disk, S: Articles + Drop, C: Net + Drop, N: Naming> Work<D, N> for Feeder<S, C, N> {
+    /// Feeds its share of the connections until all are stopped, or in the last phase no debt of its peers is ready or
+    /// held, or could still be sent by it. A fault is kept, and stops all. At the end it leaves its connections, for
+    /// which their peers have a second; what they still hold then goes back.
+    fn run<R: AllocGlobal + Wait + Clock, P: Pace>(
+        &mut self,
+        rt: &R,
+        post: &Post<D, N>,
+        signals: &Signals,
+        pace: &P,
+    ) {
+        if let Err(fault) = self.work(rt, post, signals, pace) {
+            self.fault = Some(fault);
+            signals.stop();
+        }
+        self.leave(rt, post, signals, pace);
+    }
+}
+
+impl<S: Articles + Drop, C: Net + Drop, N: Naming> Feeder<S, C, N> {
+    // Makes turns until all are stopped or the work is done.
+    fn work<D: Disk, R: Wait + Clock, P: Pace>(
+        &mut self,
+        rt: &R,
+        post: &Post<D, N>,
+        signals: &Signals,
+        pace: &P,
+    ) -> Result<(), FeederFault> {
+        for _ in rt.forever() {
+            if signals.is_stopped() {
+                return Ok(());
+            }
+            let last_phase = signals.is_last_phase();
+            let now = Moment::now(rt, self.start)?;
+            let desk = self.desk(post, pace, now.seconds);
+            self.pass_second(now.seconds, last_phase);
+            self.visit_all(rt, &desk)?;
+            if last_phase && self.is_done(rt, &desk)? {
+                return Ok(());
+            }
+            if self.is_waiting() {
+                signals.order();
+            }
+            self.wait(self.haste(last_phase).sleep(now.millis))?;
+        }
+        unreachable!()
+    }
+
+    /// The post, as this feeder asks it at this moment.
+    pub(crate) fn desk<'a, D: Disk, P: Pace>(
+        &self,
+        post: &'a Post<D, N>,
+        pace: &'a P,
+        now: u64,
+    ) -> Desk<'a, D, N, P> {
+        Desk {
+            post,
+            pace,
+            who: Who::Feeder(self.which),
+            now,
+        }
+    }
+
+    // Where a second has passed, tells each connection, and connects the places that are due.
+    fn pass_second(&mut self, now: u64, last_phase: bool) {
+        if self.ticked == Some(now) {
+            return;
+        }
+        self.ticked = Some(now);
+        for key in 0..self.connections.capacity() {
+            if let Some(connection) = self.connections.get_mut(key) {
+                connection.tick(now);
+            }
+        }
+        self.connect_due(now, last_phase);
+    }
+
+    // Visits each connection that is touched.
+    pub(crate) fn visit_all<D: Disk, R: Wait, P: Pace>(
+        &mut self,
+        rt: &R,
+        desk: &Desk<'_, D, N, P>,
+    ) -> Result<(), FeederFault> {
+        for key in 0..self.connections.capacity() {
+            self.visit_one(rt, desk, key)?;
+        }
+        Ok(())
+    }
+
+    // Visits a connection, where it is touched, and drops it, where it is over.
+    fn visit_one<D: Disk, R: Wait, P: Pace>(
+        &mut self,
+        rt: &R,
+        desk: &Desk<'_, D, N, P>,
+        key: usize,
+    ) -> Result<(), FeederFault> {
+        let Some(connection) = self.connections.get_mut(key) else {
+            return Ok(());
+        };
+        if !connection.is_touched() {
+            return Ok(());
+        }
+        visit(
+            connection,
+            rt,
+            desk,
+            &mut self.store,
+            &mut self.buffer,
+            &mut self.share,
+        )?;
+        if connection.is_newly_greeted()
+            && let Some(place) = self.places.get_mut(connection.place())
+        {
+            place.greeted();
+        }
+        if connection.is_over() {
+            self.remove(rt, desk, key);
+        }
+        Ok(())
+    }
+
+    /// Drops a connection. What it may still hold is ready again, and its place waits, but where it was left in good
+    /// order.
+    pub(crate) fn remove<D: Disk, R: Wait, P: Pace>(
+        &mut self,
+        rt: &R,
+        desk: &Desk<'_, D, N, P>,
+        key: usize,
+    ) {
+        let Some(connection) = self.connections.try_remove(key) else {
+            return;
+        };
+        desk.release(rt, connection.peer(), connection.id());
+        if let Some(place) = self.places.get_mut(connection.place()) {
+            match connection.closed() {
+                Some(Reason::Quit) => place.left(),
+                _ => place.lost(desk.now),
+            }
+        }
+    }
+
+    // Whether no debt of its peers is ready or held, or could still be sent by it.
+    fn is_done<D: Disk, R: Wait, P: Pace>(
+        &self,
+        rt: &R,
+        desk: &Desk<'_, D, N, P>,
+    ) -> Result<bool, FeederFault> {
+        if self
+            .connections
+            .iter()
+            .any(|(_, connection)| connection.is_holding())
+        {
+            return Ok(false);
+        }
+        for at in 0..self.plans.len() {
+            if !self.is_given_up(at) && !desk.all_later(rt, self.plans[at].peer)? {
+                return Ok(false);
+            }
+        }
+        Ok(true)
+    }
+
+    // Whether in the last phase each of its places of this peer is given up.
+    fn is_given_up(&self, plan: usize) -> bool {
+        self.places
+            .iter()
+            .all(|place| place.plan() != plan || place.is_given_up(true))
+    }
+
+    // Why it may not sleep for long.
+    fn haste(&self, last_phase: bool) -> Haste {
+        if self.connections.iter().any(|(_, one)| one.is_unfinished()) {
+            Haste::Now
+        } else if self.is_waiting() {
+            Haste::Flush
+        } else if last_phase {
+            Haste::LastPhase
+        } else {
+            Haste::None
+        }
+    }
+
+    /// Whether an outcome waits for a flush.
+    pub(crate) fn is_waiting(&self) -> bool {
+        self.connections.iter().any(|(_, one)| one.is_waiting())
+    }
+
+    /// Sleeps for so many milliseconds at most, until something happens, and notes what.
+    ///
+    /// # Errors
+    /// `System`.
+    pub(crate) fn wait(&mut self, at_most: u64) -> Result<(), FeederFault> {
+        if self.poll.poll(&mut self.events, millis(at_most)).is_err() {
+            return Err(FeederFault::System);
+        }
+        let mut is_woken = false;
+        for event in &self.events {
+            if event.token() == WAKER {
+                is_woken = true;
+            } else if let Some(connection) = self.connections.get_mut(event.token().0) {
+                connection.note(event);
+            }
+        }
+        if is_woken {
+            self.touch_all();
+        }
+        Ok(())
+    }
+
+    // Each connection is to be looked at.
+    fn touch_all(&mut self) {
+        for key in 0..self.connections.capacity() {
+            if let Some(connection) = self.connections.get_mut(key) {
+                connection.touch();
+            }
+        }
+    }
+}
