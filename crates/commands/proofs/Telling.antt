@@ -1,13 +1,15 @@
 -- The line that tells of a fault, where it was written and where it was not.
-use Rattle.std.proofs.Common.{ℕ, List, [], Option, None, Some, Err, refl}
+use Rattle.std.proofs.Common.{ℕ, List, [], Option, None, Some, Result, Ok, Err, refl}
 use Rattle.std.proofs.KnownBytes.{Keeps-refl}
 use Rattle.std.specs.declared.io.Error.{Error}
 use Rattle.std.specs.Prelude.{string_bytes}
 use Rattle.commands.specs.Ends.{Tells}
-use Rattle.commands.specs.Fault.{IsLineOf}
+use Rattle.commands.specs.Fault.{Comes, IsLineOf, exit_of_fault}
+use Rattle.commands.specs.FeedLines.{end_text}
 use Rattle.commands.specs.Lines.{config_text, unread_text, input_text, output_text, mistake_text}
+use Rattle.commands.specs.declared.exit.Exit.{Exit}
 use Rattle.commands.specs.declared.fault.Fault.{Fault}
-use Rattle.commands.specs.declared.fault.Fault.TheVariants.{NoMemory, Config, Unread, Input, Output, Mistake}
+use Rattle.commands.specs.declared.fault.Fault.TheVariants.{NoMemory, Config, Unread, Input, Output, Mistake, Fed}
 
 -- each fault has a line, or none
 pub has_line : (fault : Fault) → (line : Option (List ℕ)) × IsLineOf fault line
@@ -17,8 +19,16 @@ has_line (Unread path) = (Some (unread_text path.now), refl)
 has_line (Input error) = (Some (input_text []), ([], refl))
 has_line (Output error) = (Some (output_text []), ([], refl))
 has_line (Mistake what) = (Some (mistake_text (string_bytes what)), refl)
+has_line (Fed end) = (Some (end_text end), refl)
 
 -- a line that was not written
 pub line_is_lost : (held : Option (List ℕ)) (error : Error) (line : Option (List ℕ)) → Tells held held (Err error) line
 line_is_lost held error None = Keeps-refl held
 line_is_lost held error (Some line) = tt
+
+-- what an order comes to, in words that follow
+pub comes_as : (a b : Exit → Option (List ℕ) → Type 0)
+    → ((exit : Exit) (line : Option (List ℕ)) → a exit line → b exit line)
+    → (result : Result Exit Fault) → Comes a result → Comes b result
+comes_as a b weaker (Ok exit) comes = weaker exit None comes
+comes_as a b weaker (Err fault) comes = λ line is. weaker (exit_of_fault fault) line (comes line is)

@@ -10,11 +10,14 @@ use Rattle.feed_conf.specs.Tokens.{Token}
 use Rattle.feed_conf.specs.declared.fault.ConfFault.{ConfFault}
 use Rattle.commands.specs.Check.{check_text}
 use Rattle.commands.specs.Exit.{exit_of}
+use Rattle.commands.specs.Feed.{exit_of_end}
+use Rattle.commands.specs.FeedLines.{end_text}
 use Rattle.commands.specs.Lines.{config_text, unread_text, input_text, output_text, mistake_text}
 use Rattle.commands.specs.declared.exit.Exit.{Exit}
 use Rattle.commands.specs.declared.exit.Exit.TheVariants.{Done, Refused, Usage, Unreadable, NoMemory}
+use Rattle.commands.specs.declared.feeds.FeedEnd.{FeedEnd}
 use Rattle.commands.specs.declared.order.Order.{Order}
-use Rattle.commands.specs.declared.order.Order.TheVariants.{DrillFromInput, Drill, Check, Tell, Mistake}
+use Rattle.commands.specs.declared.order.Order.TheVariants.{DrillFromInput, Drill, Check, Owed, Feed, Tell, Mistake}
 
 -- what a configuration's text means: its settings, or its first fault
 abbrev pub Means : List ℕ → Result Outcome ConfFault → Type 0
@@ -69,6 +72,19 @@ Checks says path old new exit line =
     ⊎ (MissesFile says path exit line × Keeps old new)
     ⊎ LacksMemory exit line
 
+-- a feed ended, or a list of what is owed: the status and the lines tell the same end
+abbrev pub EndsFeed : Exit → Option (List ℕ) → Type 0
+EndsFeed exit line = (end : FeedEnd) × (exit ≡ exit_of_end end) × (line ≡ Some (end_text end))
+
+-- Something that is done with the settings in a file.
+abbrev pub Works : (Option (List ℕ) → Type 0) → List ℕ →
+    Option (List ℕ) → Option (List ℕ) → Exit → Option (List ℕ) → Type 0
+Works says path old new exit line =
+    ((text : List ℕ) × (outcome : Outcome) × says (Some text) × Means text (Ok outcome) × EndsFeed exit line)
+    ⊎ ((text : List ℕ) × says (Some text) × Refuses text exit line × Keeps old new)
+    ⊎ (MissesFile says path exit line × Keeps old new)
+    ⊎ LacksMemory exit line
+
 -- A drill from standard input.
 abbrev pub DrillsInput : Exit → Option (List ℕ) → Type 0
 DrillsInput exit line = Runs exit line ⊎ LosesInput exit line
@@ -87,12 +103,14 @@ abbrev pub Does : (List ℕ → Option (List ℕ) → Type 0) → Option (List �
 Does says old new DrillFromInput exit line = DrillsInput exit line
 Does says old new (Drill path) exit line = DrillsFile (says path.now) path.now old new exit line
 Does says old new (Check path) exit line = Checks (says path.now) path.now old new exit line
+Does says old new (Owed path) exit line = Works (says path.now) path.now old new exit line
+Does says old new (Feed path funnel verbose) exit line = Works (says path.now) path.now old new exit line
 Does says old new (Tell text) exit line = Prints (string_bytes text) old new exit line
 Does says old new (Mistake what) exit line = (exit ≡ Usage) × (line ≡ Some (mistake_text (string_bytes what)))
     × Keeps old new
 
--- What a line, or none, makes of standard error, which had and has these octets; of one that could not be written
--- nothing is known.
+-- What a line, a feed's lines or none makes of standard error, which had and has these octets; of one that could not be
+-- written nothing is known.
 abbrev pub Tells : Option (List ℕ) → Option (List ℕ) → Result Unit Error → Option (List ℕ) → Type 0
 Tells old new told None = Keeps old new
 Tells old new told (Some line) = OnOk told (Appends old new line)

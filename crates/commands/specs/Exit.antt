@@ -4,12 +4,13 @@ use Rattle.drill.specs.declared.ending.Ending.{Ending}
 use Rattle.drill.specs.declared.ending.Ending.TheVariants.{Done as DrillDone, Refused as DrillRefused}
 use Rattle.drill.specs.declared.ending.Ending.TheVariants.{NoMemory as DrillNoMemory}
 use Rattle.commands.specs.declared.exit.Exit.{Exit}
-use Rattle.commands.specs.declared.exit.Exit.TheVariants.{Done, Refused, Usage, Unreadable, NoMemory}
+use Rattle.commands.specs.declared.exit.Exit.TheVariants.{Done, Refused, Usage, Tape, Unreadable, NoMemory}
 
 abbrev pub status_of : Exit → ℕ
 status_of Done = 0
 status_of Refused = 1
 status_of Usage = 2
+status_of Tape = 3
 status_of Unreadable = 4
 status_of NoMemory = 5
 

@@ -1,4 +1,4 @@
--- Why an order did not end well.
+-- Why an order did not end well, or how a feed ended.
 use Rattle.std.specs.Prelude.{◌≡◌, ◌≢◌, ◌⊎◌, ℕ, List, Option, None, Some, Result, Ok, Err, string_bytes}
 use Rattle.std.specs.IoError.{error_kind}
 use Rattle.std.specs.declared.io.Error.{Error}
@@ -6,7 +6,9 @@ use Rattle.std.specs.declared.io.ErrorKind.TheVariants.{OutOfMemory}
 use Rattle.commands.specs.declared.exit.Exit.{Exit}
 use Rattle.commands.specs.declared.exit.Exit.TheVariants.{Refused, Usage, Unreadable, NoMemory as ExitNoMemory}
 use Rattle.commands.specs.declared.fault.Fault.{Fault}
-use Rattle.commands.specs.declared.fault.Fault.TheVariants.{NoMemory, Config, Unread, Input, Output, Mistake}
+use Rattle.commands.specs.declared.fault.Fault.TheVariants.{NoMemory, Config, Unread, Input, Output, Mistake, Fed}
+use Rattle.commands.specs.Feed.{exit_of_end}
+use Rattle.commands.specs.FeedLines.{end_text}
 use Rattle.commands.specs.Lines.{config_text, unread_text, input_text, output_text, mistake_text}
 
 -- the status that tells of a fault
@@ -17,8 +19,9 @@ exit_of_fault (Unread path) = Unreadable
 exit_of_fault (Input error) = Unreadable
 exit_of_fault (Output error) = Unreadable
 exit_of_fault (Mistake what) = Usage
+exit_of_fault (Fed end) = exit_of_end end
 
--- the line that tells of it; want of memory has none, and the reason why a stream failed is the system's
+-- the line that tells of it, or a feed's lines; want of memory has none, and why a stream failed is the system's word
 abbrev pub IsLineOf : Fault → Option (List ℕ) → Type 0
 IsLineOf NoMemory line = line ≡ None
 IsLineOf (Config fault) line = line ≡ Some (config_text fault)
@@ -26,6 +29,7 @@ IsLineOf (Unread path) line = line ≡ Some (unread_text path.now)
 IsLineOf (Input error) line = (reason : List ℕ) × (line ≡ Some (input_text reason))
 IsLineOf (Output error) line = (reason : List ℕ) × (line ≡ Some (output_text reason))
 IsLineOf (Mistake what) line = line ≡ Some (mistake_text (string_bytes what))
+IsLineOf (Fed end) line = line ≡ Some (end_text end)
 
 -- an error that is told as this fault, but for want of memory, which is want of memory
 abbrev pub IsFaultOf : Error → Fault → Fault → Type 0

@@ -23,8 +23,23 @@ pub fn checked<'a>(alloc: Global, text: &[u8]) -> Result<Vec<u8>, Fault<'a>>
         × (told.items ≡ check_text outcome))
         (ComesBy (λ exit line. Refuses text.now exit line ⊎ LacksMemory exit line)) }
 {
-    match read_conf(alloc, text) {
+    match settings_of(alloc, text) {
         Ok(conf) => Ok(tell(alloc, &conf)?),
+        Err(fault) => Err(fault),
+    }
+}
+
+/// The settings that this text has.
+///
+/// # Errors
+/// The configuration's fault; `NoMemory`.
+pub fn settings_of<'a>(alloc: Global, text: &[u8]) -> Result<Conf, Fault<'a>>
+    ensures { MatchResult result
+        (λ conf. Means text.now (Ok (conf_view conf)))
+        (ComesBy (λ exit line. Refuses text.now exit line ⊎ LacksMemory exit line)) }
+{
+    match read_conf(alloc, text) {
+        Ok(conf) => Ok(conf),
         Err(fault) if fault.kind == ConfFaultKind::NoMemory => Err(Fault::NoMemory),
         Err(fault) => Err(Fault::Config(fault)),
     }

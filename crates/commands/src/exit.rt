@@ -12,9 +12,11 @@ pub enum Exit {
     Refused,
     /// The words of the command line are none that it knows: status 2.
     Usage,
-    /// A file or standard input could not be read, or an output not be written: status 4.
+    /// A tape cannot be opened, broke, is damaged or full: status 3.
+    Tape,
+    /// A file or standard input could not be read, or another file or an output not be written: status 4.
     Unreadable,
-    /// Memory was refused: status 5.
+    /// Memory was refused, or a thread: status 5.
     NoMemory,
 }
 
@@ -29,6 +31,7 @@ impl Exit {
             Exit::Done => 0,
             Exit::Refused => 1,
             Exit::Usage => 2,
+            Exit::Tape => 3,
             Exit::Unreadable => 4,
             Exit::NoMemory => 5,
         }

@@ -1,18 +1,21 @@
-// Why an order did not end well, and the line that says so on standard error (docs/MANUAL.md).
+// Why an order did not end well, or how a feed ended, and what says so on standard error (docs/MANUAL.md).
 ghost use Rattle.std.specs.Prelude.{◌≡◌, ◌≢◌, ◌++◌, ◌∷◌, [], ℕ, List, IfOk, codes, option_map};
 ghost use Rattle.commands.specs.Fault.{exit_of_fault, IsFaultOf, IsLineOf};
 ghost use Rattle.commands.specs.Lines.{config_text, kind_text, mistake_text, unread_text};
 ghost use Rattle.commands.specs.declared.fault.Fault.TheVariants.{NoMemory};
 
+use crate::ending::end_lines;
 use crate::exit::Exit;
+use crate::feeds::FeedEnd;
 use feed_conf::{ConfFault, ConfFaultKind};
 use std::alloc::{AllocError, Global};
 use std::io::{self, ErrorKind};
 
 // What stands behind what is wrong with the words.
-const USAGE: &[u8] = b"; usage: innfeed -c FILE -C | innfeed --drill FILE | innfeed < SCRIPT\n";
+const USAGE: &[u8] =
+    b"; usage: innfeed -c FILE [-C] [-x] [--owed] [FUNNEL] | innfeed --drill FILE | innfeed < SCRIPT\n";
 
-/// Why an order did not end well.
+/// Why an order did not end well, or how a feed ended.
 #[derive(Drop)]
 pub enum Fault<'a> {
     /// Memory was refused, of which nothing is said.
@@ -27,6 +30,8 @@ pub enum Fault<'a> {
     Output(io::Error),
     /// This is wrong with the words of the command line.
     Mistake(String),
+    /// A feed ended so, or a list of what is owed.
+    Fed(FeedEnd),
 }
 
 impl From<AllocError> for Fault<'_> {
@@ -77,10 +82,11 @@ impl<'a> Fault<'a> {
             Fault::Config(_) => Exit::Refused,
             Fault::Unread(_) | Fault::Input(_) | Fault::Output(_) => Exit::Unreadable,
             Fault::Mistake(_) => Exit::Usage,
+            Fault::Fed(end) => end.exit(),
         }
     }
 
-    /// The line that tells of it, with its end; want of memory has none.
+    /// The line that tells of it, with its end, or all lines of a feed; want of memory has none.
     ///
     /// # Errors
     /// Memory was refused.
@@ -99,6 +105,7 @@ impl<'a> Fault<'a> {
                 Ok(Some(stream_line(alloc, b"cannot write standard output", error)?))
             }
             Fault::Mistake(what) => Ok(Some(mistake_line(alloc, what.as_str())?)),
+            Fault::Fed(end) => Ok(Some(end_lines(alloc, end)?)),
         }
     }
 }

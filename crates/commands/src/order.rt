@@ -9,6 +9,15 @@ pub enum Order<'a> {
     Drill(&'a str),
     /// Check the configuration in this file.
     Check(&'a str),
+    /// Print what each peer of the configuration in this file is owed.
+    Owed(&'a str),
+    /// Feed the peers of the configuration in the file `conf` from the funnel file, or with none from their backlogs
+    /// alone; where `verbose`, log what becomes of connections.
+    Feed {
+        conf: &'a str,
+        funnel: Option<&'a str>,
+        verbose: bool,
+    },
     /// Print this text, the help or the version.
     Tell(String),
     /// Say what is wrong with the words, which is this, in one line without its end.

@@ -1,12 +1,13 @@
 // What each order of the command line does (docs/MANUAL.md).
 ghost use Rattle.std.specs.Prelude.{◌≡◌, ◌≢◌, List, ℕ, Option, OnOk};
 ghost use Rattle.std.specs.Io.KnownBytes.{Appends};
-ghost use Rattle.commands.specs.Ends.{Checks, Does, DrillsFile, DrillsInput, Prints, Runs, Tells};
+ghost use Rattle.commands.specs.Ends.{Checks, Does, DrillsFile, DrillsInput, Prints, Runs, Tells, Works};
 ghost use Rattle.commands.specs.Fault.{Comes, IsLineOf};
 
-use crate::check::checked;
+use crate::check::{checked, settings_of};
 use crate::exit::Exit;
 use crate::fault::Fault;
+use crate::feeds::Feeds;
 use crate::files::ReadFile;
 use crate::order::Order;
 use drill::run_script;
@@ -25,10 +26,11 @@ pub struct Ended {
 /// Does what an order asks for, and writes one line on standard error where that does not end well, but none for want
 /// of memory and for a drill, which says on standard output what became of it. The status is the same whether that line
 /// could be written or not.
-pub fn run<F: ReadFile, S: Read, W: Write, E: Write>(
+pub fn run<F: ReadFile, P: Feeds, S: Read, W: Write, E: Write>(
     alloc: Global,
     order: Order<'_>,
     files: &F,
+    feeds: &mut P,
     input: &mut S,
     out: &mut W,
     err: &mut E,
@@ -39,7 +41,7 @@ pub fn run<F: ReadFile, S: Read, W: Write, E: Write>(
         order.entry result.exit line }
     ensures unread { order.entry ≢ Order.DrillFromInput → input.new ≡ input.old }
 {
-    match perform(alloc, order, files, input, out) {
+    match perform(alloc, order, files, feeds, input, out) {
         Ok(exit) => Ended { exit, told: Ok(()) },
         Err(fault) => Ended {
             exit: fault.exit(),
@@ -69,10 +71,11 @@ fn write_whole<W: Write>(writer: &mut W, text: &[u8]) -> io::Result<()>
 }
 
 // Does what an order asks for.
-fn perform<'a, F: ReadFile, S: Read, W: Write>(
+fn perform<'a, F: ReadFile, P: Feeds, S: Read, W: Write>(
     alloc: Global,
     order: Order<'a>,
     files: &F,
+    feeds: &mut P,
     input: &mut S,
     out: &mut W,
 ) -> Result<Exit, Fault<'a>>
@@ -85,6 +88,12 @@ fn perform<'a, F: ReadFile, S: Read, W: Write>(
         Order::DrillFromInput => drill_input(alloc, input, out),
         Order::Drill(path) => drill_file(alloc, files, path, out),
         Order::Check(path) => check_file(alloc, files, path, out),
+        Order::Owed(path) => list_owed(alloc, files, feeds, path, out),
+        Order::Feed {
+            conf,
+            funnel,
+            verbose,
+        } => feed(alloc, files, feeds, conf, funnel, verbose, out),
         Order::Tell(text) => print(out, text.as_bytes()),
         Order::Mistake(what) => Err(Fault::Mistake(what)),
     }
@@ -143,6 +152,50 @@ fn check_file<'a, F: ReadFile, W: Write>(
 {
     match files.read_file(alloc, path) {
         Ok(text) => print(out, &checked(alloc, &text)?),
+        Err(error) => Err(Fault::of_file(path, error)),
+    }
+}
+
+// Lists what the peers of a file's settings are owed.
+fn list_owed<'a, F: ReadFile, P: Feeds, W: Write>(
+    alloc: Global,
+    files: &F,
+    feeds: &mut P,
+    path: &'a str,
+    out: &mut W,
+) -> Result<Exit, Fault<'a>>
+    ensures { Comes
+        (Works (F.says files.now path.now) path.now (W.contents out.old) (W.contents out.new))
+        result }
+{
+    match files.read_file(alloc, path) {
+        Ok(text) => match settings_of(alloc, &text) {
+            Ok(conf) => Err(Fault::Fed(feeds.list_owed(alloc, conf, out))),
+            Err(fault) => Err(fault),
+        },
+        Err(error) => Err(Fault::of_file(path, error)),
+    }
+}
+
+// Feeds the peers of a file's settings.
+fn feed<'a, F: ReadFile, P: Feeds, W: Write>(
+    alloc: Global,
+    files: &F,
+    feeds: &mut P,
+    path: &'a str,
+    funnel: Option<&str>,
+    verbose: bool,
+    out: &mut W,
+) -> Result<Exit, Fault<'a>>
+    ensures { Comes
+        (Works (F.says files.now path.now) path.now (W.contents out.old) (W.contents out.new))
+        result }
+{
+    match files.read_file(alloc, path) {
+        Ok(text) => match settings_of(alloc, &text) {
+            Ok(conf) => Err(Fault::Fed(feeds.feed(alloc, conf, funnel, verbose, out))),
+            Err(fault) => Err(fault),
+        },
         Err(error) => Err(Fault::of_file(path, error)),
     }
 }

@@ -1,5 +1,6 @@
 // Checks of configurations.
 
+use crate::feeds::Ends;
 use crate::streams::{Asked, OneFile, told};
 use std::test::Fail;
 
@@ -59,7 +60,13 @@ const ROWS: [(&[u8], &[u8]); 13] = [
 fn configurations_are_checked(rt: HostRuntime) -> Result<(), Fail> {
     for (text, wanted) in ROWS {
         let file = OneFile("x.conf", Ok(text));
-        let got = told(rt.alloc(), Asked::Check("x.conf"), &file, b"peer p\n")?;
+        let got = told(
+            rt.alloc(),
+            Asked::Check("x.conf"),
+            Ends("T"),
+            &file,
+            b"peer p\n",
+        )?;
         assert_eq!(rt; got.as_slice(), wanted);
     }
     Ok(())

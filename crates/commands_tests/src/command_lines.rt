@@ -6,17 +6,30 @@ use std::test::Fail;
 use words::read_words;
 
 // The words of a line, with one space between them, and what they ask for: a name, and what it names.
-const ROWS: [(&str, &str); 29] = [
+const ROWS: [(&str, &str); 46] = [
     ("innfeed", "drill input"),
     ("innfeed -c x.conf -C", "check x.conf"),
     ("innfeed -C -c x.conf", "check x.conf"),
     ("innfeed -Cc x.conf", "check x.conf"),
+    ("innfeed -c x.conf -C --owed -x funnel", "check x.conf"),
+    ("innfeed -c x.conf --owed", "owed x.conf"),
+    ("innfeed -x --owed -c x.conf funnel", "owed x.conf"),
+    ("innfeed -c x.conf -x", "backlog x.conf"),
+    ("innfeed -xc x.conf funnel", "backlog x.conf"),
+    ("innfeed -c x.conf a/funnel", "feed x.conf a/funnel"),
+    ("innfeed a/funnel -c x.conf", "feed x.conf a/funnel"),
+    ("innfeed -c x.conf -- -x", "feed x.conf -x"),
+    ("innfeed -v -c x.conf a/funnel", "log feed x.conf a/funnel"),
+    ("innfeed -c x.conf -vx", "log backlog x.conf"),
+    ("innfeed -c x.conf -C -v", "check x.conf"),
+    ("innfeed -c x.conf -v", "mistake FUNNEL or '-x' is needed"),
+    ("innfeed -v --drill x.drill", DRILL_ALONE),
     ("innfeed --drill x.drill", "drill x.drill"),
     ("innfeed --drill=x.drill", "drill x.drill"),
     ("innfeed --version", "tell innfeed 0.1.0\n"),
     ("innfeed -V", "tell innfeed 0.1.0\n"),
-    ("innfeed -C", "mistake '-C' needs '-c FILE'"),
-    ("innfeed -c x.conf", "mistake '-c FILE' needs '-C'"),
+    ("innfeed -C", NEEDS_FILE),
+    ("innfeed -c x.conf", "mistake FUNNEL or '-x' is needed"),
     (
         "innfeed -c",
         "mistake a value is required for '-c <FILE>' but none was supplied",
@@ -29,25 +42,15 @@ const ROWS: [(&str, &str); 29] = [
         "innfeed -c x.conf -C -c y.conf",
         "mistake the argument '-c <FILE>' cannot be used multiple times",
     ),
+    ("innfeed -c x.conf -C --drill x.drill", DRILL_ALONE),
+    ("innfeed -c x.conf --drill x.drill", DRILL_ALONE),
+    ("innfeed -C --drill x.drill", DRILL_ALONE),
+    ("innfeed --owed --drill x.drill", DRILL_ALONE),
+    ("innfeed -x --drill x.drill", DRILL_ALONE),
+    ("innfeed --drill x.drill funnel", DRILL_ALONE),
     (
-        "innfeed -c x.conf -C --drill x.drill",
-        "mistake no other option may stand beside '--drill FILE'",
-    ),
-    (
-        "innfeed -c x.conf -C funnel",
-        "mistake unexpected argument 'funnel' found",
-    ),
-    (
-        "innfeed -c x.conf --drill x.drill",
-        "mistake no other option may stand beside '--drill FILE'",
-    ),
-    (
-        "innfeed -C --drill x.drill",
-        "mistake no other option may stand beside '--drill FILE'",
-    ),
-    (
-        "innfeed --drill x.drill funnel",
-        "mistake unexpected argument 'funnel' found",
+        "innfeed -c x.conf funnel more",
+        "mistake unexpected argument 'more' found",
     ),
     (
         "innfeed --drill",
@@ -57,28 +60,28 @@ const ROWS: [(&str, &str); 29] = [
         "innfeed --drill x.drill --drill y.drill",
         "mistake the argument '--drill <FILE>' cannot be used multiple times",
     ),
-    (
-        "innfeed funnel",
-        "mistake unexpected argument 'funnel' found",
-    ),
-    ("innfeed -x", "mistake unexpected argument '-x' found"),
-    (
-        "innfeed --owed",
-        "mistake unexpected argument '--owed' found",
-    ),
+    ("innfeed funnel", NEEDS_FILE),
+    ("innfeed -x", NEEDS_FILE),
+    ("innfeed --owed", NEEDS_FILE),
     (
         "innfeed --dril",
         "mistake unexpected argument '--dril' found",
     ),
-    ("innfeed -x\ny", "mistake unexpected argument '-x' found"),
-    ("innfeed x\ny", "mistake unexpected argument 'x?y' found"),
-    ("innfeed --", "mistake no option is given"),
-    ("innfeed ", "mistake unexpected argument '' found"),
+    ("innfeed -y\ny", "mistake unexpected argument '-y' found"),
+    ("innfeed a x\ny", "mistake unexpected argument 'x?y' found"),
+    ("innfeed -- ", NEEDS_FILE),
+    ("innfeed --", NEEDS_FILE),
+    ("innfeed ", NEEDS_FILE),
+    ("innfeed a ", "mistake unexpected argument '' found"),
     (
-        "innfeed \u{1b}[2J",
+        "innfeed a \u{1b}[2J",
         "mistake unexpected argument '?[2J' found",
     ),
 ];
+
+const NEEDS_FILE: &str = "mistake '-c FILE' or '--drill FILE' is needed";
+
+const DRILL_ALONE: &str = "mistake no other argument may stand beside '--drill FILE'";
 
 // The words of a line.
 fn split_words(alloc: Global, line: &str) -> Result<Vec<String>, AllocError> {
@@ -96,6 +99,32 @@ fn joined(alloc: Global, first: &str, second: &str) -> Result<String, AllocError
     Ok(text)
 }
 
+// What a feed is asked for with.
+fn feed_text(
+    alloc: Global,
+    conf: &str,
+    funnel: Option<&str>,
+    verbose: bool,
+) -> Result<String, AllocError> {
+    let mut text = String::new(alloc);
+    if verbose {
+        text.push_str("log ")?;
+    }
+    match funnel {
+        Some(funnel) => {
+            text.push_str("feed ")?;
+            text.push_str(conf)?;
+            text.push_str(" ")?;
+            text.push_str(funnel)?;
+        }
+        None => {
+            text.push_str("backlog ")?;
+            text.push_str(conf)?;
+        }
+    }
+    Ok(text)
+}
+
 // What a line's words ask for.
 fn asked(alloc: Global, line: &str) -> Result<String, AllocError> {
     let words = split_words(alloc, line)?;
@@ -103,6 +132,12 @@ fn asked(alloc: Global, line: &str) -> Result<String, AllocError> {
         Order::DrillFromInput => joined(alloc, "drill ", "input"),
         Order::Drill(path) => joined(alloc, "drill ", path),
         Order::Check(path) => joined(alloc, "check ", path),
+        Order::Owed(path) => joined(alloc, "owed ", path),
+        Order::Feed {
+            conf,
+            funnel,
+            verbose,
+        } => feed_text(alloc, conf, funnel, verbose),
         Order::Tell(text) => joined(alloc, "tell ", text.as_str()),
         Order::Mistake(what) => joined(alloc, "mistake ", what.as_str()),
     }
@@ -124,10 +159,13 @@ fn help(rt: HostRuntime) -> Result<(), Fail> {
     for line in ["innfeed --help", "innfeed -h"] {
         let help = asked(rt.alloc(), line)?;
         for part in [
-            "Usage: innfeed -c FILE -C\n",
+            "Usage: innfeed -c FILE [-C] [-x] [--owed] [FUNNEL]\n",
             "\n       innfeed --drill FILE\n",
             "-c <FILE>",
             "-C ",
+            "-x ",
+            "--owed ",
+            "[FUNNEL]",
             "--drill <FILE>",
             "-h, --help",
             "-V, --version",

@@ -1,5 +1,6 @@
 // Drills, texts that are printed, mistakes in the words, and files that cannot be read.
 
+use crate::feeds::Ends;
 use crate::streams::{Asked, OneFile, told};
 use std::io::ErrorKind;
 use std::test::Fail;
@@ -73,14 +74,14 @@ const ROWS: [(Asked, OneFile, &[u8], &[u8]); 12] = [
         OneFile("x", Ok(b"")),
         b"",
         b"2\n--\ninnfeed: no option is given; \
-            usage: innfeed -c FILE -C | innfeed --drill FILE | innfeed < SCRIPT\n",
+            usage: innfeed -c FILE [-C] [-x] [--owed] [FUNNEL] | innfeed --drill FILE | innfeed < SCRIPT\n",
     ),
 ];
 
 #[test]
 fn orders_are_done(rt: HostRuntime) -> Result<(), Fail> {
     for (asked, file, input, wanted) in ROWS {
-        let got = told(rt.alloc(), asked, &file, input)?;
+        let got = told(rt.alloc(), asked, Ends("T"), &file, input)?;
         assert_eq!(rt; got.as_slice(), wanted);
     }
     Ok(())

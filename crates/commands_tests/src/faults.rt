@@ -1,5 +1,6 @@
 // Streams that fail: the status stands, and standard error says which stream it was.
 
+use crate::feeds::Ends;
 use crate::streams::{Asked, Broken, OneFile, Stuck, order_of};
 use commands::run;
 use std::alloc::{AllocError, Global};
@@ -7,12 +8,13 @@ use std::io::{ErrorKind, Read, Write};
 use std::test::Fail;
 
 // What is asked for of a file with two octets that are a configuration's fault and no script, and the status.
-const STATUSES: [(Asked, u8); 7] = [
+const STATUSES: [(Asked, u8); 8] = [
     (Asked::Input, 0),
     (Asked::Drill("x"), 1),
     (Asked::Drill("y"), 4),
     (Asked::Check("x"), 1),
     (Asked::Check("y"), 4),
+    (Asked::Owed("y"), 4),
     (Asked::Tell("text"), 0),
     (Asked::Mistake("what"), 2),
 ];
@@ -25,7 +27,15 @@ fn a_status_stands_where_its_line_is_lost(rt: HostRuntime) -> Result<(), Fail> {
         let mut out = Vec::new(rt.alloc());
         let mut err = Broken(ErrorKind::BrokenPipe);
         let file = OneFile("x", Ok(b"}\n"));
-        let ended = run(rt.alloc(), order, &file, &mut input, &mut out, &mut err);
+        let ended = run(
+            rt.alloc(),
+            order,
+            &file,
+            &mut Ends("p"),
+            &mut input,
+            &mut out,
+            &mut err,
+        );
         assert_eq!(rt; ended.exit.status(), wanted);
     }
     Ok(())
@@ -41,7 +51,15 @@ fn line_of<S: Read + Drop, W: Write + Drop>(
     let order = order_of(alloc, asked)?;
     let mut err = Vec::new(alloc);
     let file = OneFile("x", Ok(b""));
-    let ended = run(alloc, order, &file, &mut input, &mut out, &mut err);
+    let ended = run(
+        alloc,
+        order,
+        &file,
+        &mut Ends("p"),
+        &mut input,
+        &mut out,
+        &mut err,
+    );
     let mut line = Vec::new(alloc);
     line.push(b'0' + ended.exit.status())?;
     line.extend_from_slice(b" ")?;

@@ -13,4 +13,6 @@ mod drills;
 #[cfg(test)]
 mod faults;
 #[cfg(test)]
+mod feeds;
+#[cfg(test)]
 mod streams;

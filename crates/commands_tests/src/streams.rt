@@ -1,5 +1,6 @@
 // One file, streams that fail, and what a run with them tells.
 
+use crate::feeds::Ends;
 use commands::{Order, ReadFile, run};
 use std::alloc::{AllocError, Global};
 use std::io::{self, Error, ErrorKind, Read, Write};
@@ -60,6 +61,9 @@ pub enum Asked {
     Input,
     Drill(&'static str),
     Check(&'static str),
+    Owed(&'static str),
+    Feed(&'static str, Option<&'static str>),
+    FeedLogged(&'static str, &'static str),
     Tell(&'static str),
     Mistake(&'static str),
 }
@@ -70,23 +74,39 @@ pub fn order_of(alloc: Global, asked: Asked) -> Result<Order<'static>, AllocErro
         Asked::Input => Order::DrillFromInput,
         Asked::Drill(path) => Order::Drill(path),
         Asked::Check(path) => Order::Check(path),
+        Asked::Owed(path) => Order::Owed(path),
+        Asked::Feed(conf, funnel) => Order::Feed {
+            conf,
+            funnel,
+            verbose: false,
+        },
+        Asked::FeedLogged(conf, funnel) => Order::Feed {
+            conf,
+            funnel: Some(funnel),
+            verbose: true,
+        },
         Asked::Tell(text) => Order::Tell(String::from_str(alloc, text)?),
         Asked::Mistake(what) => Order::Mistake(String::from_str(alloc, what)?),
     })
 }
 
-/// What a run tells: its status as a digit, standard output, and standard error, with a line between them.
+/// What a run tells, whose feeds end with these troubles: its status as a digit, standard output, and standard error,
+/// with a line between them.
 pub fn told(
     alloc: Global,
     asked: Asked,
+    feeds: Ends,
     file: &OneFile,
     input: &'static [u8],
 ) -> Result<Vec<u8>, AllocError> {
     let order = order_of(alloc, asked)?;
+    let mut feeds = feeds;
     let mut input = input;
     let mut out = Vec::new(alloc);
     let mut err = Vec::new(alloc);
-    let ended = run(alloc, order, file, &mut input, &mut out, &mut err);
+    let ended = run(
+        alloc, order, file, &mut feeds, &mut input, &mut out, &mut err,
+    );
     let mut told = Vec::new(alloc);
     told.push(b'0' + ended.exit.status())?;
     told.push(b'\n')?;

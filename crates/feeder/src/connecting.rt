@@ -1,10 +1,12 @@
 // Making connections.
 use crate::connection::Connection;
+use crate::telling::{name_of, tell_unmade};
 use crate::{Feeder, PeerPlan};
 use article_store::Articles;
 use conn_core::{Conn, CxnId};
 use event_loop::SocketLink;
 use flusher::Naming;
+use log::Log;
 use mio::Token;
 use mio::net::TcpStream;
 use std::alloc::Global;
@@ -13,23 +15,24 @@ use std::net::{Net, ToSocketAddrs};
 
 impl<S: Articles + Drop, C: Net + Drop, N: Naming> Feeder<S, C, N> {
     /// Begins to connect each place that is due.
-    pub(crate) fn connect_due(&mut self, now: u64, last_phase: bool) {
+    pub(crate) fn connect_due<R: Log>(&mut self, rt: &R, now: u64, last_phase: bool) {
         for at in 0..self.places.len() {
-            self.connect_if_due(at, now, last_phase);
+            self.connect_if_due(rt, at, now, last_phase);
         }
     }
 
     // Begins to connect a place, where it is due. One that fails at once is lost.
-    fn connect_if_due(&mut self, at: usize, now: u64, last_phase: bool) {
+    fn connect_if_due<R: Log>(&mut self, rt: &R, at: usize, now: u64, last_phase: bool) {
         let is_due = match self.places.get(at) {
             Some(place) => place.is_due(now, last_phase),
             None => false,
         };
         if is_due
-            && self.connect(at).is_err()
+            && let Err(error) = self.connect(at)
             && let Some(place) = self.places.get_mut(at)
         {
             place.lost(now);
+            tell_unmade(rt, name_of(&self.plans, place.plan()), &error);
         }
     }
 
@@ -56,7 +59,7 @@ impl<S: Articles + Drop, C: Net + Drop, N: Naming> Feeder<S, C, N> {
         let conn = Conn::new(self.alloc, CxnId(self.number), plan.options)?;
         self.connections.reserve(1)?;
         link.register(self.poll.registry(), Token(self.connections.vacant_key()))?;
-        let made = Connection::new(self.alloc, conn, link, plan.peer, at);
+        let made = Connection::new(self.alloc, conn, link, address, plan.peer, at);
         let _ = self.connections.insert_reserved(made);
         self.number = next;
         Ok(())

@@ -1,12 +1,16 @@
 // One connection: a connection's value, its socket, and what it holds.
-use article_store::Articles;
+use crate::telling::tell_unsent;
+use article_store::{Articles, Found};
 use conn_core::{Conn, CxnId, Outcome, Ready, Reason};
 use event_loop::{Moved, SocketLink, put_out, take_in};
 use funnel::Token;
 use ledger_core::Debt;
+use log::Log;
 use mio::event::Event;
 use std::alloc::{AllocError, Global};
 use std::collections::BTreeMap;
+use std::io;
+use std::net::SocketAddr;
 
 // How many octets of output are enough: they are sent before another article is read.
 const ENOUGH: usize = 65_536;
@@ -19,6 +23,9 @@ const CALLS: u64 = 64;
 pub(crate) struct Connection {
     conn: Conn,
     link: SocketLink,
+    address: SocketAddr,
+    // Why it could not be made.
+    failure: Option<io::Error>,
     // The place of its peer at the post.
     peer: usize,
     // Its place among the feeder's.
@@ -32,14 +39,25 @@ pub(crate) struct Connection {
     held: BTreeMap<u64, Token>,
     // An outcome that the station could not take yet: it goes before all others.
     kept: Option<Outcome>,
+    // How many debts its peer deferred since it was asked last.
+    deferred: u64,
 }
 
 impl Connection {
-    /// One that is being made, for this place of this peer.
-    pub fn new(alloc: Global, conn: Conn, link: SocketLink, peer: usize, place: usize) -> Self {
+    /// One that is being made to this address, for this place of this peer.
+    pub fn new(
+        alloc: Global,
+        conn: Conn,
+        link: SocketLink,
+        address: SocketAddr,
+        peer: usize,
+        place: usize,
+    ) -> Self {
         Connection {
             conn,
             link,
+            address,
+            failure: None,
             peer,
             place,
             is_connecting: true,
@@ -47,6 +65,7 @@ impl Connection {
             is_touched: false,
             held: BTreeMap::new(alloc),
             kept: None,
+            deferred: 0,
         }
     }
 
@@ -63,6 +82,23 @@ impl Connection {
     /// Its place among the feeder's.
     pub fn place(&self) -> usize {
         self.place
+    }
+
+    /// The peer's address.
+    pub fn address(&self) -> SocketAddr {
+        self.address
+    }
+
+    /// Why it could not be made, where it could not.
+    pub fn failure(&self) -> Option<&io::Error> {
+        self.failure.as_ref()
+    }
+
+    /// How many debts its peer has deferred since it was asked last.
+    pub fn take_deferred(&mut self) -> u64 {
+        let deferred = self.deferred;
+        self.deferred = 0;
+        deferred
     }
 
     /// Why it closed, once it has.
@@ -114,7 +150,10 @@ impl Connection {
             self.is_connecting = false;
             match self.link.take_error() {
                 Ok(None) => {}
-                _ => self.conn.broken(),
+                Ok(Some(error)) | Err(error) => {
+                    self.failure = Some(error);
+                    self.conn.broken();
+                }
             }
         }
     }
@@ -190,6 +229,9 @@ impl Connection {
             return Some(kept);
         }
         let outcome = self.conn.outcome()?;
+        if matches!(outcome, Outcome::Deferred(_)) {
+            self.deferred = self.deferred.saturating_add(1);
+        }
         let _ = self.held.remove(&number_of(&outcome));
         Some(outcome)
     }
@@ -220,7 +262,7 @@ impl Connection {
     }
 
     /// Hands in the articles that are wanted, until enough is put out. It breaks where one can't be read.
-    pub fn hand_in<S: Articles>(&mut self, store: &mut S) {
+    pub fn hand_in<R: Log, S: Articles>(&mut self, rt: &R, store: &mut S) {
         for _ in 0..u64::MAX {
             if self.conn.output().len() >= ENOUGH {
                 return;
@@ -228,7 +270,7 @@ impl Connection {
             let Some(number) = self.conn.need() else {
                 return;
             };
-            if !self.hand(number, store) {
+            if !self.hand(rt, number, store) {
                 self.conn.broken();
                 return;
             }
@@ -236,13 +278,23 @@ impl Connection {
     }
 
     // Hands in the article of this number, and tells whether it was taken.
-    fn hand<S: Articles>(&mut self, number: u64, store: &mut S) -> bool {
+    fn hand<R: Log, S: Articles>(&mut self, rt: &R, number: u64, store: &mut S) -> bool {
         let Some(token) = self.held.get(&number) else {
             return false;
         };
         match store.fetch(token) {
-            Ok(found) => self.conn.article(number, found).is_ok(),
-            Err(_) => false,
+            Ok(found) => {
+                match &found {
+                    Found::Article(_) => {}
+                    Found::Gone => tell_unsent(rt, token, "is gone, and is offered no more"),
+                    Found::Unsendable => tell_unsent(rt, token, "is no text that can be sent"),
+                }
+                self.conn.article(number, found).is_ok()
+            }
+            Err(_) => {
+                tell_unsent(rt, token, "cannot be read");
+                false
+            }
         }
     }
 }

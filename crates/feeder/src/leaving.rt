@@ -6,6 +6,7 @@ use crate::{Feeder, FeederFault};
 use article_store::Articles;
 use disk_model::Disk;
 use flusher::{Naming, Pace, Post, Signals};
+use log::Log;
 use std::net::Net;
 use std::rt::Clock;
 use std::sync::Wait;
@@ -18,7 +19,7 @@ const STEP: u64 = 50;
 
 impl<S: Articles + Drop, C: Net + Drop, N: Naming> Feeder<S, C, N> {
     /// Leaves all connections in good order, where their peers answer within a second; what is held then goes back.
-    pub(crate) fn leave<D: Disk, R: Wait + Clock, P: Pace>(
+    pub(crate) fn leave<D: Disk, R: Wait + Clock + Log, P: Pace>(
         &mut self,
         rt: &R,
         post: &Post<D, N>,
@@ -41,7 +42,7 @@ impl<S: Articles + Drop, C: Net + Drop, N: Naming> Feeder<S, C, N> {
     }
 
     // Goes on with the connections until none is left, a second at most.
-    fn hear_goodbyes<D: Disk, R: Wait + Clock, P: Pace>(
+    fn hear_goodbyes<D: Disk, R: Wait + Clock + Log, P: Pace>(
         &mut self,
         rt: &R,
         desk: &Desk<'_, D, N, P>,
@@ -63,7 +64,7 @@ impl<S: Articles + Drop, C: Net + Drop, N: Naming> Feeder<S, C, N> {
     }
 
     // Breaks each connection that is left, takes what it held back, and drops it.
-    fn break_all<D: Disk, R: Wait, P: Pace>(&mut self, rt: &R, desk: &Desk<'_, D, N, P>) {
+    fn break_all<D: Disk, R: Wait + Log, P: Pace>(&mut self, rt: &R, desk: &Desk<'_, D, N, P>) {
         for key in 0..self.connections.capacity() {
             if let Some(connection) = self.connections.get_mut(key) {
                 connection.broken();

@@ -15,6 +15,7 @@ mod leaving;
 mod moment;
 mod place;
 mod plan;
+mod telling;
 mod turn;
 mod visit;
 

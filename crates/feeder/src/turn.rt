@@ -2,12 +2,14 @@
 use crate::desk::Desk;
 use crate::feeder::WAKER;
 use crate::moment::{Haste, Moment, millis};
+use crate::telling::{name_of, tell_connected, tell_deferred, tell_given_up, tell_over};
 use crate::visit::visit;
 use crate::{Feeder, FeederFault};
 use article_store::Articles;
 use conn_core::Reason;
 use disk_model::Disk;
 use flusher::{Naming, Pace, Post, Signals, Who, Work};
+use log::Log;
 use std::net::Net;
 use std::rt::Clock;
 use std::sync::Wait;
@@ -16,7 +18,7 @@ impl<D: Disk, S: Articles + Drop, C: Net + Drop, N: Naming> Work<D, N> for Feede
     /// Feeds its share of the connections until all are stopped, or in the last phase no debt of its peers is ready or
     /// held, or could still be sent by it. A fault is kept, and stops all. At the end it leaves its connections, for
     /// which their peers have a second; what they still hold then goes back.
-    fn run<R: AllocGlobal + Wait + Clock, P: Pace>(
+    fn run<R: AllocGlobal + Wait + Clock + Log, P: Pace>(
         &mut self,
         rt: &R,
         post: &Post<D, N>,
@@ -33,7 +35,7 @@ impl<D: Disk, S: Articles + Drop, C: Net + Drop, N: Naming> Work<D, N> for Feede
 
 impl<S: Articles + Drop, C: Net + Drop, N: Naming> Feeder<S, C, N> {
     // Makes turns until all are stopped or the work is done.
-    fn work<D: Disk, R: Wait + Clock, P: Pace>(
+    fn work<D: Disk, R: Wait + Clock + Log, P: Pace>(
         &mut self,
         rt: &R,
         post: &Post<D, N>,
@@ -47,9 +49,10 @@ impl<S: Articles + Drop, C: Net + Drop, N: Naming> Feeder<S, C, N> {
             let last_phase = signals.is_last_phase();
             let now = Moment::now(rt, self.start)?;
             let desk = self.desk(post, pace, now.seconds);
-            self.pass_second(now.seconds, last_phase);
+            self.pass_second(rt, now.seconds, last_phase);
             self.visit_all(rt, &desk)?;
             if last_phase && self.is_done(rt, &desk)? {
+                self.tell_given_up(rt);
                 return Ok(());
             }
             if self.is_waiting() {
@@ -76,21 +79,33 @@ impl<S: Articles + Drop, C: Net + Drop, N: Naming> Feeder<S, C, N> {
     }
 
     // Where a second has passed, tells each connection, and connects the places that are due.
-    fn pass_second(&mut self, now: u64, last_phase: bool) {
+    fn pass_second<R: Log>(&mut self, rt: &R, now: u64, last_phase: bool) {
         if self.ticked == Some(now) {
             return;
         }
         self.ticked = Some(now);
         for key in 0..self.connections.capacity() {
-            if let Some(connection) = self.connections.get_mut(key) {
-                connection.tick(now);
-            }
+            self.tick_one(rt, key, now);
         }
-        self.connect_due(now, last_phase);
+        self.connect_due(rt, now, last_phase);
+    }
+
+    // Tells a connection that a second has passed, and of what was deferred in it.
+    fn tick_one<R: Log>(&mut self, rt: &R, key: usize, now: u64) {
+        let Some(connection) = self.connections.get_mut(key) else {
+            return;
+        };
+        connection.tick(now);
+        let deferred = connection.take_deferred();
+        if deferred > 0
+            && let Some(place) = self.places.get(connection.place())
+        {
+            tell_deferred(rt, name_of(&self.plans, place.plan()), deferred);
+        }
     }
 
     // Visits each connection that is touched.
-    pub(crate) fn visit_all<D: Disk, R: Wait, P: Pace>(
+    pub(crate) fn visit_all<D: Disk, R: Wait + Log, P: Pace>(
         &mut self,
         rt: &R,
         desk: &Desk<'_, D, N, P>,
@@ -102,7 +117,7 @@ impl<S: Articles + Drop, C: Net + Drop, N: Naming> Feeder<S, C, N> {
     }
 
     // Visits a connection, where it is touched, and drops it, where it is over.
-    fn visit_one<D: Disk, R: Wait, P: Pace>(
+    fn visit_one<D: Disk, R: Wait + Log, P: Pace>(
         &mut self,
         rt: &R,
         desk: &Desk<'_, D, N, P>,
@@ -126,6 +141,8 @@ impl<S: Articles + Drop, C: Net + Drop, N: Naming> Feeder<S, C, N> {
             && let Some(place) = self.places.get_mut(connection.place())
         {
             place.greeted();
+            let name = name_of(&self.plans, place.plan());
+            tell_connected(rt, name, connection.address());
         }
         if connection.is_over() {
             self.remove(rt, desk, key);
@@ -135,7 +152,7 @@ impl<S: Articles + Drop, C: Net + Drop, N: Naming> Feeder<S, C, N> {
 
     /// Drops a connection. What it may still hold is ready again, and its place waits, but where it was left in good
     /// order.
-    pub(crate) fn remove<D: Disk, R: Wait, P: Pace>(
+    pub(crate) fn remove<D: Disk, R: Wait + Log, P: Pace>(
         &mut self,
         rt: &R,
         desk: &Desk<'_, D, N, P>,
@@ -150,6 +167,7 @@ impl<S: Articles + Drop, C: Net + Drop, N: Naming> Feeder<S, C, N> {
                 Some(Reason::Quit) => place.left(),
                 _ => place.lost(desk.now),
             }
+            tell_over(rt, name_of(&self.plans, place.plan()), &connection);
         }
     }
 
@@ -179,6 +197,15 @@ impl<S: Articles + Drop, C: Net + Drop, N: Naming> Feeder<S, C, N> {
         self.places
             .iter()
             .all(|place| place.plan() != plan || place.is_given_up(true))
+    }
+
+    // Tells of each of its peers that is given up.
+    fn tell_given_up<R: Log>(&self, rt: &R) {
+        for at in 0..self.plans.len() {
+            if self.is_given_up(at) && self.places.iter().any(|place| place.plan() == at) {
+                tell_given_up(rt, name_of(&self.plans, at));
+            }
+        }
     }
 
     // Why it may not sleep for long.

@@ -5,6 +5,7 @@ use crate::desk::{Desk, is_full};
 use article_store::Articles;
 use disk_model::Disk;
 use flusher::{FeederShare, Naming, Pace};
+use log::Log;
 use std::sync::Wait;
 
 // How often a connection puts out and sends in one visit, before others have their turn.
@@ -15,7 +16,7 @@ const ROUNDS: u64 = 64;
 ///
 /// # Errors
 /// The post's, where no flush helps.
-pub(crate) fn visit<D: Disk, N: Naming, S: Articles, R: Wait, P: Pace>(
+pub(crate) fn visit<D: Disk, N: Naming, S: Articles, R: Wait + Log, P: Pace>(
     connection: &mut Connection,
     rt: &R,
     desk: &Desk<'_, D, N, P>,
@@ -64,7 +65,7 @@ pub(crate) fn settle<D: Disk, N: Naming, R: Wait, P: Pace>(
 }
 
 // Offers debts, hands in articles and sends, in rounds: what is enough is sent before another article is read.
-fn work<D: Disk, N: Naming, S: Articles, R: Wait, P: Pace>(
+fn work<D: Disk, N: Naming, S: Articles, R: Wait + Log, P: Pace>(
     connection: &mut Connection,
     rt: &R,
     desk: &Desk<'_, D, N, P>,
@@ -72,7 +73,7 @@ fn work<D: Disk, N: Naming, S: Articles, R: Wait, P: Pace>(
 ) -> Result<(), FeederFault> {
     for _ in 0..ROUNDS {
         offer(connection, rt, desk)?;
-        connection.hand_in(store);
+        connection.hand_in(rt, store);
         connection.send();
         if !connection.can_go_on() {
             return Ok(());

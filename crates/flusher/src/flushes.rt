@@ -5,8 +5,13 @@ use crate::signals::Signals;
 use crate::threads::Work;
 use crate::{Naming, Post, PostFault};
 use disk_model::Disk;
+use log::{Log, info};
 use std::rt::Clock;
 use std::sync::Wait;
+use std::time::Instant;
+
+// From how many seconds on a flush is told of, as slow.
+const SLOW: u64 = 1;
 
 /// Flushes all stations and the intake tape, for each order and once a second without one, until it is told to end.
 /// Before the flush of an
@@ -36,7 +41,7 @@ impl<N: Naming> Flusher<N> {
     }
 
     // Answers the orders until it is told to end.
-    fn flush_on<D: Disk, R: Wait, P: Pace>(
+    fn flush_on<D: Disk, R: Wait + Clock + Log, P: Pace>(
         &mut self,
         rt: &R,
         post: &Post<D, N>,
@@ -51,7 +56,11 @@ impl<N: Naming> Flusher<N> {
             if orders != answered {
                 self.shed_all(rt, post)?;
             }
+            let begun = Instant::now(rt);
             let receipt = post.flush_all(rt, pace)?;
+            if let Ok(begun) = begun {
+                tell_slow(rt, begun);
+            }
             signals.answer(rt, orders, receipt);
             answered = orders;
         }
@@ -60,7 +69,7 @@ impl<N: Naming> Flusher<N> {
 }
 
 impl<D: Disk, N: Naming> Work<D, N> for Flusher<N> {
-    fn run<R: AllocGlobal + Wait + Clock, P: Pace>(
+    fn run<R: AllocGlobal + Wait + Clock + Log, P: Pace>(
         &mut self,
         rt: &R,
         post: &Post<D, N>,
@@ -71,5 +80,14 @@ impl<D: Disk, N: Naming> Work<D, N> for Flusher<N> {
             self.fault = Some(fault);
             signals.stop();
         }
+    }
+}
+
+// Tells of a flush that began at this moment, where it took long.
+fn tell_slow<R: Clock + Log>(rt: &R, begun: Instant) {
+    if let Ok(passed) = begun.elapsed(rt)
+        && passed.as_secs() >= SLOW
+    {
+        info!(rt; "a flush took {} seconds: the disk is slow", passed.as_secs());
     }
 }

@@ -2,6 +2,7 @@
 use crate::signals::Signals;
 use crate::{Naming, Pace, Post};
 use disk_model::Disk;
+use log::Log;
 use std::rt::Clock;
 use std::sync::Wait;
 use std::thread;
@@ -10,7 +11,7 @@ use std::thread::Threads;
 /// A worker on a post.
 pub trait Work<D: Disk, N: Naming> {
     /// Works until it is done, or everyone is to end.
-    fn run<R: AllocGlobal + Wait + Clock, P: Pace>(
+    fn run<R: AllocGlobal + Wait + Clock + Log, P: Pace>(
         &mut self,
         rt: &R,
         post: &Post<D, N>,
@@ -35,7 +36,7 @@ pub fn run_threads<
     F: Work<D, N> + Drop + Send,
     I: Work<D, N>,
     P: Pace + Sync,
-    R: AllocGlobal + Threads + Wait + Clock + Sync,
+    R: AllocGlobal + Threads + Wait + Clock + Log + Sync,
 >(
     rt: &R,
     post: &Post<D, N>,
@@ -71,7 +72,7 @@ fn run_feeders<
     W: Work<D, N> + Drop + Send,
     I: Work<D, N>,
     P: Pace + Sync,
-    R: AllocGlobal + Threads + Wait + Clock + Sync,
+    R: AllocGlobal + Threads + Wait + Clock + Log + Sync,
 >(
     rt: &R,
     post: &Post<D, N>,
@@ -106,7 +107,7 @@ fn run_feeder<
     W: Work<D, N> + Drop + Send,
     I: Work<D, N>,
     P: Pace + Sync,
-    R: AllocGlobal + Threads + Wait + Clock + Sync,
+    R: AllocGlobal + Threads + Wait + Clock + Log + Sync,
 >(
     rt: &R,
     post: &Post<D, N>,
@@ -126,7 +127,7 @@ fn run_feeder<
 }
 
 // Works until it is done.
-fn worked<D: Disk, N: Naming, W: Work<D, N>, P: Pace, R: AllocGlobal + Wait + Clock>(
+fn worked<D: Disk, N: Naming, W: Work<D, N>, P: Pace, R: AllocGlobal + Wait + Clock + Log>(
     rt: &R,
     post: &Post<D, N>,
     signals: &Signals,

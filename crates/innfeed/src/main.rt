@@ -1,14 +1,15 @@
 //! `innfeed`, the outgoing feeder of a news server: the program.
 //!
-//! It may touch its arguments, the files that they name, standard input and both outputs; the work is done by
-//! `commands`. The words of the command line become an order by `words::read_words`, which `commands::run` does with
-//! the system's files and streams. Nothing stands above it: what it promises is what those calls' contracts promise,
-//! and what their tests show.
+//! It may touch its arguments, the files that they and the configuration name, standard input, both outputs, sockets
+//! and threads; the work is done by `commands`. The words of the command line become an order by `words::read_words`,
+//! which `commands::run` does with the system's files and streams, and with `feed` where peers are to be fed. Nothing
+//! stands above it: what it promises is what those calls' contracts promise, and what their tests show.
 #![tactic(auto)]
 
 mod files;
 
-use commands::{Exit, Order, run};
+use commands::{Exit, Feeds, Order, run};
+use feed::SystemFeeds;
 use files::SystemFiles;
 use std::env;
 use std::io::{self, BufWriter, ErrorKind, Write};
@@ -20,37 +21,48 @@ const NOT_TEXT: &str = "a word of the command line is not UTF-8, as a path has t
 
 fn main(rt: HostRuntime) -> ExitCode {
     // Outside of an order nothing fails but for want of memory.
-    let exit = obey_words(&rt, &mut rt.stderr()).unwrap_or(Exit::NoMemory);
+    let mut feeds = SystemFeeds::new(&rt, &rt, rt);
+    let exit = obey_words(&rt, &mut feeds, &mut rt.stderr()).unwrap_or(Exit::NoMemory);
     ExitCode::from(exit.status())
 }
 
 // Does what the words of the command line ask for.
-fn obey_words<R: AllocGlobal + Input + Print + Env + Files, E: Write>(
+fn obey_words<R: AllocGlobal + Input + Print + Env + Files, P: Feeds, E: Write>(
     rt: &R,
+    feeds: &mut P,
     err: &mut E,
 ) -> io::Result<Exit> {
     match env::args(rt) {
         Ok(args) => {
             let words: Vec<String> = args.collect(rt.alloc())?;
             let order = read_words(rt.alloc(), &words)?;
-            obey(rt, order, err)
+            obey(rt, order, feeds, err)
         }
         Err(error) if error.kind() == ErrorKind::OutOfMemory => Err(error),
         Err(_) => {
             let mistake = String::from_str(rt.alloc(), NOT_TEXT)?;
-            obey(rt, Order::Mistake(mistake), err)
+            obey(rt, Order::Mistake(mistake), feeds, err)
         }
     }
 }
 
 // Does what an order asks for, with the system's files and streams.
-fn obey<R: AllocGlobal + Input + Print + Files, E: Write>(
+fn obey<R: AllocGlobal + Input + Print + Files, P: Feeds, E: Write>(
     rt: &R,
     order: Order<'_>,
+    feeds: &mut P,
     err: &mut E,
 ) -> io::Result<Exit> {
     let mut out = BufWriter::new(rt.alloc(), io::writer(rt))?;
     let files = SystemFiles { rt };
-    let ended = run(rt.alloc(), order, &files, &mut rt.reader(), &mut out, err);
+    let ended = run(
+        rt.alloc(),
+        order,
+        &files,
+        feeds,
+        &mut rt.reader(),
+        &mut out,
+        err,
+    );
     Ok(ended.exit)
 }

@@ -1,24 +1,70 @@
 -- What the words of the command line ask for (docs/MANUAL.md).
-use Rattle.std.specs.Prelude.{◌≡◌, ◌≢◌, List, ℕ, Bool, true, false, Option, None, Some, codes}
+use Rattle.std.specs.Prelude.{◌≡◌, ◌⊎◌, List, ℕ, Bool, true, false, Option, None, Some, IsSome, IsNone, codes}
+use Rattle.std.specs.Prelude.{option_map}
 use Rattle.commands.specs.declared.order.Order.{Order}
-use Rattle.commands.specs.declared.order.Order.TheVariants.{DrillFromInput, Drill, Check, Tell, Mistake}
+use Rattle.commands.specs.declared.order.Order.TheVariants.{DrillFromInput, Drill, Check, Owed, Feed, Tell, Mistake}
+use Rattle.words.specs.declared.words.Given.{Given}
 
--- The values of `-c` and `--drill`, and whether `-C` stands there: a check of the one file, or a drill of the other, and
--- nothing else.
-abbrev pub Asks : Option (List ℕ) → Bool → Option (List ℕ) → Order → Type 0
-Asks config check drill DrillFromInput = ⊥
-Asks config check drill (Drill path) = (config ≡ None) × (check ≡ false) × (drill ≡ Some path.now)
-Asks config check drill (Check path) = (config ≡ Some path.now) × (check ≡ true) × (drill ≡ None)
-Asks config check drill (Tell text) = ⊥
-Asks config check drill (Mistake what) =
-    ((path : List ℕ) → (config ≡ None) → (check ≡ false) → drill ≢ Some path)
-    × ((path : List ℕ) → (config ≡ Some path) → (check ≡ true) → drill ≢ None)
+-- something is asked for on a configuration
+abbrev pub HasOrder : Given → Type 0
+HasOrder given = (given.check ≡ true) ⊎ (given.owed ≡ true) ⊎ (given.backlog ≡ true) ⊎ IsSome given.funnel
+
+-- something stands there but `-c FILE` and `--drill FILE`
+abbrev pub HasMore : Given → Type 0
+HasMore given = (given.verbose ≡ true) ⊎ HasOrder given
+
+-- A drill's file, and nothing beside it.
+abbrev pub AsksDrill : List ℕ → Given → Type 0
+AsksDrill path given =
+    (option_map (λ file. file.now) given.drill ≡ Some path) × IsNone given.config × (HasMore given → ⊥)
+
+-- `-C` acts alone.
+abbrev pub AsksCheck : Given → Type 0
+AsksCheck given = given.check ≡ true
+
+-- Else `--owed` does.
+abbrev pub AsksOwed : Given → Type 0
+AsksOwed given = (given.check ≡ false) × (given.owed ≡ true)
+
+-- Else the peers are fed: from their backlogs alone with `-x`, else from the funnel; with `-v` it is logged.
+abbrev pub AsksFeed : Option (List ℕ) → Bool → Given → Type 0
+AsksFeed funnel verbose given = (given.check ≡ false) × (given.owed ≡ false) × (verbose ≡ given.verbose)
+    × ((given.backlog ≡ true) × (funnel ≡ None)
+    ⊎ (given.backlog ≡ false) × IsSome funnel × (funnel ≡ option_map (λ file. file.now) given.funnel))
+
+-- What is asked for on the configuration of this path.
+abbrev pub AsksOf : List ℕ → Given → Order → Type 0
+AsksOf conf given DrillFromInput = ⊥
+AsksOf conf given (Drill path) = ⊥
+AsksOf conf given (Check path) = (path.now ≡ conf) × AsksCheck given
+AsksOf conf given (Owed path) = (path.now ≡ conf) × AsksOwed given
+AsksOf conf given (Feed path funnel verbose) = (path.now ≡ conf)
+    × AsksFeed (option_map (λ file. file.now) funnel) verbose given
+AsksOf conf given (Tell text) = ⊥
+AsksOf conf given (Mistake what) = HasOrder given → ⊥
+
+-- What is asked for: a drill, or something on a configuration. All else is a mistake.
+abbrev pub Asks : Given → Order → Type 0
+Asks given DrillFromInput = ⊥
+Asks given (Drill path) = AsksDrill path.now given
+Asks given (Check path) = (option_map (λ file. file.now) given.config ≡ Some path.now) × IsNone given.drill
+    × AsksCheck given
+Asks given (Owed path) = (option_map (λ file. file.now) given.config ≡ Some path.now) × IsNone given.drill
+    × AsksOwed given
+Asks given (Feed path funnel verbose) = (option_map (λ file. file.now) given.config ≡ Some path.now) × IsNone given.drill
+    × AsksFeed (option_map (λ file. file.now) funnel) verbose given
+Asks given (Tell text) = ⊥
+Asks given (Mistake what) = (IsSome given.drill × (IsSome given.config ⊎ HasMore given))
+    ⊎ (IsNone given.drill × IsNone given.config)
+    ⊎ (IsNone given.drill × IsSome given.config × (HasOrder given → ⊥))
 
 -- a text is to be printed
 abbrev pub IsTold : Order → Type 0
 IsTold DrillFromInput = ⊥
 IsTold (Drill path) = ⊥
 IsTold (Check path) = ⊥
+IsTold (Owed path) = ⊥
+IsTold (Feed path funnel verbose) = ⊥
 IsTold (Tell text) = Unit {0}
 IsTold (Mistake what) = ⊥
 
@@ -27,6 +73,8 @@ abbrev pub IsMistaken : Order → Type 0
 IsMistaken DrillFromInput = ⊥
 IsMistaken (Drill path) = ⊥
 IsMistaken (Check path) = ⊥
+IsMistaken (Owed path) = ⊥
+IsMistaken (Feed path funnel verbose) = ⊥
 IsMistaken (Tell text) = ⊥
 IsMistaken (Mistake what) = Unit {0}
 

@@ -1,24 +1,27 @@
 // The words of the command line, and what they ask for (docs/MANUAL.md).
-ghost use Rattle.std.specs.Prelude.{◌≡◌, ◌≢◌, ◌≤◌, ◌↔◌, ◌⊎◌, Bool, length, Ok, Err, IfOk, codes, option_map};
+ghost use Rattle.std.specs.Prelude.{◌≡◌, ◌≢◌, ◌≤◌, ◌↔◌, ◌⊎◌, length, Ok, Err, IfOk, IsTrue, codes, option_map};
 ghost use Rattle.std.specs.Prelude.{alloc_error};
 ghost use Rattle.clap.specs.Words.{first_value, found_of, kind_of, one_text};
-ghost use Rattle.words.specs.Words.{Asks, IsFlag, IsMistaken, IsTold};
+ghost use Rattle.words.specs.Words.{Asks, AsksOf, HasMore, IsFlag, IsMistaken, IsTold};
 
 use clap::error::ErrorKind;
 use clap::{Arg, ArgAction, ArgMatches, Command, Error};
 use commands::{Order, VERSION};
 use std::alloc::{AllocError, Global};
 
-const USAGE: &str = "innfeed -c FILE -C\n       innfeed --drill FILE\n       innfeed < SCRIPT";
+const USAGE: &str =
+    "innfeed -c FILE [-C] [-x] [-v] [--owed] [FUNNEL]\n       innfeed --drill FILE\n       innfeed < SCRIPT";
 
 const ABOUT: &str =
-    "The outgoing feeder of a news server: checks its configuration, and runs drills of its backlogs.";
+    "The outgoing feeder of a news server: offers peers the articles of a funnel file, and of their backlogs.";
 
-const MORE: &str = "With no argument a drill script is read on standard input.
+const MORE: &str =
+    "Of -C, --owed and -x the first that is given acts alone, and FUNNEL is not read; else it is needed.
+With no argument a drill script is read on standard input.
 
 Exit status: 0 done; 1 a bad configuration, or a script that breaks its rules or whose step was refused;
-2 a mistake in the words; 4 a file or standard input that cannot be read, or standard output that cannot be
-written; 5 no memory.";
+2 a mistake in the words; 3 a tape that cannot be opened, broke, is damaged or full; 4 another file or standard
+input that cannot be read, or a file or standard output that cannot be written; 5 no memory, or no thread.";
 
 /// Reads the words of the command line, of which the first is the program's own name.
 ///
@@ -31,68 +34,158 @@ pub fn read_words<'a>(alloc: Global, words: &'a [String]) -> Result<Order<'a>, A
         return Ok(Order::DrillFromInput);
     }
     match command(alloc)?.try_get_matches_from(words) {
-        Ok(matches) => choose(alloc, &matches),
+        Ok(matches) => order_of(alloc, given_by(&matches)),
         Err(error) => answer(alloc, error),
     }
 }
 
-// The options, with what is said of each in the help.
+// What stands on the command line.
+#[derive(Clone, Copy)]
+struct Given<'a> {
+    config: Option<&'a str>,
+    check: bool,
+    owed: bool,
+    backlog: bool,
+    verbose: bool,
+    funnel: Option<&'a str>,
+    drill: Option<&'a str>,
+}
+
+// The command line, with what is said of each word in the help.
 fn command<'a>(alloc: Global) -> Result<Command<'a>, AllocError> {
     let config = Arg::new(alloc, "config")
         .short('c')
         .value_name("FILE")
         .help("The configuration, as innfeed.conf(5) has it");
-    let check = Arg::new(alloc, "check")
-        .short('C')
-        .action(ArgAction::SetTrue)
-        .help(
-            "Check the configuration: print what is ignored or limited in it, and how many peers it has",
-        );
     let drill = Arg::new(alloc, "drill")
         .long("drill")
         .value_name("FILE")
         .help(
             "Run the drill script in this file: print what each step does and what each peer is owed",
         );
+    let funnel = Arg::new(alloc, "funnel").value_name("FUNNEL").help(
+        "The file of lines to feed from, each a token, a message-id and peers: go on behind the last \
+            acknowledged line",
+    );
     Command::new(alloc, "innfeed")
         .version(VERSION)
         .about(ABOUT)
         .override_usage(USAGE)
         .after_help(MORE)
         .arg(config)?
-        .arg(check)?
-        .arg(drill)
+        .arg(check_flag(alloc))?
+        .arg(owed_flag(alloc))?
+        .arg(backlog_flag(alloc))?
+        .arg(verbose_flag(alloc))?
+        .arg(drill)?
+        .arg(funnel)
 }
 
-// What the options that were given ask for.
-fn choose<'a>(alloc: Global, matches: &ArgMatches<'a>) -> Result<Order<'a>, AllocError>
-    ensures { (check : Bool) × IsFlag (one_text (found_of matches.now) (codes "check")) check
-        × IfOk result (Asks (first_value (found_of matches.now) (codes "config")) check
-        (first_value (found_of matches.now) (codes "drill"))) }
-{
-    let config = matches.get_str("config");
-    let drill = matches.get_str("drill");
-    order_of(alloc, config, matches.get_flag("check"), drill)
+fn check_flag<'a>(alloc: Global) -> Arg<'a> {
+    Arg::new(alloc, "check")
+        .short('C')
+        .action(ArgAction::SetTrue)
+        .help(
+            "Check the configuration: print what is ignored or limited in it, and how many peers it has",
+        )
 }
 
-// A configuration and `-C` ask for a check, a drill's file alone for that drill.
-fn order_of<'a>(
-    alloc: Global,
-    config: Option<&'a str>,
-    check: bool,
-    drill: Option<&'a str>,
-) -> Result<Order<'a>, AllocError>
-    ensures { IfOk result (Asks (option_map (λ path. path.now) config.entry) check
-        (option_map (λ path. path.now) drill.entry)) }
+fn owed_flag<'a>(alloc: Global) -> Arg<'a> {
+    Arg::new(alloc, "owed")
+        .long("owed")
+        .action(ArgAction::SetTrue)
+        .help("Print what each peer is owed: its name, and a line's number, token and message-id")
+}
+
+fn backlog_flag<'a>(alloc: Global) -> Arg<'a> {
+    Arg::new(alloc, "backlog")
+        .short('x')
+        .action(ArgAction::SetTrue)
+        .help("Feed from the backlogs alone, and read no funnel")
+}
+
+fn verbose_flag<'a>(alloc: Global) -> Arg<'a> {
+    Arg::new(alloc, "verbose")
+        .short('v')
+        .action(ArgAction::SetTrue)
+        .help(
+            "Log to standard error what becomes of connections and articles, and each 10 seconds how far all is",
+        )
+}
+
+// What a parse found on the command line.
+fn given_by<'a>(matches: &ArgMatches<'a>) -> Given<'a>
+    ensures config { option_map (λ path. path.now) result.config
+        ≡ first_value (found_of matches.now) (codes "config") }
+    ensures drill { option_map (λ path. path.now) result.drill
+        ≡ first_value (found_of matches.now) (codes "drill") }
+    ensures funnel { option_map (λ path. path.now) result.funnel
+        ≡ first_value (found_of matches.now) (codes "funnel") }
+    ensures check { IsFlag (one_text (found_of matches.now) (codes "check")) result.check }
+    ensures owed { IsFlag (one_text (found_of matches.now) (codes "owed")) result.owed }
+    ensures backlog { IsFlag (one_text (found_of matches.now) (codes "backlog")) result.backlog }
+    ensures verbose { IsFlag (one_text (found_of matches.now) (codes "verbose")) result.verbose }
 {
-    let what = match (config, check, drill) {
-        (Some(path), true, None) => return Ok(Order::Check(path)),
-        (None, false, Some(path)) => return Ok(Order::Drill(path)),
-        (_, _, Some(_)) => "no other option may stand beside '--drill FILE'",
-        (Some(_), false, None) => "'-c FILE' needs '-C'",
-        (None, true, None) => "'-C' needs '-c FILE'",
-        (None, false, None) => "no option is given",
-    };
+    Given {
+        config: matches.get_str("config"),
+        check: matches.get_flag("check"),
+        owed: matches.get_flag("owed"),
+        backlog: matches.get_flag("backlog"),
+        verbose: matches.get_flag("verbose"),
+        funnel: matches.get_str("funnel"),
+        drill: matches.get_str("drill"),
+    }
+}
+
+// Whether anything stands there but `-c FILE` and `--drill FILE`.
+fn has_more(given: &Given<'_>) -> bool
+    ensures { IsTrue result ↔ HasMore given.now }
+{
+    given.verbose || given.check || given.owed || given.backlog || given.funnel.is_some()
+}
+
+// A drill's file stands alone; all else wants a configuration.
+fn order_of<'a>(alloc: Global, given: Given<'a>) -> Result<Order<'a>, AllocError>
+    ensures { IfOk result (Asks given.entry) }
+{
+    match (given.drill, given.config) {
+        (None, Some(conf)) => order_on(alloc, conf, given),
+        (Some(path), None) if !has_more(&given) => Ok(Order::Drill(path)),
+        (Some(_), _) => mistake(alloc, "no other argument may stand beside '--drill FILE'"),
+        (None, None) => mistake(alloc, "'-c FILE' or '--drill FILE' is needed"),
+    }
+}
+
+// What is asked for on a configuration.
+fn order_on<'a>(alloc: Global, conf: &'a str, given: Given<'a>) -> Result<Order<'a>, AllocError>
+    ensures { IfOk result (AsksOf conf.now given.entry) }
+{
+    if given.check {
+        return Ok(Order::Check(conf));
+    }
+    if given.owed {
+        return Ok(Order::Owed(conf));
+    }
+    if given.backlog {
+        return Ok(Order::Feed {
+            conf,
+            funnel: None,
+            verbose: given.verbose,
+        });
+    }
+    match given.funnel {
+        Some(path) => Ok(Order::Feed {
+            conf,
+            funnel: Some(path),
+            verbose: given.verbose,
+        }),
+        None => mistake(alloc, "FUNNEL or '-x' is needed"),
+    }
+}
+
+fn mistake<'a>(alloc: Global, what: &str) -> Result<Order<'a>, AllocError>
+    ensures { IfOk result IsMistaken }
+{
     Ok(Order::Mistake(String::from_str(alloc, what)?))
 }
 

@@ -3,4 +3,4 @@ use Rattle.commands.proofs.check.checked.Goals as goal
 
 pub returns-in_ok-tell-in-Ok : goal.returns-in_ok-tell-in-Ok
 returns-in_ok-tell-in-Ok c =
-    (conf_view c.in-Ok.conf, (λ lines has. c.in-Ok.ensures.meaning lines has), c.in_ok-tell-in-Ok.ensures)
+    (conf_view c.in-Ok.conf, c.in-Ok.ensures, c.in_ok-tell-in-Ok.ensures)

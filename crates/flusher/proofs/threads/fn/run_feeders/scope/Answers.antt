@@ -5,3 +5,12 @@ use Rattle.flusher.proofs.threads.fn.run_feeders.scope.Goals as goal
 
 pub spawn-requires-send-F : goal.spawn-requires-send-F
 spawn-requires-send-F g c κs within = search (Post-sync, Signals-sync, sendable, crosses) depth 20
+
+pub run_feeder-ended-requires-send-D : goal.run_feeder-ended-requires-send-D
+run_feeder-ended-requires-send-D g c κs within = search (sendable, crosses) depth 20
+
+pub run_feeder-ended-requires-send-N : goal.run_feeder-ended-requires-send-N
+run_feeder-ended-requires-send-N g c = search (sendable, crosses) depth 20
+
+pub run_feeder-ended-requires-send-W : goal.run_feeder-ended-requires-send-W
+run_feeder-ended-requires-send-W g c = search (sendable) depth 20

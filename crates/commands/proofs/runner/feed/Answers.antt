@@ -1,0 +1,14 @@
+use Rattle.std.proofs.Common.{◌⊎◌, inl, refl}
+use Rattle.feed_conf.specs.ConfView.{conf_view}
+use Rattle.commands.proofs.runner.feed.Goals as goal
+
+pub returns-in-Ok-settings_of : goal.returns-in-Ok-settings_of
+returns-in-Ok-settings_of g c = λ line is.
+    let means = rw c.deref.ensures.value at c.in-Ok-settings_of.ensures in
+    inl (
+      c.in-Ok.text.items,
+      conf_view c.in-Ok-settings_of.conf,
+      c.in-Ok.ensures.read,
+      means,
+      (c.feed.result, refl, is),
+    )

@@ -1,0 +1,110 @@
+// What feeds peers, and what it tells at its end.
+
+use crate::exit::Exit;
+use feed_conf::Conf;
+use recovery::TapeFault;
+use std::alloc::Global;
+use std::io::Write;
+
+/// What is wrong with the tapes.
+#[derive(Drop)]
+pub enum TapeTrouble {
+    /// Another process works on the backlog directory of this path.
+    Taken(String),
+    /// The tape of this name, a peer's or `~intake`, could not be opened, or failed under way.
+    Failed { name: Vec<u8>, fault: TapeFault },
+}
+
+/// What is wrong with other files.
+#[derive(Drop)]
+pub enum FileTrouble {
+    /// The file at this path cannot be read.
+    Unread(Vec<u8>),
+    /// The file at this path cannot be written.
+    Unwritten(Vec<u8>),
+    /// Standard output cannot be written, for this reason.
+    Output(String),
+}
+
+/// A peer that is still owed debts.
+#[derive(Drop)]
+pub struct Owing {
+    /// Its name.
+    pub name: Vec<u8>,
+    /// How many debts it is owed, which is not 0.
+    pub owed: u64,
+}
+
+/// How a feed ended.
+#[derive(Drop)]
+pub struct FeedEnd {
+    /// What went wrong with tapes, in the order of the tapes' names.
+    pub tapes: Vec<TapeTrouble>,
+    /// What went wrong with other files.
+    pub files: Vec<FileTrouble>,
+    /// Whether memory or a thread was refused, of which nothing is told.
+    pub lacks: bool,
+    /// The peers that are still owed debts, by name.
+    pub owing: Vec<Owing>,
+}
+
+impl FeedEnd {
+    ghost use Rattle.std.specs.Prelude.{◌≡◌, [], true, false};
+    ghost use Rattle.commands.specs.Feed.{exit_of_end};
+
+    /// A feed that ended well, with nothing owed.
+    pub fn well(alloc: Global) -> Self
+        ensures { (result.tapes.items ≡ []) × (result.files.items ≡ []) × (result.lacks ≡ false)
+            × (result.owing.items ≡ []) }
+    {
+        FeedEnd {
+            tapes: Vec::new(alloc),
+            files: Vec::new(alloc),
+            lacks: false,
+            owing: Vec::new(alloc),
+        }
+    }
+
+    /// A feed that ended since memory or a thread was refused.
+    pub fn lacking(alloc: Global) -> Self
+        ensures { (result.tapes.items ≡ []) × (result.files.items ≡ []) × (result.lacks ≡ true)
+            × (result.owing.items ≡ []) }
+    {
+        FeedEnd {
+            lacks: true,
+            ..FeedEnd::well(alloc)
+        }
+    }
+
+    /// The status that tells of it: what is wrong with tapes goes first, then want of memory or of a thread.
+    pub fn exit(&self) -> Exit
+        ensures { result ≡ exit_of_end self.now }
+    {
+        if !self.tapes.is_empty() {
+            Exit::Tape
+        } else if self.lacks {
+            Exit::NoMemory
+        } else if !self.files.is_empty() {
+            Exit::Unreadable
+        } else {
+            Exit::Done
+        }
+    }
+}
+
+/// What feeds peers, and lists what they are owed.
+pub trait Feeds {
+    /// Feeds the peers of these settings from the funnel file at this path, or with none from their backlogs alone, and
+    /// writes `taken N` for each acknowledged batch of lines; where `verbose`, what becomes of connections is logged.
+    fn feed<W: Write>(
+        &mut self,
+        alloc: Global,
+        conf: Conf,
+        funnel: Option<&str>,
+        verbose: bool,
+        out: &mut W,
+    ) -> FeedEnd;
+
+    /// Writes a line for each debt of the peers of these settings, `NAME NUMBER TOKEN ID`, by name and rising number.
+    fn list_owed<W: Write>(&mut self, alloc: Global, conf: Conf, out: &mut W) -> FeedEnd;
+}

@@ -1,0 +1,107 @@
+// The files of the tapes.
+use crate::trouble::{INTAKE, Trouble};
+use commands::TapeTrouble;
+use disk_model::{DirectoryFault, FileDisk, TapeDirectory};
+use feed_conf::PeerConf;
+use std::alloc::Global;
+use std::fs::File;
+use std::io::{self, ErrorKind};
+use std::rt::Files;
+use std::str;
+
+/// The backlog directory, locked, and the files of the tapes in it, as far as they could be opened: the peers' by name,
+/// and the intake's last.
+#[derive(Drop)]
+pub(crate) struct Disks {
+    pub directory: TapeDirectory,
+    pub files: Vec<FileDisk<File>>,
+    /// Why the next one could not be opened.
+    pub missed: Option<Trouble>,
+}
+
+/// Locks the backlog directory at this path and opens the files of these peers and of the intake, makes those that are
+/// missing, and makes their names durable.
+///
+/// # Errors
+/// The directory's. What is wrong with the directory itself is told of the first tape.
+pub(crate) fn open_disks<F: AllocGlobal + Files<File = File>>(
+    files: &F,
+    path: &[u8],
+    peers: &[PeerConf],
+) -> Result<Disks, Trouble> {
+    let alloc = files.alloc();
+    let first = first_name(peers);
+    let directory = lock(files, path, first)?;
+    let mut disks = Disks {
+        directory,
+        files: Vec::new(alloc),
+        missed: None,
+    };
+    for peer in peers {
+        open_next(files, &mut disks, peer.name.bytes());
+    }
+    open_next(files, &mut disks, INTAKE);
+    match disks.directory.sync() {
+        Ok(()) => Ok(disks),
+        Err(error) => Err(Trouble::tape_file(alloc, first, &error)),
+    }
+}
+
+// The name of the first tape.
+fn first_name(peers: &[PeerConf]) -> &[u8] {
+    match peers.first() {
+        Some(peer) => peer.name.bytes(),
+        None => INTAKE,
+    }
+}
+
+fn lock<F: AllocGlobal + Files<File = File>>(
+    files: &F,
+    path: &[u8],
+    first: &[u8],
+) -> Result<TapeDirectory, Trouble> {
+    let alloc = files.alloc();
+    let Ok(text) = str::from_utf8(path) else {
+        return Err(Trouble::tape_file(alloc, first, &io::Error::from(ErrorKind::InvalidInput)));
+    };
+    match TapeDirectory::lock(files, text) {
+        Ok(directory) => Ok(directory),
+        Err(DirectoryFault::Taken) => {
+            Err(Trouble::Tape(TapeTrouble::Taken(String::from_str(alloc, text)?)))
+        }
+        Err(DirectoryFault::Failed(error)) => Err(Trouble::tape_file(alloc, first, &error)),
+    }
+}
+
+// Opens the file of one more tape, unless one was missed before.
+fn open_next<F: AllocGlobal + Files<File = File>>(files: &F, disks: &mut Disks, name: &[u8]) {
+    if disks.missed.is_some() {
+        return;
+    }
+    if let Err(trouble) = add_disk(files, disks, name) {
+        disks.missed = Some(trouble);
+    }
+}
+
+fn add_disk<F: AllocGlobal + Files<File = File>>(
+    files: &F,
+    disks: &mut Disks,
+    name: &[u8],
+) -> Result<(), Trouble> {
+    let alloc = files.alloc();
+    let path = file_name(alloc, name)?;
+    match disks.directory.open(files, path.as_str()) {
+        Ok(disk) => Ok(disks.files.push(disk)?),
+        Err(error) => Err(Trouble::tape_file(alloc, name, &error)),
+    }
+}
+
+// `NAME~a`.
+fn file_name(alloc: Global, name: &[u8]) -> Result<String, Trouble> {
+    let Ok(text) = str::from_utf8(name) else {
+        return Err(Trouble::tape_file(alloc, name, &io::Error::from(ErrorKind::InvalidInput)));
+    };
+    let mut path = String::from_str(alloc, text)?;
+    path.push_str("~a")?;
+    Ok(path)
+}

@@ -1,0 +1,23 @@
+//! A whole run of the feeder: tapes and funnel are opened, two feeders, the flusher and the intake run in their
+//! threads, and the status file is written; and the list of what is owed.
+//!
+//! May touch the backlog directory, the funnel, the status file, sockets, the clock and threads. The crates above give
+//! [`SystemFeeds`] to `commands::run`, which tells what came of it. What is acknowledged, sent and owed is kept by the
+//! crates below; here calls are proved to be safe and to return where none waits.
+#![tactic(auto)]
+
+mod disks;
+mod funnel_file;
+mod intake;
+mod leaving;
+mod list;
+mod machine;
+mod plans;
+mod progress;
+mod run;
+mod status_file;
+mod system;
+mod tapes;
+mod trouble;
+
+pub use system::SystemFeeds;
