@@ -3,6 +3,8 @@
 # each the best of so many runs (2): from a backlog (-x), and from a funnel with its durable flushes. Where Debian's
 # inn2 is installed INN's innfeed works off the same articles from a backlog file in the same run, and the ratios are
 # ours to its; elsewhere the articles a second stand alone. Beside them the time of an fdatasync in the same minute.
+# Then, from a backlog: the processor time an article, ours to INN's; the part of the window that is used at a peer
+# whose answers take 20 ms; and, where strace is there, the system calls an article.
 . "$(dirname "$(readlink -f "${BASH_SOURCE[0]}")")/lib.sh"
 build innfeed
 articles=${1:-20000} runs=${2:-2}
@@ -33,7 +35,8 @@ END
 
 # listen: a peer; its port is set.
 listen() {
-  ./sink -p 0 >port &
+  rm -f port
+  ./sink -p 0 -l "${late:-0}" >port &
   sink=$!
   until [ -s port ]; do sleep 0.02; done
   port=$(grep -o '[0-9]*$' port)
@@ -44,6 +47,14 @@ rate() {
   wait "$sink" || true
   sed -n 's/.*art_per_s=\([0-9]*\).*/\1/p' port
 }
+
+# timed COMMAND ..: runs it, and keeps its processor seconds in the file times.
+timed() {
+  local TIMEFORMAT='%U %S'
+  { time "$@" >told 2>&1 </dev/null; } 2>times || true
+}
+# spent COUNT: microseconds of the last timed command an article.
+spent() { awk -v count="$1" '{ printf "%.1f", ($1 + $2) * 1000000 / count }' times; }
 
 settings() {
   echo "news-spool: $run/articles"
@@ -65,7 +76,7 @@ from_backlog() {
   "$ours" -c conf funnel >told 2>&1
   listen
   settings "$1" "$port" >conf
-  "$ours" -c conf -x >told 2>&1
+  timed ${trace:-} "$ours" -c conf -x
   rate
 }
 from_inn() {
@@ -88,7 +99,7 @@ peer p {
   port-number: $port
 }
 END
-  INNCONF=$run/inn/inn.conf "$inn" -c "$run/conf" -b "$run/backlog" -a "$run/articles" -x </dev/null >/dev/null 2>&1 || true
+  timed env INNCONF="$run/inn/inn.conf" "$inn" -c "$run/conf" -b "$run/backlog" -a "$run/articles" -x
   rate
 }
 # most COMMAND ..: the greatest of so many runs.
@@ -130,4 +141,26 @@ for size in 1024 4096 32768; do
       printf ", a sync %d us (%s)\n", s, commit
     }'
   done
+  from_backlog 2 >rate.told
+  line="$size octets, 2 connections: $(spent "$count") us of processor an article"
+  if [ -x "$inn" ]; then
+    from_inn 2 >rate.told
+    line+=", INN's $(spent "$count")"
+  fi
+  if command -v strace >/dev/null; then
+    trace='strace -f -c -o calls' from_backlog 2 >rate.told
+    line+="; $(awk -v count="$count" '$NF == "read" || $NF == "openat" || $NF == "close" || $NF == "fstat" || $NF == "statx" { files += $4 }
+      $NF == "sendto" || $NF == "write" || $NF == "writev" || $NF == "recvfrom" || $NF == "epoll_wait" || $NF == "epoll_pwait" { sockets += $4 }
+      $NF == "total" { all = $4 } END { printf "%.2f calls of files, %.2f of others that move octets, %.2f in all", files / count, sockets / count, all / count }' calls)"
+  fi
+  echo "$line ($commit)"
+done
+
+# With answers after 20 ms a window of 20 is the bound: with a CHECK before each article half of it goes to CHECKs.
+late=20
+for connections in 1 4; do
+  rate=$(from_backlog "$connections")
+  awk -v c="$connections" -v r="$rate" -v commit="$commit" 'BEGIN {
+    printf "20 ms, %d connections: %d a second, %.0f %% of the windows (%s)\n", c, r, r * 100 / (c * 20 / 0.02), commit
+  }'
 done

@@ -28,8 +28,24 @@ pub(crate) struct Funnel {
     pub file: FunnelFile,
 }
 
-/// Takes the funnel's lines, batch by batch, and tells of each batch once it is acknowledged; then waits for the
-/// feeders, and has the status file written meanwhile.
+// Lines that were taken.
+#[derive(Clone, Copy)]
+struct Batch {
+    count: u64,
+    // The number of the last one.
+    last: u64,
+}
+
+// A batch whose flush is ordered.
+#[derive(Clone, Copy)]
+struct Ordered {
+    order: u64,
+    // The number of its last line.
+    last: u64,
+}
+
+/// Takes the funnel's lines, batch by batch, the next one while the one before is flushed, and tells of each batch once
+/// it is acknowledged; then waits for the feeders, and has the status file written meanwhile.
 #[derive(Drop)]
 pub(crate) struct Intake<'a, F, W, N: Naming> {
     pub alloc: Global,
@@ -56,12 +72,15 @@ impl<F: AllocGlobal + Files<File = File>, W: Write, N: Naming> Intake<'_, F, W, 
         let Some(mut funnel) = self.funnel.take() else {
             return Ok(());
         };
+        let mut ordered = None;
         for _ in rt.forever() {
-            let count = self.take_batch(rt, post, signals, &mut funnel)?;
-            if count > 0 && !self.acknowledge(rt, signals)? {
+            let batch = self.take_batch(rt, post, signals, &mut funnel)?;
+            if !self.acknowledge(rt, signals, ordered)? {
                 return Ok(());
             }
-            if count < BATCH {
+            ordered = self.order(signals, &batch);
+            if batch.count < BATCH {
+                self.acknowledge(rt, signals, ordered)?;
                 return Ok(());
             }
             self.look_after(rt, post);
@@ -69,51 +88,55 @@ impl<F: AllocGlobal + Files<File = File>, W: Write, N: Naming> Intake<'_, F, W, 
         unreachable!()
     }
 
-    // Takes a batch of lines, and tells how many they are: fewer than a batch has where the funnel is at its end, or
-    // cannot be read on.
+    // Takes a batch of lines: fewer than it may have where the funnel is at its end, or cannot be read on.
     fn take_batch<D: Disk, R: Wait>(
         &mut self,
         rt: &R,
         post: &Post<D, N>,
         signals: &Signals,
         funnel: &mut Funnel,
-    ) -> Result<u64, Trouble> {
+    ) -> Result<Batch, Trouble> {
+        let mut batch = Batch { count: 0, last: 0 };
         for taken in 0..BATCH {
             let line = match funnel.file.next_line() {
                 Ok(Some(line)) => line,
-                Ok(None) => return Ok(taken),
+                Ok(None) => return Ok(batch),
                 Err(error) => {
                     Trouble::unread(self.alloc, &funnel.path, &error).add_to(&mut self.end);
-                    return Ok(taken);
+                    return Ok(batch);
                 }
             };
-            if !self.take_line(rt, post, signals, &line)? {
-                return Ok(0);
-            }
+            let Some(number) = self.take_line(rt, post, signals, &line)? else {
+                return Ok(Batch { count: 0, last: 0 });
+            };
+            batch = Batch {
+                count: taken + 1,
+                last: number,
+            };
         }
-        Ok(BATCH)
+        Ok(batch)
     }
 
-    // Takes a line, again after a flush where too many notes pend. Tells whether it was taken, or all were stopped.
+    // Takes a line, again after a flush where too many notes pend, and gives its number; none where all were stopped.
     fn take_line<D: Disk, R: Wait>(
         &mut self,
         rt: &R,
         post: &Post<D, N>,
         signals: &Signals,
         line: &[u8],
-    ) -> Result<bool, Trouble> {
+    ) -> Result<Option<u64>, Trouble> {
         for _ in rt.forever() {
             match post.take_line(rt, line, &mut self.share) {
-                Ok(_) => return Ok(true),
+                Ok(number) => return Ok(Some(number)),
                 Err(
                     PostFault::Station {
                         fault: StationFault::Tape(TapeFault::PendingFull),
                         ..
                     },
                 ) => {
-                    signals.order();
-                    if signals.receipt(rt).is_none() {
-                        return Ok(false);
+                    let order = signals.order();
+                    if signals.receipt(rt, order).is_none() {
+                        return Ok(None);
                     }
                 }
                 Err(fault) => return Err(Trouble::post(self.alloc, self.names, fault)),
@@ -122,14 +145,32 @@ impl<F: AllocGlobal + Files<File = File>, W: Write, N: Naming> Intake<'_, F, W, 
         unreachable!()
     }
 
-    // Has what was taken acknowledged, and tells of it. The feeders offer it meanwhile. False where all were stopped.
-    fn acknowledge<R: Wait>(&mut self, rt: &R, signals: &Signals) -> Result<bool, Trouble> {
+    // Has the feeders offer what was taken, and orders a flush of it. None where nothing was.
+    fn order(&self, signals: &Signals, batch: &Batch) -> Option<Ordered> {
+        if batch.count == 0 {
+            return None;
+        }
         self.wake();
-        signals.order();
-        let Some(receipt) = signals.receipt(rt) else {
-            return Ok(false);
+        Some(Ordered {
+            order: signals.order(),
+            last: batch.last,
+        })
+    }
+
+    // Waits until a batch is acknowledged, and tells of it. False where all were stopped.
+    fn acknowledge<R: Wait>(
+        &mut self,
+        rt: &R,
+        signals: &Signals,
+        ordered: Option<Ordered>,
+    ) -> Result<bool, Trouble> {
+        let Some(Ordered { order, last }) = ordered else {
+            return Ok(true);
         };
-        match self.tell(receipt.number()) {
+        if signals.receipt(rt, order).is_none() {
+            return Ok(false);
+        }
+        match self.tell(last) {
             Ok(()) => Ok(true),
             Err(error) => Err(Trouble::output(self.alloc, &error)),
         }

@@ -47,20 +47,19 @@ impl Signals {
         }
     }
 
-    /// Orders a flush. All orders that come before a flush begins are one.
-    pub fn order(&self) {
-        self.orders.fetch_add(1, Ordering::SeqCst);
+    /// Orders a flush, and gives the order's number. All orders that come before a flush begins are one.
+    pub fn order(&self) -> u64 {
+        let before = self.orders.fetch_add(1, Ordering::SeqCst);
         self.tell();
+        before.wrapping_add(1)
     }
 
-    /// Waits for the receipt of a flush that began after each order up to now, and so the caller's own. None where all
-    /// were stopped
-    /// before it came: by a fault, which the worker that met it has.
-    pub fn receipt<R: Wait>(&self, rt: &R) -> Option<Receipt> {
-        let orders = self.orders.load(Ordering::SeqCst);
+    /// Waits for the receipt of a flush that began after the order of this number. None where all were stopped before
+    /// it came: by a fault, which the worker that met it has.
+    pub fn receipt<R: Wait>(&self, rt: &R, order: u64) -> Option<Receipt> {
         for _ in rt.forever() {
             let seen = self.changes.load(Ordering::SeqCst);
-            let latest = self.receipt_since(rt, orders);
+            let latest = self.receipt_since(rt, order);
             if latest.is_some() || self.is_stopped() {
                 return latest;
             }
