@@ -16,14 +16,15 @@ use ledger_core::Debt;
 use std::alloc::{AllocError, Global};
 use std::time::{Clock, Instant};
 
-// What is sent, and what a peer answers to as many articles as are under way, made before the clock runs.
+/// What is sent, and what a peer answers to as many articles as are under way, made before the
+/// clock runs.
 #[derive(Drop)]
-struct Feed {
-    texts: Vec<Bytes>,
+pub struct Feed {
+    pub texts: Vec<Bytes>,
     token: Token,
     ids: Vec<MsgId>,
-    wanted: Vec<u8>,
-    taken: Vec<u8>,
+    pub wanted: Vec<u8>,
+    pub taken: Vec<u8>,
 }
 
 // What was put out, and how many articles the peer took.
@@ -79,8 +80,8 @@ fn measured<R: AllocGlobal + Print + Clock>(
     }
 }
 
-// So many texts of the same lines.
-fn texts_of(alloc: Global, octets: u64, count: u64) -> Result<Vec<Bytes>, AllocError> {
+/// So many texts of the same lines.
+pub fn texts_of(alloc: Global, octets: u64, count: u64) -> Result<Vec<Bytes>, AllocError> {
     let mut texts = Vec::new(alloc);
     for _ in 0..count {
         let text = text_of(alloc, octets as usize)?;
@@ -89,8 +90,8 @@ fn texts_of(alloc: Global, octets: u64, count: u64) -> Result<Vec<Bytes>, AllocE
     Ok(texts)
 }
 
-// Each text as it goes over the wire.
-fn blocks_of(alloc: Global, texts: Vec<Bytes>) -> Result<Vec<Bytes>> {
+/// Each text as it goes over the wire.
+pub fn blocks_of(alloc: Global, texts: Vec<Bytes>) -> Result<Vec<Bytes>> {
     let mut blocks = Vec::new(alloc);
     for text in &texts {
         blocks.push(to_block(alloc, text)?)?;
@@ -113,13 +114,14 @@ fn copied(alloc: Global, blocks: &[Bytes], articles: u64) -> Result<u64> {
     Ok(sum)
 }
 
-// The one of them whose turn it is.
-fn in_turn(texts: &[Bytes], number: u64) -> Option<&Bytes> {
+/// The one of them whose turn it is.
+pub fn in_turn(texts: &[Bytes], number: u64) -> Option<&Bytes> {
     let place = (number as usize).checked_rem(texts.len())?;
     texts.get(place)
 }
 
-fn feed_of(alloc: Global, texts: Vec<Bytes>) -> Result<Feed> {
+/// What it takes to send these texts in turn.
+pub fn feed_of(alloc: Global, texts: Vec<Bytes>) -> Result<Feed> {
     let ids = ids_of(alloc)?;
     Ok(Feed {
         texts,
@@ -149,8 +151,8 @@ fn sent(alloc: Global, feed: &Feed, articles: u64) -> Result<Told> {
     Ok(told)
 }
 
-// Offers one debt of each id.
-fn offer_each(conn: &mut Conn, feed: &Feed, round: u64) -> Result<()> {
+/// Offers one debt of each id.
+pub fn offer_each(conn: &mut Conn, feed: &Feed, round: u64) -> Result<()> {
     for (place, id) in feed.ids.iter().enumerate() {
         let number = round.saturating_mul(IN_FLIGHT).saturating_add(place as u64);
         offer(conn, Debt::new(number, feed.token.clone()?, id.clone()?))?;
@@ -158,8 +160,8 @@ fn offer_each(conn: &mut Conn, feed: &Feed, round: u64) -> Result<()> {
     Ok(())
 }
 
-// Hands in each article that is wanted.
-fn hand_in_each(conn: &mut Conn, texts: &[Bytes]) -> Result<()> {
+/// Hands in each article that is wanted.
+pub fn hand_in_each(conn: &mut Conn, texts: &[Bytes]) -> Result<()> {
     for _ in 0..IN_FLIGHT {
         let number = conn.need().context("an article is wanted")?;
         let text = in_turn(texts, number).context("a text")?;
@@ -175,8 +177,8 @@ fn hand_in(conn: &mut Conn, number: u64, text: Bytes) -> Result<()> {
     Ok(())
 }
 
-// Takes the outcomes, and counts the final answers among them.
-fn finals(conn: &mut Conn) -> u64 {
+/// Takes the outcomes, and counts the final answers among them.
+pub fn finals(conn: &mut Conn) -> u64 {
     let mut count = 0u64;
     for _ in 0..IN_FLIGHT {
         if let Some(Outcome::Final(_)) = conn.outcome() {

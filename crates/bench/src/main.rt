@@ -1,9 +1,10 @@
 //! The benchmarks: each word but none names one, which stands in a module of its own.
 //!
-//! May touch its arguments, the clock and standard output; it stands on the public calls of what it measures.
-//! With no argument each benchmark runs once, small and quick, and prints what is the same on each run. `NAME` runs
-//! that one so, and `NAME WORD ..` does a piece of work at length and prints `COUNT WHAT N nanoseconds`, from which
-//! the scripts in bench/ print ratios. Nothing stands above it, and it promises nothing.
+//! May touch its arguments, the clock and standard output, and a file where one is measured; it
+//! stands on the public calls of what it measures. With no argument each benchmark runs once, small
+//! and quick, and prints what is the same on each run. `NAME` runs that one so, and `NAME WORD ..`
+//! does a piece of work at length and prints `COUNT WHAT N nanoseconds`, from which the scripts in
+//! bench/ print ratios. Nothing stands above it, and it promises nothing.
 #![tactic(auto)]
 
 mod articles;
@@ -11,6 +12,8 @@ mod blocks;
 mod configurations;
 mod counted;
 mod debts;
+mod files;
+mod links;
 mod moments;
 mod openings;
 mod peer;
@@ -20,13 +23,17 @@ mod time;
 
 use anyhow::{Result, bail};
 use std::env;
+use std::fs::File;
+use std::rt::Files;
 use std::time::Clock;
 
 /// What is measured, each by the name of its crate.
-const NAMES: [&str; 7] = [
+const NAMES: [&str; 9] = [
     "conn_core",
     "deferral",
+    "disk_model",
     "dot_codec",
+    "event_loop",
     "feed_conf",
     "peer_queue",
     "recovery",
@@ -41,18 +48,24 @@ fn main(rt: HostRuntime) -> Result<()> {
     }
 }
 
-fn run_each<R: AllocGlobal + Print + Clock>(rt: &R) -> Result<()> {
+fn run_each<R: AllocGlobal + Print + Clock + Files<File = File>>(rt: &R) -> Result<()> {
     for name in NAMES {
         run(rt, name, &[])?;
     }
     Ok(())
 }
 
-fn run<R: AllocGlobal + Print + Clock>(rt: &R, name: &str, words: &[String]) -> Result<()> {
+fn run<R: AllocGlobal + Print + Clock + Files<File = File>>(
+    rt: &R,
+    name: &str,
+    words: &[String],
+) -> Result<()> {
     match name {
         "conn_core" => articles::run(rt, words),
         "deferral" => moments::run(rt, words),
+        "disk_model" => files::run(rt, words),
         "dot_codec" => blocks::run(rt, words),
+        "event_loop" => links::run(rt, words),
         "feed_conf" => configurations::run(rt, words),
         "peer_queue" => debts::run(rt, words),
         "recovery" => openings::run(rt, words),

@@ -40,8 +40,8 @@ fn measured<R: AllocGlobal + Print + Clock>(rt: &R, notes: u64, times: u64) -> R
     tell(rt, owed, "owed", start.elapsed(rt)?)
 }
 
-// The note of this number: a token of 12 octets and a message-id of 20.
-fn owe(alloc: Global, number: u64) -> Result<Note> {
+/// The note of this number: a token of 12 octets and a message-id of 20.
+pub fn owe(alloc: Global, number: u64) -> Result<Note> {
     let token = Token::read(alloc, b"default/0001")?.context("a token")?;
     let id = MsgId::read(alloc, b"<article@news.local>")?.context("a message-id")?;
     Ok(Note::Owe { number, token, id })
@@ -70,7 +70,8 @@ fn disk_with(alloc: Global, notes: u64) -> Result<MemDisk> {
     Ok(disk)
 }
 
-fn open<D: Disk + Drop>(alloc: Global, disk: D) -> Result<Tape<D>> {
+/// The tape of this disk.
+pub fn open<D: Disk + Drop>(alloc: Global, disk: D) -> Result<Tape<D>> {
     match Tape::open(alloc, disk) {
         Ok(tape) => Ok(tape),
         Err(refused) => Err(refused.fault.into()),

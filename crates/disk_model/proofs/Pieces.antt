@@ -1,11 +1,15 @@
--- A write that goes out in pieces, given up in its midst.
-use Rattle.std.proofs.Common.{◌≡◌, ◌⊎◌, ℕ, ◌+◌, ◌-◌, ◌<◌, ◌≤◌, zero, suc, min, max, List, ◌∷◌, ◌++◌, length, take}
-use Rattle.std.proofs.Common.{drop, Err, refl, inl, inr, ⊎_elim, sym, ap, ◌∙◌, subst, arith, length-take}
+-- A transfer that goes on in pieces: a read, and a write that is given up in its midst.
+use Rattle.std.proofs.Common.{◌≡◌, ℕ, ◌+◌, ◌-◌, ◌≤◌, zero, suc, List, ◌++◌, length, take}
+use Rattle.std.proofs.Common.{drop, slice_range, Err, refl, inl, inr, sym, ap, ◌∙◌, arith}
+use Rattle.std.proofs.Common.{length-take, length-drop}
+use Rattle.std.proofs.Math.Seq.{take-add}
 use Rattle.std.proofs.lemmas.List.{drop-drop}
+use Rattle.std.proofs.lemmas.Slice.{take-put_mid}
+use borrow.Rule.Slice.PartMut.{put_mid}
 use Rattle.std.proofs.lemmas.Bool.{cases_lt}
 use Rattle.disk_model.specs.declared.DiskFault.{DiskFault}
-use Rattle.disk_model.specs.Disk.{Event, Tore, Torn, Writes, content, overwritten}
-use Rattle.disk_model.specs.RawFile.{UnderWay, Advances}
+use Rattle.disk_model.specs.Disk.{Event, Torn, Writes, content, overwritten}
+use Rattle.disk_model.specs.RawFile.{IsRead, UnderWay, Advances}
 use Rattle.disk_model.specs.TornLaws.{Torn-overwritten}
 
 -- what a short write may leave, a longer one at the same place may leave
@@ -41,3 +45,36 @@ stopped at octets done before log fault within advances =
       | inl less ↦ given_up at octets done before log fault within (advances.part less)
       | inr whole ↦ inr (inl (advances.whole (omega arith)))
     ]
+
+-- two pieces of a range, the one behind the other
+range_on : (octets : List ℕ) (at done count : ℕ) → slice_range octets at (at + (done + count))
+    ≡ slice_range octets at (at + done) ++ slice_range octets (at + done) (at + done + count)
+range_on octets at done count =
+    let rest = drop at octets in
+    let first = slice_range octets at (at + done) in
+    let whole : at + (done + count) - at ≡ done + count = omega arith in
+    let one : done ≡ at + done - at = omega arith in
+    let other : count ≡ at + done + count - (at + done) = omega arith in
+    ap (λ (k : ℕ). take k rest) whole
+    ∙ (take-add done count rest
+    ∙ (ap (λ (k : ℕ). take k rest ++ take count (drop done rest)) one
+    ∙ (ap (λ (l : List ℕ). first ++ take count l) (drop-drop done at octets)
+    ∙ ap (λ (k : ℕ). first ++ take k (drop (at + done) octets)) other)))
+
+-- a read that goes on with so many octets
+pub read_on : (octets : List ℕ) (at done count k : ℕ) (into part : List ℕ)
+    → done + count ≤ length into → k ≡ count
+    → length part ≡ length (take k (drop done into))
+    → IsRead octets at done into
+    → part ≡ slice_range octets (at + done) (at + done + length (take k (drop done into)))
+    → IsRead octets at (done + count) (put_mid done k into part)
+read_on octets at done count k into part within same long begun filled =
+    let from = at + done in
+    let first = slice_range octets at from in
+    let rest : length (take k (drop done into)) ≡ count =
+    length-take k (drop done into) ∙ omega (arith, length-drop done into) in
+    let second : part ≡ slice_range octets from (from + count) =
+    filled ∙ ap (λ (n : ℕ). slice_range octets from (from + n)) rest in
+    take-put_mid done k into part (done + count) (omega (arith, long, rest)) (omega arith)
+    ∙ (ap (λ (l : List ℕ). l ++ part) begun
+    ∙ (ap (λ (l : List ℕ). first ++ l) second ∙ sym (range_on octets at done count)))

@@ -41,6 +41,14 @@ impl<F: RawFile> FileDisk<F> {
         }
     }
 
+    /// The file within.
+    pub fn into_inner(self) -> F
+        ensures { result ≡ file_of self }
+    {
+        let FileDisk { file, .. } = self;
+        file
+    }
+
     // Counts a fault.
     fn fault(&mut self) -> DiskFault
         ensures counts { min (self.old.faults + 1) (2 ^ 64 - 1) ≤ self.new.faults }

@@ -13,6 +13,7 @@ use thiserror::Error;
 
 mod choice;
 mod directory;
+mod disk_file;
 mod file;
 mod flaky;
 mod fuse;
@@ -23,6 +24,7 @@ mod raw_file;
 
 pub use choice::Choice;
 pub use directory::{DirectoryFault, TapeDirectory};
+pub use disk_file::DiskFile;
 pub use file::FileDisk;
 pub use flaky::FlakyDisk;
 pub use fuse::FuseDisk;

@@ -1,6 +1,7 @@
+mod Rows
 pub mod Applied
 pub mod Debts
 pub mod Judged
 pub mod Replayed
-mod Rows
+pub mod Restoring
 pub mod Spellings

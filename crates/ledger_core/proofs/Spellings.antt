@@ -26,15 +26,17 @@ fits-take (suc n) [] fits i = omega arith
 fits-take (suc n) (x ∷ xs) fits zero = fits 0
 fits-take (suc n) (x ∷ xs) fits (suc i) = fits-take n xs (λ j. fits (suc j)) i
 
--- a head that was read is the head of what was read
-pub head-read : (octets : List ℕ) (tag : ℕ) (rest bytes behind : List ℕ) (number : ℕ)
-    → octets ≡ tag ∷ rest → bytes ≡ take 8 rest → behind ≡ drop 8 rest → 8 ≤ length rest
-    → ((i : ℕ) → get_or octets i 0 < 256) → number ≡ from_be_bytes w64 (take 8 rest) → octets ≡ head tag number ++ behind
-head-read octets tag rest bytes behind number o b d l fits n =
-    let fits_all : (i : ℕ) → get_or (tag ∷ rest) i 0 < 256 = rw (← o) fits in
-    let fits_rest : (i : ℕ) → get_or rest i 0 < 256 = λ i. fits_all (suc i) in
-    let e : to_be_bytes w64 number ≡ take 8 rest = be_bytes_8 (take 8 rest) number (omega (arith, length-take 8 rest)) (fits-take 8 rest fits_rest) n in
-    o ∙ ap (λ xs. tag ∷ xs) (sym (take-append-drop 8 rest) ∙ ap (λ xs. xs ++ drop 8 rest) (sym e) ∙ ap (λ xs. to_be_bytes w64 number ++ xs) (sym d))
+-- a number that was read is spelled as what it was read of
+pub number-read : (octets bytes behind : List ℕ) (number : ℕ)
+    → bytes ≡ take 8 octets → behind ≡ drop 8 octets → 8 ≤ length octets
+    → ((i : ℕ) → get_or octets i 0 < 256) → number ≡ from_be_bytes w64 bytes
+    → octets ≡ to_be_bytes w64 number ++ behind
+number-read octets bytes behind number b d l fits n =
+    let e : to_be_bytes w64 number ≡ take 8 octets =
+    be_bytes_8 (take 8 octets) number (omega (arith, length-take 8 octets))
+    (fits-take 8 octets fits) (n ∙ ap (from_be_bytes w64) b) in
+    sym (take-append-drop 8 octets) ∙ ap (λ xs. xs ++ drop 8 octets) (sym e)
+    ∙ ap (λ xs. to_be_bytes w64 number ++ xs) (sym d)
 
 -- the texts of an Owe that were read are its texts, and nothing is behind them
 pub texts-apart : (octets token rest id more other other_id : List ℕ)

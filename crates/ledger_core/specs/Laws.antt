@@ -61,7 +61,8 @@ pub record IsSound (state : State) : Type 0 where
   pub marked : All (λ number. number ≤ state.mark) (numbers state)
 
 -- a number above the mark at the end
-rising-push : (ns : List ℕ) (number mark : ℕ) → IsStrictlyIncreasing ns → All (λ n. n ≤ mark) ns → mark < number → IsStrictlyIncreasing (ns ++ number ∷ [])
+pub rising-push : (ns : List ℕ) (number mark : ℕ) → IsStrictlyIncreasing ns → All (λ n. n ≤ mark) ns
+    → mark < number → IsStrictlyIncreasing (ns ++ number ∷ [])
 rising-push ns number mark rising marked above = λ k within.
     elim (cases_lt (k + 1) (length ns)) [
       | inl before ↦

@@ -1,7 +1,10 @@
+pub mod Base
+pub mod BaseLaws
 pub mod Codes
 pub mod Laws
 pub mod Ledger
 pub mod Note
+pub mod Owing
 pub mod Reading
 pub mod Replay
 pub mod ReplayLaws
@@ -9,3 +12,4 @@ pub mod Spelling
 pub mod SpellingLaws
 pub mod State
 pub mod Words
+pub mod Written

@@ -5,18 +5,31 @@ use Rattle.ledger_core.specs.Note.{AreNotes, IsNote}
 use Rattle.ledger_core.specs.Spelling.{spelling, spellings}
 use Rattle.ledger_core.specs.State.{State, AllLegal, IsLegal, after, start}
 
+-- behind this state these payloads are a list of legal notes, which leaves that one
+abbrev pub LeavesFrom : State → List (List ℕ) → State → Type 0
+LeavesFrom first payloads state =
+    (notes : List Note) × AreNotes notes × (payloads ≡ spellings notes) × AllLegal first notes
+    × (state ≡ after first notes)
+
 -- these payloads are a list of legal notes, which leaves this state
 abbrev pub Leaves : List (List ℕ) → State → Type 0
-Leaves payloads state =
-    (notes : List Note) × AreNotes notes × (payloads ≡ spellings notes) × AllLegal start notes × (state ≡ after start notes)
+Leaves payloads state = LeavesFrom start payloads state
 
 -- no note that is legal in this state is spelled so
 abbrev pub SpellsNoLegal : State → List ℕ → Type 0
 SpellsNoLegal state octets = (note : Note) → IsNote note → spelling note ≡ octets → IsLegal state note → ⊥
 
+-- Behind this state the payloads before this index are a list of legal notes, and the one at it is
+-- no note that is legal
+-- behind them.
+abbrev pub StopsFrom : State → List (List ℕ) → ℕ → Type 0
+StopsFrom first payloads index =
+    (index < length payloads)
+    × ((notes : List Note) × AreNotes notes × AllLegal first notes
+    × (take index payloads ≡ spellings notes)
+    × ((note : Note) → IsNote note → slice_get payloads index ≡ Some (spelling note)
+    → IsLegal (after first notes) note → ⊥))
+
 -- the payloads before this index are a list of legal notes, and the one at it is no note that is legal behind them
 abbrev pub StopsAt : List (List ℕ) → ℕ → Type 0
-StopsAt payloads index =
-    (index < length payloads)
-    × ((notes : List Note) × AreNotes notes × AllLegal start notes × (take index payloads ≡ spellings notes)
-    × ((note : Note) → IsNote note → slice_get payloads index ≡ Some (spelling note) → IsLegal (after start notes) note → ⊥))
+StopsAt payloads index = StopsFrom start payloads index

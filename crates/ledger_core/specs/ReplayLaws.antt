@@ -4,7 +4,7 @@ use Rattle.std.specs.Prelude.{slice_get}
 use Rattle.ledger_core.specs.declared.note.Note.{Note}
 use Rattle.ledger_core.specs.Laws.{AllLegal-back}
 use Rattle.ledger_core.specs.Note.{AreNotes}
-use Rattle.ledger_core.specs.Replay.{Leaves, StopsAt}
+use Rattle.ledger_core.specs.Replay.{Leaves, LeavesFrom, StopsAt, StopsFrom}
 use Rattle.ledger_core.specs.Spelling.{spelling, spellings}
 use Rattle.ledger_core.specs.SpellingLaws.{AreNotes-front, AreNotes-back, same-notes}
 use Rattle.ledger_core.specs.State.{State, AllLegal, IsLegal, after, start}
@@ -32,15 +32,21 @@ split (first ∷ notes) (suc index) within =
     }
 
 -- where reading stops the payloads are no list of legal notes
-pub never : (payloads : List (List ℕ)) (index : ℕ) (state : State) → StopsAt payloads index → Leaves payloads state → ⊥
-never payloads index state stop whole =
+pub never_from : (first : State) (payloads : List (List ℕ)) (index : ℕ) (state : State)
+    → StopsFrom first payloads index → LeavesFrom first payloads state → ⊥
+never_from first payloads index state stop whole =
     let parts = split whole.0 index (subst (λ ps. index < length ps) whole.2 stop.0) in
     let notes = subst AreNotes parts.whole whole.1 in
-    let legal = subst (AllLegal start) parts.whole whole.3 in
+    let legal = subst (AllLegal first) parts.whole whole.3 in
     let seen = stop.1 in
     let same : seen.0 ≡ parts.front =
     same-notes seen.0 parts.front seen.1 (AreNotes-front parts.front (parts.note ∷ parts.back) notes)
     (sym seen.3 ∙ ap (take index) whole.2 ∙ parts.before)
     in
     seen.4 parts.note (AreNotes-back parts.front (parts.note ∷ parts.back) notes).0 (ap (λ ps. slice_get ps index) whole.2 ∙ parts.here)
-    (subst (λ ns. IsLegal (after start ns) parts.note) (sym same) (AllLegal-back start parts.front (parts.note ∷ parts.back) legal).0)
+    (subst (λ ns. IsLegal (after first ns) parts.note) (sym same)
+    (AllLegal-back first parts.front (parts.note ∷ parts.back) legal).0)
+
+pub never : (payloads : List (List ℕ)) (index : ℕ) (state : State) → StopsAt payloads index
+    → Leaves payloads state → ⊥
+never = never_from start

@@ -1,5 +1,6 @@
 // How a note is spelled on a tape, and how it is read from there.
 ghost use Rattle.std.specs.Prelude.{◌≡◌, ◌<◌, ◌≤◌, ◌++◌, List, ℕ, IfNone, IfOk, IfSome, OnOk, length};
+ghost use Rattle.std.specs.Int.{to_be_bytes, w64};
 ghost use Rattle.ledger_core.specs.declared.note.Note.{Note};
 ghost use Rattle.ledger_core.specs.Note.{IsNote};
 ghost use Rattle.ledger_core.specs.Spelling.{SpellsNothing, head, sized_text, spelling};
@@ -82,10 +83,17 @@ fn push_note(octets: &mut Vec<u8>, note: &Note) -> Result<(), AllocError>
 }
 
 // Appends a tag and a number.
-fn push_head(octets: &mut Vec<u8>, tag: u8, number: u64) -> Result<(), AllocError>
+pub(crate) fn push_head(octets: &mut Vec<u8>, tag: u8, number: u64) -> Result<(), AllocError>
     ensures { OnOk result (octets.new.items ≡ octets.old.items ++ head tag number) }
 {
     octets.push(tag)?;
+    push_number(octets, number)
+}
+
+// Appends a number.
+pub(crate) fn push_number(octets: &mut Vec<u8>, number: u64) -> Result<(), AllocError>
+    ensures { OnOk result (octets.new.items ≡ octets.old.items ++ to_be_bytes w64 number) }
+{
     octets.extend_from_slice(&number.to_be_bytes())
 }
 
@@ -99,13 +107,23 @@ fn push_sized(octets: &mut Vec<u8>, text: &[u8]) -> Result<(), AllocError>
 }
 
 // The tag and the number at the front, and what is behind them.
-fn head_at(octets: &[u8]) -> Option<(u8, u64, &[u8])>
+pub(crate) fn head_at(octets: &[u8]) -> Option<(u8, u64, &[u8])>
     ensures some { IfSome result (λ found. octets.now ≡ head found.0 found.1 ++ found.2.now) }
     ensures none { IfNone result (length octets.now < 9) }
 {
     let (tag, rest) = octets.split_first()?;
-    let (number, rest) = rest.split_first_chunk::<8>()?;
-    Some((*tag, u64::from_be_bytes(*number), rest))
+    let (number, rest) = number_at(rest)?;
+    Some((*tag, number, rest))
+}
+
+// The number at the front, and what is behind it.
+pub(crate) fn number_at(octets: &[u8]) -> Option<(u64, &[u8])>
+    ensures some { IfSome result
+        (λ found. octets.now ≡ to_be_bytes w64 found.0 ++ found.1.now) }
+    ensures none { IfNone result (length octets.now < 8) }
+{
+    let (number, rest) = octets.split_first_chunk::<8>()?;
+    Some((u64::from_be_bytes(*number), rest))
 }
 
 // The text at the front, behind its length, and what is behind it.

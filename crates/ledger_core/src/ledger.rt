@@ -1,5 +1,7 @@
 // Ledgers.
-ghost use Rattle.std.specs.Prelude.{◌≡◌, ◌==◌, ◌+◌, ◌≤◌, ℕ, IfNone, IfOk, IfSome, IsErrOf, IsOk, IsSome, IsTrue, MatchResult, OnErr, OnOk, ◌↔◌, find, length, option_map};
+ghost use Rattle.std.specs.Prelude.{◌≡◌, ◌==◌, ◌+◌, ◌<◌, ◌≤◌, ◌^◌, ℕ, IfNone, IfOk, IfSome};
+ghost use Rattle.std.specs.Prelude.{IsErrOf, IsOk, IsSome, IsTrue, MatchResult, OnErr, OnOk, ◌↔◌};
+ghost use Rattle.std.specs.Prelude.{find, length, option_map};
 ghost use Rattle.std.specs.List.{All, Contains};
 ghost use Rattle.std.specs.List.Sorted.{IsStrictlyIncreasing};
 ghost use Rattle.ledger_core.specs.State.{line_octets, numbers_of, octets_of_debts, without};
@@ -91,12 +93,12 @@ pub struct Totals {
 /// The cost of a call is logarithmic in what is owed, memory is linear in it.
 #[derive(Drop)]
 pub struct Ledger {
-    debts: BTreeMap<u64, (Token, MsgId)>,
-    mark: u64,
-    taken: u64,
-    answered: u64,
-    dropped: u64,
-    owed_bytes: u64,
+    pub(crate) debts: BTreeMap<u64, (Token, MsgId)>,
+    pub(crate) mark: u64,
+    pub(crate) taken: u64,
+    pub(crate) answered: u64,
+    pub(crate) dropped: u64,
+    pub(crate) owed_bytes: u64,
     ghost counted: { taken ≡ answered + dropped + length debts.entries },
     ghost summed: { owed_bytes ≡ octets_of_debts debts.entries },
     ghost marked: { All (λ number. number ≤ mark) (numbers_of debts.entries) },
@@ -107,7 +109,8 @@ impl Ledger {
     ghost use Rattle.ledger_core.specs.declared.note.Cause.{Cause};
     ghost use Rattle.ledger_core.specs.declared.note.Note.{Note};
     ghost use Rattle.ledger_core.specs.Note.{IsNote, IsOwe};
-    ghost use Rattle.ledger_core.specs.Replay.{Leaves, SpellsNoLegal, StopsAt};
+    ghost use Rattle.ledger_core.specs.Replay.{Leaves, LeavesFrom, SpellsNoLegal, StopsAt};
+    ghost use Rattle.ledger_core.specs.Replay.{StopsFrom};
     ghost use Rattle.ledger_core.specs.Spelling.{spelling};
     ghost use Rattle.ledger_core.specs.State.{State, IsLegal, IsOld, IsOwed, LacksDebt, Overflows, Owing, numbers, start, step};
     ghost use Rattle.ledger_core.specs.Words.{octets_of};
@@ -234,10 +237,31 @@ impl Ledger {
         ensures refused { (index : ℕ) → IsErrOf result (ReplayFault.Refused index) → StopsAt (octets_of payloads.now) index }
     {
         let mut ledger = Ledger::new(alloc);
-        for (index, payload) in payloads.iter().enumerate() {
-            ledger.apply_payload(alloc, index, payload)?;
-        }
+        ledger.apply_payloads(alloc, 0, payloads)?;
         Ok(ledger)
+    }
+
+    // Takes the notes that these payloads spell, of which the first has this index.
+    pub(crate) fn apply_payloads(
+        &mut self,
+        alloc: Global,
+        first: usize,
+        payloads: &[Vec<u8>],
+    ) -> Result<(), ReplayFault>
+        requires { first + length payloads.now < 2 ^ 64 }
+        ensures fold { OnOk result
+            (LeavesFrom (state_of self.old) (octets_of payloads.now) (state_of self.new)) }
+        ensures all { (state : State)
+            → LeavesFrom (state_of self.old) (octets_of payloads.now) state → MatchResult result (λ _. state_of self.new ≡ state)
+            (λ fault. fault ≡ ReplayFault.NoMemory) }
+        ensures refused { (place : ℕ) → IsErrOf result (ReplayFault.Refused place)
+            → (index : ℕ) × (place ≡ first + index)
+            × StopsFrom (state_of self.old) (octets_of payloads.now) index }
+    {
+        for (index, payload) in payloads.iter().enumerate() {
+            self.apply_payload(alloc, first + index, payload)?;
+        }
+        Ok(())
     }
 
     // Takes the note that the payload at this index spells.
@@ -253,7 +277,17 @@ impl Ledger {
         let Some(note) = decode(alloc, payload)? else {
             return Err(ReplayFault::Refused { index });
         };
-        match self.apply(&note) {
+        self.apply_note(index, &note)
+    }
+
+    // Takes the note of the payload at this index.
+    pub(crate) fn apply_note(&mut self, index: usize, note: &Note) -> Result<(), ReplayFault>
+        ensures ok { OnOk result (IsLegal (state_of self.old) note.now
+            × (state_of self.new ≡ step (state_of self.old) note.now)) }
+        ensures refused { (place : ℕ) → IsErrOf result (ReplayFault.Refused place)
+            → (place ≡ index) × (IsLegal (state_of self.old) note.now → ⊥) }
+    {
+        match self.apply(note) {
             Ok(()) => Ok(()),
             Err(LedgerFault::NoMemory) => Err(ReplayFault::NoMemory),
             Err(_) => Err(ReplayFault::Refused { index }),

@@ -19,3 +19,5 @@ mod servers;
 mod shared;
 #[cfg(test)]
 mod stations;
+#[cfg(test)]
+mod sweeps;

@@ -46,7 +46,7 @@ torn_behind front rest c at n torn =
     sums f at n = omega arith
 
 -- a torn octet at the front
-torn_first : (g : ℕ) (rest c : List ℕ) → Torn 0 1 (g ∷ rest) c → (gate : ℕ) × (c ≡ gate ∷ rest)
+pub torn_first : (g : ℕ) (rest c : List ℕ) → Torn 0 1 (g ∷ rest) c → (gate : ℕ) × (c ≡ gate ∷ rest)
 torn_first g rest [] torn = absurd (omega (arith, torn.no_shorter))
 torn_first g rest (a ∷ c) torn = (a, ap (λ (l : List ℕ). a ∷ l) torn.after)
 

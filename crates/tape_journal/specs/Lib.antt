@@ -1,6 +1,8 @@
 pub mod Head
 pub mod Journal
 pub mod Kept
+pub mod Renew
+pub mod Rewrite
 pub mod Segment
 pub mod SegmentLaws
 pub mod Stage

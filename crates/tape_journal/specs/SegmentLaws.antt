@@ -242,3 +242,39 @@ one_of_both_within (suc fuel) (a ∷ b ∷ rest) within octets =
 -- each list of octets has payloads or is damaged somewhere
 pub one_of_both : (segment : List ℕ) → All (λ o. o < 256) segment → ReadsOrDamaged segment
 one_of_both segment octets = one_of_both_within (length segment) segment (omega arith) octets
+
+-- ---- what stands first
+
+-- the record of the first payload
+pub reads_first : (segment payload : List ℕ) (payloads : List (List ℕ))
+    → Reads segment (payload ∷ payloads) → IsRecord payload segment
+reads_first segment payload payloads (short, (rest, same, more, reads)) =
+    let len : length (gated open_gate payload) ≡ 5 + length payload =
+    omega (arith, length-sized payload) in
+    let behind_it : rest ≡ drop (5 + length payload) segment =
+    sym (drop_at (gated open_gate payload) rest (5 + length payload) len)
+    ∙ ap (drop (5 + length payload)) (sym same) in
+    record {
+      short = short;
+      split = same ∙ ap (λ (l : List ℕ). gated open_gate payload ++ l)
+          behind_it;
+    }
+
+-- a segment that begins with a record has its payload first
+pub record_first : (segment payload : List ℕ) (payloads : List (List ℕ)) → IsRecord payload segment
+    → Reads segment payloads → (more : List (List ℕ)) × (payloads ≡ payload ∷ more)
+record_first segment payload [] is ends = absurd (subst Ends is.split ends refl)
+record_first segment payload (other ∷ payloads) is (short, (rest, same, more, reads)) =
+    let apart : sized payload ++ drop (5 + length payload) segment ≡ sized other ++ rest =
+    ap (λ (l : List ℕ). drop 1 l) (sym is.split ∙ same) in
+    let first : payload ≡ other =
+    (sized_same payload other (drop (5 + length payload) segment) rest is.short short apart).0
+    in
+    (payloads, ap (λ (p : List ℕ). p ∷ payloads) (sym first))
+
+-- one that ends at once has none
+pub ends_first : (segment : List ℕ) (payloads : List (List ℕ)) → Ends segment
+    → Reads segment payloads → payloads ≡ []
+ends_first segment [] ends reads = refl
+ends_first segment (payload ∷ payloads) ends (short, (rest, same, more, reads)) =
+    absurd (subst Ends same ends refl)

@@ -2,6 +2,7 @@
 ghost use Rattle.std.specs.Prelude.{◌≡◌};
 ghost use Rattle.tape_journal.specs.declared.fault.AppendFault.TheVariants.{NoMemory as AppendNoMemory};
 ghost use Rattle.tape_journal.specs.declared.fault.OpenFault.TheVariants.{NoMemory as OpenNoMemory, Disk as OpenDisk};
+ghost use Rattle.tape_journal.specs.declared.fault.RenewFault.TheVariants.{NoMemory as RenewNoMemory};
 
 use disk_model::DiskFault;
 use std::alloc::{AllocError, AllocFailed};
@@ -56,6 +57,23 @@ pub enum ReadFault {
     NoMemory,
 }
 
+/// Why no whole segment was written.
+#[derive(Clone, Copy, Debug, PartialEq, Eq, Error)]
+pub enum RenewFault {
+    /// A call of the disk failed.
+    #[error("Disk")]
+    Disk,
+    /// The length with the end gate would pass 4,294,967,296 octets. Nothing was written.
+    #[error("TapeFull")]
+    TapeFull,
+    /// A payload has more than 16,777,216 octets. Nothing was written.
+    #[error("PayloadTooLong")]
+    PayloadTooLong,
+    /// There was no memory for the segment. Nothing was written.
+    #[error("NoMemory")]
+    NoMemory,
+}
+
 impl From<AllocError> for OpenFault {
     ghost from_gives = { λ _ e. e ≡ OpenNoMemory };
 
@@ -85,5 +103,13 @@ impl From<AllocError> for AppendFault {
 
     fn from(_: AllocError) -> Self {
         AppendFault::NoMemory
+    }
+}
+
+impl From<AllocError> for RenewFault {
+    ghost from_gives = { λ _ e. e ≡ RenewNoMemory };
+
+    fn from(_: AllocError) -> Self {
+        RenewFault::NoMemory
     }
 }

@@ -11,7 +11,7 @@ use disk_model::Disk;
 use std::alloc::Global;
 
 // The longest segment, in octets, with its end gate.
-const MAX_LEN: u64 = 4294967296;
+pub(crate) const MAX_LEN: u64 = 4294967296;
 
 /// A disk on which no journal was opened, handed back as the call left it.
 #[derive(Drop)]

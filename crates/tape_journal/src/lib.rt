@@ -11,11 +11,14 @@ mod journal;
 pub mod laws;
 mod put;
 mod read;
+mod renew;
 mod repair;
 mod unrepaired;
 
-pub use fault::{AppendFault, OpenFault, ReadFault};
+pub use fault::{AppendFault, OpenFault, ReadFault, RenewFault};
 pub use journal::{Journal, Refused};
+pub use read::peek_first;
+pub use renew::NotRenewed;
 pub use unrepaired::Unrepaired;
 /// Memory was refused.
 pub use std::alloc::AllocError as NoMemory;

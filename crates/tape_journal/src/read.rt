@@ -154,3 +154,27 @@ pub(crate) fn payloads_of<D: Disk>(
     }
     Err(OpenFault::Damaged { at: end })
 }
+
+/// The payload of the first record, without a look at what stands behind it; `None` where the
+/// segment has none.
+///
+/// # Errors
+/// `Damaged` at 0 where an open record is cut short; `Disk`; `NoMemory`. The disk is as it was.
+pub fn peek_first<D: Disk>(alloc: Global, disk: &mut D) -> Result<Option<Vec<u8>>, OpenFault>
+    ensures ok { D.honest disk.old → IfOk result (λ o. MatchOption o
+        (Ends (content (D.log disk.old))) (λ p. IsRecord p.items (content (D.log disk.old)))) }
+    ensures log { D.honest disk.old → D.log disk.new ≡ D.log disk.old }
+    ensures damaged { D.honest disk.old → (at : ℕ) → IsErrOf result (OpenFault.Damaged at)
+        → (at ≡ 0) × IsCutShort (content (D.log disk.old)) }
+    ensures cause { D.honest disk.old → IsErrOf result OpenFault.Disk
+        → min (D.told disk.old + 1) (2 ^ 64 - 1) ≤ D.told disk.new }
+    ensures honest { D.honest disk.old ↔ D.honest disk.new }
+    ensures later { D.told disk.old ≤ D.told disk.new }
+    ensures quiet { OnOk result (D.told disk.new ≡ D.told disk.old) }
+{
+    let len = disk.len();
+    if len == 0 {
+        return Ok(None);
+    }
+    record_at(alloc, disk, 0, len)
+}

@@ -1,6 +1,7 @@
 // What a disk keeps, which images a stop leaves of it, and a fuse. The disks of journals and tapes are made here too.
 use crate::answers::assert_answer;
-use disk_model::{Choice, Disk, DiskFault, FuseDisk, MemDisk};
+use crate::planned_file::{Plan, PlannedFile};
+use disk_model::{Choice, Disk, DiskFault, DiskFile, FileDisk, FlakyDisk, FuseDisk, MemDisk};
 use std::alloc::Global;
 use std::process::Abort;
 use std::test::Fail;
@@ -169,12 +170,11 @@ fn bit_63_tells_of_each_operation_from_63_on(rt: HostRuntime) -> Result<(), Fail
     assert_images(&rt, rt.alloc(), &written_singly(rt.alloc())?, IMAGES)
 }
 
+// A call, its answer that is wanted, and how many faults are told then.
+type Answered = (Call<'static>, Result<(), DiskFault>, u64);
+
 // Each call is answered as is wanted, and leaves so many faults.
-fn assert_calls<A: Abort, D: Disk>(
-    rt: &A,
-    disk: &mut D,
-    calls: &[(Call<'_>, Result<(), DiskFault>, u64)],
-) {
+fn assert_calls<A: Abort, D: Disk>(rt: &A, disk: &mut D, calls: &[Answered]) {
     for (at, (call, want, faults)) in calls.iter().enumerate() {
         assert_answer(rt, at, &make(disk, *call), want);
         assert_faults(rt, at, disk, *faults);
@@ -183,7 +183,7 @@ fn assert_calls<A: Abort, D: Disk>(
 
 #[test]
 fn a_fuse_passes_its_calls_and_no_more(rt: HostRuntime) -> Result<(), Fail> {
-    const CALLS: &[(Call<'static>, Result<(), DiskFault>, u64)] = &[
+    const CALLS: &[Answered] = &[
         (Call::Write(0, &[7, 8]), Ok(()), 0),
         (Call::Sync, Ok(()), 0),
         (Call::Write(2, &[9]), Err(DiskFault), 1),
@@ -196,4 +196,123 @@ fn a_fuse_passes_its_calls_and_no_more(rt: HostRuntime) -> Result<(), Fail> {
     let mut within = disk.into_inner();
     assert_faults(&rt, CALLS.len(), &within, 0);
     assert_octets(&rt, rt.alloc(), CALLS.len(), &mut within, &[7, 8])
+}
+
+const FAILED: Result<(), DiskFault> = Err(DiskFault);
+
+#[test]
+fn a_flaky_disk_fails_one_call(rt: HostRuntime) -> Result<(), Fail> {
+    const CALLS: &[Answered] = &[
+        (Call::Write(0, &[7, 8]), Ok(()), 0),
+        (Call::Cut(1), FAILED, 1),
+        (Call::Sync, Ok(()), 1),
+        (Call::Write(2, &[9]), Ok(()), 1),
+        (Call::Cut(1), Ok(()), 1),
+    ];
+    let mut disk = FlakyDisk::new(MemDisk::new(rt.alloc()), 1);
+    assert_calls(&rt, &mut disk, CALLS);
+    let mut within = disk.into_inner();
+    assert_faults(&rt, CALLS.len(), &within, 0);
+    assert_octets(&rt, rt.alloc(), CALLS.len(), &mut within, &[7])
+}
+
+// An empty file, of which the call behind so many fails and keeps so much; the calls of its disk,
+// and the octets that they leave.
+type Failing = (u64, usize, &'static [Answered], &'static [u8]);
+
+// The file's own syncs answer Ok all the while: a disk made anew of it can be synced.
+fn assert_failing<A: Abort>(rt: &A, alloc: Global, at: usize, row: Failing) -> Result<(), Fail> {
+    let (calls, kept, answered, want) = row;
+    let file = PlannedFile::new(alloc, &[], Plan::failing(calls, kept))?;
+    let mut disk = FileDisk::new(file);
+    assert_calls(rt, &mut disk, answered);
+    assert_octets(rt, alloc, at, &mut disk, want)?;
+    let synced = FileDisk::new(disk.into_inner()).sync();
+    assert_answer(rt, at, &synced, &Ok(()));
+    Ok(())
+}
+
+#[test]
+fn the_disk_of_a_file_knows_what_failed(rt: HostRuntime) -> Result<(), Fail> {
+    const THREE: Call<'static> = Call::Write(0, &[1, 2, 3]);
+    const ROWS: &[Failing] = &[
+        // A write that failed kept nothing, or a part: the length is asked again.
+        (
+            1,
+            0,
+            &[
+                (THREE, Ok(()), 0),
+                (Call::Write(3, &[4, 5]), FAILED, 1),
+                (Call::Write(3, &[6]), Ok(()), 1),
+            ],
+            &[1, 2, 3, 6],
+        ),
+        (
+            1,
+            1,
+            &[
+                (THREE, Ok(()), 0),
+                (Call::Write(3, &[4, 5]), FAILED, 1),
+                (Call::Write(4, &[6]), Ok(()), 1),
+            ],
+            &[1, 2, 3, 4, 6],
+        ),
+        // The second piece of a write failed.
+        (
+            1,
+            0,
+            &[(Call::Write(0, &[1, 2, 3, 4, 5, 6, 7, 8]), FAILED, 1)],
+            &[1, 2, 3, 4, 5, 6, 7],
+        ),
+        // A cut that failed did not happen, or did.
+        (
+            1,
+            0,
+            &[(THREE, Ok(()), 0), (Call::Cut(1), FAILED, 1)],
+            &[1, 2, 3],
+        ),
+        (
+            1,
+            1,
+            &[
+                (THREE, Ok(()), 0),
+                (Call::Cut(1), FAILED, 1),
+                (Call::Write(1, &[9]), Ok(()), 1),
+            ],
+            &[1, 9],
+        ),
+        // Once a sync has failed each later one does.
+        (
+            1,
+            0,
+            &[
+                (THREE, Ok(()), 0),
+                (Call::Sync, FAILED, 1),
+                (Call::Sync, FAILED, 2),
+                (Call::Write(3, &[4]), Ok(()), 2),
+                (Call::Sync, FAILED, 3),
+            ],
+            &[1, 2, 3, 4],
+        ),
+    ];
+    for (at, row) in ROWS.iter().enumerate() {
+        assert_failing(&rt, rt.alloc(), at, *row)?;
+    }
+    Ok(())
+}
+
+// A file is honest over an honest disk, and a disk is over an honest file.
+#[test]
+fn a_disk_is_a_file_and_a_file_is_a_disk(rt: HostRuntime) -> Result<(), Fail> {
+    const CALLS: &[Answered] = &[
+        (Call::Write(0, &[7, 8, 9]), Ok(()), 0),
+        (Call::Write(2, &[5, 6]), FAILED, 1),
+        (Call::Write(2, &[5, 6]), Ok(()), 1),
+        (Call::Cut(3), Ok(()), 1),
+        (Call::Sync, Ok(()), 1),
+    ];
+    let within = FlakyDisk::new(MemDisk::new(rt.alloc()), 1);
+    let mut disk = FileDisk::new(DiskFile(within));
+    assert_calls(&rt, &mut disk, CALLS);
+    assert_octets(&rt, rt.alloc(), CALLS.len(), &mut disk, &[7, 8, 5])
 }

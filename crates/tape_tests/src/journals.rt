@@ -2,11 +2,13 @@
 use crate::answers::assert_answer;
 use crate::disks::{assert_faults, assert_octets, disk_of};
 use crate::read_only::ReadOnly;
-use disk_model::{Disk, FuseDisk};
+use disk_model::{Disk, FlakyDisk, FuseDisk};
 use std::alloc::Global;
 use std::process::Abort;
 use std::test::Fail;
-use tape_journal::{AppendFault, Journal, OpenFault, ReadFault, Refused};
+use tape_journal::{
+    AppendFault, Journal, NotRenewed, OpenFault, ReadFault, Refused, RenewFault, peek_first,
+};
 
 // A payload of 19 octets, and the segments that have it once and twice.
 const PAYLOAD: [u8; 19] = [
@@ -245,5 +247,256 @@ fn a_refused_disk_is_handed_back(rt: HostRuntime) -> Result<(), Fail> {
         return Err(Fail::from("a segment"));
     };
     assert_payloads(&rt, &payloads, &[&PAYLOAD]);
+    Ok(())
+}
+
+// The Base of generation 1, mark 1, one debt taken and live: the first payload of a tape that was written anew.
+const BASE: [u8; 49] = [
+    4, 0, 0, 0, 0, 0, 0, 0, 1, 0, 0, 0, 0, 0, 0, 0, 1, 0, 0, 0, 0, 0, 0, 0, 1, 0, 0, 0, 0, 0, 0, 0,
+    0, 0, 0, 0, 0, 0, 0, 0, 0, 0, 0, 0, 0, 0, 0, 0, 1,
+];
+
+// The segment of that Base and of its debt.
+const RENEWED: [u8; 79] = [
+    0xa5, 0, 0, 0, 0x31, 4, 0, 0, 0, 0, 0, 0, 0, 1, 0, 0, 0, 0, 0, 0, 0, 1, 0, 0, 0, 0, 0, 0, 0, 1,
+    0, 0, 0, 0, 0, 0, 0, 0, 0, 0, 0, 0, 0, 0, 0, 0, 0, 0, 0, 0, 0, 0, 0, 1, 0xa5, 0, 0, 0, 0x13, 1,
+    0, 0, 0, 0, 0, 0, 0, 1, 3, 0x61, 0x2f, 0x31, 5, 0x3c, 0x78, 0x40, 0x79, 0x3e, 0,
+];
+
+// The journal of a whole segment of these payloads, or the disk handed back and why. There is at least one payload.
+fn renewed<D: Disk + Drop>(
+    alloc: Global,
+    disk: D,
+    first: &[u8],
+    others: &[&[u8]],
+) -> Result<Result<Journal<D>, (RenewFault, D)>, Fail> {
+    let mut payloads = vec![in alloc; Vec::from_slice(alloc, first)?]?;
+    for payload in others {
+        payloads.push(Vec::from_slice(alloc, payload)?)?;
+    }
+    if payloads.is_empty() {
+        return Err(Fail::from("a payload"));
+    }
+    match Journal::renew(alloc, disk, &payloads) {
+        Ok(journal) => Ok(Ok(journal)),
+        Err(refused) => {
+            let NotRenewed { disk, fault, .. } = refused;
+            if fault == RenewFault::NoMemory {
+                return Err(Fail::from(fault));
+            }
+            Ok(Err((fault, disk)))
+        }
+    }
+}
+
+#[test]
+fn a_whole_segment_is_written(rt: HostRuntime) -> Result<(), Fail> {
+    // What the disk has first, the payloads, and the segment that they leave.
+    const ROWS: &[(&[u8], &[u8], &[&[u8]], &[u8])] = &[
+        (&[], &PAYLOAD, &[], &SEGMENT),
+        (&SEGMENT, &BASE, &[&PAYLOAD], &RENEWED),
+        (&RENEWED, &PAYLOAD, &[&PAYLOAD], &TWICE),
+        (&[0xa5, 0x00], &[], &[], &[0xa5, 0, 0, 0, 0, 0]),
+    ];
+    let alloc = rt.alloc();
+    for (at, (old, first, others, segment)) in ROWS.iter().enumerate() {
+        let disk = FuseDisk::new(disk_of(alloc, old)?, 8);
+        let Ok(journal) = renewed(alloc, disk, first, others)? else {
+            return Err(Fail::from("eight calls"));
+        };
+        assert_answer(&rt, at, &journal.bytes(), &(segment.len() as u64));
+        assert_answer(&rt, at, &journal.is_broken(), &false);
+        let mut disk = journal.into_disk().into_inner();
+        assert_octets(&rt, alloc, at, &mut disk, segment)?;
+        let (payloads, _) = read(alloc, disk)?;
+        assert_answer(&rt, at, &payloads.len(), &(1 + others.len()));
+    }
+    Ok(())
+}
+
+#[test]
+fn no_whole_segment_is_written(rt: HostRuntime) -> Result<(), Fail> {
+    // After how many calls the disk fails, and what it has then.
+    const ROWS: &[(u64, &[u8])] = &[
+        (0, &TWICE),
+        (1, &[]),
+        (2, &[]),
+        (3, &[0]),
+        (4, &[0]),
+        (5, &SHUT),
+        (6, &SHUT),
+        (7, &SEGMENT),
+    ];
+    // The segment of the payload with its gate closed.
+    const SHUT: [u8; 25] = [
+        0, 0, 0, 0, 0x13, 1, 0, 0, 0, 0, 0, 0, 0, 1, 3, 0x61, 0x2f, 0x31, 5, 0x3c, 0x78, 0x40,
+        0x79, 0x3e, 0,
+    ];
+    let alloc = rt.alloc();
+    for (at, (calls, left)) in ROWS.iter().enumerate() {
+        let disk = FuseDisk::new(disk_of(alloc, &TWICE)?, *calls);
+        let Err((fault, disk)) = renewed(alloc, disk, &PAYLOAD, &[])? else {
+            return Err(Fail::from("fewer than eight calls"));
+        };
+        assert_answer(&rt, at, &fault, &RenewFault::Disk);
+        assert_octets(&rt, alloc, at, &mut disk.into_inner(), left)?;
+    }
+    Ok(())
+}
+
+#[test]
+fn a_payload_too_long_writes_nothing(rt: HostRuntime) -> Result<(), Fail> {
+    let alloc = rt.alloc();
+    let long = vec![in alloc; 0u8; 16777217]?;
+    let Err((fault, mut disk)) = renewed(alloc, ReadOnly::new(disk_of(alloc, &TWICE)?), &long, &[])?
+    else {
+        return Err(Fail::from("too long"));
+    };
+    assert_answer(&rt, 0, &fault, &RenewFault::PayloadTooLong);
+    assert_faults(&rt, 0, &disk, 0);
+    assert_octets(&rt, alloc, 0, &mut disk, &TWICE)
+}
+
+// The first payload where it is this one, or none, or why none was told.
+fn peeked<D: Disk>(
+    alloc: Global,
+    disk: &mut D,
+    want: &[u8],
+) -> Result<Result<Option<bool>, OpenFault>, Fail> {
+    match peek_first(alloc, disk) {
+        Ok(Some(payload)) => Ok(Ok(Some(payload.as_slice() == want))),
+        Ok(None) => Ok(Ok(None)),
+        Err(OpenFault::NoMemory) => Err(Fail::from(OpenFault::NoMemory)),
+        Err(fault) => Ok(Err(fault)),
+    }
+}
+
+#[test]
+fn the_first_payload_is_told(rt: HostRuntime) -> Result<(), Fail> {
+    // A segment, its first payload, and whether it has one. What stands behind it isn't looked at.
+    const ROWS: &[(&[u8], &[u8], Result<Option<bool>, OpenFault>)] = &[
+        (&[], &[], Ok(None)),
+        (&[0xa5], &[], Ok(None)),
+        (&[0x00, 0xff, 0xff], &[], Ok(None)),
+        (&[0x5a, 0, 0, 0, 0, 0], &[], Ok(None)),
+        (&[0xa5, 0x00], &[], Err(OpenFault::Damaged { at: 0 })),
+        (
+            &[0xa5, 0, 0, 0, 2, 7],
+            &[],
+            Err(OpenFault::Damaged { at: 0 }),
+        ),
+        (&[0xa5, 0, 0, 0, 0], &[], Ok(Some(true))),
+        (&[0xa5, 0, 0, 0, 0, 0xa5, 0], &[], Ok(Some(true))),
+        (&SEGMENT, &PAYLOAD, Ok(Some(true))),
+        (&TWICE, &PAYLOAD, Ok(Some(true))),
+        (&RENEWED, &BASE, Ok(Some(true))),
+    ];
+    let alloc = rt.alloc();
+    for (at, (segment, first, want)) in ROWS.iter().enumerate() {
+        let mut disk = ReadOnly::new(disk_of(alloc, segment)?);
+        assert_answer(&rt, at, &peeked(alloc, &mut disk, first)?, want);
+        assert_faults(&rt, at, &disk, 0);
+        assert_octets(&rt, alloc, at, &mut disk, segment)?;
+        let mut failing = FuseDisk::new(disk_of(alloc, segment)?, 0);
+        let told = peeked(alloc, &mut failing, first)?;
+        assert_answer(&rt, at, &(told == Ok(None)), &segment.is_empty());
+    }
+    Ok(())
+}
+
+// Adds two payloads to a journal that has so many, and then one. Answers how many it has for good,
+// and how many at most: the disk alone fails an addition, and every later one is broken.
+fn work<A: Abort, D: Disk>(
+    rt: &A,
+    alloc: Global,
+    journal: &mut Journal<D>,
+    count: u64,
+) -> Result<(u64, u64), Fail> {
+    let mut kept = count;
+    let mut added = count;
+    for more in [2, 1] {
+        added = added.saturating_add(more);
+        let answer = append(alloc, journal, more)?;
+        if answer != Ok(()) {
+            assert_answer(rt, 0, &answer, &Err(AppendFault::Disk));
+            assert_answer(
+                rt,
+                1,
+                &append(alloc, journal, 1)?,
+                &Err(AppendFault::Broken),
+            );
+            assert_answer(
+                rt,
+                2,
+                &append(alloc, journal, 0)?,
+                &Err(AppendFault::Broken),
+            );
+            return Ok((kept, added));
+        }
+        kept = added;
+    }
+    Ok((kept, added))
+}
+
+// The journal of this disk, of which a call of the opening may fail: then it is opened a second
+// time.
+fn opened_at_last<A: Abort, D: Disk + Drop>(
+    rt: &A,
+    alloc: Global,
+    disk: D,
+) -> Result<(Vec<Vec<u8>>, Journal<D>), Fail> {
+    match opened(alloc, disk) {
+        Ok(found) => Ok(found),
+        Err((fault, disk)) => {
+            assert_answer(rt, 0, &fault, &OpenFault::Disk);
+            match opened(alloc, disk) {
+                Ok(found) => Ok(found),
+                Err((fault, _)) => Err(Fail::from(fault)),
+            }
+        }
+    }
+}
+
+// Whether the call behind so many, which fails, comes.
+fn meets_fault<A: Abort>(rt: &A, alloc: Global, segment: &[u8], calls: u64) -> Result<bool, Fail> {
+    let disk = FlakyDisk::new(disk_of(alloc, segment)?, calls);
+    let (payloads, mut journal) = opened_at_last(rt, alloc, disk)?;
+    let (kept, added) = work(rt, alloc, &mut journal, payloads.len() as u64)?;
+    let disk = journal.into_disk();
+    let met = 0 < disk.faults();
+    let (left, _) = opened_at_last(rt, alloc, disk.into_inner())?;
+    assert_answer(rt, 0, &(kept..=added).contains(&(left.len() as u64)), &true);
+    assert_answer(
+        rt,
+        1,
+        &left
+            .iter()
+            .all(|payload| payload.as_slice() == PAYLOAD.as_slice()),
+        &true,
+    );
+    Ok(met)
+}
+
+fn calls_of<A: Abort>(rt: &A, alloc: Global, segment: &[u8]) -> Result<u64, Fail> {
+    for calls in 0..1_000 {
+        if !meets_fault(rt, alloc, segment, calls)? {
+            return Ok(calls);
+        }
+    }
+    Err(Fail::from("no end of calls"))
+}
+
+// Opening an empty disk takes five calls, and three more for one record: two reads of it, and one
+// of the end. Two payloads take five calls, and one takes four.
+#[test]
+fn a_fault_at_any_call_leaves_a_front(rt: HostRuntime) -> Result<(), Fail> {
+    for (segment, calls) in [([].as_slice(), 14), (&SEGMENT, 17)] {
+        assert_answer(
+            &rt,
+            segment.len(),
+            &calls_of(&rt, rt.alloc(), segment)?,
+            &calls,
+        );
+    }
     Ok(())
 }

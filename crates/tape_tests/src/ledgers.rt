@@ -1,7 +1,7 @@
 // Ledgers at which steps are taken.
 use crate::answers::assert_answer;
 use crate::samples::{Sample, TEXTS, Texts, note_of, texts};
-use ledger_core::{Ledger, LedgerFault, ReplayFault, Totals};
+use ledger_core::{Base, Ledger, LedgerFault, ReplayFault, Totals, encode, encode_base};
 use std::alloc::Global;
 use std::process::Abort;
 use std::test::Fail;
@@ -178,4 +178,176 @@ fn replay_stops(rt: HostRuntime) -> Result<(), Fail> {
             Ok(())
         }
     }
+}
+
+// A payload of a tape as data.
+#[derive(Clone, Copy)]
+enum Payload {
+    // Generation, mark, taken, answered, dropped and live.
+    Base([u64; 6]),
+    Note(Sample),
+}
+
+fn base_of(numbers: [u64; 6]) -> Base {
+    let [generation, mark, taken, answered, dropped, live] = numbers;
+    Base {
+        generation,
+        mark,
+        taken,
+        answered,
+        dropped,
+        live,
+    }
+}
+
+fn spelled(alloc: Global, payloads: &[Payload]) -> Result<Vec<Vec<u8>>, Fail> {
+    let mut all = Vec::new(alloc);
+    for payload in payloads {
+        let octets = match payload {
+            Payload::Base(numbers) => encode_base(alloc, &base_of(*numbers))?,
+            Payload::Note(sample) => encode(alloc, &note_of(alloc, *sample)?)?,
+        };
+        all.push(octets)?;
+    }
+    Ok(all)
+}
+
+// The generation, mark and totals of what is restored, or why nothing is.
+type Restoration = Result<(u64, u64, Totals), ReplayFault>;
+
+fn restored(alloc: Global, payloads: &[Payload]) -> Result<Restoration, Fail> {
+    match Ledger::restore(alloc, &spelled(alloc, payloads)?) {
+        Ok(restored) => {
+            let ledger = restored.ledger;
+            Ok(Ok((restored.generation, ledger.mark(), ledger.totals())))
+        }
+        Err(ReplayFault::NoMemory) => Err(Fail::from(ReplayFault::NoMemory)),
+        Err(fault) => Ok(Err(fault)),
+    }
+}
+
+#[test]
+fn a_tape_is_restored(rt: HostRuntime) -> Result<(), Fail> {
+    const OWE_1: Payload = Payload::Note(Sample::Owe(1));
+    const OWE_2: Payload = Payload::Note(Sample::Owe(2));
+    const OWE_9: Payload = Payload::Note(Sample::Owe(9));
+    const FINAL_1: Payload = Payload::Note(Sample::Final(1));
+    const SEEN_7: Payload = Payload::Note(Sample::Seen(7));
+    const NOTHING: Totals = Totals {
+        taken: 0,
+        answered: 0,
+        dropped: 0,
+        owed: 0,
+        owed_bytes: 0,
+    };
+    const ROWS: &[(&[Payload], Restoration)] = &[
+        // Without a Base it is what the notes leave.
+        (&[], Ok((0, 0, NOTHING))),
+        (
+            &[OWE_1, FINAL_1, SEEN_7],
+            Ok((
+                0,
+                7,
+                Totals {
+                    taken: 1,
+                    answered: 1,
+                    ..NOTHING
+                },
+            )),
+        ),
+        // With one it is what the Base tells, its debts, and the notes behind them.
+        (&[Payload::Base([1, 0, 0, 0, 0, 0])], Ok((1, 0, NOTHING))),
+        (
+            &[Payload::Base([1, 1, 1, 0, 0, 1]), OWE_1],
+            Ok((
+                1,
+                1,
+                Totals {
+                    taken: 1,
+                    owed: 1,
+                    owed_bytes: 10,
+                    ..NOTHING
+                },
+            )),
+        ),
+        (
+            &[
+                Payload::Base([3, 8, 9, 4, 3, 2]),
+                OWE_1,
+                OWE_2,
+                FINAL_1,
+                OWE_9,
+            ],
+            Ok((
+                3,
+                9,
+                Totals {
+                    taken: 10,
+                    answered: 5,
+                    dropped: 3,
+                    owed: 2,
+                    owed_bytes: 20,
+                },
+            )),
+        ),
+        // A Base without a generation, and counts that don't add up, in full numbers.
+        (
+            &[Payload::Base([0, 1, 1, 0, 0, 1]), OWE_1],
+            Err(ReplayFault::Refused { index: 0 }),
+        ),
+        (
+            &[Payload::Base([1, 1, 2, 0, 0, 1]), OWE_1],
+            Err(ReplayFault::Refused { index: 0 }),
+        ),
+        (
+            &[Payload::Base([1, 1, 0, u64::MAX, 0, 1]), OWE_1],
+            Err(ReplayFault::Refused { index: 0 }),
+        ),
+        // Debts that are missing.
+        (
+            &[Payload::Base([1, 1, 1, 0, 0, 1])],
+            Err(ReplayFault::Refused { index: 1 }),
+        ),
+        (
+            &[Payload::Base([1, 9, 3, 0, 0, 3]), OWE_1, OWE_2],
+            Err(ReplayFault::Refused { index: 3 }),
+        ),
+        (
+            &[Payload::Base([1, 9, u64::MAX, 0, 0, u64::MAX]), OWE_1],
+            Err(ReplayFault::Refused { index: 2 }),
+        ),
+        // Payloads that are no debt where one is to stand: another note, one above the mark, one that doesn't rise.
+        (
+            &[Payload::Base([1, 9, 2, 0, 0, 2]), OWE_1, FINAL_1],
+            Err(ReplayFault::Refused { index: 2 }),
+        ),
+        (
+            &[Payload::Base([1, 8, 2, 0, 0, 2]), OWE_1, OWE_9],
+            Err(ReplayFault::Refused { index: 2 }),
+        ),
+        (
+            &[Payload::Base([1, 9, 2, 0, 0, 2]), OWE_2, OWE_1],
+            Err(ReplayFault::Refused { index: 2 }),
+        ),
+        (
+            &[
+                Payload::Base([1, 9, 1, 0, 0, 1]),
+                Payload::Note(Sample::Owe(0)),
+            ],
+            Err(ReplayFault::Refused { index: 1 }),
+        ),
+        // Payloads that are no legal note behind the debts, a second Base among them.
+        (
+            &[Payload::Base([1, 9, 1, 0, 0, 1]), OWE_1, OWE_9],
+            Err(ReplayFault::Refused { index: 2 }),
+        ),
+        (
+            &[OWE_1, Payload::Base([1, 1, 1, 0, 0, 1])],
+            Err(ReplayFault::Refused { index: 1 }),
+        ),
+    ];
+    for (at, (payloads, want)) in ROWS.iter().enumerate() {
+        assert_answer(&rt, at, &restored(rt.alloc(), payloads)?, want);
+    }
+    Ok(())
 }

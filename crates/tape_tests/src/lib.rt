@@ -11,9 +11,13 @@ mod answers;
 #[cfg(test)]
 mod disks;
 #[cfg(test)]
+mod faults;
+#[cfg(test)]
 mod journals;
 #[cfg(test)]
 mod ledgers;
+#[cfg(test)]
+mod planned_file;
 #[cfg(test)]
 mod read_only;
 #[cfg(test)]

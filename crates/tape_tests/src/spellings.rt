@@ -2,8 +2,8 @@
 use crate::answers::assert_answer;
 use crate::samples::{Sample, TEXTS, id, is_sample, note_of, texts, token};
 use ledger_core::{
-    Cause, Debt, FinalCode, after_in_parts, counts_add_up, decode, encode, numbers_rise,
-    one_spelling,
+    Base, Cause, Debt, FinalCode, after_in_parts, counts_add_up, decode, decode_base, encode,
+    encode_base, numbers_rise, one_base_spelling, one_spelling, restores_itself,
 };
 use std::alloc::Global;
 use std::test::Fail;
@@ -132,10 +132,53 @@ fn reads_nothing_else(rt: HostRuntime) -> Result<(), Fail> {
     Ok(())
 }
 
+// A Base of other numbers in each place, and its spelling.
+const BASE: Base = Base {
+    generation: 1,
+    mark: 0x0203,
+    taken: 9,
+    answered: 5,
+    dropped: 3,
+    live: 0x0100_0000_0000_0000,
+};
+
+const SPELLED_BASE: [u8; 49] = [
+    4, 0, 0, 0, 0, 0, 0, 0, 1, 0, 0, 0, 0, 0, 0, 2, 3, 0, 0, 0, 0, 0, 0, 0, 9, 0, 0, 0, 0, 0, 0, 0,
+    5, 0, 0, 0, 0, 0, 0, 0, 3, 1, 0, 0, 0, 0, 0, 0, 0,
+];
+
+#[test]
+fn a_base_is_spelled_and_read(rt: HostRuntime) -> Result<(), Fail> {
+    let octets = encode_base(rt.alloc(), &BASE)?;
+    assert_answer(&rt, 0, &octets.as_slice(), &SPELLED_BASE.as_slice());
+    assert_answer(&rt, 0, &decode_base(&SPELLED_BASE), &Some(BASE));
+    assert_answer(&rt, 0, &is_no_note(rt.alloc(), &SPELLED_BASE)?, &true);
+    Ok(())
+}
+
+#[test]
+fn nothing_else_is_a_base(rt: HostRuntime) -> Result<(), Fail> {
+    let alloc = rt.alloc();
+    for (at, (_, octets)) in SPELLINGS.iter().enumerate() {
+        assert_answer(&rt, at, &decode_base(octets), &None);
+    }
+    // One octet less, one more, and another tag.
+    assert_answer(&rt, 0, &decode_base(&SPELLED_BASE[..48]), &None);
+    let mut longer = Vec::from_slice(alloc, &SPELLED_BASE)?;
+    longer.push(0)?;
+    assert_answer(&rt, 1, &decode_base(&longer), &None);
+    let mut other = SPELLED_BASE;
+    other[0] = 5;
+    assert_answer(&rt, 2, &decode_base(&other), &None);
+    Ok(())
+}
+
 #[test]
 fn laws() {
     one_spelling();
+    one_base_spelling();
     after_in_parts();
     counts_add_up();
     numbers_rise();
+    restores_itself();
 }

@@ -1,9 +1,10 @@
 // Tapes at which steps are taken, on disks that fail or that a stop leaves too.
 use crate::answers::assert_answer;
 use crate::disks::{assert_faults, assert_octets, disk_of};
+use crate::planned_file::{Plan, PlannedFile};
 use crate::read_only::ReadOnly;
 use crate::samples::{Sample, TEXTS, is_sample, note_of, texts};
-use disk_model::{Choice, Disk, FlakyDisk, FuseDisk, MemDisk};
+use disk_model::{Choice, Disk, FileDisk, FlakyDisk, FuseDisk, MemDisk};
 use ledger_core::{Cause, Debt, LedgerFault, Note, Totals};
 use recovery::{RefusedTape, Tape, TapeFault, tape_once};
 use std::alloc::Global;
@@ -12,7 +13,7 @@ use std::process::Abort;
 use std::test::Fail;
 
 // The tape of the Owe 1 of token `a/1` and id `<x@y>`.
-const OWED: [u8; 25] = [
+pub(crate) const OWED: [u8; 25] = [
     0xa5, 0, 0, 0, 0x13, 1, 0, 0, 0, 0, 0, 0, 0, 1, 3, 0x61, 0x2f, 0x31, 5, 0x3c, 0x78, 0x40, 0x79,
     0x3e, 0,
 ];
@@ -24,7 +25,7 @@ const ANSWERED: [u8; 41] = [
 ];
 
 // The record of that Owe, and what a write that a stop tore has left behind a closed gate.
-const TORN: [u8; 28] = [
+pub(crate) const TORN: [u8; 28] = [
     0xa5, 0, 0, 0, 0x13, 1, 0, 0, 0, 0, 0, 0, 0, 1, 3, 0x61, 0x2f, 0x31, 5, 0x3c, 0x78, 0x40, 0x79,
     0x3e, 0, 0xa5, 0xa5, 0xa5,
 ];
@@ -49,7 +50,7 @@ enum Step {
     Room(usize),
 }
 
-fn note<D: Disk>(
+pub(crate) fn note<D: Disk>(
     alloc: Global,
     tape: &mut Tape<D>,
     sample: Sample,
@@ -78,7 +79,7 @@ fn drop_all<D: Disk>(tape: &mut Tape<D>, numbers: &[u64]) -> Result<Result<(), T
     }
 }
 
-fn flush<D: Disk>(tape: &mut Tape<D>) -> Result<Result<u64, TapeFault>, Fail> {
+pub(crate) fn flush<D: Disk>(tape: &mut Tape<D>) -> Result<Result<u64, TapeFault>, Fail> {
     match tape.flush() {
         Err(TapeFault::NoMemory) => Err(Fail::from(TapeFault::NoMemory)),
         answer => Ok(answer),
@@ -128,7 +129,7 @@ fn take<A: Abort, D: Disk>(
 }
 
 // The tape of a disk, or the disk handed back and why.
-fn opened<D: Disk + Drop>(alloc: Global, disk: D) -> Result<Tape<D>, (TapeFault, D)> {
+pub(crate) fn opened<D: Disk + Drop>(alloc: Global, disk: D) -> Result<Tape<D>, (TapeFault, D)> {
     match Tape::open(alloc, disk) {
         Ok(tape) => Ok(tape),
         Err(refused) => {
@@ -172,10 +173,10 @@ const OLD_NUMBER: TapeFault = TapeFault::Note(LedgerFault::OldNumber);
 type Opening = (&'static [Step], Option<&'static [u8]>);
 
 // Opens the tape of a disk again and again.
-fn run_each<A: Abort>(
+fn run_each<A: Abort, D: Disk + Drop>(
     rt: &A,
     alloc: Global,
-    mut disk: MemDisk,
+    mut disk: D,
     openings: &[Opening],
 ) -> Result<(), Fail> {
     for (at, (steps, left)) in openings.iter().enumerate() {
@@ -187,154 +188,174 @@ fn run_each<A: Abort>(
     Ok(())
 }
 
-#[test]
-fn steps_are_taken_at_a_tape(rt: HostRuntime) -> Result<(), Fail> {
-    // What lies on a disk, and what is done at each opening of its tape.
-    const SCRIPTS: &[(&[u8], &[Opening])] = &[
-        // Notes lie on the disk.
-        (
-            &[],
-            &[
-                (
-                    &[
-                        Step::Note(Sample::Owe(1), Ok(())),
-                        Step::Room(65535),
-                        Step::Flush(Ok(1)),
-                    ],
-                    Some(&OWED),
-                ),
-                (
-                    &[
-                        Step::Mark(1),
-                        Step::Owes(1, true),
-                        Step::Owes(2, false),
-                        Step::Numbers(&[1]),
-                        Step::Note(Sample::Final(1), Ok(())),
-                        Step::Flush(Ok(1)),
-                        Step::Flush(Ok(1)),
-                        Step::Totals(Totals {
-                            taken: 1,
-                            answered: 1,
-                            dropped: 0,
-                            owed: 0,
-                            owed_bytes: 0,
-                        }),
-                    ],
-                    Some(&ANSWERED),
-                ),
-                (&[Step::Mark(1)], Some(&ANSWERED)),
-            ],
-        ),
-        // A debt is told.
-        (
-            &OWED,
-            &[(&[Step::Debt(1, Ok(Some(1))), Step::Debt(2, Ok(None))], None)],
-        ),
-        // A refused note is handed back.
-        (
-            &[],
-            &[(
+// What lies on a disk, and what is done at each opening of its tape.
+const SCRIPTS: &[(&[u8], &[Opening])] = &[
+    // Notes lie on the disk.
+    (
+        &[],
+        &[
+            (
                 &[
-                    Step::SeenEach(1, 65537),
-                    Step::Room(0),
-                    Step::Note(Sample::Seen(65537), Err(TapeFault::PendingFull)),
-                    Step::Note(Sample::Final(1), Err(NOT_OWED)),
-                    Step::Note(Sample::Seen(1), Err(OLD_NUMBER)),
-                    Step::Flush(Ok(65536)),
-                    Step::Mark(65536),
-                    Step::Room(65536),
+                    Step::Note(Sample::Owe(1), Ok(())),
+                    Step::Room(65535),
+                    Step::Flush(Ok(1)),
                 ],
-                None,
-            )],
-        ),
-        // The octets of a debt: three of token, five of message-id, and two.
-        (
-            &[],
-            &[(
+                Some(&OWED),
+            ),
+            (
+                &[
+                    Step::Mark(1),
+                    Step::Owes(1, true),
+                    Step::Owes(2, false),
+                    Step::Numbers(&[1]),
+                    Step::Note(Sample::Final(1), Ok(())),
+                    Step::Flush(Ok(1)),
+                    Step::Flush(Ok(1)),
+                    Step::Totals(Totals {
+                        taken: 1,
+                        answered: 1,
+                        dropped: 0,
+                        owed: 0,
+                        owed_bytes: 0,
+                    }),
+                ],
+                Some(&ANSWERED),
+            ),
+            (&[Step::Mark(1)], Some(&ANSWERED)),
+        ],
+    ),
+    // A debt is told.
+    (
+        &OWED,
+        &[(&[Step::Debt(1, Ok(Some(1))), Step::Debt(2, Ok(None))], None)],
+    ),
+    // A refused note is handed back.
+    (
+        &[],
+        &[(
+            &[
+                Step::SeenEach(1, 65537),
+                Step::Room(0),
+                Step::Note(Sample::Seen(65537), Err(TapeFault::PendingFull)),
+                Step::Note(Sample::Final(1), Err(NOT_OWED)),
+                Step::Note(Sample::Seen(1), Err(OLD_NUMBER)),
+                Step::Flush(Ok(65536)),
+                Step::Mark(65536),
+                Step::Room(65536),
+            ],
+            None,
+        )],
+    ),
+    // The octets of a debt: three of token, five of message-id, and two.
+    (
+        &[],
+        &[(
+            &[
+                Step::Note(Sample::Owe(1), Ok(())),
+                Step::Note(Sample::Owe(2), Ok(())),
+                Step::Note(Sample::Owe(3), Ok(())),
+                Step::Flush(Ok(3)),
+                Step::Octets(1, Some(10)),
+                Step::Octets(3, Some(10)),
+                Step::Octets(0, None),
+                Step::Octets(4, None),
+                Step::Totals(Totals {
+                    taken: 3,
+                    answered: 0,
+                    dropped: 0,
+                    owed: 3,
+                    owed_bytes: 30,
+                }),
+                Step::IsBroken(false),
+            ],
+            None,
+        )],
+    ),
+    // Several debts are dropped.
+    (
+        &[],
+        &[
+            (
                 &[
                     Step::Note(Sample::Owe(1), Ok(())),
                     Step::Note(Sample::Owe(2), Ok(())),
                     Step::Note(Sample::Owe(3), Ok(())),
                     Step::Flush(Ok(3)),
-                    Step::Octets(1, Some(10)),
-                    Step::Octets(3, Some(10)),
-                    Step::Octets(0, None),
-                    Step::Octets(4, None),
+                    Step::DropAll(&[3, 1], Ok(())),
+                    Step::Numbers(&[2]),
                     Step::Totals(Totals {
                         taken: 3,
                         answered: 0,
-                        dropped: 0,
-                        owed: 3,
-                        owed_bytes: 30,
+                        dropped: 2,
+                        owed: 1,
+                        owed_bytes: 10,
                     }),
-                    Step::IsBroken(false),
+                    Step::Room(65534),
+                    Step::Flush(Ok(5)),
                 ],
                 None,
-            )],
-        ),
-        // Several debts are dropped.
-        (
-            &[],
+            ),
+            (&[Step::Numbers(&[2])], None),
+        ],
+    ),
+    // Debts are dropped all or none.
+    (
+        &[],
+        &[(
             &[
-                (
-                    &[
-                        Step::Note(Sample::Owe(1), Ok(())),
-                        Step::Note(Sample::Owe(2), Ok(())),
-                        Step::Note(Sample::Owe(3), Ok(())),
-                        Step::Flush(Ok(3)),
-                        Step::DropAll(&[3, 1], Ok(())),
-                        Step::Numbers(&[2]),
-                        Step::Totals(Totals {
-                            taken: 3,
-                            answered: 0,
-                            dropped: 2,
-                            owed: 1,
-                            owed_bytes: 10,
-                        }),
-                        Step::Room(65534),
-                        Step::Flush(Ok(5)),
-                    ],
-                    None,
-                ),
-                (&[Step::Numbers(&[2])], None),
+                Step::Note(Sample::Owe(1), Ok(())),
+                Step::Note(Sample::Owe(2), Ok(())),
+                Step::Note(Sample::Owe(3), Ok(())),
+                Step::Flush(Ok(3)),
+                Step::DropAll(&[1, 4], Err(NOT_OWED)),
+                Step::DropAll(&[2, 1, 2], Err(NOT_OWED)),
+                Step::DropAll(&[], Ok(())),
+                Step::SeenEach(4, 65539),
+                Step::Room(1),
+                Step::DropAll(&[1, 2], Err(TapeFault::PendingFull)),
+                Step::DropAll(&[1, 1], Err(NOT_OWED)),
+                Step::Numbers(&[1, 2, 3]),
+                Step::DropAll(&[1], Ok(())),
+                Step::Room(0),
             ],
-        ),
-        // Debts are dropped all or none.
-        (
-            &[],
-            &[(
-                &[
-                    Step::Note(Sample::Owe(1), Ok(())),
-                    Step::Note(Sample::Owe(2), Ok(())),
-                    Step::Note(Sample::Owe(3), Ok(())),
-                    Step::Flush(Ok(3)),
-                    Step::DropAll(&[1, 4], Err(NOT_OWED)),
-                    Step::DropAll(&[2, 1, 2], Err(NOT_OWED)),
-                    Step::DropAll(&[], Ok(())),
-                    Step::SeenEach(4, 65539),
-                    Step::Room(1),
-                    Step::DropAll(&[1, 2], Err(TapeFault::PendingFull)),
-                    Step::DropAll(&[1, 1], Err(NOT_OWED)),
-                    Step::Numbers(&[1, 2, 3]),
-                    Step::DropAll(&[1], Ok(())),
-                    Step::Room(0),
-                ],
-                None,
-            )],
-        ),
-        // What a torn write left is cut off.
-        (&TORN, &[(&[], Some(&OWED))]),
-        // A gate that is the last octet ends a tape, whatever it is.
-        (&[0xa5], &[(&[Step::Mark(0)], Some(&[0]))]),
-    ];
+            None,
+        )],
+    ),
+    // What a torn write left is cut off.
+    (&TORN, &[(&[], Some(&OWED))]),
+    // A gate that is the last octet ends a tape, whatever it is.
+    (&[0xa5], &[(&[Step::Mark(0)], Some(&[0]))]),
+];
+
+#[test]
+fn steps_are_taken_at_a_tape(rt: HostRuntime) -> Result<(), Fail> {
     for (octets, openings) in SCRIPTS {
         run_each(&rt, rt.alloc(), disk_of(rt.alloc(), octets)?, openings)?;
     }
     Ok(())
 }
 
+// The same on a file whose calls go by this plan.
+fn run_on_file<A: Abort>(rt: &A, alloc: Global, plan: Plan) -> Result<(), Fail> {
+    for (octets, openings) in SCRIPTS {
+        let file = PlannedFile::new(alloc, octets, plan)?;
+        run_each(rt, alloc, FileDisk::new(file), openings)?;
+    }
+    Ok(())
+}
+
+#[test]
+fn steps_are_taken_at_a_tape_on_a_file(rt: HostRuntime) -> Result<(), Fail> {
+    // How many octets a call moves, and how many calls are interrupted first. Of one transfer a
+    // thousand may be.
+    for (piece, interruptions) in [(1, 900), (2, u64::MAX), (7, u64::MAX)] {
+        run_on_file(&rt, rt.alloc(), Plan::sound(piece, interruptions))?;
+    }
+    Ok(())
+}
+
 // The mark of the tape of this disk, or why it is refused. No number but those owed was ever noted.
-fn front_of(alloc: Global, disk: MemDisk) -> Result<Result<u64, TapeFault>, Fail> {
+pub(crate) fn front_of(alloc: Global, disk: MemDisk) -> Result<Result<u64, TapeFault>, Fail> {
     match opened(alloc, disk) {
         Ok(tape) => {
             let mark = tape.mark();
@@ -508,7 +529,7 @@ fn stopped<A: Abort>(
 }
 
 // How many debts there are, at least and at most.
-type Counts = (u64, u64);
+pub(crate) type Counts = (u64, u64);
 
 // What stands where a write did not happen, for each choice of what happened of three operations.
 const FILLS: [u8; 24] = [
@@ -517,7 +538,7 @@ const FILLS: [u8; 24] = [
 ];
 
 // Each image of the disk that a choice names is the tape of so many of the first debts.
-fn assert_fronts<A: Abort>(
+pub(crate) fn assert_fronts<A: Abort>(
     rt: &A,
     alloc: Global,
     disk: &MemDisk,

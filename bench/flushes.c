@@ -1,0 +1,56 @@
+/*
+ * What a flush of 256 notes asks of a file, with nothing around it: in each of COUNT rounds one
+ * write of OCTETS octets behind what is there, an fdatasync, 256 writes of one octet each, spread
+ * over those, and an fdatasync.
+ *
+ *   flushes FILE COUNT OCTETS
+ *
+ * It prints `COUNT flushes N nanoseconds`, as a benchmark of crates/bench does.
+ */
+#include <fcntl.h>
+#include <stdio.h>
+#include <stdlib.h>
+#include <time.h>
+#include <unistd.h>
+
+#define NOTES 256
+
+static void fail(const char *what) {
+  perror(what);
+  exit(1);
+}
+
+static void write_at(int file, const void *octets, size_t count, off_t at) {
+  if (pwrite(file, octets, count, at) != (ssize_t)count) fail("pwrite");
+}
+
+static void flush(int file, const char *block, size_t octets, off_t at) {
+  write_at(file, block, octets, at);
+  if (fdatasync(file) != 0) fail("fdatasync");
+  for (int note = 0; note < NOTES; note++) {
+    write_at(file, "\xa5", 1, at + (off_t)(octets / NOTES * note));
+  }
+  if (fdatasync(file) != 0) fail("fdatasync");
+}
+
+int main(int count, char **words) {
+  if (count != 4) {
+    fprintf(stderr, "flushes FILE COUNT OCTETS\n");
+    return 2;
+  }
+  long rounds = atol(words[2]);
+  size_t octets = (size_t)atol(words[3]);
+  char *block = calloc(1, octets + 1);
+  int file = open(words[1], O_RDWR | O_CREAT | O_TRUNC, 0666);
+  if (block == NULL || file < 0) fail(words[1]);
+  struct timespec start, end;
+  clock_gettime(CLOCK_MONOTONIC, &start);
+  for (long round = 0; round < rounds; round++) {
+    flush(file, block, octets, (off_t)round * (off_t)octets);
+  }
+  clock_gettime(CLOCK_MONOTONIC, &end);
+  printf("%ld flushes %.0f nanoseconds\n", rounds,
+         1e9 * (double)(end.tv_sec - start.tv_sec) + (double)(end.tv_nsec - start.tv_nsec));
+  free(block);
+  return 0;
+}

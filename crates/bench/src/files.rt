@@ -1,0 +1,129 @@
+// How fast a tape in a file flushes its notes, and how fast it is opened.
+//
+// `flush DIRECTORY COUNT` flushes 256 notes so many times to a new tape in a file of this
+// directory; the making of the notes is not in the time. `fill DIRECTORY COUNT` leaves the tape of
+// so many debts there, and `open DIRECTORY` opens it. `memory DIRECTORY` opens it too, and prints
+// how much memory the program took at most, as Linux tells it.
+use crate::openings::{open, owe};
+use crate::time::{number, tell};
+use anyhow::{Context, Result, bail};
+use disk_model::{FileDisk, TapeDirectory};
+use recovery::Tape;
+use std::fs::{self, File};
+use std::rt::Files;
+use std::time::{Clock, Duration, Instant};
+
+// How many notes are flushed at once.
+const BATCH: u64 = 256;
+
+const NAME: &str = "bench~a";
+
+pub fn run<R: AllocGlobal + Print + Clock + Files<File = File>>(
+    rt: &R,
+    words: &[String],
+) -> Result<()> {
+    match words {
+        [] => small(rt),
+        [work, path] if work.as_str() == "open" => measured(rt, path),
+        [work, path] if work.as_str() == "memory" => tell_memory(rt, path),
+        [work, path, count] if work.as_str() == "flush" => {
+            let count = number(count)?;
+            let time = flushed(rt, &mut emptied(rt, path)?, count)?;
+            tell(rt, count, "flushes", time)
+        }
+        [work, path, count] if work.as_str() == "fill" => {
+            fill(rt, &mut emptied(rt, path)?, number(count)? / BATCH)
+        }
+        _ => bail!("disk_model [flush DIRECTORY COUNT | fill DIRECTORY COUNT | open DIRECTORY]"),
+    }
+}
+
+fn small<R: AllocGlobal + Print + Clock + Files<File = File>>(rt: &R) -> Result<()> {
+    flushed(rt, &mut emptied(rt, ".")?, 4)?;
+    let owed = tape_in(rt, ".")?.totals().owed;
+    println!(rt; "disk_model: a tape in a file owes {owed}")?;
+    fs::remove_file(rt, NAME)?;
+    Ok(())
+}
+
+// The tape in this directory.
+fn tape_in<R: AllocGlobal + Files<File = File>>(
+    rt: &R,
+    path: &str,
+) -> Result<Tape<FileDisk<File>>> {
+    open(rt.alloc(), TapeDirectory::lock(rt, path)?.open(rt, NAME)?)
+}
+
+// A new tape in this directory.
+fn emptied<R: AllocGlobal + Files<File = File>>(
+    rt: &R,
+    path: &str,
+) -> Result<Tape<FileDisk<File>>> {
+    let file = format!(in rt.alloc(); "{path}/{NAME}")?;
+    let _ = fs::remove_file(rt, file.as_str());
+    tape_in(rt, path)
+}
+
+// Flushes so many batches, and gives the time that the flushes took.
+fn flushed<R: AllocGlobal + Clock>(
+    rt: &R,
+    tape: &mut Tape<FileDisk<File>>,
+    count: u64,
+) -> Result<Duration> {
+    let mut time = Duration::ZERO;
+    for _ in 0..count {
+        note_batch(rt, tape)?;
+        let start = Instant::now(rt)?;
+        flush(tape)?;
+        time = time.saturating_add(start.elapsed(rt)?);
+    }
+    Ok(time)
+}
+
+// Owes so many batches, with a flush now and then.
+fn fill<R: AllocGlobal>(rt: &R, tape: &mut Tape<FileDisk<File>>, count: u64) -> Result<()> {
+    for batch in 0..count {
+        note_batch(rt, tape)?;
+        if batch % 200 == 0 {
+            flush(tape)?;
+        }
+    }
+    flush(tape)
+}
+
+fn note_batch<R: AllocGlobal>(rt: &R, tape: &mut Tape<FileDisk<File>>) -> Result<()> {
+    for _ in 0..BATCH {
+        note(rt, tape)?;
+    }
+    Ok(())
+}
+
+// One debt more.
+fn note<R: AllocGlobal>(rt: &R, tape: &mut Tape<FileDisk<File>>) -> Result<()> {
+    match tape.note(owe(rt.alloc(), tape.mark().saturating_add(1))?) {
+        Ok(()) => Ok(()),
+        Err((_, fault)) => Err(fault.into()),
+    }
+}
+
+fn flush(tape: &mut Tape<FileDisk<File>>) -> Result<()> {
+    tape.flush()?;
+    Ok(())
+}
+
+fn measured<R: AllocGlobal + Print + Clock + Files<File = File>>(rt: &R, path: &str) -> Result<()> {
+    let start = Instant::now(rt)?;
+    let owed = tape_in(rt, path)?.totals().owed;
+    tell(rt, owed, "owed", start.elapsed(rt)?)
+}
+
+fn tell_memory<R: AllocGlobal + Print + Files<File = File>>(rt: &R, path: &str) -> Result<()> {
+    let tape = tape_in(rt, path)?;
+    let status = fs::read_to_string(rt, "/proc/self/status")?;
+    let most = status
+        .lines()
+        .find(|line| line.starts_with("VmHWM:"))
+        .context("a line of memory")?;
+    println!(rt; "{} owed {most}", tape.totals().owed)?;
+    Ok(())
+}

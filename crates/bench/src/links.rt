@@ -1,0 +1,185 @@
+// How fast `drive` sends articles through a link in memory, beside plain sends of the same octets
+// through such a link.
+//
+// `drive ARTICLES OCTETS` has a connection send that many articles of at most so many octets, 20 at
+// a time; the clock runs while the octets of the articles go out and the replies come in. `copy
+// ARTICLES OCTETS` sends the blocks of as many articles, as they stand one behind the other in
+// memory, and takes in as many replies, by the calls of the link alone.
+use crate::articles::{
+    Feed, blocks_of, feed_of, finals, hand_in_each, in_turn, offer_each, texts_of,
+};
+use crate::peer::{IN_FLIGHT, drain, streaming};
+use crate::time::{number, tell};
+use anyhow::{Context, Result, bail};
+use bytes::Bytes;
+use conn_core::Conn;
+use event_loop::{Driven, End, Link, MemLink, Moved, drive};
+use std::alloc::Global;
+use std::time::{Clock, Duration, Instant};
+
+// How many octets a link moves at most, as much as a buffer for receipts has.
+const PIECE: usize = 65_536;
+
+// Out of so many texts the articles are taken in turn.
+const TEXTS: u64 = 3;
+
+// No batch takes as many turns.
+const TURNS: u64 = 100_000;
+
+// What went out, how many articles were taken, and the time.
+#[derive(Clone, Copy)]
+struct Told {
+    octets: u64,
+    finals: u64,
+    time: Duration,
+}
+
+impl Told {
+    const NOTHING: Told = Told {
+        octets: 0,
+        finals: 0,
+        time: Duration::ZERO,
+    };
+
+    // Adds the octets that a link took, and the time since a start.
+    fn stop<R: Clock>(&mut self, rt: &R, start: Instant, link: &MemLink) -> Result<()> {
+        let time = start.elapsed(rt)?;
+        self.time = self.time.saturating_add(time);
+        self.octets = self.octets.saturating_add(link.taken().len() as u64);
+        Ok(())
+    }
+}
+
+pub fn run<R: AllocGlobal + Print + Clock>(rt: &R, words: &[String]) -> Result<()> {
+    match words {
+        [] => small(rt),
+        [work, articles, octets] => {
+            let texts = texts_of(rt.alloc(), number(octets)?, TEXTS)?;
+            let articles = number(articles)?;
+            let told = match work.as_str() {
+                "drive" => driven(rt, &feed_of(rt.alloc(), texts)?, articles)?,
+                "copy" => copied(
+                    rt,
+                    &feed_of(rt.alloc(), blocks_of(rt.alloc(), texts)?)?,
+                    articles,
+                )?,
+                _ => bail!("no work of event_loop: drive and copy are"),
+            };
+            tell(rt, told.octets, "octets", told.time)
+        }
+        _ => bail!("event_loop [drive ARTICLES OCTETS | copy ARTICLES OCTETS]"),
+    }
+}
+
+fn small<R: AllocGlobal + Print + Clock>(rt: &R) -> Result<()> {
+    let texts = texts_of(rt.alloc(), 1000, TEXTS)?;
+    let told = driven(rt, &feed_of(rt.alloc(), texts)?, 100)?;
+    println!(rt;
+        "event_loop: {} articles taken, {} octets sent",
+        told.finals, told.octets
+    )?;
+    let blocks = blocks_of(rt.alloc(), texts_of(rt.alloc(), 1000, TEXTS)?)?;
+    let told = copied(rt, &feed_of(rt.alloc(), blocks)?, 100)?;
+    println!(rt; "event_loop: {} octets copied", told.octets)?;
+    Ok(())
+}
+
+// A link that gives these octets.
+fn link_of(alloc: Global, octets: &[u8]) -> Result<MemLink> {
+    let source = octets.to_vec(alloc)?;
+    Ok(MemLink::new(alloc, source, PIECE, End::Never, End::Never))
+}
+
+// Sends so many articles, all under way at once that may be.
+fn driven<R: AllocGlobal + Clock>(rt: &R, feed: &Feed, articles: u64) -> Result<Told> {
+    let mut conn = streaming(rt.alloc())?;
+    let mut buffer = vec![in rt.alloc(); 0; PIECE]?;
+    let mut told = Told::NOTHING;
+    for round in 0..articles / IN_FLIGHT {
+        ready_batch(&mut conn, feed, round)?;
+        drive_batch(rt, &mut conn, feed, &mut buffer, &mut told)?;
+    }
+    Ok(told)
+}
+
+// As many articles as may be under way are handed in, and none is sent yet.
+fn ready_batch(conn: &mut Conn, feed: &Feed, round: u64) -> Result<()> {
+    offer_each(conn, feed, round)?;
+    drain(conn);
+    conn.input(&feed.wanted)?;
+    hand_in_each(conn, &feed.texts)
+}
+
+fn drive_batch<R: AllocGlobal + Clock>(
+    rt: &R,
+    conn: &mut Conn,
+    feed: &Feed,
+    buffer: &mut [u8],
+    told: &mut Told,
+) -> Result<()> {
+    let mut link = link_of(rt.alloc(), &[])?;
+    let start = Instant::now(rt)?;
+    let sent = driven_once(conn, &mut link, buffer);
+    link.extend(&feed.taken)?;
+    let taken = driven_once(conn, &mut link, buffer);
+    told.stop(rt, start, &link)?;
+    if sent != Driven::Idle || taken != Driven::Idle {
+        bail!("a batch was not sent");
+    }
+    told.finals = told.finals.saturating_add(finals(conn));
+    Ok(())
+}
+
+// proof: what `drive` ensures is left behind here, so that its callers carry none of it.
+fn driven_once(conn: &mut Conn, link: &mut MemLink, buffer: &mut [u8]) -> Driven {
+    drive(conn, link, buffer, TURNS)
+}
+
+// Sends as many blocks in turn, and takes in as many replies.
+fn copied<R: AllocGlobal + Clock>(rt: &R, feed: &Feed, articles: u64) -> Result<Told> {
+    let mut buffer = vec![in rt.alloc(); 0; PIECE]?;
+    let mut batch = Vec::new(rt.alloc());
+    let mut told = Told::NOTHING;
+    for round in 0..articles / IN_FLIGHT {
+        fill_batch(&mut batch, &feed.texts, round)?;
+        let mut link = link_of(rt.alloc(), &[])?;
+        let start = Instant::now(rt)?;
+        send(&mut link, &batch)?;
+        link.extend(&feed.taken)?;
+        receive(&mut link, &mut buffer);
+        told.stop(rt, start, &link)?;
+    }
+    Ok(told)
+}
+
+// The octets of as many blocks in turn as articles may be under way.
+fn fill_batch(batch: &mut Vec<u8>, blocks: &[Bytes], round: u64) -> Result<()> {
+    batch.clear();
+    for place in 0..IN_FLIGHT {
+        let number = round.saturating_mul(IN_FLIGHT).saturating_add(place);
+        batch.extend_from_slice(in_turn(blocks, number).context("a block")?)?;
+    }
+    Ok(())
+}
+
+// Sends all of these octets.
+fn send(link: &mut MemLink, octets: &[u8]) -> Result<()> {
+    let mut rest = octets;
+    for _ in 0..TURNS {
+        match link.send(rest) {
+            Moved::Done(count) if count < rest.len() => rest = &rest[count..],
+            Moved::Done(_) => return Ok(()),
+            _ => bail!("a block was not sent"),
+        }
+    }
+    bail!("a block was not sent")
+}
+
+// Takes in all that it gives.
+fn receive(link: &mut MemLink, buffer: &mut [u8]) {
+    for _ in 0..TURNS {
+        let Moved::Done(_) = link.recv(buffer) else {
+            return;
+        };
+    }
+}

@@ -1,0 +1,187 @@
+//! What becomes of tapes in the files of a directory, and which directories and files are refused
+//! (README.md).
+//!
+//! It may touch the folder that it runs in, in which it makes the directory `tapes` and removes it,
+//! memory and its output. It stands on `TapeDirectory` and `FileDisk` of disk_model and on `Tape` of
+//! recovery. Nothing stands above this crate.
+#![tactic(auto)]
+
+use anyhow::{Context, Result, bail};
+use disk_model::{FileDisk, TapeDirectory};
+use funnel::{MsgId, Token};
+use ledger_core::{FinalCode, Note};
+use recovery::{RefusedTape, Tape, TapeFault};
+use std::alloc::Global;
+use std::fs::{self, File, Permissions};
+use std::os::unix::fs::{PermissionsExt, symlink};
+use std::rt::Files;
+
+fn main(rt: HostRuntime) -> Result<()> {
+    let rt = &rt;
+    fs::create_dir(rt, "tapes")?;
+    tell_directory(rt, "missing")?;
+    let directory = TapeDirectory::lock(rt, "tapes")?;
+    tell_directory(rt, "tapes")?;
+    keep_tape(rt, &directory)?;
+    tell_octets_behind_the_end(rt, &directory)?;
+    tell_cut(rt, &directory)?;
+    tell_no_file(rt, &directory)?;
+    tell_directory_in_a_file(rt)?;
+    drop(directory);
+    tell_directory(rt, "tapes")?;
+    fs::remove_dir_all(rt, "tapes")?;
+    Ok(())
+}
+
+// Whether this directory can be locked.
+fn tell_directory<R: AllocGlobal + Files<File = File> + Print>(rt: &R, path: &str) -> Result<()> {
+    match TapeDirectory::lock(rt, path) {
+        Ok(_) => println!(rt; "{path}: locked")?,
+        Err(fault) => println!(rt; "{path}: {fault}")?,
+    }
+    Ok(())
+}
+
+// A tape is made, and notes are flushed to it, each over an opening of its own.
+fn keep_tape<R: AllocGlobal + Files<File = File> + Print>(
+    rt: &R,
+    directory: &TapeDirectory,
+) -> Result<()> {
+    open_tape(rt, directory, "peer~a")?;
+    directory.sync()?;
+    tell_tape(rt, directory, "peer~a")?;
+    note(rt, directory, owe(rt.alloc())?)?;
+    tell_tape(rt, directory, "peer~a")?;
+    let code = FinalCode::TakethisReceived;
+    note(rt, directory, Note::Final { number: 1, code })?;
+    tell_tape(rt, directory, "peer~a")
+}
+
+// The octets of the file of this name.
+fn octets_of<R: AllocGlobal + Files>(rt: &R, name: &str) -> Result<Vec<u8>> {
+    let path = format!(in rt.alloc(); "tapes/{name}")?;
+    Ok(fs::read(rt, path.as_str())?)
+}
+
+fn write<R: AllocGlobal + Files>(rt: &R, name: &str, octets: &[u8]) -> Result<()> {
+    let path = format!(in rt.alloc(); "tapes/{name}")?;
+    fs::write(rt, path.as_str(), octets)?;
+    Ok(())
+}
+
+// The tape in the file of this name, or why it is refused.
+fn opened<R: AllocGlobal + Files<File = File>>(
+    rt: &R,
+    directory: &TapeDirectory,
+    name: &str,
+) -> Result<Result<Tape<FileDisk<File>>, TapeFault>> {
+    match Tape::open(rt.alloc(), directory.open(rt, name)?) {
+        Ok(tape) => Ok(Ok(tape)),
+        Err(RefusedTape { fault, .. }) => Ok(Err(fault)),
+    }
+}
+
+fn open_tape<R: AllocGlobal + Files<File = File>>(
+    rt: &R,
+    directory: &TapeDirectory,
+    name: &str,
+) -> Result<Tape<FileDisk<File>>> {
+    Ok(opened(rt, directory, name)??)
+}
+
+// What is owed by the tape in the file of this name, and the file's octets.
+fn tell_tape<R: AllocGlobal + Files<File = File> + Print>(
+    rt: &R,
+    directory: &TapeDirectory,
+    name: &str,
+) -> Result<()> {
+    let numbers = open_tape(rt, directory, name)?.numbers()?;
+    println!(rt; "{name}: owes {:?}", numbers.as_slice())?;
+    let octets = octets_of(rt, name)?;
+    println!(rt; "{name}: {:?}", octets.as_slice())?;
+    Ok(())
+}
+
+// The note of a debt.
+fn owe(alloc: Global) -> Result<Note> {
+    Ok(Note::Owe {
+        number: 1,
+        token: Token::read(alloc, b"a/1")?.context("a token")?,
+        id: MsgId::read(alloc, b"<x@y>")?.context("a message-id")?,
+    })
+}
+
+// Opens the tape and flushes a note to it.
+fn note<R: AllocGlobal + Files<File = File>>(
+    rt: &R,
+    directory: &TapeDirectory,
+    note: Note,
+) -> Result<()> {
+    let mut tape = open_tape(rt, directory, "peer~a")?;
+    if let Err((_, fault)) = tape.note(note) {
+        return Err(fault.into());
+    }
+    tape.flush()?;
+    Ok(())
+}
+
+// What stands behind the end of a tape is cut off.
+fn tell_octets_behind_the_end<R: AllocGlobal + Files<File = File> + Print>(
+    rt: &R,
+    directory: &TapeDirectory,
+) -> Result<()> {
+    let mut octets = octets_of(rt, "peer~a")?;
+    octets.extend_from_slice(&[0xa5, 0xa5, 0xa5])?;
+    write(rt, "torn~a", &octets)?;
+    tell_tape(rt, directory, "torn~a")
+}
+
+// A tape that is cut by hand is damaged, and is left as it was.
+fn tell_cut<R: AllocGlobal + Files<File = File> + Print>(
+    rt: &R,
+    directory: &TapeDirectory,
+) -> Result<()> {
+    let mut octets = octets_of(rt, "peer~a")?;
+    octets.truncate(30);
+    write(rt, "cut~a", &octets)?;
+    match opened(rt, directory, "cut~a")? {
+        Ok(_) => bail!("a tape that is cut was opened"),
+        Err(fault) => println!(rt; "cut~a: {fault:?}")?,
+    }
+    let left = octets_of(rt, "cut~a")?.as_slice() == octets.as_slice();
+    println!(rt; "cut~a: left as it was: {left}")?;
+    Ok(())
+}
+
+// What is no regular file is not opened, nor what may not be read.
+fn tell_no_file<R: AllocGlobal + Files<File = File> + Print>(
+    rt: &R,
+    directory: &TapeDirectory,
+) -> Result<()> {
+    fs::create_dir(rt, "tapes/directory~a")?;
+    tell_file(rt, directory, "directory~a")?;
+    symlink(rt, "/dev/full", "tapes/device~a")?;
+    tell_file(rt, directory, "device~a")?;
+    write(rt, "closed~a", &[0])?;
+    fs::set_permissions(rt, "tapes/closed~a", Permissions::from_mode(0))?;
+    tell_file(rt, directory, "closed~a")?;
+    tell_file(rt, directory, "missing/peer~a")
+}
+
+fn tell_file<R: Files<File = File> + Print>(
+    rt: &R,
+    directory: &TapeDirectory,
+    name: &str,
+) -> Result<()> {
+    match directory.open(rt, name) {
+        Ok(_) => println!(rt; "{name}: opened")?,
+        Err(error) => println!(rt; "{name}: {error}")?,
+    }
+    Ok(())
+}
+
+// A file in a directory's place can be locked, and has no file in it.
+fn tell_directory_in_a_file<R: AllocGlobal + Files<File = File> + Print>(rt: &R) -> Result<()> {
+    let file = TapeDirectory::lock(rt, "tapes/peer~a")?;
+    tell_file(rt, &file, "peer~a")
+}

@@ -1,0 +1,170 @@
+// Stations over a disk of which one call fails, each call in turn.
+use crate::caller::{ONE, UNLIMITED};
+use crate::shared::names;
+use disk_model::{Disk, FlakyDisk, MemDisk};
+use ledger_core::{Cause, Debt};
+use peer_queue::{Owed, Station, StationFault};
+use recovery::{RefusedTape, TapeFault};
+use std::alloc::Global;
+use std::process::Abort;
+use std::test::Fail;
+
+// No sweep meets as many calls.
+const MOST_CALLS: u64 = 1_000;
+
+// What is owed after each front of the notes: of one debt, of another, and of the end of the first.
+const FRONTS: [&[u64]; 4] = [&[], &[1], &[1, 2], &[2]];
+
+type Flaky = Station<FlakyDisk<MemDisk>>;
+
+// How many notes are acknowledged, and how many were made.
+type Counts = (u64, u64);
+
+// The station of this disk, or why it is refused and the disk.
+fn opened<D: Disk + Drop>(alloc: Global, disk: D) -> Result<Station<D>, (TapeFault, D)> {
+    match Station::open(alloc, disk, UNLIMITED) {
+        Ok(station) => Ok(station),
+        Err(refused) => {
+            let RefusedTape { disk, fault, .. } = refused;
+            Err((fault, disk))
+        }
+    }
+}
+
+// The station of this disk, of which a call of the opening may fail: then it is opened a second
+// time.
+fn opened_at_last<A: Abort>(
+    rt: &A,
+    alloc: Global,
+    disk: FlakyDisk<MemDisk>,
+) -> Result<Flaky, Fail> {
+    match opened(alloc, disk) {
+        Ok(station) => Ok(station),
+        Err((fault, disk)) => {
+            assert_eq!(rt; fault, TapeFault::Disk);
+            match opened(alloc, disk) {
+                Ok(station) => Ok(station),
+                Err((fault, _)) => Err(Fail::from(fault)),
+            }
+        }
+    }
+}
+
+fn owe(alloc: Global, station: &mut Flaky, number: u64) -> Result<Owed, Fail> {
+    let (token, id) = names(alloc, b"<x@y>")?;
+    Ok(station.owe(number, &token, &id)?)
+}
+
+fn flush(station: &mut Flaky) -> Result<Result<u64, StationFault>, Fail> {
+    match station.flush() {
+        Err(StationFault::NoMemory) => Err(Fail::from(StationFault::NoMemory)),
+        answer => Ok(answer),
+    }
+}
+
+fn claim(station: &mut Flaky) -> Result<Option<Debt>, StationFault> {
+    station.claim(ONE, 0)
+}
+
+fn is_told(station: &Flaky, number: u64) -> Result<bool, StationFault> {
+    Ok(station.debt(number)?.is_some())
+}
+
+fn lose(station: &mut Flaky, debt: Debt) -> Result<(), Fail> {
+    match station.lose(ONE, debt, Cause::Missing) {
+        Ok(()) => Ok(()),
+        Err((_, fault)) => Err(Fail::from(fault)),
+    }
+}
+
+// The least debt is claimed, and lost.
+fn end_first(station: &mut Flaky) -> Result<(), Fail> {
+    let debt = claim(station)?.ok_or("a debt")?;
+    lose(station, debt)
+}
+
+// No call changes a broken station.
+fn assert_broken<A: Abort>(rt: &A, station: &mut Flaky) -> Result<(), Fail> {
+    for _ in 0..2 {
+        assert_eq!(rt; flush(station)?, Err(StationFault::Broken));
+    }
+    assert_eq!(rt; is_told(station, 1), Err(StationFault::Broken));
+    assert_eq!(rt; claim(station).is_err(), true);
+    Ok(())
+}
+
+// How many notes are acknowledged after a flush, of so many before: the disk alone fails one.
+fn flushed<A: Abort>(rt: &A, station: &mut Flaky, acknowledged: u64) -> Result<u64, Fail> {
+    match flush(station)? {
+        Ok(count) => Ok(count),
+        Err(fault) => {
+            assert_eq!(rt; fault, StationFault::Tape(TapeFault::Disk));
+            assert_broken(rt, station)?;
+            Ok(acknowledged)
+        }
+    }
+}
+
+// Owes two debts and flushes them, ends one and flushes that.
+fn work<A: Abort>(rt: &A, alloc: Global, station: &mut Flaky) -> Result<Counts, Fail> {
+    owe(alloc, station, 1)?;
+    owe(alloc, station, 2)?;
+    let acknowledged = flushed(rt, station, 0)?;
+    if acknowledged == 0 {
+        return Ok((0, 2));
+    }
+    assert_eq!(rt; is_told(station, 2)?, true);
+    end_first(station)?;
+    Ok((flushed(rt, station, acknowledged)?, 3))
+}
+
+fn listed(alloc: Global, disk: MemDisk) -> Result<Vec<u64>, Fail> {
+    match opened(alloc, disk) {
+        Ok(station) => Ok(station.list()?),
+        Err((fault, _)) => Err(Fail::from(fault)),
+    }
+}
+
+// What a station of this disk owes is what it owed after so many notes at least, and so many at
+// most.
+fn assert_front<A: Abort>(
+    rt: &A,
+    alloc: Global,
+    disk: MemDisk,
+    (least, most): Counts,
+) -> Result<(), Fail> {
+    let listed = listed(alloc, disk)?;
+    let is_front = FRONTS.iter().enumerate().any(|(notes, owed)| least <= notes as u64
+        && notes as u64 <= most
+        && listed.as_slice() == *owed);
+    assert_eq!(rt; is_front, true, "{listed:?} behind {least}");
+    Ok(())
+}
+
+// Whether the call behind so many, which fails, comes.
+fn meets_fault<A: Abort>(rt: &A, alloc: Global, calls: u64) -> Result<bool, Fail> {
+    let disk = FlakyDisk::new(MemDisk::new(alloc), calls);
+    let mut station = opened_at_last(rt, alloc, disk)?;
+    let counts = work(rt, alloc, &mut station)?;
+    let disk = station.into_disk();
+    let met = 0 < disk.faults();
+    assert_front(rt, alloc, disk.into_inner(), counts)?;
+    Ok(met)
+}
+
+fn calls_of<A: Abort>(rt: &A, alloc: Global) -> Result<u64, Fail> {
+    for calls in 0..MOST_CALLS {
+        if !meets_fault(rt, alloc, calls)? {
+            return Ok(calls);
+        }
+    }
+    Err(Fail::from("no end of calls"))
+}
+
+// The opening makes five calls, the flush of two notes five, that of one four, and no other call
+// makes one.
+#[test]
+fn a_fault_at_any_call_leaves_a_front(rt: HostRuntime) -> Result<(), Fail> {
+    assert_eq!(rt; calls_of(&rt, rt.alloc())?, 14);
+    Ok(())
+}

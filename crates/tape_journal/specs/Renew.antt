@@ -1,0 +1,34 @@
+-- A journal that a whole segment was written for, and a disk that was handed back without one.
+use Rattle.std.specs.Prelude.{◌≡◌, ◌≤◌, ◌↔◌, ℕ, List}
+use Rattle.disk_model.specs.Disk.{Event, Leaves}
+use Rattle.disk_model.specs.declared.Disk.{Ghosts}
+use Rattle.tape_journal.specs.Journal.{disk_of, IsBroken, Holds}
+use Rattle.tape_journal.specs.Rewrite.{RenewedFrom, renewing}
+use Rattle.tape_journal.specs.declared.journal.Journal.{Journal}
+use Rattle.tape_journal.specs.declared.renew.NotRenewed.{NotRenewed}
+
+module _ {D : Type 0} {g : Ghosts D} where
+  -- The journal stands for these payloads alone, on a disk that had this log; a stop on the way
+  -- left an image from before, or one that reads as no payload, or as these.
+  pub record IsRenewed (old : List Event) (journal : Journal D g)
+      (payloads : List (List ℕ)) : Type 0 where
+    pub holds : Holds journal payloads
+    pub calls : g.log (disk_of journal) ≡ renewing payloads old
+    pub moments : Leaves (RenewedFrom old payloads) old (g.log (disk_of journal))
+
+  -- A disk that had this log was handed back; a stop left the same.
+  pub record IsNotRenewed (old : List Event) (payloads : List (List ℕ))
+      (refused : NotRenewed D g) : Type 0 where
+    pub honest : g.honest refused.disk
+    pub moments : Leaves (RenewedFrom old payloads) old (g.log refused.disk)
+
+  -- the journal works, on a disk that told no fault, and is honest where it was
+  pub record Works (disk : D) (journal : Journal D g) : Type 0 where
+    pub works : IsBroken journal → ⊥
+    pub honest : g.honest disk ↔ g.honest (disk_of journal)
+    pub quiet : g.told (disk_of journal) ≡ g.told disk
+
+  -- the disk is honest where it was, and its count of faults did not fall
+  pub record IsHandedBack (disk : D) (refused : NotRenewed D g) : Type 0 where
+    pub honest : g.honest disk ↔ g.honest refused.disk
+    pub later : g.told disk ≤ g.told refused.disk

@@ -1,0 +1,175 @@
+// Writing a whole segment, whose first gate opens last.
+ghost use Rattle.std.specs.Prelude.{◌≡◌, ◌≢◌, ◌+◌, ◌-◌, ◌^◌, ◌<◌, ◌≤◌, ◌↔◌, [], ◌∷◌, ◌++◌, ℕ, List};
+ghost use Rattle.std.specs.Prelude.{length, drop, min, IfOk, OnOk, IsErrOf};
+ghost use Rattle.disk_model.specs.Disk.{content, CountsFaults, Image, IsOnly, Leaves};
+ghost use Rattle.disk_model.specs.Disk.Event.{Wrote, Synced};
+ghost use Rattle.tape_journal.specs.Rewrite.{EmptiedFrom, GatedAs, RenewedFrom, emptying, filling};
+ghost use Rattle.tape_journal.specs.Rewrite.{opened, renewing};
+ghost use Rattle.tape_journal.specs.Segment.{AllShort, at_rest, longest_segment, open_gate};
+ghost use Rattle.tape_journal.specs.Segment.{records};
+ghost use Rattle.tape_journal.specs.Words.{octets_of};
+
+use crate::append::{are_short, length_of};
+use crate::journal::MAX_LEN;
+use crate::put::put_synced;
+use crate::read::OPEN;
+use crate::{Journal, RenewFault};
+use disk_model::{Disk, DiskFault};
+use std::alloc::{AllocError, Global};
+
+/// A disk on which no whole segment was written, handed back as the call left it.
+#[derive(Drop)]
+pub struct NotRenewed<D: Disk> {
+    /// The disk.
+    pub disk: D,
+    /// Why nothing was written, or not all.
+    pub fault: RenewFault,
+    // What a read gives, a stop may leave.
+    ghost content: { ∥ (D.honest disk → Image (D.log disk) (content (D.log disk))) ∥₁ },
+}
+
+// A segment at rest of these payloads, in one allocation of its size, which is so many octets.
+fn segment_of(alloc: Global, payloads: &[Vec<u8>], len: usize) -> Result<Vec<u8>, AllocError>
+    requires { AllShort (octets_of payloads.now) }
+    ensures { IfOk result (λ v. v.items ≡ at_rest (octets_of payloads.now)) }
+{
+    let mut octets = Vec::with_capacity(alloc, len)?;
+    for payload in payloads {
+        let size = payload.len() as u32;
+        octets.push(OPEN)?;
+        octets.extend_from_slice(&size.to_be_bytes())?;
+        octets.extend_from_slice(payload)?;
+    }
+    octets.push(0)?;
+    Ok(octets)
+}
+
+// A segment at rest of these payloads, and where its end gate stands, unless it is refused.
+fn renewal_of(alloc: Global, payloads: &[Vec<u8>]) -> Result<(Vec<u8>, u64), RenewFault>
+    ensures too_long { IsErrOf result RenewFault.PayloadTooLong
+        ↔ (AllShort (octets_of payloads.now) → ⊥) }
+    ensures full { IsErrOf result RenewFault.TapeFull ↔ (AllShort (octets_of payloads.now)
+        × (longest_segment < 1 + length (records (octets_of payloads.now)))) }
+    ensures disk { IsErrOf result RenewFault.Disk → ⊥ }
+    ensures ok { IfOk result (λ r. AllShort (octets_of payloads.now)
+        × (r.0.items ≡ at_rest (octets_of payloads.now))
+        × (r.1 ≡ length (records (octets_of payloads.now))) × (r.1 < longest_segment)) }
+{
+    if !are_short(payloads) {
+        return Err(RenewFault::PayloadTooLong);
+    }
+    let end = length_of(payloads);
+    if end >= MAX_LEN {
+        return Err(RenewFault::TapeFull);
+    }
+    let octets = segment_of(alloc, payloads, end as usize + 1)?;
+    Ok((octets, end))
+}
+
+// Leaves a closed gate alone.
+fn empty<D: Disk>(disk: &mut D) -> Result<(), DiskFault>
+    ensures honest { D.honest disk.old ↔ D.honest disk.new }
+    ensures moments { D.honest disk.old
+        → Leaves (EmptiedFrom (D.log disk.old)) (D.log disk.old) (D.log disk.new) }
+    ensures done { D.honest disk.old → OnOk result (IsOnly (D.log disk.new) (0 ∷ [])) }
+    ensures calls { D.honest disk.old → OnOk result (D.log disk.new ≡ emptying (D.log disk.old)) }
+    ensures later { D.told disk.old ≤ D.told disk.new }
+    ensures cause { D.honest disk.old → CountsFaults (D.told disk.old) (D.told disk.new) result }
+    ensures quiet { OnOk result (D.told disk.new ≡ D.told disk.old) }
+{
+    disk.cut(0)?;
+    disk.sync()?;
+    put_synced(disk, 0, &[0])
+}
+
+// Writes what stands behind the first gate of a segment at rest, and then opens that gate.
+fn write_segment<D: Disk>(disk: &mut D, segment: &[u8]) -> Result<(), DiskFault>
+    requires { 0 < length segment.now }
+    ensures honest { D.honest disk.old ↔ D.honest disk.new }
+    ensures moments { D.honest disk.old → IsOnly (D.log disk.old) (0 ∷ [])
+        → Leaves (GatedAs segment.now) (D.log disk.old) (D.log disk.new) }
+    ensures done { D.honest disk.old → IsOnly (D.log disk.old) (0 ∷ [])
+        → OnOk result (IsOnly (D.log disk.new) (opened segment.now)) }
+    ensures calls { D.honest disk.old → IsOnly (D.log disk.old) (0 ∷ [])
+        → OnOk result (D.log disk.new ≡ filling segment.now (D.log disk.old)) }
+    ensures later { D.told disk.old ≤ D.told disk.new }
+    ensures cause { D.honest disk.old → IsOnly (D.log disk.old) (0 ∷ [])
+        → CountsFaults (D.told disk.old) (D.told disk.new) result }
+    ensures quiet { OnOk result (D.told disk.new ≡ D.told disk.old) }
+{
+    put_synced(disk, 1, &segment[1..])?;
+    put_synced(disk, 0, &[OPEN])
+}
+
+// Writes a segment at rest of some payloads in place of what the disk has.
+fn rewrite<D: Disk>(disk: &mut D, segment: &[u8]) -> Result<(), DiskFault>
+    requires { 0 < length segment.now }
+    ensures honest { D.honest disk.old ↔ D.honest disk.new }
+    ensures moments { D.honest disk.old → (payloads : List (List ℕ)) → payloads ≢ []
+        → AllShort payloads → segment.now ≡ at_rest payloads
+        → Leaves (RenewedFrom (D.log disk.old) payloads) (D.log disk.old) (D.log disk.new) }
+    ensures done { D.honest disk.old
+        → OnOk result (IsOnly (D.log disk.new) (opened segment.now)) }
+    ensures calls { D.honest disk.old
+        → OnOk result (D.log disk.new ≡ filling segment.now (emptying (D.log disk.old))) }
+    ensures later { D.told disk.old ≤ D.told disk.new }
+    ensures cause { D.honest disk.old → CountsFaults (D.told disk.old) (D.told disk.new) result }
+    ensures quiet { OnOk result (D.told disk.new ≡ D.told disk.old) }
+{
+    empty(disk)?;
+    write_segment(disk, segment)
+}
+
+impl<D: Disk> Journal<D> {
+    ghost use Rattle.std.specs.Prelude.{IfErr, IsErrAnd, MatchResult};
+    ghost use Rattle.tape_journal.specs.Renew.{IsHandedBack, IsNotRenewed, IsRenewed, Works};
+
+    /// Writes a whole segment of these payloads in place of what the disk has. Its first gate opens
+    /// last: a stop on the way leaves a disk from before the call, or one without a payload, or one
+    /// with all of them.
+    ///
+    /// # Errors
+    /// Tried in this order; the disk is handed back. `PayloadTooLong`, over 16,777,216 octets;
+    /// `TapeFull`, the length with the end gate would pass 4,294,967,296; `NoMemory`; these write
+    /// nothing. `Disk`: a call failed.
+    pub fn renew(
+        alloc: Global,
+        mut disk: D,
+        payloads: &[Vec<u8>],
+    ) -> Result<Journal<D>, NotRenewed<D>>
+        requires some { payloads.now ≢ [] }
+        ensures ok { D.honest disk
+            → IfOk result (λ j. IsRenewed (D.log disk) j (octets_of payloads.now)) }
+        ensures err { D.honest disk
+            → IfErr result (IsNotRenewed (D.log disk) (octets_of payloads.now)) }
+
+        ensures too_long { IsErrAnd result (λ e. e.fault ≡ RenewFault.PayloadTooLong)
+            ↔ (AllShort (octets_of payloads.now) → ⊥) }
+        ensures full { IsErrAnd result (λ e. e.fault ≡ RenewFault.TapeFull)
+            ↔ (AllShort (octets_of payloads.now)
+            × (longest_segment < 1 + length (records (octets_of payloads.now)))) }
+        ensures refused { IfErr result (λ e. e.fault ≢ RenewFault.Disk → e.disk ≡ disk) }
+        ensures cause { D.honest disk → IfErr result (λ e. e.fault ≡ RenewFault.Disk
+            → min (D.told disk + 1) (2 ^ 64 - 1) ≤ D.told e.disk) }
+
+        ensures works { IfOk result (Works disk) }
+        ensures handed_back { IfErr result (IsHandedBack disk) }
+    {
+        let (segment, end) = match renewal_of(alloc, payloads) {
+            Ok(renewal) => renewal,
+            Err(fault) => return Err(NotRenewed { disk, fault }),
+        };
+        match rewrite(&mut disk, &segment) {
+            Ok(()) => Ok(Journal {
+                alloc,
+                disk,
+                end,
+                broken: false,
+            }),
+            Err(_) => Err(NotRenewed {
+                disk,
+                fault: RenewFault::Disk,
+            }),
+        }
+    }
+}
