@@ -159,11 +159,12 @@ fn help(rt: HostRuntime) -> Result<(), Fail> {
     for line in ["innfeed --help", "innfeed -h"] {
         let help = asked(rt.alloc(), line)?;
         for part in [
-            "Usage: innfeed -c FILE [-C] [-x] [--owed] [FUNNEL]\n",
+            "Usage: innfeed -c FILE [-C] [-x] [-v] [--owed] [FUNNEL]\n",
             "\n       innfeed --drill FILE\n",
             "-c <FILE>",
             "-C ",
             "-x ",
+            "-v ",
             "--owed ",
             "[FUNNEL]",
             "--drill <FILE>",
