@@ -1,6 +1,9 @@
 mod Once
+mod Arising
+mod Order
 mod Numbered
 mod Right
+mod Matching
 mod Tallies
 mod Behind
 mod Twice
@@ -8,3 +11,5 @@ mod Forgotten
 mod Named
 mod PutOnce
 mod Receipts
+mod Causes
+mod Waiting

@@ -87,7 +87,7 @@ once-step false y left place one alone =
       | inr other ↦ rw (other.0) (omega arith)
     ]
 
-held-once : (gone : List ℕ) (n : ℕ) (debts : List Owing) (place : ℕ) → times (places (held_from n debts gone)) place ≤ 1
+pub held-once : (gone : List ℕ) (n : ℕ) (debts : List Owing) (place : ℕ) → times (places (held_from n debts gone)) place ≤ 1
 held-once gone n [] place = omega arith
 held-once gone n (d ∷ debts) place =
     once-step (has gone n) _ _ place (held-once gone (n + 1) debts place) (λ e. none-before gone (n + 1) debts place (omega arith))

@@ -1,5 +1,7 @@
 //! What holds of one connection over its whole transcript, whatever calls come in whatever order: each debt comes out
-//! once, as what was answered, none is forgotten, nothing is put out twice, and octets may come in any pieces.
+//! once, as what was answered, and in the order offered where it comes back; none is forgotten; nothing is put out
+//! twice or without its cause; and octets may come in any pieces. `readings` has the same for what is read: one
+//! reading, or one fault.
 //!
 //! Runs nothing: each function has an empty body, and its contract is a law on the definitions of `conn_core`, above
 //! all `Stands` (`conn_core/specs/Stands.antt`), by which each call of `Conn` says what it makes of a transcript. The
@@ -7,17 +9,23 @@
 //! promises something of a whole exchange, and not of one call, cites these laws.
 #![tactic(auto)]
 
-ghost use Rattle.std.specs.Prelude.{◌≡◌, ◌+◌, ◌≤◌, ◌<◌, ◌++◌, ℕ, List, Option, Some, None, [], length, is_some, true};
+pub mod readings;
+
+ghost use Rattle.std.specs.Prelude.{◌≡◌, ◌↔◌, ◌+◌, ◌≤◌, ◌<◌, ◌++◌, ℕ, List, Option, Some, None, []};
+ghost use Rattle.std.specs.Prelude.{length, is_some, true};
 ghost use Rattle.article_store.specs.declared.store.Found.{Found};
 ghost use Rattle.reply_reader.specs.Stream.{Given};
+ghost use Rattle.conn_core.specs.Codes.{stray};
 ghost use Rattle.conn_core.specs.Commands.{Ask, Handing};
-ghost use Rattle.conn_core.specs.History.{Event, accepted, answered_ask, asks, put_out, reason};
+ghost use Rattle.conn_core.specs.History.{Event, Came, accepted, answered_ask, asks, closes};
+ghost use Rattle.conn_core.specs.History.{is_mode, phase, put_out, reason};
 ghost use Rattle.conn_core.specs.Receipt.{IsHandedAs, Receives};
 ghost use Rattle.conn_core.specs.Stands.{Stands};
 ghost use Rattle.conn_core.specs.State.{Holding};
 ghost use Rattle.conn_core.specs.declared.codes.Verb.{Verb};
 ghost use Rattle.conn_core.specs.declared.options.Options.{Options};
-ghost use Rattle.conn_laws.specs.Laws.{AllAreTheirOwn, AllNameTheirDebt, AllRight, IsFirstOpen};
+ghost use Rattle.conn_laws.specs.Laws.{AllAreTheirOwn, AllHaveTheirCause, AllNameTheirDebt, AllRight};
+ghost use Rattle.conn_laws.specs.Laws.{FitsNoneOpen, IsFirstOpen, ReturnsLast};
 ghost use Rattle.conn_laws.specs.Laws.{is_mode_stream, is_quit, is_verb, offers_article, sends_block};
 ghost use Rattle.conn_laws.specs.Laws.{open_commands, open_wants, times_asked, times_held, times_out, times_put};
 
@@ -35,14 +43,35 @@ pub fn each_debt_comes_out_once()
     ensures own { (options : Options) (h : List Event) → AllAreTheirOwn options h }
 {}
 
+/// What was found comes out first, and behind it, in the order offered, what comes back: nothing does while the
+/// connection is open.
+pub fn returns_come_last_in_order()
+    ensures { (options : Options) (conn : Holding) (unread : List ℕ) (h : List Event)
+        → Stands options conn unread h → ReturnsLast options h }
+{}
+
 /// A verdict is a final answer to a command about that very debt which had none, a deferral a later one; for a debt
-/// that is lost an article of its number was handed in, and that was gone or could not be sent; and where a debt
-/// comes back there is a reason to close. The command that a reply answers is the first that it fits of those without
-/// an answer.
+/// that is lost an article of its number was handed in, and that was gone or could not be sent; and a debt that comes
+/// back was held as the connection was closed. A reply answers a command exactly where a mode stands and it is the
+/// first that the reply fits of those without an answer; and in a mode the reply is a stray, and closes the connection
+/// as one, exactly where it fits none.
 pub fn verdicts_are_right()
-    ensures right { (options : Options) (h : List Event) → AllRight options h }
+    ensures right { (options : Options) (conn : Holding) (unread : List ℕ) (h : List Event)
+        → Stands options conn unread h → AllRight options h }
     ensures first { (options : Options) (h : List Event) (reply : Given) (command : ℕ × Ask)
-        → answered_ask options h reply ≡ Some command → IsFirstOpen options h reply command }
+        → answered_ask options h reply ≡ Some command ↔ IsFirstOpen options h reply command }
+    ensures stray { (options : Options) (h : List Event) (reply : Given)
+        → is_mode (phase options h) ≡ true
+        → FitsNoneOpen options h reply ↔ closes options h (Came reply) ≡ Some (stray reply.code) }
+{}
+
+/// Each command about a debt goes out directly behind its cause: a CHECK behind the debt's acceptance, in streaming
+/// mode while checks are on; a TAKETHIS or an IHAVE behind the article that is handed in for that very debt, whose
+/// article was wanted since its acceptance, where no CHECK goes before it, or since a 238 to its CHECK; a block behind
+/// a 335 to its IHAVE.
+pub fn commands_have_their_cause()
+    ensures { (options : Options) (conn : Holding) (unread : List ℕ) (h : List Event)
+        → Stands options conn unread h → AllHaveTheirCause options h }
 {}
 
 /// Each command about a debt names the message-id of the debt that was accepted at its place.

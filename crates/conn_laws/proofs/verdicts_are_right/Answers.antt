@@ -1,9 +1,15 @@
 -- What an outcome rests on.
-use Rattle.conn_laws.proofs.Right.{all_right, answer_is_first}
+use Rattle.conn_core.specs.Stands.{Stands}
+use Rattle.conn_laws.proofs.Right.{all_right}
+use Rattle.conn_laws.proofs.Matching.{answers_first, strays_fit_none}
 use Rattle.conn_laws.proofs.verdicts_are_right.Goals as goal
 
 pub returns-clause-right : goal.returns-clause-right
-returns-clause-right c = all_right
+unfolding Stands
+returns-clause-right c = λ options conn unread h s. all_right options h s.0
 
 pub returns-clause-first : goal.returns-clause-first
-returns-clause-first c = answer_is_first
+returns-clause-first c = answers_first
+
+pub returns-clause-stray : goal.returns-clause-stray
+returns-clause-stray c = strays_fit_none
