@@ -1,5 +1,7 @@
 -- The table of values against the uses that it was made of.
-use Rattle.std.proofs.Common.{◌≡◌, ◌==◌, ◌&&◌, ◌+◌, ◌<◌, ℕ, Bool, true, false, List, [], ◌∷◌, ◌++◌, length, map, take, get_or, cond, Option, None, Some, unwrap_or, refl, ap, ◌∙◌, sym, arith, inl, inr}
+use Rattle.std.proofs.Common.{suc, zero, ◌≡◌, ◌==◌, ◌&&◌, ◌+◌, ◌<◌, ℕ, Bool, true, false, List, [], ◌∷◌, ◌++◌, length}
+use Rattle.std.proofs.Common.{map, take, get_or, cond, Option, None, Some, unwrap_or, refl, ap, ◌∙◌, sym, arith, inl}
+use Rattle.std.proofs.Common.{inr}
 use Rattle.std.specs.Option.{option_map}
 use Rattle.std.specs.Ordering.{nat_cmp, is_eq}
 use Rattle.std.specs.Cmp.{tied_then, nat_cmp_is}
@@ -7,11 +9,10 @@ use Rattle.std.specs.declared.cmp.Ordering.TheVariants.{Less, Equal, Greater}
 use Rattle.std.proofs.lemmas.Bool.{cases_order, eq-eqb, ne_eqb}
 use Rattle.feed_conf.specs.Reading.{Use}
 use Rattle.feed_conf.specs.Values.{Value}
-use Rattle.feed_conf.specs.Settings.{later, value_at, last_value, value_along}
+use Rattle.feed_conf.specs.Settings.{block_around, later, value_at, last_value, path_within, value_along}
 use Rattle.feed_conf.specs.ValueView.{value_view}
 use Rattle.feed_conf.specs.TableView.{place_cmp}
 use Rattle.feed_conf.specs.declared.value.Value.{Value as Held}
-use Rattle.feed_conf.specs.declared.reader.OpenBlock.{OpenBlock}
 use Rattle.feed_conf.specs.declared.reader.Use.{Use as HeldUse}
 use Rattle.feed_conf.specs.Keys.{row_of}
 use Rattle.feed_conf.specs.ReaderView.{use_view}
@@ -26,31 +27,51 @@ later-none : (a : Option Value) → later a None ≡ a
 later-none None = refl
 later-none (Some v) = refl
 
-pub last-push : (block place : ℕ) (uses : List Use) (new : Use) → last_value block place (uses ++ new ∷ []) ≡ later (value_at block place new) (last_value block place uses)
+pub last-push : (block place : ℕ) (uses : List Use) (new : Use)
+    → last_value block place (uses ++ new ∷ []) ≡ later (value_at block place new) (last_value block place uses)
 last-push block place [] new = sym (later-none (value_at block place new))
 last-push block place (first ∷ uses) new =
     ap (λ z. later z (value_at block place first)) (last-push block place uses new)
     ∙ later-assoc (value_at block place new) (last_value block place uses) (value_at block place first)
 
 -- one more use
-pub table-step : (b : Bool) (value : Held) (old : Option Held) (last : Option Value) → option_map value_view old ≡ last →
+pub table-step : (b : Bool) (value : Held) (old : Option Held) (last : Option Value)
+    → option_map value_view old ≡ last →
     option_map value_view (cond b (Some value) old) ≡ later (cond b (Some (value_view value)) None) last
 table-step true value old last h = refl
 table-step false value old last h = h
 
 -- the value that counts, of the two that a reader holds
-pub view-or : (o : Option Held) (d : Held) → unwrap_or (option_map value_view o) (value_view d) ≡ value_view (unwrap_or o d)
+pub view-or : (o : Option Held) (d : Held)
+    → unwrap_or (option_map value_view o) (value_view d) ≡ value_view (unwrap_or o d)
 view-or None d = refl
 view-or (Some v) d = refl
 
--- a block further in
-pub along-none : (place : ℕ) (uses : List Use) (path rest : List OpenBlock) (block : OpenBlock) (outer : Option Value) → path ≡ block ∷ rest → None ≡ last_value block.number place uses →
-    value_along place uses path outer ≡ value_along place uses rest outer
-along-none place uses path rest block outer e h = ap (λ z. value_along place uses z outer) e ∙ sym (ap (λ z. value_along place uses rest (later z outer)) h)
+-- the scope of the file stands in no block
+scope-path : (most : ℕ) (outer : List ℕ) → path_within most outer 0 ≡ []
+scope-path zero outer = refl
+scope-path (suc most) outer = refl
 
-pub along-some : (place : ℕ) (uses : List Use) (path rest : List OpenBlock) (block : OpenBlock) (outer : Option Value) (value : Value) → path ≡ block ∷ rest → Some value ≡ last_value block.number place uses →
-    value_along place uses path outer ≡ value_along place uses rest (Some value)
-along-some place uses path rest block outer value e h = ap (λ z. value_along place uses z outer) e ∙ sym (ap (λ z. value_along place uses rest (later z outer)) h)
+pub along-scope : (place : ℕ) (uses : List Use) (outer : List ℕ) (most at : ℕ) → at ≡ 0
+    → value_along place uses (path_within most outer at) ≡ last_value 0 place uses
+along-scope place uses outer most at e = rw e (ap (value_along place uses) (scope-path most outer))
+
+-- in a block that has a value
+pub along-some : (place : ℕ) (uses : List Use) (outer : List ℕ) (left most at : ℕ) (value : Value) → left ≡ suc most
+    → (at ≡ 0 → ⊥) → Some value ≡ last_value at place uses
+    → value_along place uses (path_within left outer at) ≡ Some value
+along-some place uses outer left most zero value e some h = absurd (some refl)
+along-some place uses outer left most (suc at) value e some h =
+    rw e (ap (λ z. later z (value_along place uses (path_within most outer (block_around outer (suc at))))) (sym h))
+
+-- a block further out
+pub along-none : (place : ℕ) (uses : List Use) (outer : List ℕ) (left most at : ℕ) → left ≡ suc most → (at ≡ 0 → ⊥)
+    → None ≡ last_value at place uses
+    → value_along place uses (path_within left outer at) ≡ value_along place uses
+    (path_within most outer (block_around outer at))
+along-none place uses outer left most zero e some h = absurd (some refl)
+along-none place uses outer left most (suc at) e some h =
+    rw e (ap (λ z. later z (value_along place uses (path_within most outer (block_around outer (suc at))))) (sym h))
 
 is_eq-nat : (x y : ℕ) → is_eq (nat_cmp x y) ≡ (x == y)
 is_eq-nat x y =
@@ -63,23 +84,36 @@ is_eq-nat x y =
     ]
 
 -- two places in a table are the same
-pub same-place : (block place other_block other_place : ℕ) → is_eq (place_cmp (block, place) (other_block, other_place)) ≡ (block == other_block && place == other_place)
+pub same-place : (block place other_block other_place : ℕ)
+    → is_eq (place_cmp (block, place) (other_block, other_place)) ≡ (block == other_block && place == other_place)
 same-place block place other_block other_place =
-    sym (tied_then (nat_cmp block other_block) (nat_cmp place other_place)) ∙ ap (λ z. z && is_eq (nat_cmp place other_place)) (is_eq-nat block other_block)
+    sym (tied_then (nat_cmp block other_block) (nat_cmp place other_place))
+    ∙ ap (λ z. z && is_eq (nat_cmp place other_place)) (is_eq-nat block other_block)
     ∙ ap (λ z. (block == other_block) && z) (is_eq-nat place other_place)
 
 -- the table after one more use
-pub table-more : (values new : BTreeMap (ℕ × ℕ) Held) (uses : List HeldUse) (i : ℕ) (d : HeldUse) (at : ℕ) → i < length uses → at ≡ (row_of (get_or uses i d).key).place →
-    ((q : ℕ × ℕ) → get place_cmp new q ≡ cond (is_eq (place_cmp ((get_or uses i d).block, at) q)) (Some (get_or uses i d).value) (get place_cmp values q)) →
-    ((block place : ℕ) → option_map value_view (get place_cmp values (block, place)) ≡ last_value block place (map use_view (take i uses))) →
-    (block place : ℕ) → option_map value_view (get place_cmp new (block, place)) ≡ last_value block place (map use_view (take (i + 1) uses))
+pub table-more : (values new : BTreeMap (ℕ × ℕ) Held) (uses : List HeldUse) (i : ℕ) (d : HeldUse) (at : ℕ)
+    → i < length uses → at ≡ (row_of (get_or uses i d).key).place →
+    ((q : ℕ × ℕ)
+    → get place_cmp new q ≡ cond (is_eq (place_cmp ((get_or uses i d).block, at) q)) (Some (get_or uses i d).value)
+    (get place_cmp values q)) →
+    ((block place : ℕ)
+    → option_map value_view (get place_cmp values (block, place)) ≡ last_value block place
+    (map use_view (take i uses))) →
+    (block place : ℕ)
+    → option_map value_view (get place_cmp new (block, place)) ≡ last_value block place
+    (map use_view (take (i + 1) uses))
 table-more values new uses i d at h k updates inv block place =
     let held = get_or uses i d in
     let before = get place_cmp values (block, place) in
-    let here : get place_cmp new (block, place) ≡ cond (held.block == block && (row_of held.key).place == place) (Some held.value) before =
-    updates (block, place) ∙ ap (λ z. cond z (Some held.value) before) (same-place held.block at block place ∙ ap (λ z. held.block == block && z == place) k) in
+    let here : get place_cmp new (block, place) ≡ cond (held.block == block && (row_of held.key).place == place)
+    (Some held.value) before =
+    updates (block, place)
+    ∙ ap (λ z. cond z (Some held.value) before)
+    (same-place held.block at block place ∙ ap (λ z. held.block == block && z == place) k) in
     let more : map use_view (take (i + 1) uses) ≡ map use_view (take i uses) ++ use_view held ∷ [] =
     ap (map use_view) (take_more uses i d h) ∙ map-append use_view (take i uses) (held ∷ []) in
     ap (option_map value_view) here
-    ∙ table-step (held.block == block && (row_of held.key).place == place) held.value before (last_value block place (map use_view (take i uses))) (inv block place)
+    ∙ table-step (held.block == block && (row_of held.key).place == place) held.value before
+    (last_value block place (map use_view (take i uses))) (inv block place)
     ∙ sym (ap (last_value block place) more ∙ last-push block place (map use_view (take i uses)) (use_view held))

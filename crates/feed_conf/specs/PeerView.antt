@@ -32,10 +32,10 @@ settings_view conf = record {
 }
 
 -- all peers have their values, or the first whose shares are crossed is the fault, memory aside
-abbrev pub Judges : List Use → List Declared → Result (Vec PeerConf Global) ConfFault → Type 0
-Judges uses peers made = MatchResult made
-    (λ confs. (map settings_view confs.items ≡ map (settings_of uses) peers) × (find (is_low_above_high uses) peers ≡ None))
-    (λ fault. fault.kind ≢ NoMemory → (peer : Declared) × (find (is_low_above_high uses) peers ≡ Some peer) × (fault ≡ record { line = peer.line; kind = LowAboveHigh }))
+abbrev pub Judges : List Use → (outer : List ℕ) → List Declared → Result (Vec PeerConf Global) ConfFault → Type 0
+Judges uses outer peers made = MatchResult made
+    (λ confs. (map settings_view confs.items ≡ map (settings_of uses outer) peers) × (find (is_low_above_high uses outer) peers ≡ None))
+    (λ fault. fault.kind ≢ NoMemory → (peer : Declared) × (find (is_low_above_high uses outer) peers ≡ Some peer) × (fault ≡ record { line = peer.line; kind = LowAboveHigh }))
 
 -- the map finds each peer by its name
 abbrev pub FindsNames : BTreeMap (String Global) ℕ → List Settings → Type 0

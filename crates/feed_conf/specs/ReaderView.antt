@@ -17,7 +17,7 @@ abbrev pub use_view : HeldUse → Use
 use_view held = record { block = held.block; key = held.key; value = value_view held.value }
 
 abbrev pub declared_view : HeldPeer → Declared
-declared_view peer = record { name = peer.name; line = peer.line; path = peer.path.items }
+declared_view peer = record { name = peer.name; line = peer.line; block = peer.block }
 
 abbrev pub report_view : Ignored → Report
 report_view report = record { line = report.line; key = report.key.items; limited = report.limited }
@@ -26,6 +26,7 @@ abbrev pub reader_view : Reader → State
 reader_view reader = record {
   around = reader.around.items;
   opened = reader.opened;
+  outer = reader.outer.items;
   uses = map use_view reader.uses.items;
   peers = map declared_view reader.peers.items;
   reports = map report_view reader.ignored.items;

@@ -1,5 +1,6 @@
 -- What the lines of settings make, item by item, up to the first fault (profile).
-use Rattle.std.specs.Prelude.{◌==◌, ◌+◌, ◌-◌, ◌&&◌, ℕ, Bool, true, false, not, List, [], ◌∷◌, ◌++◌, length, take, map, Option, None, Some, Result, Ok, Err, if◌then◌else◌}
+use Rattle.std.specs.Prelude.{◌==◌, ◌+◌, ◌-◌, ◌&&◌, ℕ, Bool, true, false, not, List, [], ◌∷◌, ◌++◌, length, take, map}
+use Rattle.std.specs.Prelude.{Option, None, Some, Result, Ok, Err, if◌then◌else◌}
 use Rattle.std.specs.List.{list_any, slice_get, slice_split}
 use Rattle.std.specs.Str.{bytes_eq}
 use Rattle.funnel.specs.Names.{is_peer_name}
@@ -19,11 +20,11 @@ pub record Use : Type 0 where
   pub key : Key
   pub value : Value
 
--- a peer that is declared, the line of its word, and the blocks that it stands in, from the outermost in to its own
+-- a peer that is declared, the line of its word, and the number of its own block
 pub record Declared : Type 0 where
   pub name : List ℕ
   pub line : ℕ
-  pub path : List OpenBlock
+  pub block : ℕ
 
 -- a use that is reported: as ignored, or as limited
 pub record Report : Type 0 where
@@ -37,12 +38,14 @@ pub record State : Type 0 where
   pub around : List OpenBlock
   -- how many blocks were opened
   pub opened : ℕ
+  -- for each of them, in the order of their words, the number of the block that it stands in, 0 for the scope of the file
+  pub outer : List ℕ
   pub uses : List Use
   pub peers : List Declared
   pub reports : List Report
 
 abbrev pub start : State
-start = record { around = []; opened = 0; uses = []; peers = []; reports = [] }
+start = record { around = []; opened = 0; outer = []; uses = []; peers = []; reports = [] }
 
 -- the innermost open block
 abbrev pub innermost : List OpenBlock → Option OpenBlock
@@ -65,14 +68,19 @@ abbrev pub block_at : State → ℕ → Bool → OpenBlock
 block_at state line is_peer = record { number = state.opened + 1; line = line; is_peer = is_peer }
 
 abbrev pub open_block : State → OpenBlock → State
-open_block state block = record state { around = state.around ++ block ∷ []; opened = state.opened + 1 }
+open_block state block = record state {
+  around = state.around ++ block ∷ [];
+  opened = state.opened + 1;
+  outer = state.outer ++ number_in (innermost state.around) ∷ [];
+}
 
 abbrev pub close_block : Option OpenBlock → State → Result State ConfFaultKind
 close_block None state = Err Unbalanced
 close_block (Some block) state = Ok (record state { around = take (length state.around - 1) state.around })
 
 abbrev pub report : State → ℕ → List ℕ → Bool → State
-report state line key limited = record state { reports = state.reports ++ record { line = line; key = key; limited = limited } ∷ [] }
+report state line key limited =
+    record state { reports = state.reports ++ record { line = line; key = key; limited = limited } ∷ [] }
 
 abbrev pub is_declared : List ℕ → List Declared → Bool
 is_declared name peers = list_any (λ (peer : Declared). bytes_eq name peer.name) peers
@@ -80,7 +88,8 @@ is_declared name peers = list_any (λ (peer : Declared). bytes_eq name peer.name
 abbrev pub declare : State → ℕ → List ℕ → State
 declare state line name =
     let block = block_at state line true in
-    record (open_block state block) { peers = state.peers ++ record { name = name; line = line; path = state.around ++ block ∷ [] } ∷ [] }
+    record (open_block state block)
+    { peers = state.peers ++ record { name = name; line = line; block = block.number } ∷ [] }
 
 -- the word `peer`: first its place is tried, then its name, and the brace last
 abbrev pub declare_peer : State → ℕ → List ℕ → Bool → Result State ConfFaultKind
@@ -93,7 +102,11 @@ declare_peer state line name braced =
 abbrev pub use_taken : State → ℕ → List ℕ → Key → Result Taken ConfFaultKind → Result State ConfFaultKind
 use_taken state line name key (Err kind) = Err kind
 use_taken state line name key (Ok taken) =
-    let next = record state { uses = state.uses ++ record { block = number_in (innermost state.around); key = key; value = taken.value } ∷ [] } in
+    let next =
+    record state {
+      uses = state.uses ++ record
+          { block = number_in (innermost state.around); key = key; value = taken.value } ∷ [];
+    } in
     Ok (if taken.limited then report next line name true else next)
 
 abbrev pub use_value : State → ℕ → List ℕ → Key → Option (List ℕ) → Result State ConfFaultKind
@@ -104,11 +117,13 @@ use_value state line name key (Some value) = use_taken state line name key (take
 abbrev pub use_key : State → ℕ → List ℕ → Option (List ℕ) → Option Key → Result State ConfFaultKind
 use_key state line name value None = Ok (report state line name false)
 use_key state line name value (Some key) =
-    if (row_of key).of_file && is_in_block (innermost state.around) then Ok (report state line name false) else use_value state line name key value
+    if (row_of key).of_file && is_in_block (innermost state.around) then Ok
+    (report state line name false) else use_value state line name key value
 
 abbrev pub step : State → ℕ → Item → Result State ConfFaultKind
 step state line (Peer name braced) = declare_peer state line name braced
-step state line Group = if is_in_peer (innermost state.around) then Err Unbalanced else Ok (open_block state (block_at state line false))
+step state line Group =
+    if is_in_peer (innermost state.around) then Err Unbalanced else Ok (open_block state (block_at state line false))
 step state line Closes = close_block (innermost state.around) state
 step state line (Uses name value) = use_key state line name value (key_of name)
 step state line (Stops kind) = Err kind

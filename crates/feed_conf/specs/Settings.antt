@@ -1,13 +1,17 @@
 -- The values of a peer, from the uses of keys (profile).
-use Rattle.std.specs.Prelude.{◌==◌, ◌&&◌, ◌*◌, ◌/◌, ℕ, Bool, false, List, [], ◌∷◌, nat_lt, map, Option, None, Some, Result, Ok, Err, unwrap_or, if◌then◌else◌}
-use Rattle.std.specs.List.{find}
+use Rattle.std.specs.Prelude.{◌==◌, ◌&&◌, ◌-◌, ◌*◌, ◌/◌, ℕ, suc, zero, Bool, false, List, [], ◌∷◌, nat_lt, map, Option}
+use Rattle.std.specs.Prelude.{None, Some, Result, Ok, Err, unwrap_or, if◌then◌else◌}
+use Rattle.std.specs.List.{find, slice_index}
 use Rattle.feed_conf.specs.Tokens.{Token}
 use Rattle.feed_conf.specs.Keys.{row_of}
 use Rattle.feed_conf.specs.Values.{Value, TextOf, SwitchOf, NumberOf}
 use Rattle.feed_conf.specs.Reading.{Use, Declared, Report, State, reading}
 use Rattle.feed_conf.specs.declared.key.Key.{Key}
-use Rattle.feed_conf.specs.declared.key.Key.TheVariants.{IpName, PortNumber, Streaming, MaxConnections, MaxQueueSize, NoCheckHigh, NoCheckLow, NoCheckFilter, ResponseTimeout, InitialReconnectTime, MaxReconnectTime, DropDeferred, BacklogLimit, BacklogLimitHighwater, BacklogFactor, NewsSpool, BacklogDirectory, StatusFile}
-use Rattle.feed_conf.specs.declared.reader.OpenBlock.{OpenBlock}
+use Rattle.feed_conf.specs.declared.key.Key.TheVariants.{IpName, PortNumber, Streaming, MaxConnections, MaxQueueSize}
+use Rattle.feed_conf.specs.declared.key.Key.TheVariants.{NoCheckHigh, NoCheckLow, NoCheckFilter, ResponseTimeout}
+use Rattle.feed_conf.specs.declared.key.Key.TheVariants.{InitialReconnectTime, MaxReconnectTime, DropDeferred}
+use Rattle.feed_conf.specs.declared.key.Key.TheVariants.{BacklogLimit, BacklogLimitHighwater, BacklogFactor, NewsSpool}
+use Rattle.feed_conf.specs.declared.key.Key.TheVariants.{BacklogDirectory, StatusFile}
 use Rattle.feed_conf.specs.declared.fault.ConfFault.{ConfFault}
 use Rattle.feed_conf.specs.declared.fault.ConfFaultKind.TheVariants.{LowAboveHigh}
 
@@ -18,23 +22,41 @@ later (Some value) earlier = Some value
 
 -- the value of a use, where it is one of this key in this block; a key is known by its place in the table
 abbrev pub value_at : ℕ → ℕ → Use → Option Value
-value_at block place entry = if entry.block == block && (row_of entry.key).place == place then Some entry.value else None
+value_at block place entry =
+    if entry.block == block && (row_of entry.key).place == place then Some entry.value else None
 
 -- the value of the last use in a block
 abbrev pub last_value : ℕ → ℕ → List Use → Option Value
 last_value block place [] = None
 last_value block place (entry ∷ uses) = later (last_value block place uses) (value_at block place entry)
 
--- The value along blocks, from the outermost in, of which an inner one goes before an outer one.
-abbrev pub value_along : ℕ → List Use → List OpenBlock → Option Value → Option Value
-value_along place uses [] outer = outer
-value_along place uses (block ∷ inner) outer = value_along place uses inner (later (last_value block.number place uses) outer)
+-- the number of the block that this one stands in, 0 for the scope of the file
+abbrev pub block_around : List ℕ → ℕ → ℕ
+block_around outer block = slice_index outer (block - 1)
 
--- The value of a key at a peer: the last use in its own block, else in its innermost group, and so outward, else in the scope of the
--- file, which is block 0, else the default.
-abbrev pub value_of : List Use → Declared → Key → Value
-value_of uses peer key =
-    unwrap_or (value_along (row_of key).place uses peer.path (last_value 0 (row_of key).place uses)) ((row_of key).default peer.name)
+-- a block and those that it stands in, from the inside out, so many at most
+abbrev pub path_within : (most : ℕ) → List ℕ → ℕ → List ℕ
+path_within zero outer block = []
+path_within (suc most) outer zero = []
+path_within (suc most) outer (suc block) = suc block ∷ path_within most outer (block_around outer (suc block))
+
+-- all of them: a block stands in one of a smaller number, so that there are no more than its number says
+abbrev pub path_of : List ℕ → ℕ → List ℕ
+path_of outer block = path_within block outer block
+
+-- The value along blocks, from the inside out, of which an inner one goes before an outer one, and the scope of the
+-- file, which is
+-- block 0, comes last.
+abbrev pub value_along : ℕ → List Use → List ℕ → Option Value
+value_along place uses [] = last_value 0 place uses
+value_along place uses (block ∷ outer) = later (last_value block place uses) (value_along place uses outer)
+
+-- The value of a key at a peer: the last use in its own block, else in its innermost group, and so outward, else in the
+-- scope of the
+-- file, else the default.
+abbrev pub value_of : List Use → (outer : List ℕ) → Declared → Key → Value
+value_of uses outer peer key =
+    unwrap_or (value_along (row_of key).place uses (path_of outer peer.block)) ((row_of key).default peer.name)
 
 -- the value of a key of the file
 abbrev pub value_in_file : List Use → Key → Value
@@ -56,7 +78,8 @@ text (TextOf octets) = octets
 text (SwitchOf on) = []
 text (NumberOf number) = []
 
--- The high water of a backlog: as it is written, or where that is 0 the limit times the factor, rounded down. A factor is in hundredths.
+-- The high water of a backlog: as it is written, or where that is 0 the limit times the factor, rounded down. A factor
+-- is in hundredths.
 abbrev pub high_water : ℕ → ℕ → ℕ → ℕ
 high_water written limit factor = if written == 0 then limit * factor / 100 else written
 
@@ -78,9 +101,9 @@ pub record Settings : Type 0 where
   pub backlog_limit : ℕ
   pub backlog_high : ℕ
 
-abbrev pub settings_of : List Use → Declared → Settings
-settings_of uses peer =
-    let value = value_of uses peer in
+abbrev pub settings_of : List Use → (outer : List ℕ) → Declared → Settings
+settings_of uses outer peer =
+    let value = value_of uses outer peer in
     record {
       name = peer.name;
       ip_name = text (value IpName);
@@ -96,12 +119,15 @@ settings_of uses peer =
       most_wait = number (value MaxReconnectTime);
       drop_deferred = switch (value DropDeferred);
       backlog_limit = number (value BacklogLimit);
-      backlog_high = high_water (number (value BacklogLimitHighwater)) (number (value BacklogLimit)) (number (value BacklogFactor));
+      backlog_high =
+          high_water (number (value BacklogLimitHighwater)) (number (value BacklogLimit))
+          (number (value BacklogFactor));
     }
 
 -- a peer whose low share is above its high share
-abbrev pub is_low_above_high : List Use → Declared → Bool
-is_low_above_high uses peer = nat_lt (number (value_of uses peer NoCheckHigh)) (number (value_of uses peer NoCheckLow))
+abbrev pub is_low_above_high : List Use → (outer : List ℕ) → Declared → Bool
+is_low_above_high uses outer peer =
+    nat_lt (number (value_of uses outer peer NoCheckHigh)) (number (value_of uses outer peer NoCheckLow))
 
 -- what settings say
 pub record Outcome : Type 0 where
@@ -118,7 +144,7 @@ outcome_of state = record {
   news_spool = text (value_in_file state.uses NewsSpool);
   backlog_directory = text (value_in_file state.uses BacklogDirectory);
   status_file = text (value_in_file state.uses StatusFile);
-  peers = map (settings_of state.uses) state.peers;
+  peers = map (settings_of state.uses state.outer) state.peers;
   reports = state.reports;
 }
 
@@ -128,7 +154,7 @@ judged_by None state = Ok (outcome_of state)
 judged_by (Some peer) state = Err (record { line = peer.line; kind = LowAboveHigh })
 
 abbrev pub judged : Result State ConfFault → Result Outcome ConfFault
-judged (Ok state) = judged_by (find (is_low_above_high state.uses) state.peers) state
+judged (Ok state) = judged_by (find (is_low_above_high state.uses state.outer) state.peers) state
 judged (Err fault) = Err fault
 
 -- what lines with these tokens say, or their first fault

@@ -28,31 +28,37 @@ fn high_water(written: u64, limit: u64, factor: u64) -> u64
 }
 
 // The values of a peer.
-fn peer_conf(alloc: Global, table: &Table<'_>, peer: &Declared) -> Result<PeerConf, ConfFaultKind>
+fn peer_conf(
+    alloc: Global,
+    table: &Table<'_>,
+    outer: &[usize],
+    peer: &Declared,
+) -> Result<PeerConf, ConfFaultKind>
     requires { HoldsBounded table.now }
-    ensures value { (uses : List Use) → IsTableOf table.now uses → IfOk result (λ conf. settings_view conf ≡ settings_of uses (declared_view peer.now)) }
+    ensures value { (uses : List Use) → IsTableOf table.now uses
+        → IfOk result (λ conf. settings_view conf ≡ settings_of uses outer.now (declared_view peer.now)) }
     ensures fault { IfErr result (λ kind. kind ≡ NoMemory) }
 {
-    let written = table.number(peer, Key::BacklogLimitHighwater);
-    let backlog_limit = table.number(peer, Key::BacklogLimit);
-    let factor = table.number(peer, Key::BacklogFactor);
+    let written = table.number(outer, peer, Key::BacklogLimitHighwater);
+    let backlog_limit = table.number(outer, peer, Key::BacklogLimit);
+    let factor = table.number(outer, peer, Key::BacklogFactor);
     let backlog_high = high_water(written, backlog_limit, factor);
     let name = peer.name.clone()?;
-    let ip_name = table.text(alloc, peer, Key::IpName)?;
+    let ip_name = table.text(alloc, outer, peer, Key::IpName)?;
     Ok(PeerConf {
         name,
         ip_name,
-        port: table.number(peer, Key::PortNumber),
-        streaming: table.switch(peer, Key::Streaming),
-        max_connections: table.number(peer, Key::MaxConnections),
-        max_queue: table.number(peer, Key::MaxQueueSize),
-        check_high: table.number(peer, Key::NoCheckHigh),
-        check_low: table.number(peer, Key::NoCheckLow),
-        check_filter: table.number(peer, Key::NoCheckFilter),
-        response_timeout: table.number(peer, Key::ResponseTimeout),
-        first_wait: table.number(peer, Key::InitialReconnectTime),
-        most_wait: table.number(peer, Key::MaxReconnectTime),
-        drop_deferred: table.switch(peer, Key::DropDeferred),
+        port: table.number(outer, peer, Key::PortNumber),
+        streaming: table.switch(outer, peer, Key::Streaming),
+        max_connections: table.number(outer, peer, Key::MaxConnections),
+        max_queue: table.number(outer, peer, Key::MaxQueueSize),
+        check_high: table.number(outer, peer, Key::NoCheckHigh),
+        check_low: table.number(outer, peer, Key::NoCheckLow),
+        check_filter: table.number(outer, peer, Key::NoCheckFilter),
+        response_timeout: table.number(outer, peer, Key::ResponseTimeout),
+        first_wait: table.number(outer, peer, Key::InitialReconnectTime),
+        most_wait: table.number(outer, peer, Key::MaxReconnectTime),
+        drop_deferred: table.switch(outer, peer, Key::DropDeferred),
         backlog_limit,
         backlog_high,
     })
@@ -70,14 +76,16 @@ fn add_conf(mut confs: Vec<PeerConf>, conf: PeerConf) -> Result<Vec<PeerConf>, C
 pub(crate) fn peer_confs(
     alloc: Global,
     table: &Table<'_>,
+    outer: &[usize],
     peers: &[Declared],
 ) -> Result<Vec<PeerConf>, ConfFault>
     requires { HoldsBounded table.now }
-    ensures { (uses : List Use) → IsTableOf table.now uses → Judges uses (map declared_view peers.now) result }
+    ensures { (uses : List Use) → IsTableOf table.now uses
+        → Judges uses outer.now (map declared_view peers.now) result }
 {
     let mut confs = Vec::new(alloc);
     for peer in peers {
-        match peer_conf(alloc, table, peer) {
+        match peer_conf(alloc, table, outer, peer) {
             Err(kind) => return Err(ConfFault {
                 line: peer.line,
                 kind,

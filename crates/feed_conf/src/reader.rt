@@ -43,8 +43,8 @@ pub(crate) struct Declared {
     pub(crate) name: PeerName,
     /// The line of its word.
     pub(crate) line: u64,
-    /// The blocks that it stands in, from the outermost in to its own.
-    pub(crate) path: Vec<OpenBlock>,
+    /// The number of its own block.
+    pub(crate) block: usize,
 }
 
 /// What was read so far.
@@ -55,6 +55,8 @@ pub(crate) struct Reader<'t> {
     pub(crate) around: Vec<OpenBlock>,
     /// How many blocks were opened.
     pub(crate) opened: usize,
+    /// For each of them, the number of the block that it stands in.
+    pub(crate) outer: Vec<usize>,
     pub(crate) uses: Vec<Use<'t>>,
     pub(crate) peers: Vec<Declared>,
     pub(crate) ignored: Vec<Ignored>,
@@ -72,6 +74,7 @@ impl<'t> Reader<'t> {
             alloc,
             around: Vec::new(alloc),
             opened: 0,
+            outer: Vec::new(alloc),
             uses: Vec::new(alloc),
             peers: Vec::new(alloc),
             ignored: Vec::new(alloc),
@@ -130,6 +133,8 @@ impl<'t> Reader<'t> {
         ensures state { MatchResult result (λ r. reader_view r ≡ open_block (reader_view self.entry) (block_at (reader_view self.entry) line is_peer)) (λ kind. kind ≡ NoMemory) }
         ensures kept { IfOk result (λ r. (r.names ≡ self.entry.names) × (r.peers ≡ self.entry.peers)) }
     {
+        let outer = self.number();
+        self.outer.push(outer)?;
         let number = self.opened + 1;
         self.opened = number;
         self.around.push(OpenBlock {
@@ -191,9 +196,9 @@ impl<'t> Reader<'t> {
         let alloc = self.alloc;
         let place = self.peers.len();
         let key = String::from_str(alloc, text_of(&name))?;
+        let block = self.opened + 1;
         let mut reader = self.open(line, true)?;
-        let path = Vec::from_slice(alloc, &reader.around)?;
-        reader.peers.push(Declared { name, line, path })?;
+        reader.peers.push(Declared { name, line, block })?;
         reader.names.insert(key, place)?;
         Ok(reader)
     }

@@ -23,7 +23,7 @@ fn make_conf(alloc: Global, reader: Reader<'_>) -> Result<Conf, ConfFault>
     ensures { Makes (judged (Ok (reader_view reader.entry))) result }
 {
     let table = table_of(alloc, &reader.uses)?;
-    let peers = peer_confs(alloc, &table, &reader.peers)?;
+    let peers = peer_confs(alloc, &table, &reader.outer, &reader.peers)?;
     let news_spool = table.file_text(alloc, Key::NewsSpool)?;
     let backlog_directory = table.file_text(alloc, Key::BacklogDirectory)?;
     let status_file = table.file_text(alloc, Key::StatusFile)?;
@@ -31,6 +31,7 @@ fn make_conf(alloc: Global, reader: Reader<'_>) -> Result<Conf, ConfFault>
         alloc: _,
         around: _,
         opened: _,
+        outer: _,
         uses: _,
         peers: _,
         ignored,

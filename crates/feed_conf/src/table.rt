@@ -4,12 +4,12 @@ ghost use Rattle.std.specs.Option.{option_map};
 ghost use Rattle.feed_conf.specs.Keys.{row_of};
 ghost use Rattle.feed_conf.specs.Reading.{Use as Noted};
 ghost use Rattle.feed_conf.specs.ReaderView.{declared_view};
-ghost use Rattle.feed_conf.specs.Settings.{last_value, number, switch, text, value_along, value_in_file, value_of};
+ghost use Rattle.feed_conf.specs.Settings.{block_around, last_value, number, path_of, switch, text, value_along, value_in_file, value_of};
 ghost use Rattle.feed_conf.specs.TableView.{IsTableOf, uses_view};
 ghost use Rattle.feed_conf.specs.ValueView.{value_view};
 
 use crate::key::Key;
-use crate::reader::{Declared, OpenBlock, Use};
+use crate::reader::{Declared, Use};
 use crate::value::Value;
 use std::alloc::{AllocError, Global};
 use std::collections::BTreeMap;
@@ -36,6 +36,16 @@ pub(crate) fn table_of<'t>(alloc: Global, uses: &[Use<'t>]) -> Result<Table<'t>,
     Ok(Table { values })
 }
 
+// The number of the block that a block stands in, 0 for the scope of the file.
+fn block_around(outer: &[usize], block: usize) -> usize
+    ensures { result ≡ block_around outer.now block }
+{
+    match outer.get(block.saturating_sub(1)) {
+        Some(number) => *number,
+        None => 0,
+    }
+}
+
 impl<'t> Table<'t> {
     // The value of a key's last use in a block.
     fn last_value(&self, block: usize, key: Key) -> Option<Value<'t>>
@@ -44,25 +54,29 @@ impl<'t> Table<'t> {
         self.values.get(&(block, key.place())).copied()
     }
 
-    // The value of a key along blocks, from the outermost in.
-    fn value_along(&self, path: &[OpenBlock], key: Key) -> Option<Value<'t>>
-        ensures { (uses : List Noted) → IsTableOf self.now uses → option_map value_view result ≡ value_along (row_of key).place uses path.now (last_value 0 (row_of key).place uses) }
+    // The value of a key in a block, else in those that it stands in, from the inside out.
+    fn value_along(&self, outer: &[usize], block: usize, key: Key) -> Option<Value<'t>>
+        ensures { (uses : List Noted) → IsTableOf self.now uses
+            → option_map value_view result ≡ value_along (row_of key).place uses (path_of outer.now block) }
     {
-        let mut found = self.last_value(0, key);
-        for block in path {
-            match self.last_value(block.number, key) {
-                None => {}
-                Some(value) => found = Some(value),
+        let mut at = block;
+        for step in 0..block {
+            if at == 0 {
+                return self.last_value(0, key);
+            }
+            match self.last_value(at, key) {
+                Some(value) => return Some(value),
+                None => at = block_around(outer, at),
             }
         }
-        found
+        self.last_value(0, key)
     }
 
     // The number that a key has at a peer.
-    pub(crate) fn number(&self, peer: &Declared, key: Key) -> u64
-        ensures { (uses : List Noted) → IsTableOf self.now uses → result ≡ number (value_of uses (declared_view peer.now) key) }
+    pub(crate) fn number(&self, outer: &[usize], peer: &Declared, key: Key) -> u64
+        ensures { (uses : List Noted) → IsTableOf self.now uses → result ≡ number (value_of uses outer.now (declared_view peer.now) key) }
     {
-        let value = self.value_along(&peer.path, key);
+        let value = self.value_along(outer, peer.block, key);
         match value.unwrap_or(key.default_value(peer.name.bytes())) {
             Value::Number(number) => number,
             Value::Text(_) => 0,
@@ -71,10 +85,10 @@ impl<'t> Table<'t> {
     }
 
     // The boolean that a key has at a peer.
-    pub(crate) fn switch(&self, peer: &Declared, key: Key) -> bool
-        ensures { (uses : List Noted) → IsTableOf self.now uses → result ≡ switch (value_of uses (declared_view peer.now) key) }
+    pub(crate) fn switch(&self, outer: &[usize], peer: &Declared, key: Key) -> bool
+        ensures { (uses : List Noted) → IsTableOf self.now uses → result ≡ switch (value_of uses outer.now (declared_view peer.now) key) }
     {
-        let value = self.value_along(&peer.path, key);
+        let value = self.value_along(outer, peer.block, key);
         match value.unwrap_or(key.default_value(peer.name.bytes())) {
             Value::Switch(on) => on,
             Value::Text(_) => false,
@@ -86,12 +100,13 @@ impl<'t> Table<'t> {
     pub(crate) fn text(
         &self,
         alloc: Global,
+        outer: &[usize],
         peer: &Declared,
         key: Key,
     ) -> Result<Vec<u8>, AllocError>
-        ensures { (uses : List Noted) → IsTableOf self.now uses → IfOk result (λ v. v.items ≡ text (value_of uses (declared_view peer.now) key)) }
+        ensures { (uses : List Noted) → IsTableOf self.now uses → IfOk result (λ v. v.items ≡ text (value_of uses outer.now (declared_view peer.now) key)) }
     {
-        let value = self.value_along(&peer.path, key);
+        let value = self.value_along(outer, peer.block, key);
         match value.unwrap_or(key.default_value(peer.name.bytes())) {
             Value::Text(octets) => Vec::from_slice(alloc, octets),
             Value::Switch(_) => Ok(Vec::new(alloc)),

@@ -9,6 +9,10 @@ pub high_water-backlog_high-requires : goal.high_water-backlog_high-requires
 high_water-backlog_high-requires c =
     let uses = c.requires.0 in
     let peer = declared_view c.args.peer.now in
-    let limit : c.number-backlog_limit.result ≤ 4294967296 = subst (λ n. n ≤ 4294967296) (sym (c.number-backlog_limit.ensures uses c.requires.1)) (value-within uses peer BacklogLimit c.requires.2) in
-    let factor : c.number-factor.result ≤ 10000 = subst (λ n. n ≤ 10000) (sym (c.number-factor.ensures uses c.requires.1)) (value-within uses peer BacklogFactor c.requires.2) in
+    let limit : c.number-backlog_limit.result ≤ 4294967296 =
+    subst (λ n. n ≤ 4294967296) (sym (c.number-backlog_limit.ensures uses c.requires.1))
+    (value-within uses c.args.outer.now peer BacklogLimit c.requires.2) in
+    let factor : c.number-factor.result ≤ 10000 =
+    subst (λ n. n ≤ 10000) (sym (c.number-factor.ensures uses c.requires.1))
+    (value-within uses c.args.outer.now peer BacklogFactor c.requires.2) in
     product-fits c.number-backlog_limit.result c.number-factor.result limit factor

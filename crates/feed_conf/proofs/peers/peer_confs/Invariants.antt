@@ -9,5 +9,6 @@ use Rattle.feed_conf.proofs.peers.peer_confs.Given as goal
 
 abbrev pub invariant-loop-peer : goal.invariant-loop-peer
 invariant-loop-peer l = (uses : List Use) → IsTableOf l.table uses →
-    (map settings_view l.confs.items ≡ map (settings_of uses) (map declared_view (take l.peer-index l.peers)))
-    × (find (is_low_above_high uses) (map declared_view (drop l.peer-index l.peers)) ≡ find (is_low_above_high uses) (map declared_view l.peers))
+    (map settings_view l.confs.items ≡ map (settings_of uses l.outer) (map declared_view (take l.peer-index l.peers)))
+    × (find (is_low_above_high uses l.outer) (map declared_view (drop l.peer-index l.peers)) ≡ find
+    (is_low_above_high uses l.outer) (map declared_view l.peers))

@@ -11,9 +11,20 @@ pub invariant_of-result : goal.invariant_of-result
 invariant_of-result c =
     let uses = uses_view c.deref.result.now in
     let peers = map declared_view c.args.reader.peers.items in
-    let same = (c.in_ok-peers.ensures uses c.in_ok-table.ensures).0 ∙ ap (λ z. map (settings_of uses) (map declared_view z)) c.deref-2.ensures.value in
-    record { named = λ octets. c.requires.named octets ∙ ap (place_of octets) (sym (ap (map (λ (peer : Settings). peer.name)) same ∙ names-kept uses peers)) }
+    let same =
+    (c.in_ok-peers.ensures uses c.in_ok-table.ensures).0
+    ∙ ap (λ z. map (settings_of uses c.deref-2.result.now) (map declared_view z)) c.deref-3.ensures.value in
+    record {
+      named = λ octets. c.requires.named octets
+          ∙ ap (place_of octets)
+          (sym (ap (map (λ (peer : Settings). peer.name)) same ∙ names-kept uses c.deref-2.result.now peers));
+    }
 
 -- the uses that the table is of were read, and so they are bounded
 pub peer_confs-requires : goal.peer_confs-requires
-peer_confs-requires c = (uses_view c.deref.result.now, c.in_ok-table.ensures, subst (λ us. AreBounded (uses_view us)) (sym c.deref.ensures.value) c.requires.bounded)
+peer_confs-requires c = (
+  uses_view c.deref.result.now,
+  c.in_ok-table.ensures,
+  subst (λ us. AreBounded (uses_view us))
+      (sym c.deref.ensures.value) c.requires.bounded,
+)
