@@ -1,11 +1,13 @@
 // A link in memory, which moves octets in pieces, and ends where it is told to.
-ghost use Rattle.std.specs.Prelude.{◌≡◌, ◌≤◌, ◌++◌, Some, IfSome, OnOk, OnErr, length, take, []};
-ghost use Rattle.event_loop.specs.Link.{moved};
+ghost use Rattle.std.specs.Prelude.{◌≡◌, ◌≤◌, ◌⊎◌, ◌++◌, Some, IfSome, OnOk, OnErr, length, take, []};
+ghost use Rattle.event_loop.specs.Link.{Tells, moved};
+ghost use Rattle.event_loop.specs.Memory.{after_giving, after_taking, cut, gives_now, met, takes_now};
 
 use crate::link::Link;
 use crate::moved::Moved;
 use std::alloc::{AllocError, Global};
 use std::cmp;
+use std::marker::Model;
 
 /// Where one direction ends.
 #[derive(Clone, Copy, Debug, PartialEq, Eq)]
@@ -21,6 +23,7 @@ pub enum End {
 impl End {
     // What comes in the place of a move, behind so many octets.
     fn met(self, count: usize) -> Option<Moved>
+        ensures value { result ≡ met self count }
         ensures ends { result ≡ Some Moved.Later → ⊥ }
         ensures moves { IfSome result (λ ending. moved ending ≡ 0) }
     {
@@ -33,7 +36,8 @@ impl End {
 
     // How many octets go before it, of so many.
     fn cut(self, count: usize, wanted: usize) -> usize
-        ensures { result ≤ wanted }
+        ensures value { result ≡ cut self count wanted }
+        ensures within { result ≤ wanted }
     {
         match self {
             End::Never => wanted,
@@ -53,11 +57,35 @@ pub struct MemLink {
     takes: End,
 }
 
+impl Model for MemLink {
+    ghost use Rattle.std.specs.Prelude.{◌≤◌, drop, length, take};
+    ghost use Rattle.event_loop.specs.Memory.{Memory};
+
+    ghost Value = { Memory };
+
+    ghost view = { λ link. record {
+      gave = take link.given link.source.items;
+      waiting = drop link.given link.source.items;
+      taken = link.sink.items;
+      piece = link.piece;
+      gives = link.gives;
+      takes = link.takes;
+    } };
+
+    ghost invariant = { λ link. link.given ≤ length link.source.items };
+}
+
 impl MemLink {
     /// One that gives these octets, moves at most `piece` at a time, and ends so in each direction.
     pub fn new(alloc: Global, source: Vec<u8>, piece: usize, gives: End, takes: End) -> Self
-        ensures gives { result.source.items ≡ source.items }
-        ensures nothing { (result.given ≡ 0) × (result.sink.items ≡ []) }
+        ensures { result ≡ record {
+          gave = [];
+          waiting = source.items;
+          taken = [];
+          piece = piece;
+          gives = gives;
+          takes = takes;
+        } }
     {
         MemLink {
             source,
@@ -74,32 +102,38 @@ impl MemLink {
     /// # Errors
     /// `AllocError` where memory was refused: nothing changes.
     pub fn extend(&mut self, octets: &[u8]) -> Result<(), AllocError>
-        ensures ok { OnOk result (self.new.source.items ≡ self.old.source.items ++ octets.now) }
-        ensures unchanged { OnErr result (self.new.source.items ≡ self.old.source.items) }
-        ensures given { self.new.given ≡ self.old.given }
-        ensures taken { self.new.sink.items ≡ self.old.sink.items }
+        ensures ok { OnOk result
+            (self.new ≡ record self.old { waiting = self.old.waiting ++ octets.now }) }
+        ensures unchanged { OnErr result (self.new ≡ self.old) }
     {
         self.source.extend_from_slice(octets)
     }
 
     /// The octets that it took, oldest first.
     pub fn taken(&self) -> &[u8]
-        ensures { result.now ≡ self.now.sink.items }
+        ensures { result.now ≡ self.now.taken }
     {
         &self.sink
     }
 }
 
 impl Link for MemLink {
-    ghost took = { λ link. Some link.sink.items };
+    ghost took = { λ link. Some link.taken };
 
-    ghost gave = { λ link. Some (take link.given link.source.items) };
+    ghost gave = { λ link. Some link.gave };
 
     ghost full = { λ link. ⊥ };
 
-    ghost dry = { λ link. length link.source.items ≤ link.given };
+    ghost dry = { λ link. link.waiting ≡ [] };
 
-    fn recv(&mut self, into: &mut [u8]) -> Moved {
+    fn recv(&mut self, into: &mut [u8]) -> Moved
+        ensures within { moved result ≤ length into.new }
+        ensures gave { Tells (Some self.old.gave) (take (moved result) into.new) (Some self.new.gave) }
+        ensures took { Some self.new.taken ≡ Some self.old.taken }
+        ensures dry { result ≡ Moved.Later → self.new.waiting ≡ [] }
+        ensures answer { result ≡ gives_now self.old (length into.old) }
+        ensures moves { self.new ≡ after_giving self.old (moved result) }
+    {
         if let Some(ending) = self.gives.met(self.given) {
             return ending;
         }
@@ -114,7 +148,14 @@ impl Link for MemLink {
         Moved::Done(count)
     }
 
-    fn send(&mut self, from: &[u8]) -> Moved {
+    fn send(&mut self, from: &[u8]) -> Moved
+        ensures within { moved result ≤ length from.now }
+        ensures took { Tells (Some self.old.taken) (take (moved result) from.now) (Some self.new.taken) }
+        ensures gave { Some self.new.gave ≡ Some self.old.gave }
+        ensures full { result ≡ Moved.Later → ⊥ }
+        ensures answer { (result ≡ takes_now self.old (length from.now)) ⊎ (result ≡ Moved.Fault) }
+        ensures moves { self.new ≡ after_taking self.old (take (moved result) from.now) }
+    {
         if let Some(ending) = self.takes.met(self.sink.len()) {
             return ending;
         }

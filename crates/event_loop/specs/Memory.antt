@@ -1,0 +1,56 @@
+-- A link in memory: what it gives and takes, few octets at a time, up to where each direction ends (profile).
+use Rattle.std.specs.Prelude.{ℕ, ◌-◌, nat_le, min, List, [], ◌∷◌, ◌++◌, length, take, drop, Option, None, Some}
+use Rattle.std.specs.Prelude.{unwrap_or, if◌then◌else◌}
+use Rattle.event_loop.specs.declared.memory.End.{End}
+use Rattle.event_loop.specs.declared.memory.End.TheVariants.{Never, Closes, Fails}
+use Rattle.event_loop.specs.declared.moved.Moved.{Moved}
+use Rattle.event_loop.specs.declared.moved.Moved.TheVariants.{Done, Later, Closed, Fault}
+
+-- what a link in memory holds
+pub record Memory : Type 0 where
+  pub gave : List ℕ  -- the octets that it gave, oldest first
+  pub waiting : List ℕ  -- those that it has still to give
+  pub taken : List ℕ  -- the octets that it took, oldest first
+  pub piece : ℕ  -- the most octets that a call moves
+  pub gives : End  -- where it gives no more
+  pub takes : End  -- where it takes no more
+
+-- what comes in the place of a move, behind so many octets
+abbrev pub met : End → ℕ → Option Moved
+met Never count = None
+met (Closes at) count = if nat_le at count then Some Closed else None
+met (Fails at) count = if nat_le at count then Some Fault else None
+
+-- how many octets go before the end, of so many wanted behind so many
+abbrev pub cut : End → (count wanted : ℕ) → ℕ
+cut Never count wanted = wanted
+cut (Closes at) count wanted = min wanted (at - count)
+cut (Fails at) count wanted = min wanted (at - count)
+
+-- what is moved of so many octets, or that none waits
+abbrev pub move_of : List ℕ → ℕ → Moved
+move_of [] count = Later
+move_of (octet ∷ waiting) count = Done count
+
+-- what it answers where there is room for so many octets: its end, where that is met; else as many as wait, up to a
+-- piece and to the
+-- end
+abbrev pub gives_now : Memory → (room : ℕ) → Moved
+gives_now link room =
+    unwrap_or (met link.gives (length link.gave))
+    (move_of link.waiting (cut link.gives (length link.gave) (min (min link.piece room) (length link.waiting))))
+
+-- so many more were given
+abbrev pub after_giving : Memory → ℕ → Memory
+after_giving link count = record link { gave = link.gave ++ take count link.waiting; waiting = drop count link.waiting }
+
+-- what it answers where so many octets are offered: its end, where that is met; else as many as are offered, up to a
+-- piece and to the
+-- end
+abbrev pub takes_now : Memory → (offered : ℕ) → Moved
+takes_now link offered =
+    unwrap_or (met link.takes (length link.taken)) (Done (cut link.takes (length link.taken) (min link.piece offered)))
+
+-- these more were taken
+abbrev pub after_taking : Memory → List ℕ → Memory
+after_taking link octets = record link { taken = link.taken ++ octets }
