@@ -11,6 +11,7 @@ mod Clock
 mod Replies
 mod Articles
 mod Public
+mod Agreed
 mod Lookups
 mod TakenLately
 mod Answering

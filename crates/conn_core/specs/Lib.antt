@@ -5,6 +5,7 @@ pub mod History
 pub mod Kept
 pub mod Left
 pub mod Machine
+pub mod Mode
 pub mod Receipt
 pub mod Room
 pub mod Stands

@@ -3,6 +3,7 @@ ghost use Rattle.std.specs.Prelude.{◌≡◌, ◌↔◌, ◌≤◌, ◌<◌, �
 ghost use Rattle.conn_core.specs.Commands.{Handing};
 ghost use Rattle.conn_core.specs.Left.{IsLeftOpen, IsReading, ReadsOne, size_of};
 ghost use Rattle.conn_core.specs.History.{Event, Offered, Handed, Sent, Tick, Broke, Leave, reason, checks, need, needed, output, after, outside, noted};
+ghost use Rattle.conn_core.specs.Mode.{mode};
 ghost use Rattle.conn_core.specs.Receipt.{IsHandedAs, IsSendableArticle, Receives, ReceivesSome};
 ghost use Rattle.conn_core.specs.Stands.{Refuses, RefusesArticle, Stands, Takes, left_behind, ready_of};
 ghost use Rattle.conn_core.specs.State.{output_at, untold_at};
@@ -10,6 +11,7 @@ ghost use Rattle.conn_core.specs.declared.options.Options.{Options};
 
 use crate::article::ArticleFault;
 use crate::machine::Machine;
+use crate::mode::Mode;
 use crate::offer::{Back, OfferFault};
 use crate::options::{CxnId, Options};
 use crate::outcome::Outcome;
@@ -65,6 +67,14 @@ impl Conn {
         ensures { (options : Options) (unread : List ℕ) (h : List Event) → Stands options self.now unread h → result ≡ ready_of options h }
     {
         self.machine.ready()
+    }
+
+    /// The mode that its peer has agreed to: `None` before that, once QUIT is out, and once it is closed.
+    pub fn mode(&self) -> Option<Mode>
+        ensures { (options : Options) (unread : List ℕ) (h : List Event)
+            → Stands options self.now unread h → result ≡ mode options h }
+    {
+        self.machine.mode()
     }
 
     /// Takes a debt: a CHECK goes out, or its article is wanted.

@@ -4,6 +4,7 @@ ghost use Rattle.conn_core.specs.Commands.{Want, check_of, is_of, want_of};
 ghost use Rattle.conn_core.specs.History.{is_mode, is_streaming, room};
 ghost use Rattle.conn_core.specs.Machine.{TakesOne, asked, asked_to_quit, faulted, fresh, is_awaiting, leave, newly, offered, ready_at, sent_off, shut, ticked};
 ghost use Rattle.conn_core.specs.Kept.{with_newly};
+ghost use Rattle.conn_core.specs.Mode.{mode_at, mode_in};
 ghost use Rattle.conn_core.specs.State.{output_of};
 ghost use Rattle.conn_core.specs.declared.reason.Reason.TheVariants.{Broken};
 
@@ -12,6 +13,7 @@ use crate::codes::Verb;
 use crate::kept::{AwaitedAsk, HeldDebt, WantedArticle};
 use crate::lines::{LONGEST_VERB, QUIT, id_len, put_line, skip};
 use crate::lookup::is_wanted;
+use crate::mode::Mode;
 use crate::options::Options;
 use crate::outcome::Outcome;
 use crate::phase::Phase;
@@ -114,6 +116,17 @@ fn room(options: &Options, phase: Phase) -> u64
     }
 }
 
+// The mode of a stage (RFC 4644, section 2.3).
+fn mode_in(phase: Phase) -> Option<Mode>
+    ensures { result ≡ mode_in phase }
+{
+    match phase {
+        Phase::Streaming => Some(Mode::Streaming),
+        Phase::OneByOne => Some(Mode::Ihave),
+        _ => None,
+    }
+}
+
 impl Machine {
     // A machine that holds nothing.
     pub(crate) fn new(alloc: Global, options: Options) -> Result<Self, AllocError>
@@ -148,6 +161,16 @@ impl Machine {
         } else {
             Ready::Busy
         }
+    }
+
+    // The mode that stands: none, once closed.
+    pub(crate) fn mode(&self) -> Option<Mode>
+        ensures { result ≡ mode_at self.now }
+    {
+        if self.closed.is_some() {
+            return None;
+        }
+        mode_in(self.phase)
     }
 
     // Takes a debt, while it is ready. An `Err` hands it back and changes nothing.
