@@ -7,10 +7,11 @@ ghost use Rattle.commands.specs.Fault.{Comes, IsLineOf};
 use crate::check::{checked, settings_of};
 use crate::exit::Exit;
 use crate::fault::Fault;
-use crate::feeds::Feeds;
+use crate::feeds::{FeedEnd, Feeds};
 use crate::files::ReadFile;
 use crate::order::Order;
 use drill::run_script;
+use feed_conf::Conf;
 use std::alloc::Global;
 use std::io::{self, Read, Write};
 
@@ -88,12 +89,15 @@ fn perform<'a, F: ReadFile, P: Feeds, S: Read, W: Write>(
         Order::DrillFromInput => drill_input(alloc, input, out),
         Order::Drill(path) => drill_file(alloc, files, path, out),
         Order::Check(path) => check_file(alloc, files, path, out),
-        Order::Owed(path) => list_owed(alloc, files, feeds, path, out),
+        Order::Owed(path) => serve(alloc, files, feeds, path, Errand::List, out),
         Order::Feed {
             conf,
             funnel,
             verbose,
-        } => feed(alloc, files, feeds, conf, funnel, verbose, out),
+        } => {
+            let errand = Errand::Feed { funnel, verbose };
+            serve(alloc, files, feeds, conf, errand, out)
+        }
         Order::Tell(text) => print(out, text.as_bytes()),
         Order::Mistake(what) => Err(Fault::Mistake(what)),
     }
@@ -156,12 +160,25 @@ fn check_file<'a, F: ReadFile, W: Write>(
     }
 }
 
-// Lists what the peers of a file's settings are owed.
-fn list_owed<'a, F: ReadFile, P: Feeds, W: Write>(
+// What is done with the settings in a file.
+#[derive(Clone, Copy)]
+enum Errand<'a> {
+    // Lists what their peers are owed.
+    List,
+    // Feeds their peers.
+    Feed {
+        funnel: Option<&'a str>,
+        verbose: bool,
+    },
+}
+
+// Runs an errand with the settings in a file.
+fn serve<'a, F: ReadFile, P: Feeds, W: Write>(
     alloc: Global,
     files: &F,
     feeds: &mut P,
     path: &'a str,
+    errand: Errand<'_>,
     out: &mut W,
 ) -> Result<Exit, Fault<'a>>
     ensures { Comes
@@ -170,33 +187,24 @@ fn list_owed<'a, F: ReadFile, P: Feeds, W: Write>(
 {
     match files.read_file(alloc, path) {
         Ok(text) => match settings_of(alloc, &text) {
-            Ok(conf) => Err(Fault::Fed(feeds.list_owed(alloc, conf, out))),
+            Ok(conf) => Err(Fault::Fed(run_errand(alloc, feeds, conf, errand, out))),
             Err(fault) => Err(fault),
         },
         Err(error) => Err(Fault::of_file(path, error)),
     }
 }
 
-// Feeds the peers of a file's settings.
-fn feed<'a, F: ReadFile, P: Feeds, W: Write>(
+// Runs an errand with these settings.
+fn run_errand<P: Feeds, W: Write>(
     alloc: Global,
-    files: &F,
     feeds: &mut P,
-    path: &'a str,
-    funnel: Option<&str>,
-    verbose: bool,
+    conf: Conf,
+    errand: Errand<'_>,
     out: &mut W,
-) -> Result<Exit, Fault<'a>>
-    ensures { Comes
-        (Works (F.says files.now path.now) path.now (W.contents out.old) (W.contents out.new))
-        result }
-{
-    match files.read_file(alloc, path) {
-        Ok(text) => match settings_of(alloc, &text) {
-            Ok(conf) => Err(Fault::Fed(feeds.feed(alloc, conf, funnel, verbose, out))),
-            Err(fault) => Err(fault),
-        },
-        Err(error) => Err(Fault::of_file(path, error)),
+) -> FeedEnd {
+    match errand {
+        Errand::List => feeds.list_owed(alloc, conf, out),
+        Errand::Feed { funnel, verbose } => feeds.feed(alloc, conf, funnel, verbose, out),
     }
 }
 

@@ -1,6 +1,6 @@
 use Rattle.std.proofs.Common.{◌⊎◌, inl, refl}
 use Rattle.feed_conf.specs.ConfView.{conf_view}
-use Rattle.commands.proofs.runner.feed.Goals as goal
+use Rattle.commands.proofs.runner.serve.Goals as goal
 
 pub returns-in-Ok-settings_of : goal.returns-in-Ok-settings_of
 returns-in-Ok-settings_of g c = λ line is.
@@ -10,5 +10,5 @@ returns-in-Ok-settings_of g c = λ line is.
       conf_view c.in-Ok-settings_of.conf,
       c.in-Ok.ensures.read,
       means,
-      (c.feed.result, refl, is),
+      (c.run_errand.result, refl, is),
     )
