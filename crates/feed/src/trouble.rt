@@ -101,7 +101,7 @@ impl Trouble {
                 Some(name) => Trouble::tape(alloc, name.bytes(), TapeFault::Broken),
                 None => Trouble::Lack,
             },
-            PostFault::NoMemory => Trouble::Lack,
+            PostFault::Busy { .. } | PostFault::NoMemory => Trouble::Lack,
         }
     }
 

@@ -1,7 +1,7 @@
 // One connection: a connection's value, its socket, and what it holds.
 use crate::telling::tell_unsent;
 use article_store::{Articles, Found};
-use conn_core::{Conn, CxnId, Outcome, Ready, Reason};
+use conn_core::{Conn, CxnId, Mode, Outcome, Ready, Reason};
 use event_loop::{Moved, SocketLink, put_out, take_in};
 use funnel::Token;
 use ledger_core::Debt;
@@ -35,6 +35,8 @@ pub(crate) struct Connection {
     is_greeted: bool,
     // Something happened on it, or may have.
     is_touched: bool,
+    // The station was in use when it was asked.
+    is_held_up: bool,
     // Where the articles lie of the debts that it holds.
     held: BTreeMap<u64, Token>,
     // An outcome that the station could not take yet: it goes before all others.
@@ -63,6 +65,7 @@ impl Connection {
             is_connecting: true,
             is_greeted: false,
             is_touched: false,
+            is_held_up: false,
             held: BTreeMap::new(alloc),
             kept: None,
             deferred: 0,
@@ -108,7 +111,7 @@ impl Connection {
 
     /// Whether it is to be looked at now.
     pub fn is_touched(&self) -> bool {
-        self.is_touched || self.kept.is_some()
+        self.is_touched || self.is_held_up || self.kept.is_some()
     }
 
     /// Whether it could go on at once.
@@ -116,9 +119,19 @@ impl Connection {
         self.is_touched
     }
 
+    /// Whether its station was in use when it was asked last.
+    pub fn is_held_up(&self) -> bool {
+        self.is_held_up
+    }
+
+    /// Whether an outcome of it was not taken.
+    pub fn is_keeping(&self) -> bool {
+        self.kept.is_some()
+    }
+
     /// Whether an outcome of it waits for a flush.
     pub fn is_waiting(&self) -> bool {
-        self.kept.is_some()
+        self.kept.is_some() && !self.is_held_up
     }
 
     /// Whether it holds debts.
@@ -136,9 +149,15 @@ impl Connection {
         self.is_touched = true;
     }
 
+    /// Its station is in use.
+    pub fn hold_up(&mut self) {
+        self.is_held_up = true;
+    }
+
     /// It was looked at.
     pub fn rest(&mut self) {
         self.is_touched = false;
+        self.is_held_up = false;
     }
 
     /// Notes what its socket was reported ready for. The first report that it can be written ends connecting, well or
@@ -171,6 +190,11 @@ impl Connection {
         }
         self.is_greeted = true;
         true
+    }
+
+    /// The mode that its peer has agreed to.
+    pub fn mode(&self) -> Option<Mode> {
+        self.conn.mode()
     }
 
     /// Whether a debt can be offered.

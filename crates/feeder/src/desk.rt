@@ -17,13 +17,15 @@ pub(crate) struct Desk<'a, D: Disk, N: Naming, P: Pace> {
     pub who: Who,
     /// The moment, in seconds.
     pub now: u64,
+    /// Whether it waits where a station is in use. Else it is refused, and asks again at the next turn.
+    pub waits: bool,
 }
 
 impl<D: Disk, N: Naming, P: Pace> Desk<'_, D, N, P> {
     /// The least debt of the peer that can be offered now, which this connection holds from then on.
     ///
     /// # Errors
-    /// The post's; `NoPeer`.
+    /// The post's, `Busy` only where it waits for nobody; `NoPeer`.
     pub fn claim<R: Wait>(
         &self,
         rt: &R,
@@ -33,7 +35,12 @@ impl<D: Disk, N: Naming, P: Pace> Desk<'_, D, N, P> {
         if peer >= self.post.peers() {
             return Err(FeederFault::NoPeer);
         }
-        match self.post.claim(rt, peer, connection, self.now) {
+        let claimed = if self.waits {
+            self.post.claim(rt, peer, connection, self.now)
+        } else {
+            self.post.try_claim(peer, connection, self.now)
+        };
+        match claimed {
             Ok(debt) => Ok(debt),
             Err(fault) => Err(FeederFault::Post(fault)),
         }
@@ -42,7 +49,7 @@ impl<D: Disk, N: Naming, P: Pace> Desk<'_, D, N, P> {
     /// Takes to the station what became of a debt that this connection held.
     ///
     /// # Errors
-    /// The outcome comes back with the post's fault, or `NoPeer`.
+    /// The outcome comes back with the post's fault, `Busy` only where it waits for nobody, or `NoPeer`.
     pub fn finish<R: Wait>(
         &self,
         rt: &R,
@@ -55,9 +62,13 @@ impl<D: Disk, N: Naming, P: Pace> Desk<'_, D, N, P> {
             return Err((outcome, FeederFault::NoPeer));
         }
         self.pace.turn(self.who, flusher::Place::BeforeSettle);
-        let ended = self
-            .post
-            .finish(rt, peer, connection, outcome, self.now, share);
+        let ended = if self.waits {
+            self.post
+                .finish(rt, peer, connection, outcome, self.now, share)
+        } else {
+            self.post
+                .try_finish(rt, peer, connection, outcome, self.now, share)
+        };
         self.pace.turn(self.who, flusher::Place::AfterSettle);
         match ended {
             Ok(_) => Ok(()),
@@ -65,23 +76,43 @@ impl<D: Disk, N: Naming, P: Pace> Desk<'_, D, N, P> {
         }
     }
 
-    /// Makes all debts ready that this connection held.
-    pub fn release<R: Wait>(&self, rt: &R, peer: usize, connection: CxnId) {
-        if peer < self.post.peers() {
-            let _ = self.post.release(rt, peer, connection);
+    /// Makes all debts ready that this connection held. False where the station is in use, and it waits for nobody.
+    pub fn release<R: Wait>(&self, rt: &R, peer: usize, connection: CxnId) -> bool {
+        if peer >= self.post.peers() {
+            return true;
         }
+        if self.waits {
+            let _ = self.post.release(rt, peer, connection);
+            return true;
+        }
+        self.post.try_release(peer, connection).is_some()
     }
 
-    /// Whether no debt of the peer is ready, and no connection holds one.
+    /// Whether no debt of the peer is ready, and no connection holds one, as far as that can be told now.
     ///
     /// # Errors
     /// `NoPeer`.
-    pub fn all_later<R: Wait>(&self, rt: &R, peer: usize) -> Result<bool, FeederFault> {
+    pub fn all_later(&self, peer: usize) -> Result<bool, FeederFault> {
         if peer >= self.post.peers() {
             return Err(FeederFault::NoPeer);
         }
-        Ok(self.post.all_later(rt, peer))
+        Ok(self.post.try_all_later(peer).unwrap_or(false))
     }
+
+    /// Whether half of the notes that may pend have come to pend at the peer's station, since anyone asked last.
+    pub fn is_newly_half_full(&self, peer: usize) -> bool {
+        peer < self.post.peers() && self.post.is_newly_half_full(peer)
+    }
+
+    /// The peer is given up by one more of so many feeders. True for the last of them.
+    pub fn give_up(&self, peer: usize, feeders: u64) -> bool {
+        peer < self.post.peers() && self.post.give_up(peer).saturating_add(1) == feeders
+    }
+}
+
+/// Whether the station was in use, so that its next turn is to ask again.
+pub(crate) fn is_busy(fault: FeederFault) -> bool {
+    matches!(fault, FeederFault::Post(PostFault::Busy { .. }))
 }
 
 /// Whether a flush makes room for what was refused so.

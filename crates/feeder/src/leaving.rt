@@ -26,7 +26,7 @@ impl<S: Articles + Drop, C: Net + Drop, N: Naming> Feeder<S, C, N> {
         signals: &Signals,
         pace: &P,
     ) {
-        let desk = self.desk(post, pace, self.ticked.unwrap_or(0));
+        let desk = self.desk(post, pace, self.ticked.unwrap_or(0), true);
         self.say_goodbye();
         let _ = self.hear_goodbyes(rt, &desk, signals);
         self.break_all(rt, &desk);

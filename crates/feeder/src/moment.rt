@@ -50,6 +50,8 @@ pub(crate) enum Haste {
     LastPhase,
     /// An outcome waits for a flush.
     Flush,
+    /// A station was in use.
+    Station,
     /// A connection can go on at once.
     Now,
 }
@@ -59,6 +61,9 @@ const LAST_PHASE: u64 = 100;
 
 // The longest sleep while an outcome waits for a flush, in milliseconds.
 const FLUSH: u64 = 10;
+
+// The longest sleep where a station was in use, in milliseconds.
+const STATION: u64 = 1;
 
 impl Haste {
     /// How many milliseconds to sleep at most, at so many behind a second.
@@ -72,6 +77,7 @@ impl Haste {
             Haste::None => rest,
             Haste::LastPhase => rest.min(LAST_PHASE),
             Haste::Flush => rest.min(FLUSH),
+            Haste::Station => rest.min(STATION),
             Haste::Now => 0,
         }
     }

@@ -27,6 +27,11 @@ pub struct PeerPlan {
 }
 
 impl PeerPlan {
+    /// How many feeders have connections to it.
+    pub(crate) fn feeders(&self) -> u64 {
+        self.connections.min(2)
+    }
+
     /// The address for a try, by how many tries there were before: none where the peer has no address.
     pub fn address(&self, tries: u64) -> Option<SocketAddr> {
         let count = self.addresses.len() as u64;

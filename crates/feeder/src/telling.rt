@@ -1,7 +1,7 @@
 // What a feeder tells of its connections, where its runtime logs.
 use crate::PeerPlan;
 use crate::connection::Connection;
-use conn_core::Reason;
+use conn_core::{Mode, Reason};
 use funnel::Token;
 use log::{Log, info};
 use std::net::SocketAddr;
@@ -15,9 +15,13 @@ pub(crate) fn name_of(plans: &[PeerPlan], at: usize) -> &str {
     }
 }
 
-/// A peer agreed to be fed over a connection.
-pub(crate) fn tell_connected<R: Log>(rt: &R, name: &str, address: SocketAddr) {
-    info!(rt; "{}: connected to {}", name, address);
+/// A peer agreed to be fed over a connection, in this mode.
+pub(crate) fn tell_connected<R: Log>(rt: &R, name: &str, address: SocketAddr, mode: Option<Mode>) {
+    match mode {
+        Some(Mode::Streaming) => info!(rt; "{}: connected to {}, streaming", name, address),
+        Some(Mode::Ihave) => info!(rt; "{}: connected to {}, by IHAVE", name, address),
+        None => info!(rt; "{}: connected to {}", name, address),
+    }
 }
 
 /// A connection could not be begun.

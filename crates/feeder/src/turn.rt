@@ -48,14 +48,14 @@ impl<S: Articles + Drop, C: Net + Drop, N: Naming> Feeder<S, C, N> {
             }
             let last_phase = signals.is_last_phase();
             let now = Moment::now(rt, self.start)?;
-            let desk = self.desk(post, pace, now.seconds);
+            let desk = self.desk(post, pace, now.seconds, false);
             self.pass_second(rt, now.seconds, last_phase);
             self.visit_all(rt, &desk)?;
-            if last_phase && self.is_done(rt, &desk)? {
-                self.tell_given_up(rt);
+            if last_phase && self.is_done(&desk)? {
+                self.tell_given_up(rt, &desk);
                 return Ok(());
             }
-            if self.is_waiting() {
+            if self.is_waiting() || self.is_newly_half_full(&desk) {
                 signals.order();
             }
             self.wait(self.haste(last_phase).sleep(now.millis))?;
@@ -63,18 +63,20 @@ impl<S: Articles + Drop, C: Net + Drop, N: Naming> Feeder<S, C, N> {
         unreachable!()
     }
 
-    /// The post, as this feeder asks it at this moment.
+    /// The post, as this feeder asks it at this moment, and whether it waits where a station is in use.
     pub(crate) fn desk<'a, D: Disk, P: Pace>(
         &self,
         post: &'a Post<D, N>,
         pace: &'a P,
         now: u64,
+        waits: bool,
     ) -> Desk<'a, D, N, P> {
         Desk {
             post,
             pace,
             who: Who::Feeder(self.which),
             now,
+            waits,
         }
     }
 
@@ -142,7 +144,7 @@ impl<S: Articles + Drop, C: Net + Drop, N: Naming> Feeder<S, C, N> {
         {
             place.greeted();
             let name = name_of(&self.plans, place.plan());
-            tell_connected(rt, name, connection.address());
+            tell_connected(rt, name, connection.address(), connection.mode());
         }
         if connection.is_over() {
             self.remove(rt, desk, key);
@@ -150,18 +152,24 @@ impl<S: Articles + Drop, C: Net + Drop, N: Naming> Feeder<S, C, N> {
         Ok(())
     }
 
-    /// Drops a connection. What it may still hold is ready again, and its place waits, but where it was left in good
-    /// order.
+    /// Drops a connection, at the next turn where its station is in use. What it may still hold is ready again, and its
+    /// place waits, but where it was left in good order.
     pub(crate) fn remove<D: Disk, R: Wait + Log, P: Pace>(
         &mut self,
         rt: &R,
         desk: &Desk<'_, D, N, P>,
         key: usize,
     ) {
+        let Some(connection) = self.connections.get_mut(key) else {
+            return;
+        };
+        if !desk.release(rt, connection.peer(), connection.id()) {
+            connection.hold_up();
+            return;
+        }
         let Some(connection) = self.connections.try_remove(key) else {
             return;
         };
-        desk.release(rt, connection.peer(), connection.id());
         if let Some(place) = self.places.get_mut(connection.place()) {
             match connection.closed() {
                 Some(Reason::Quit) => place.left(),
@@ -172,11 +180,7 @@ impl<S: Articles + Drop, C: Net + Drop, N: Naming> Feeder<S, C, N> {
     }
 
     // Whether no debt of its peers is ready or held, or could still be sent by it.
-    fn is_done<D: Disk, R: Wait, P: Pace>(
-        &self,
-        rt: &R,
-        desk: &Desk<'_, D, N, P>,
-    ) -> Result<bool, FeederFault> {
+    fn is_done<D: Disk, P: Pace>(&self, desk: &Desk<'_, D, N, P>) -> Result<bool, FeederFault> {
         if self
             .connections
             .iter()
@@ -185,7 +189,7 @@ impl<S: Articles + Drop, C: Net + Drop, N: Naming> Feeder<S, C, N> {
             return Ok(false);
         }
         for at in 0..self.plans.len() {
-            if !self.is_given_up(at) && !desk.all_later(rt, self.plans[at].peer)? {
+            if !self.is_given_up(at) && !desk.all_later(self.plans[at].peer)? {
                 return Ok(false);
             }
         }
@@ -199,19 +203,34 @@ impl<S: Articles + Drop, C: Net + Drop, N: Naming> Feeder<S, C, N> {
             .all(|place| place.plan() != plan || place.is_given_up(true))
     }
 
-    // Tells of each of its peers that is given up.
-    fn tell_given_up<R: Log>(&self, rt: &R) {
+    // Tells of each of its peers that it gives up, where it is the last feeder of the peer to do so.
+    fn tell_given_up<D: Disk, R: Log, P: Pace>(&self, rt: &R, desk: &Desk<'_, D, N, P>) {
         for at in 0..self.plans.len() {
-            if self.is_given_up(at) && self.places.iter().any(|place| place.plan() == at) {
+            let plan = &self.plans[at];
+            if self.is_given_up(at)
+                && self.places.iter().any(|place| place.plan() == at)
+                && desk.give_up(plan.peer, plan.feeders())
+            {
                 tell_given_up(rt, name_of(&self.plans, at));
             }
         }
+    }
+
+    // Whether half of the notes that may pend have come to pend at a station of its peers, since anyone asked last.
+    fn is_newly_half_full<D: Disk, P: Pace>(&self, desk: &Desk<'_, D, N, P>) -> bool {
+        let mut found = false;
+        for plan in &self.plans {
+            found |= desk.is_newly_half_full(plan.peer);
+        }
+        found
     }
 
     // Why it may not sleep for long.
     fn haste(&self, last_phase: bool) -> Haste {
         if self.connections.iter().any(|(_, one)| one.is_unfinished()) {
             Haste::Now
+        } else if self.connections.iter().any(|(_, one)| one.is_held_up()) {
+            Haste::Station
         } else if self.is_waiting() {
             Haste::Flush
         } else if last_phase {

@@ -1,7 +1,7 @@
 // A visit of one connection: what came is taken in, what became of debts goes to the station, and more goes out.
 use crate::FeederFault;
 use crate::connection::Connection;
-use crate::desk::{Desk, is_full};
+use crate::desk::{Desk, is_busy, is_full};
 use article_store::Articles;
 use disk_model::Disk;
 use flusher::{FeederShare, Naming, Pace};
@@ -27,7 +27,7 @@ pub(crate) fn visit<D: Disk, N: Naming, S: Articles, R: Wait + Log, P: Pace>(
     connection.rest();
     connection.receive(buffer);
     settle(connection, rt, desk, share)?;
-    if connection.is_waiting() {
+    if connection.is_keeping() {
         connection.send();
     } else {
         work(connection, rt, desk, store)?;
@@ -36,7 +36,8 @@ pub(crate) fn visit<D: Disk, N: Naming, S: Articles, R: Wait + Log, P: Pace>(
     Ok(())
 }
 
-/// Takes all that became of a connection's debts to the station, oldest first, until it has no room before a flush.
+/// Takes all that became of a connection's debts to the station, oldest first, until it has no room before a flush, or
+/// is in use.
 ///
 /// # Errors
 /// The post's, where no flush helps; the outcome stays the connection's.
@@ -58,10 +59,19 @@ pub(crate) fn settle<D: Disk, N: Naming, R: Wait, P: Pace>(
             share,
         ) {
             connection.keep(outcome);
-            return if is_full(fault) { Ok(()) } else { Err(fault) };
+            return put_off(connection, fault);
         }
     }
     Ok(())
+}
+
+// Puts off what a station refused, where a flush or the next turn helps.
+fn put_off(connection: &mut Connection, fault: FeederFault) -> Result<(), FeederFault> {
+    if is_busy(fault) {
+        connection.hold_up();
+        return Ok(());
+    }
+    if is_full(fault) { Ok(()) } else { Err(fault) }
 }
 
 // Offers debts, hands in articles and sends, in rounds: what is enough is sent before another article is read.
@@ -90,12 +100,13 @@ fn offer<D: Disk, N: Naming, R: Wait, P: Pace>(
     desk: &Desk<'_, D, N, P>,
 ) -> Result<(), FeederFault> {
     for _ in 0..u64::MAX {
-        if connection.is_waiting() || !connection.is_ready() {
+        if connection.is_keeping() || !connection.is_ready() {
             return Ok(());
         }
-        match desk.claim(rt, connection.peer(), connection.id())? {
-            Some(debt) => connection.offer(debt),
-            None => return Ok(()),
+        match desk.claim(rt, connection.peer(), connection.id()) {
+            Ok(Some(debt)) => connection.offer(debt),
+            Ok(None) => return Ok(()),
+            Err(fault) => return put_off(connection, fault),
         }
     }
     Ok(())

@@ -17,8 +17,16 @@ use funnel::{FunnelLine, LineFault, read_line};
 use ledger_core::{Debt, Note, Totals};
 use peer_queue::{Shed, StationFault};
 use recovery::TapeFault;
-use std::sync::Wait;
+use std::hint::spin_loop;
+use std::sync::atomic::Ordering;
 use std::sync::ledger::Share;
+use std::sync::{MutexGuard, Wait};
+
+// Half of the notes that may pend at a station.
+const HALF: u64 = 32_768;
+
+// How often a call that waits for nobody looks whether a station is free.
+const LOOKS: u32 = 100;
 
 /// What became of a debt that a feeder finished.
 #[derive(Clone, Copy, Debug, PartialEq, Eq)]
@@ -67,6 +75,44 @@ impl<D: Disk, N: Naming> Post<D, N> {
         self.peers[peer].desk.lock(rt).station.all_later()
     }
 
+    /// Answers what [`Post::all_later`] does, and waits for nobody. None where the peer's station is in use.
+    pub fn try_all_later(&self, peer: usize) -> Option<bool>
+        requires { peer < length self.now.names }
+    {
+        let desk = self.free_desk(peer)?;
+        Some(desk.station.all_later())
+    }
+
+    /// Whether at a peer's station half of the notes that may pend have come to pend, since this was asked last. Who is
+    /// told so is to order a flush.
+    pub fn is_newly_half_full(&self, peer: usize) -> bool
+        requires { peer < length self.now.names }
+    {
+        let half_full = &self.peers[peer].half_full;
+        half_full.load(Ordering::SeqCst) && half_full.swap(false, Ordering::SeqCst)
+    }
+
+    /// A feeder gives a peer up. Answers how many had done so before.
+    pub fn give_up(&self, peer: usize) -> u64
+        requires { peer < length self.now.names }
+    {
+        self.peers[peer].given_up.fetch_add(1, Ordering::SeqCst)
+    }
+
+    // A peer's station, where it is free, or is so at once.
+    fn free_desk(&self, peer: usize) -> Option<MutexGuard<'_, Desk<D, N>>>
+        requires { peer < length self.now.names }
+    {
+        let desk = &self.peers[peer].desk;
+        for _ in 0..LOOKS {
+            if let Some(free) = desk.try_lock() {
+                return Some(free);
+            }
+            spin_loop();
+        }
+        None
+    }
+
     /// Claims the least candidate of a peer.
     pub fn claim<R: Wait>(
         &self,
@@ -77,9 +123,24 @@ impl<D: Disk, N: Naming> Post<D, N> {
     ) -> Result<Option<Debt>, PostFault>
         requires { peer < length self.now.names }
     {
-        match self.peers[peer].desk.lock(rt).claim(connection, now) {
-            Ok(debt) => Ok(debt),
-            Err(fault) => Err(PostFault::Station { peer, fault }),
+        claim_at(peer, &mut self.peers[peer].desk.lock(rt), connection, now)
+    }
+
+    /// Does what [`Post::claim`] does, and waits for nobody.
+    ///
+    /// # Errors
+    /// Those of `claim`; `Busy` where the peer's station is in use: nothing has changed.
+    pub fn try_claim(
+        &self,
+        peer: usize,
+        connection: CxnId,
+        now: u64,
+    ) -> Result<Option<Debt>, PostFault>
+        requires { peer < length self.now.names }
+    {
+        match self.free_desk(peer) {
+            Some(mut desk) => claim_at(peer, &mut desk, connection, now),
+            None => Err(PostFault::Busy { peer }),
         }
     }
 
@@ -88,6 +149,15 @@ impl<D: Disk, N: Naming> Post<D, N> {
         requires { peer < length self.now.names }
     {
         self.peers[peer].desk.lock(rt).release(connection)
+    }
+
+    /// Does what [`Post::release`] does, and waits for nobody. None where the peer's station is in use: nothing has
+    /// changed.
+    pub fn try_release(&self, peer: usize, connection: CxnId) -> Option<u64>
+        requires { peer < length self.now.names }
+    {
+        let mut desk = self.free_desk(peer)?;
+        Some(desk.release(connection))
     }
 
     /// Drops what exceeds a peer's limit, and counts it.
@@ -133,6 +203,88 @@ impl<D: Disk, N: Naming> Post<D, N> {
             ((mine.new.answered ≡ mine.old.answered) × (mine.new.dropped ≡ mine.old.dropped)) }
     {
         let mut desk = self.peers[peer].desk.lock(rt);
+        self.finish_at(rt, peer, &mut desk, connection, outcome, now, mine)
+    }
+
+    /// Does what [`Post::finish`] does, and does not wait for the peer's station.
+    ///
+    /// # Errors
+    /// Those of `finish`; `Busy` where the station is in use: nothing has changed.
+    pub fn try_finish<R: Wait>(
+        &self,
+        rt: &R,
+        peer: usize,
+        connection: CxnId,
+        outcome: Outcome,
+        now: u64,
+        mine: &mut FeederShare<N>,
+    ) -> Result<Ended, (Outcome, PostFault)>
+        requires { peer < length self.now.names }
+        ensures counted { IfOk result
+            (λ ended. IsCounted outcome ended mine.old.answered mine.old.dropped mine.new.answered mine.new.dropped) }
+        ensures handed { IfErr result (λ e. e.0 ≡ outcome) }
+        ensures unchanged { OnErr result
+            ((mine.new.answered ≡ mine.old.answered) × (mine.new.dropped ≡ mine.old.dropped)) }
+    {
+        match self.free_desk(peer) {
+            Some(mut desk) => {
+                self.finish_at(rt, peer, &mut desk, connection, outcome, now, mine)
+            }
+            None => Err((outcome, PostFault::Busy { peer })),
+        }
+    }
+
+    // Finishes what became of a debt at its peer's station, and counts it.
+    fn finish_at<R: Wait>(
+        &self,
+        rt: &R,
+        peer: usize,
+        desk: &mut Desk<D, N>,
+        connection: CxnId,
+        outcome: Outcome,
+        now: u64,
+        mine: &mut FeederShare<N>,
+    ) -> Result<Ended, (Outcome, PostFault)>
+        requires { peer < length self.now.names }
+        ensures counted { IfOk result
+            (λ ended. IsCounted outcome ended mine.old.answered mine.old.dropped mine.new.answered mine.new.dropped) }
+        ensures handed { IfErr result (λ e. e.0 ≡ outcome) }
+        ensures unchanged { OnErr result
+            ((mine.new.answered ≡ mine.old.answered) × (mine.new.dropped ≡ mine.old.dropped)) }
+    {
+        let before = desk.pending();
+        let ended = self.end_at(rt, peer, desk, connection, outcome, now, mine);
+        self.note_half_full(peer, before, desk.pending());
+        ended
+    }
+
+    // Notes whether half of the notes that may pend have come to pend at a peer's station, with this many before and
+    // this many now.
+    fn note_half_full(&self, peer: usize, before: u64, now: u64)
+        requires { peer < length self.now.names }
+    {
+        if before < HALF && now >= HALF {
+            self.peers[peer].half_full.store(true, Ordering::SeqCst);
+        }
+    }
+
+    // Ends a debt at its peer's station as its outcome says, and counts it.
+    fn end_at<R: Wait>(
+        &self,
+        rt: &R,
+        peer: usize,
+        desk: &mut Desk<D, N>,
+        connection: CxnId,
+        outcome: Outcome,
+        now: u64,
+        mine: &mut FeederShare<N>,
+    ) -> Result<Ended, (Outcome, PostFault)>
+        ensures counted { IfOk result
+            (λ ended. IsCounted outcome ended mine.old.answered mine.old.dropped mine.new.answered mine.new.dropped) }
+        ensures handed { IfErr result (λ e. e.0 ≡ outcome) }
+        ensures unchanged { OnErr result
+            ((mine.new.answered ≡ mine.old.answered) × (mine.new.dropped ≡ mine.old.dropped)) }
+    {
         match outcome {
             Outcome::Final(verdict) => {
                 let mut tally = self.tally.lock(rt);
@@ -330,7 +482,10 @@ impl<D: Disk, N: Naming> Post<D, N> {
         if tally.taken.is_full() {
             return Err(PostFault::CountFull);
         }
-        match desk.take(&mut tally.taken, taken, mark, number, line) {
+        let before = desk.pending();
+        let took = desk.take(&mut tally.taken, taken, mark, number, line);
+        self.note_half_full(peer, before, desk.pending());
+        match took {
             Ok(()) => Ok(()),
             Err(TakeFault::Stranger) => Err(PostFault::Stranger { peer }),
             Err(TakeFault::Station(fault)) => Err(PostFault::Station { peer, fault }),
@@ -362,6 +517,19 @@ impl<D: Disk, N: Naming> Post<D, N> {
             Ok(_) => Ok(()),
             Err(fault) => Err(PostFault::Station { peer, fault }),
         }
+    }
+}
+
+// Claims the least candidate at a peer's station.
+fn claim_at<D: Disk, N: Naming>(
+    peer: usize,
+    desk: &mut Desk<D, N>,
+    connection: CxnId,
+    now: u64,
+) -> Result<Option<Debt>, PostFault> {
+    match desk.claim(connection, now) {
+        Ok(debt) => Ok(debt),
+        Err(fault) => Err(PostFault::Station { peer, fault }),
     }
 }
 

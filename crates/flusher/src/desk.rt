@@ -13,6 +13,7 @@ use crate::naming::{
     AnsweredAtStations, AnsweredByFeeders, DroppedAtStations, DroppedByFeeders, TakenAtStations,
     TakenByIntake,
 };
+use crate::peer::{counted_at, noted_in};
 use crate::tally::Books;
 use conn_core::{CxnId, Deferral, Verdict};
 use disk_model::Disk;
@@ -28,6 +29,8 @@ pub struct Desk<D: Disk, N: Naming> {
     pub(crate) taken: Share<TakenAtStations<N>>,
     pub(crate) answered: Share<AnsweredAtStations<N>>,
     pub(crate) dropped: Share<DroppedAtStations<N>>,
+    // How many notes its ledger had when it was flushed last.
+    pub(crate) flushed: u64,
     ghost kept: { ∥ IsKept station ∥₁ },
     ghost one_part: { (taken.parts ≡ 1) × (answered.parts ≡ 1) × (dropped.parts ≡ 1) },
     ghost counted: { (taken.amount ≡ (ledger_of station).taken) × (answered.amount ≡ (ledger_of station).answered)
@@ -212,6 +215,13 @@ impl<D: Disk, N: Naming> Desk<D, N> {
         ensures places { places_of self.new.station ≡ places_of self.old.station }
         ensures none_pends { OnOk result (pending_of self.new.station ≡ 0) }
     {
-        self.station.flush()
+        let count = self.station.flush()?;
+        self.flushed = noted_in(counted_at(&self.station));
+        Ok(count)
+    }
+
+    /// How many notes it has taken since it was opened or flushed last.
+    pub fn pending(&self) -> u64 {
+        noted_in(counted_at(&self.station)).saturating_sub(self.flushed)
     }
 }

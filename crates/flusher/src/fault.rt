@@ -18,6 +18,9 @@ pub enum PostFault {
     /// The mark of this peer's station is not the share's.
     #[error("Stranger")]
     Stranger { peer: usize },
+    /// This peer's station is in use, and the call waits for nobody.
+    #[error("Busy")]
+    Busy { peer: usize },
     /// Memory was refused.
     #[error("NoMemory")]
     NoMemory,

@@ -10,7 +10,7 @@ use crate::naming::{
     AnsweredAtStations, AnsweredByFeeders, BlankPair, DroppedAtStations, DroppedByFeeders,
     TakenAtStations, TakenByIntake,
 };
-use crate::peer::{Peer, Sums, counted_at};
+use crate::peer::{Peer, Sums, counted_at, noted_in};
 use crate::share::{FeederShare, IntakeShare};
 use crate::tally::{Opening, Tally};
 use crate::{Blanks, Naming};
@@ -21,6 +21,7 @@ use recovery::Tape;
 use std::alloc::{AllocError, Global};
 use std::marker::Model;
 use std::sync::Mutex;
+use std::sync::atomic::{AtomicBool, AtomicU64};
 use std::sync::ledger::Share;
 
 // A peer of a post: its name, what its station had counted when the post was made, and its station.
@@ -29,6 +30,10 @@ pub(crate) struct PeerDesk<D: Disk, N: Naming> {
     pub(crate) name: PeerName,
     pub(crate) opened: Sums,
     pub(crate) desk: Mutex<Desk<D, N>>,
+    // Half of the notes that may pend have come to pend, and nobody was told.
+    pub(crate) half_full: AtomicBool,
+    // How many feeders have given it up.
+    pub(crate) given_up: AtomicU64,
 }
 
 // The intake tape, and the number of the last line that every station has taken that it names.
@@ -112,11 +117,14 @@ impl<N: Naming> Openings<N> {
             taken: self.taken.cut(opened.taken),
             answered: self.answered.cut(opened.answered),
             dropped: self.dropped.cut(opened.dropped),
+            flushed: noted_in(opened),
         };
         PeerDesk {
             name,
             opened,
             desk: Mutex::new(desk),
+            half_full: AtomicBool::new(false),
+            given_up: AtomicU64::new(0),
         }
     }
 }
@@ -254,7 +262,12 @@ impl<N: Naming> Closing<N> {
             × (self.new.dropped.amount ≡ self.old.dropped.amount
             + (ledger_of result.station).dropped) }
     {
-        let PeerDesk { name, opened, desk } = peer;
+        let PeerDesk {
+            name,
+            opened,
+            desk,
+            ..
+        } = peer;
         let Desk {
             station,
             taken,

@@ -19,3 +19,15 @@ invariant_of-self g c =
       counted =
           counted_along _ _ _ (ledger_of old.station) (ledger_of new) e.ledger old.counted;
     }
+
+pub invariant_of-self-2 : goal.invariant_of-self-2
+invariant_of-self-2 g c =
+    let old = c.args.self.now in
+    let new = c.flush.new.self in
+    let e = c.flush.ensures in
+    record {
+      kept = keeps_flushed old.station new c.flush.result e.honest e.ok e.err old.kept;
+      one_part = old.one_part;
+      counted =
+          counted_along _ _ _ (ledger_of old.station) (ledger_of new) e.ledger old.counted;
+    }
