@@ -1,0 +1,65 @@
+//! What the program tells of whole feeds, and what a peer hears of them, over sockets of this machine and files that it
+//! makes in the folder that it runs in (README.md).
+//!
+//! It may start threads, listen on and connect to 127.0.0.1, make files, and print. Nothing stands above this crate.
+#![tactic(auto)]
+
+mod peer;
+mod row;
+
+use anyhow::Result;
+use peer::Manner;
+use row::Row;
+use std::fs;
+
+// How many octets a peer answers to one article, from its greeting to the final answer.
+const ANSWERS: usize = 38;
+
+fn main(rt: HostRuntime) -> Result<()> {
+    // What a run that was broken off has left.
+    let _ = fs::remove_dir_all(&rt, "rows");
+
+    let row = Row::new(&rt, rt, "nobody")?;
+    row.spool(300)?;
+    row.lines(300)?;
+    row.take(&rt, "nobody listens")?;
+    row.owed(&rt, "and is owed")?;
+
+    let row = Row::new(&rt, rt, "many")?;
+    row.lines(300)?;
+    row.feed_many(&rt, "it streams")?;
+    row.owed(&rt, "and is owed")?;
+
+    let row = Row::new(&rt, rt, "stream")?;
+    row.lines(3)?;
+    row.take(&rt, "three lines, nobody listens")?;
+    row.feed(&rt, Manner::Streams, "it streams")?;
+
+    let row = Row::new(&rt, rt, "ihave")?;
+    row.lines(3)?;
+    row.take(&rt, "three lines, nobody listens")?;
+    row.feed(&rt, Manner::Ihave, "it knows IHAVE alone")?;
+
+    let row = Row::new(&rt, rt, "defer")?;
+    row.lines(3)?;
+    row.take(&rt, "three lines, nobody listens")?;
+    row.feed(&rt, Manner::Defers, "it defers")?;
+    row.owed(&rt, "and is owed")?;
+    row.feed(&rt, Manner::Streams, "it streams")?;
+
+    let row = Row::new(&rt, rt, "end")?;
+    row.lines(1)?;
+    row.take(&rt, "one line, nobody listens")?;
+    row.feed(&rt, Manner::Ends, "it ends the session behind the article")?;
+    row.feed(&rt, Manner::Silent, "it says nothing")?;
+    row.feed(&rt, Manner::Streams, "it streams")?;
+
+    let row = Row::new(&rt, rt, "cut")?;
+    row.lines(1)?;
+    row.take(&rt, "one line, nobody listens")?;
+    for octets in 0..=ANSWERS {
+        row.cut(&rt, octets)?;
+    }
+    fs::remove_dir_all(&rt, "rows")?;
+    Ok(())
+}
