@@ -211,7 +211,7 @@ fn opened(alloc: Global) -> Result<Station<MemDisk>> {
         backlog_high: 0,
         drop_deferred: false,
     };
-    match Station::open(alloc, MemDisk::new(alloc), limits) {
+    match Station::open(alloc, MemDisk::new(alloc), MemDisk::new(alloc), limits) {
         Ok(station) => Ok(station),
         Err(refused) => Err(refused.fault.into()),
     }

@@ -1,9 +1,10 @@
-// How fast a tape in a file flushes its notes, and how fast it is opened.
+// How fast a tape in files flushes its notes, and how fast it is opened.
 //
-// `flush DIRECTORY COUNT` flushes 256 notes so many times to a new tape in a file of this
+// `flush DIRECTORY COUNT` flushes 256 notes so many times to a new tape in two files of this
 // directory; the making of the notes is not in the time. `fill DIRECTORY COUNT` leaves the tape of
 // so many debts there, and `open DIRECTORY` opens it. `memory DIRECTORY` opens it too, and prints
-// how much memory the program took at most, as Linux tells it.
+// how much memory the program took at most, as Linux tells it. `rotate DIRECTORY COUNT` rotates the
+// tape there so many times; its opening is not in the time.
 use crate::openings::{open, owe};
 use crate::time::{number, tell};
 use anyhow::{Context, Result, bail};
@@ -16,7 +17,10 @@ use std::time::{Clock, Duration, Instant};
 // How many notes are flushed at once.
 const BATCH: u64 = 256;
 
-const NAME: &str = "bench~a";
+// The files of the tape.
+const FIRST: &str = "bench~a";
+
+const SECOND: &str = "bench~b";
 
 pub fn run<R: AllocGlobal + Print + Clock + Files<File = File>>(
     rt: &R,
@@ -34,15 +38,22 @@ pub fn run<R: AllocGlobal + Print + Clock + Files<File = File>>(
         [work, path, count] if work.as_str() == "fill" => {
             fill(rt, &mut emptied(rt, path)?, number(count)? / BATCH)
         }
-        _ => bail!("disk_model [flush DIRECTORY COUNT | fill DIRECTORY COUNT | open DIRECTORY]"),
+        [work, path, count] if work.as_str() == "rotate" => {
+            let count = number(count)?;
+            let time = rotated(rt, &mut tape_in(rt, path)?, count)?;
+            tell(rt, count, "rotations", time)
+        }
+        _ => bail!("disk_model [flush|fill|rotate DIRECTORY COUNT | open|memory DIRECTORY]"),
     }
 }
 
 fn small<R: AllocGlobal + Print + Clock + Files<File = File>>(rt: &R) -> Result<()> {
     flushed(rt, &mut emptied(rt, ".")?, 4)?;
+    rotated(rt, &mut tape_in(rt, ".")?, 3)?;
     let owed = tape_in(rt, ".")?.totals().owed;
     println!(rt; "disk_model: a tape in a file owes {owed}")?;
-    fs::remove_file(rt, NAME)?;
+    fs::remove_file(rt, FIRST)?;
+    fs::remove_file(rt, SECOND)?;
     Ok(())
 }
 
@@ -51,7 +62,10 @@ fn tape_in<R: AllocGlobal + Files<File = File>>(
     rt: &R,
     path: &str,
 ) -> Result<Tape<FileDisk<File>>> {
-    open(rt.alloc(), TapeDirectory::lock(rt, path)?.open(rt, NAME)?)
+    let directory = TapeDirectory::lock(rt, path)?;
+    let first = directory.open(rt, FIRST)?;
+    let second = directory.open(rt, SECOND)?;
+    open(rt.alloc(), first, second)
 }
 
 // A new tape in this directory.
@@ -59,8 +73,10 @@ fn emptied<R: AllocGlobal + Files<File = File>>(
     rt: &R,
     path: &str,
 ) -> Result<Tape<FileDisk<File>>> {
-    let file = format!(in rt.alloc(); "{path}/{NAME}")?;
-    let _ = fs::remove_file(rt, file.as_str());
+    for name in [FIRST, SECOND] {
+        let file = format!(in rt.alloc(); "{path}/{name}")?;
+        let _ = fs::remove_file(rt, file.as_str());
+    }
     tape_in(rt, path)
 }
 
@@ -78,6 +94,19 @@ fn flushed<R: AllocGlobal + Clock>(
         time = time.saturating_add(start.elapsed(rt)?);
     }
     Ok(time)
+}
+
+// Rotates a tape so many times, and gives the time that it took.
+fn rotated<R: AllocGlobal + Clock>(
+    rt: &R,
+    tape: &mut Tape<FileDisk<File>>,
+    count: u64,
+) -> Result<Duration> {
+    let start = Instant::now(rt)?;
+    for _ in 0..count {
+        tape.rotate()?;
+    }
+    Ok(start.elapsed(rt)?)
 }
 
 // Owes so many batches, with a flush now and then.

@@ -1,6 +1,7 @@
 // How the opening of a tape grows with its notes, and how many disk calls a flush makes.
 //
-// `open NOTES TIMES` opens a tape of so many notes so many times; the building of the tape is not in the time.
+// `open NOTES TIMES` opens a tape of so many notes so many times; the building of the tape is not in the time. `due
+// NOTES TIMES` asks of such a tape so many times whether a rotation is due; its building and opening is not in the time.
 use crate::counted::CountedDisk;
 use crate::time::{number, tell};
 use anyhow::{Context, Result, bail};
@@ -17,7 +18,10 @@ pub fn run<R: AllocGlobal + Print + Clock>(rt: &R, words: &[String]) -> Result<(
         [work, notes, times] if work.as_str() == "open" => {
             measured(rt, number(notes)?, number(times)?)
         }
-        _ => bail!("recovery [open NOTES TIMES]"),
+        [work, notes, times] if work.as_str() == "due" => {
+            asked(rt, number(notes)?, number(times)?)
+        }
+        _ => bail!("recovery [open|due NOTES TIMES]"),
     }
 }
 
@@ -38,6 +42,19 @@ fn measured<R: AllocGlobal + Print + Clock>(rt: &R, notes: u64, times: u64) -> R
     let start = Instant::now(rt)?;
     let owed = opened(rt.alloc(), disk, times)?;
     tell(rt, owed, "owed", start.elapsed(rt)?)
+}
+
+fn asked<R: AllocGlobal + Print + Clock>(rt: &R, notes: u64, times: u64) -> Result<()> {
+    let alloc = rt.alloc();
+    let tape = open(alloc, disk_with(alloc, notes)?, MemDisk::new(alloc))?;
+    let start = Instant::now(rt)?;
+    let mut due = 0u64;
+    for _time in 0..times {
+        if tape.rotate_due() {
+            due = due.saturating_add(1);
+        }
+    }
+    tell(rt, due, "due", start.elapsed(rt)?)
 }
 
 /// The note of this number: a token of 12 octets and a message-id of 20.
@@ -70,34 +87,38 @@ fn disk_with(alloc: Global, notes: u64) -> Result<MemDisk> {
     Ok(disk)
 }
 
-/// The tape of this disk.
-pub fn open<D: Disk + Drop>(alloc: Global, disk: D) -> Result<Tape<D>> {
-    match Tape::open(alloc, disk) {
+/// The tape of these two disks.
+pub fn open<D: Disk + Drop>(alloc: Global, a: D, b: D) -> Result<Tape<D>> {
+    match Tape::open(alloc, a, b) {
         Ok(tape) => Ok(tape),
         Err(refused) => Err(refused.fault.into()),
     }
 }
 
-// Opens the tape on a disk so many times, and gives how many were owed the last time.
+// Opens the tape on a disk and an empty one so many times, and gives how many were owed the last time.
 fn opened(alloc: Global, disk: MemDisk, times: u64) -> Result<u64> {
-    let mut disk = disk;
+    let mut disks = (disk, MemDisk::new(alloc));
     let mut owed = 0;
     for _time in 0..times {
-        let tape = open(alloc, disk)?;
+        let (a, b) = disks;
+        let tape = open(alloc, a, b)?;
         owed = tape.totals().owed;
-        disk = tape.into_disk();
+        disks = tape.into_disks();
     }
     Ok(owed)
 }
 
-// How many disk calls that write, cut or sync an opening of an empty disk and a flush of so many notes make.
+// How many disk calls that write, cut or sync an opening of two empty disks and a flush of so many notes make.
 fn calls_of(alloc: Global, notes: u64) -> Result<u64> {
-    let mut tape = open(alloc, CountedDisk::new(MemDisk::new(alloc)))?;
+    let a = CountedDisk::new(MemDisk::new(alloc));
+    let b = CountedDisk::new(MemDisk::new(alloc));
+    let mut tape = open(alloc, a, b)?;
     for number in 0..notes {
         if let Err((_, fault)) = tape.note(owe(alloc, number.saturating_add(1))?) {
             return Err(fault.into());
         }
     }
     tape.flush()?;
-    Ok(tape.into_disk().calls())
+    let (a, b) = tape.into_disks();
+    Ok(a.calls().saturating_add(b.calls()))
 }

@@ -4,7 +4,7 @@ use Rattle.ledger_core.specs.declared.ledger.LedgerFault.{LedgerFault}
 use Rattle.ledger_core.specs.declared.ledger.LedgerFault.TheVariants.{OldNumber, NotOwed, CountFull}
 use Rattle.ledger_core.specs.declared.ledger.LedgerFault.TheVariants.{NoMemory as NoLedgerMemory}
 use Rattle.recovery.specs.declared.fault.TapeFault.{TapeFault}
-use Rattle.recovery.specs.declared.fault.TapeFault.TheVariants.{Damaged, Disk, Broken, TapeFull, PendingFull}
+use Rattle.recovery.specs.declared.fault.TapeFault.TheVariants.{Damaged, Disk, Broken, TapeFull, GenerationFull, PendingFull}
 use Rattle.recovery.specs.declared.fault.TapeFault.TheVariants.{NoMemory, Note}
 use Rattle.commands.specs.declared.feeds.FeedEnd.{FeedEnd}
 use Rattle.commands.specs.declared.feeds.FileTrouble.{FileTrouble}
@@ -26,6 +26,7 @@ tape_kind (Damaged segment at) = codes "Damaged"
 tape_kind Disk = codes "Disk"
 tape_kind Broken = codes "Broken"
 tape_kind TapeFull = codes "TapeFull"
+tape_kind GenerationFull = codes "GenerationFull"
 tape_kind PendingFull = codes "PendingFull"
 tape_kind NoMemory = codes "NoMemory"
 tape_kind (Note fault) = ledger_kind fault

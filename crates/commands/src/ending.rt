@@ -59,6 +59,7 @@ fn tape_word(fault: TapeFault) -> &'static str
         TapeFault::Disk => "Disk",
         TapeFault::Broken => "Broken",
         TapeFault::TapeFull => "TapeFull",
+        TapeFault::GenerationFull => "GenerationFull",
         TapeFault::PendingFull => "PendingFull",
         TapeFault::NoMemory => "NoMemory",
         TapeFault::Note(LedgerFault::OldNumber) => "Note OldNumber",

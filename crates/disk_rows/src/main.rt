@@ -25,6 +25,7 @@ fn main(rt: HostRuntime) -> Result<()> {
     keep_tape(rt, &directory)?;
     tell_octets_behind_the_end(rt, &directory)?;
     tell_cut(rt, &directory)?;
+    tell_rotated(rt, &directory)?;
     tell_no_file(rt, &directory)?;
     tell_directory_in_a_file(rt)?;
     drop(directory);
@@ -47,14 +48,14 @@ fn keep_tape<R: AllocGlobal + Files<File = File> + Print>(
     rt: &R,
     directory: &TapeDirectory,
 ) -> Result<()> {
-    open_tape(rt, directory, "peer~a")?;
+    open_tape(rt, directory, "peer")?;
     directory.sync()?;
-    tell_tape(rt, directory, "peer~a")?;
-    note(rt, directory, owe(rt.alloc())?)?;
-    tell_tape(rt, directory, "peer~a")?;
+    tell_tape(rt, directory, "peer")?;
+    note(rt, directory, owe(rt.alloc(), 1)?)?;
+    tell_tape(rt, directory, "peer")?;
     let code = FinalCode::TakethisReceived;
     note(rt, directory, Note::Final { number: 1, code })?;
-    tell_tape(rt, directory, "peer~a")
+    tell_tape(rt, directory, "peer")
 }
 
 // The octets of the file of this name.
@@ -69,13 +70,17 @@ fn write<R: AllocGlobal + Files>(rt: &R, name: &str, octets: &[u8]) -> Result<()
     Ok(())
 }
 
-// The tape in the file of this name, or why it is refused.
+// The tape in the two files of this name, or why it is refused.
 fn opened<R: AllocGlobal + Files<File = File>>(
     rt: &R,
     directory: &TapeDirectory,
     name: &str,
 ) -> Result<Result<Tape<FileDisk<File>>, TapeFault>> {
-    match Tape::open(rt.alloc(), directory.open(rt, name)?) {
+    let first = format!(in rt.alloc(); "{name}~a")?;
+    let second = format!(in rt.alloc(); "{name}~b")?;
+    let a = directory.open(rt, first.as_str())?;
+    let b = directory.open(rt, second.as_str())?;
+    match Tape::open(rt.alloc(), a, b) {
         Ok(tape) => Ok(Ok(tape)),
         Err(RefusedTape { fault, .. }) => Ok(Err(fault)),
     }
@@ -89,7 +94,7 @@ fn open_tape<R: AllocGlobal + Files<File = File>>(
     Ok(opened(rt, directory, name)??)
 }
 
-// What is owed by the tape in the file of this name, and the file's octets.
+// What is owed by the tape in the files of this name, and their octets.
 fn tell_tape<R: AllocGlobal + Files<File = File> + Print>(
     rt: &R,
     directory: &TapeDirectory,
@@ -97,15 +102,18 @@ fn tell_tape<R: AllocGlobal + Files<File = File> + Print>(
 ) -> Result<()> {
     let numbers = open_tape(rt, directory, name)?.numbers()?;
     println!(rt; "{name}: owes {:?}", numbers.as_slice())?;
-    let octets = octets_of(rt, name)?;
-    println!(rt; "{name}: {:?}", octets.as_slice())?;
+    for segment in ["a", "b"] {
+        let file = format!(in rt.alloc(); "{name}~{segment}")?;
+        let octets = octets_of(rt, file.as_str())?;
+        println!(rt; "{}: {:?}", file.as_str(), octets.as_slice())?;
+    }
     Ok(())
 }
 
 // The note of a debt.
-fn owe(alloc: Global) -> Result<Note> {
+fn owe(alloc: Global, number: u64) -> Result<Note> {
     Ok(Note::Owe {
-        number: 1,
+        number,
         token: Token::read(alloc, b"a/1")?.context("a token")?,
         id: MsgId::read(alloc, b"<x@y>")?.context("a message-id")?,
     })
@@ -117,12 +125,25 @@ fn note<R: AllocGlobal + Files<File = File>>(
     directory: &TapeDirectory,
     note: Note,
 ) -> Result<()> {
-    let mut tape = open_tape(rt, directory, "peer~a")?;
+    let mut tape = open_tape(rt, directory, "peer")?;
     if let Err((_, fault)) = tape.note(note) {
         return Err(fault.into());
     }
     tape.flush()?;
     Ok(())
+}
+
+// Opens the tape and rotates it with a note that pends.
+fn rotate<R: AllocGlobal + Files<File = File>>(
+    rt: &R,
+    directory: &TapeDirectory,
+    note: Note,
+) -> Result<u64> {
+    let mut tape = open_tape(rt, directory, "peer")?;
+    if let Err((_, fault)) = tape.note(note) {
+        return Err(fault.into());
+    }
+    Ok(tape.rotate()?)
 }
 
 // What stands behind the end of a tape is cut off.
@@ -133,7 +154,7 @@ fn tell_octets_behind_the_end<R: AllocGlobal + Files<File = File> + Print>(
     let mut octets = octets_of(rt, "peer~a")?;
     octets.extend_from_slice(&[0xa5, 0xa5, 0xa5])?;
     write(rt, "torn~a", &octets)?;
-    tell_tape(rt, directory, "torn~a")
+    tell_tape(rt, directory, "torn")
 }
 
 // A tape that is cut by hand is damaged, and is left as it was.
@@ -143,14 +164,47 @@ fn tell_cut<R: AllocGlobal + Files<File = File> + Print>(
 ) -> Result<()> {
     let mut octets = octets_of(rt, "peer~a")?;
     octets.truncate(30);
-    write(rt, "cut~a", &octets)?;
-    match opened(rt, directory, "cut~a")? {
+    tell_damaged(rt, directory, "cut", &octets, &[])
+}
+
+// Why the tape of files of these octets is refused, and whether they are left as they were.
+fn tell_damaged<R: AllocGlobal + Files<File = File> + Print>(
+    rt: &R,
+    directory: &TapeDirectory,
+    name: &str,
+    first: &[u8],
+    second: &[u8],
+) -> Result<()> {
+    let first_name = format!(in rt.alloc(); "{name}~a")?;
+    let second_name = format!(in rt.alloc(); "{name}~b")?;
+    write(rt, first_name.as_str(), first)?;
+    write(rt, second_name.as_str(), second)?;
+    match opened(rt, directory, name)? {
         Ok(_) => bail!("a tape that is cut was opened"),
-        Err(fault) => println!(rt; "cut~a: {fault:?}")?,
+        Err(fault) => println!(rt; "{name}: {fault:?}")?,
     }
-    let left = octets_of(rt, "cut~a")?.as_slice() == octets.as_slice();
-    println!(rt; "cut~a: left as it was: {left}")?;
+    let first_left = octets_of(rt, first_name.as_str())?.as_slice() == first;
+    let second_left = octets_of(rt, second_name.as_str())?.as_slice() == second;
+    let left = first_left && second_left;
+    println!(rt; "{name}: left as it was: {left}")?;
     Ok(())
+}
+
+// A tape is rotated twice, which leaves the segment that lived as it was; and the younger segment
+// is damaged where it is cut by hand.
+fn tell_rotated<R: AllocGlobal + Files<File = File> + Print>(
+    rt: &R,
+    directory: &TapeDirectory,
+) -> Result<()> {
+    for number in [2, 3] {
+        let generation = rotate(rt, directory, owe(rt.alloc(), number)?)?;
+        println!(rt; "peer: rotated {generation}")?;
+        tell_tape(rt, directory, "peer")?;
+    }
+    let mut first = octets_of(rt, "peer~a")?;
+    let second = octets_of(rt, "peer~b")?;
+    first.truncate(100);
+    tell_damaged(rt, directory, "short", &first, &second)
 }
 
 // What is no regular file is not opened, nor what may not be read.

@@ -7,7 +7,7 @@ use Rattle.drill.specs.Step.{SaysOn, SaysStep}
 use Rattle.drill.specs.declared.action.Action.{Action}
 use Rattle.drill.specs.declared.action.Action.TheVariants.{Hand, Receive, Supply, Break}
 use Rattle.drill.specs.declared.step.Step.{Step}
-use Rattle.drill.specs.declared.step.Step.TheVariants.{Line, Flush, Connect, On, Tick, Shed, Stop, Arm, Restart}
+use Rattle.drill.specs.declared.step.Step.TheVariants.{Line, Flush, Connect, On, Tick, Shed, Rotate, Stop, Arm, Restart}
 
 -- neither a lone word nor one with a text
 pub says_none : {T : Type 0} (view : T → List ℕ) (word : List ℕ) (text : Option T) → (text ≡ None → (word ≢ codes "hand") × (word ≢ codes "break")) →
@@ -26,7 +26,7 @@ says_none view word (Some t) lone more (Supply Unsendable) says = says
 says_none view word (Some t) lone more Break says = says
 
 -- a word that names none of the other steps says a step on a connection, where one is said
-module _ (word : List ℕ) (line : word ≢ codes "line") (connect : word ≢ codes "connect") (shed : word ≢ codes "shed") (tick : word ≢ codes "tick") (stop : word ≢ codes "stop") where
+module _ (word : List ℕ) (line : word ≢ codes "line") (connect : word ≢ codes "connect") (shed : word ≢ codes "shed") (rotate : word ≢ codes "rotate") (tick : word ≢ codes "tick") (stop : word ≢ codes "stop") where
   says_no_step : (rest : List ℕ) → ((number : ℕ) (action : Action) → SaysOn word rest number action → ⊥) → (step : Step) → SaysStep word (Some rest) step → ⊥
   says_no_step rest none (Line text) says = line says.0
   says_no_step rest none Flush says = says
@@ -34,6 +34,7 @@ module _ (word : List ℕ) (line : word ≢ codes "line") (connect : word ≢ co
   says_no_step rest none (On number action) says = none number action says
   says_no_step rest none (Tick moment) says = tick says.0
   says_no_step rest none (Shed name) says = shed says.0
+  says_no_step rest none (Rotate name) says = rotate says.0
   says_no_step rest none Stop says = says
   says_no_step rest none (Arm arming) says = stop says.0
   says_no_step rest none Restart says = says

@@ -7,7 +7,7 @@ use Rattle.std.proofs.lemmas.List.Elements.{All-nil, All-cons}
 use Rattle.disk_model.specs.declared.Disk.{Ghosts}
 use Rattle.recovery.specs.Notes.{History}
 use Rattle.recovery.specs.declared.fault.TapeFault.{TapeFault}
-use Rattle.recovery.specs.declared.fault.TapeFault.TheVariants.{Damaged, Disk, Broken, TapeFull, PendingFull, NoMemory, Note}
+use Rattle.recovery.specs.declared.fault.TapeFault.TheVariants.{Damaged, Disk, Broken, TapeFull, GenerationFull, PendingFull, NoMemory, Note}
 use Rattle.drill.specs.Fault.{fault_of}
 use Rattle.drill.specs.Stage.{HasItsLimits, HasLimits, HasOpened, HasStopped, HasTried, IsLeftBy, KeepsHistory, Opens, RecoversEach, RecoversFrom, StaysStopped, TellsEach, TellsNoDamage, confs_of, running_confs, stopped_confs, stopped_logs}
 use Rattle.drill.specs.declared.fault.Fault.{Fault}
@@ -25,6 +25,7 @@ no_damage (Damaged segment at) told e none = absurd (none segment at refl)
 no_damage Disk told e none = λ segment at is. cc
 no_damage Broken told e none = λ segment at is. cc
 no_damage TapeFull told e none = λ segment at is. cc
+no_damage GenerationFull told e none = λ segment at is. cc
 no_damage PendingFull told e none = λ segment at is. cc
 no_damage NoMemory told e none = λ segment at is. cc
 no_damage (Note fault) told e none = λ segment at is. cc

@@ -1,6 +1,6 @@
 -- How the fault of a tape or a station is told as a step's (docs/FORMATS.md).
 use Rattle.recovery.specs.declared.fault.TapeFault.{TapeFault}
-use Rattle.recovery.specs.declared.fault.TapeFault.TheVariants.{Damaged, Disk, Broken, TapeFull, PendingFull, NoMemory, Note}
+use Rattle.recovery.specs.declared.fault.TapeFault.TheVariants.{Damaged, Disk, Broken, TapeFull, GenerationFull, PendingFull, NoMemory, Note}
 use Rattle.peer_queue.specs.declared.fault.StationFault.{StationFault}
 use Rattle.peer_queue.specs.declared.fault.StationFault.TheVariants.{NotHeld, Broken as BrokenStation, Tape as StationTape, NoMemory as NoStationMemory}
 use Rattle.drill.specs.declared.fault.Fault.{Fault}
@@ -12,6 +12,7 @@ fault_of (Damaged segment at) = Tape (Damaged segment at)
 fault_of Disk = Tape Disk
 fault_of Broken = Tape Broken
 fault_of TapeFull = Tape TapeFull
+fault_of GenerationFull = Tape GenerationFull
 fault_of PendingFull = Tape PendingFull
 fault_of NoMemory = NoStepMemory
 fault_of (Note fault) = Tape (Note fault)

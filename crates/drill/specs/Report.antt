@@ -31,3 +31,7 @@ mark_text name state = name ++ codes " mark " ++ decimal state.mark ++ codes " o
 -- what of a peer's backlog was dropped
 abbrev pub shed_text : List ℕ → List ℕ → List ℕ
 shed_text name shed = name ++ codes " shed" ++ numbers_text shed ++ 10 ∷ []
+
+-- the generation that a peer's tape has now
+abbrev pub rotated_text : List ℕ → ℕ → List ℕ
+rotated_text name generation = name ++ codes " rotated " ++ decimal generation ++ 10 ∷ []

@@ -36,9 +36,13 @@ IsStopped (Stopped peers) = Unit {0}
 abbrev pub place_among : List PeerConf → List ℕ → Option ℕ
 place_among confs name = position (λ (conf : PeerConf). bytes_eq conf.name name) confs
 
--- what a choice leaves of a disk to which this has happened
+-- what a choice leaves of disks to which this has happened
 abbrev pub left_by : Choice → Log → Log
-left_by choice log = Made (chosen_image choice log) ∷ []
+left_by choice log = (Made (chosen_image choice log.0) ∷ [], Made (chosen_image choice log.1) ∷ [])
+
+-- what has happened to the disks of a peer that has stopped
+abbrev pub stopped_log : StoppedPeer → Log
+stopped_log peer = (events peer.a, events peer.b)
 
 -- the settings of peers that have stopped, in order
 abbrev pub stopped_confs : List StoppedPeer → List PeerConf
@@ -46,19 +50,20 @@ stopped_confs peers = map (λ (peer : StoppedPeer). peer.conf) peers
 
 -- what has happened to their disks
 abbrev pub stopped_logs : List StoppedPeer → List Log
-stopped_logs peers = map (λ (peer : StoppedPeer). events peer.disk) peers
+stopped_logs peers = map stopped_log peers
 
--- whatever a stop may leave of the peer's disk is a tape of the first notes of the history, every acknowledged one among them
+-- whatever a stop may leave of the peer's disks stands for the ledger after the first notes of the history, every acknowledged one
+-- among them
 abbrev pub KeepsHistory : History → StoppedPeer → Type 0
-KeepsHistory h peer = EachTape (Survives h) (events peer.disk)
+KeepsHistory h peer = EachTape (Survives h) (stopped_log peer)
 
 -- what a choice has left of a peer
 pub record IsLeft (choice : Choice) (old new : StoppedPeer) : Type 0 where
   pub conf : new.conf ≡ old.conf
-  pub log : events new.disk ≡ left_by choice (events old.disk)
+  pub log : stopped_log new ≡ left_by choice (stopped_log old)
   pub keeps : (h : History) → KeepsHistory h old → KeepsHistory h new
 
--- a peer that has stopped still: its disk keeps what it kept
+-- a peer that has stopped still: its disks keep what they kept
 pub record StaysStopped (old new : StoppedPeer) : Type 0 where
   pub conf : new.conf ≡ old.conf
   pub keeps : (h : History) → KeepsHistory h old → KeepsHistory h new
@@ -76,7 +81,7 @@ module _ {D : Type 0} {g : Ghosts D} where
   abbrev pub TellsHistory : History → Peer D g → Type 0
   TellsHistory h peer = StandsFor peer.station h
 
-  -- the peer's station was opened on a disk that kept this history, to which this had happened
+  -- the peer's station was opened on disks that kept this history, to which this had happened
   abbrev pub RecoversFrom : History × Log → Peer D g → Type 0
   RecoversFrom kept peer = Recovers kept.0 kept.1 peer.station.tape
 
@@ -84,24 +89,24 @@ module _ {D : Type 0} {g : Ghosts D} where
   abbrev pub HasItsLimits : Peer D g → Type 0
   HasItsLimits peer = station_limits peer.station ≡ limits_of peer.conf
 
-  -- a peer that was stopped: its disk is as it was
+  -- a peer that was stopped: its disks are as they were
   pub record HasStopped (old : Peer D g) (new : StoppedPeer) : Type 0 where
     pub conf : new.conf ≡ old.conf
-    pub log : events new.disk ≡ log_of old.station
+    pub log : stopped_log new ≡ log_of old.station
     pub keeps : (h : History) → TellsHistory h old → KeepsHistory h new
 
   -- a peer whose station was opened
   pub record HasOpened (old : StoppedPeer) (new : Peer D g) : Type 0 where
     pub conf : new.conf ≡ old.conf
     pub limits : HasItsLimits new
-    pub recovers : (h : History) → KeepsHistory h old → RecoversFrom (h, events old.disk) new
+    pub recovers : (h : History) → KeepsHistory h old → RecoversFrom (h, stopped_log old) new
 
 -- the settings of all peers, in order
 abbrev pub confs_of : Stage → List PeerConf
 confs_of (Running running) = running_confs running.peers.items
 confs_of (Stopped peers) = stopped_confs peers.items
 
--- what has happened to the disk of each peer, in order
+-- what has happened to the disks of each peer, in order
 abbrev pub logs_of : Stage → List Log
 logs_of (Running running) = running_logs running.peers.items
 logs_of (Stopped peers) = stopped_logs peers.items

@@ -8,7 +8,7 @@ use Rattle.drill.specs.Numbers.{u64_of}
 use Rattle.drill.specs.Script.{before}
 use Rattle.drill.specs.declared.action.Action.{Action}
 use Rattle.drill.specs.declared.step.Step.{Step}
-use Rattle.drill.specs.declared.step.Step.TheVariants.{Line, Flush, Connect, On, Tick, Shed, Stop, Arm, Restart}
+use Rattle.drill.specs.declared.step.Step.TheVariants.{Line, Flush, Connect, On, Tick, Shed, Rotate, Stop, Arm, Restart}
 
 -- where the first space stands
 abbrev pub space_of : List ℕ → Option ℕ
@@ -45,6 +45,8 @@ SaysStep word None (Tick moment) = ⊥
 SaysStep word (Some rest) (Tick moment) = (word ≡ codes "tick") × (u64_of rest ≡ Some moment)
 SaysStep word None (Shed name) = ⊥
 SaysStep word (Some rest) (Shed name) = (word ≡ codes "shed") × IsTrue (is_peer_name rest) × (name ≡ rest)
+SaysStep word None (Rotate name) = ⊥
+SaysStep word (Some rest) (Rotate name) = (word ≡ codes "rotate") × IsTrue (is_peer_name rest) × (name ≡ rest)
 SaysStep word None Stop = word ≡ codes "stop"
 SaysStep word (Some rest) Stop = ⊥
 SaysStep word None (Arm arming) = ⊥

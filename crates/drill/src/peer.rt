@@ -28,8 +28,10 @@ pub struct Peer<D: Disk> {
 pub struct StoppedPeer {
     /// Its name and settings.
     pub conf: PeerConf,
-    /// What was left of its tape.
-    pub disk: MemDisk,
+    /// What was left of the first disk of its tape.
+    pub a: MemDisk,
+    /// What was left of the second.
+    pub b: MemDisk,
 }
 
 impl<D: Disk> Peer<D> {
@@ -53,59 +55,65 @@ impl<D: Disk> Peer<D> {
 }
 
 impl Peer<StopDisk> {
-    ghost use Rattle.disk_model.specs.InMemory.{events};
     ghost use Rattle.recovery.specs.Image.{EachTape, Survives};
     ghost use Rattle.recovery.specs.Notes.{History};
     ghost use Rattle.peer_queue.specs.Words.{StandsFor, log_of};
+    ghost use Rattle.drill.specs.Stage.{stopped_log};
 
-    /// Stops it. What pends is gone, and the disk stays as it is.
+    /// Stops it. What pends is gone, and the disks stay as they are.
     pub fn stop(self) -> StoppedPeer
         ensures conf { result.conf ≡ self.conf }
-        ensures log { events result.disk ≡ log_of self.station }
-        ensures survives { (h : History) → StandsFor self.station h → EachTape (Survives h) (events result.disk) }
+        ensures log { stopped_log result ≡ log_of self.station }
+        ensures survives { (h : History) → StandsFor self.station h
+            → EachTape (Survives h) (stopped_log result) }
     {
         let Peer { conf, station } = self;
-        let disk = station.into_disk().into_inner();
-        StoppedPeer { conf, disk }
+        let (a, b) = station.into_disks();
+        StoppedPeer {
+            conf,
+            a: a.into_inner(),
+            b: b.into_inner(),
+        }
     }
 }
 
 impl StoppedPeer {
-    ghost use Rattle.disk_model.specs.Disk.Event.{Made};
-    ghost use Rattle.disk_model.specs.Choice.{chosen_image};
-    ghost use Rattle.disk_model.specs.InMemory.{events};
     ghost use Rattle.recovery.specs.Image.{EachTape, Survives};
     ghost use Rattle.recovery.specs.Notes.{History};
     ghost use Rattle.recovery.specs.Tape.{Recovers};
     ghost use Rattle.peer_queue.specs.Words.{limits_of as station_limits};
     ghost use Rattle.recovery.specs.declared.fault.TapeFault.TheVariants.{Damaged};
+    ghost use Rattle.drill.specs.Stage.{left_by, stopped_log};
 
-    /// A peer with these settings, whose disk is empty.
+    /// A peer with these settings, whose disks are empty.
     pub fn new(alloc: Global, conf: PeerConf) -> Self
         ensures conf { result.conf ≡ conf }
-        ensures empty { events result.disk ≡ [] }
+        ensures empty { stopped_log result ≡ ([], []) }
     {
         StoppedPeer {
             conf,
-            disk: MemDisk::new(alloc),
+            a: MemDisk::new(alloc),
+            b: MemDisk::new(alloc),
         }
     }
 
-    /// The peer with what the stop leaves of its disk by this choice.
+    /// The peer with what the stop leaves of its disks by this choice.
     ///
     /// # Errors
     /// Memory was refused.
     pub fn leave(self, choice: Choice) -> Result<StoppedPeer, AllocError>
         ensures conf { IfOk result (λ left. left.conf ≡ self.conf) }
-        ensures chosen { IfOk result (λ left. events left.disk ≡ Made (chosen_image choice (events self.disk)) ∷ []) }
-        ensures survives { (h : History) → EachTape (Survives h) (events self.disk) → IfOk result (λ left. EachTape (Survives h) (events left.disk)) }
+        ensures chosen { IfOk result (λ left. stopped_log left ≡ left_by choice (stopped_log self)) }
+        ensures survives { (h : History) → EachTape (Survives h) (stopped_log self)
+            → IfOk result (λ left. EachTape (Survives h) (stopped_log left)) }
     {
-        let StoppedPeer { conf, disk } = self;
-        let disk = disk.image(choice)?;
-        Ok(StoppedPeer { conf, disk })
+        let StoppedPeer { conf, a, b } = self;
+        let a = a.image(choice)?;
+        let b = b.image(choice)?;
+        Ok(StoppedPeer { conf, a, b })
     }
 
-    /// Opens its station, on the disk of the peer at this place: all that it owes is ready.
+    /// Opens its station, on the disks of the peer at this place: all that it owes is ready.
     ///
     /// # Errors
     /// The tape's. The peer is handed back as the call left it.
@@ -113,23 +121,28 @@ impl StoppedPeer {
         self,
         alloc: Global,
         place: usize,
-        trigger: Rc<Cell<Trigger>>,
+        triggers: (Rc<Cell<Trigger>>, Rc<Cell<Trigger>>),
     ) -> Result<Peer<StopDisk>, (StoppedPeer, TapeFault)>
         ensures conf { IfOk result (λ peer. peer.conf ≡ self.conf) }
         ensures limits { IfOk result (λ peer. station_limits peer.station ≡ limits_of self.conf) }
         ensures conf_back { IfErr result (λ e. e.0.conf ≡ self.conf) }
-        ensures recovers { (h : History) → EachTape (Survives h) (events self.disk) → IfOk result (λ peer. Recovers h (events self.disk) peer.station.tape) }
-        ensures survives { (h : History) → EachTape (Survives h) (events self.disk) → IfErr result (λ e. EachTape (Survives h) (events e.0.disk)) }
-        ensures undamaged { (h : History) → EachTape (Survives h) (events self.disk) → IfErr result (λ e. (segment at : ℕ) → e.1 ≡ Damaged segment at → ⊥) }
+        ensures recovers { (h : History) → EachTape (Survives h) (stopped_log self)
+            → IfOk result (λ peer. Recovers h (stopped_log self) peer.station.tape) }
+        ensures survives { (h : History) → EachTape (Survives h) (stopped_log self)
+            → IfErr result (λ e. EachTape (Survives h) (stopped_log e.0)) }
+        ensures undamaged { (h : History) → EachTape (Survives h) (stopped_log self)
+            → IfErr result (λ e. (segment at : ℕ) → e.1 ≡ Damaged segment at → ⊥) }
     {
-        let StoppedPeer { conf, disk } = self;
-        let disk = StopDisk::new(disk, place, trigger);
-        match Station::open(alloc, disk, limits_of(&conf)) {
+        let StoppedPeer { conf, a, b } = self;
+        let a = StopDisk::new(a, place, triggers.0);
+        let b = StopDisk::new(b, place, triggers.1);
+        match Station::open(alloc, a, b, limits_of(&conf)) {
             Ok(station) => Ok(Peer { conf, station }),
             Err(refused) => {
                 let fault = refused.fault;
-                let disk = refused.disk.into_inner();
-                Err((StoppedPeer { conf, disk }, fault))
+                let a = refused.a.into_inner();
+                let b = refused.b.into_inner();
+                Err((StoppedPeer { conf, a, b }, fault))
             }
         }
     }

@@ -1,7 +1,7 @@
 // The lines that a drill prints (docs/FORMATS.md).
 ghost use Rattle.std.specs.Prelude.{◌≡◌, [], ◌∷◌, ◌++◌, OnOk, codes};
 ghost use Rattle.peer_queue.specs.Words.{ledger_of};
-ghost use Rattle.drill.specs.Report.{bad_text, mark_text, numbers_text, owed_text, shed_text};
+ghost use Rattle.drill.specs.Report.{bad_text, mark_text, numbers_text, owed_text, rotated_text, shed_text};
 
 use crate::numbers::add_number;
 use disk_model::Disk;
@@ -61,6 +61,17 @@ pub fn add_shed(out: &mut Vec<u8>, name: &PeerName, numbers: &[u64]) -> Result<(
     out.extend_from_slice(name.bytes())?;
     out.extend_from_slice(b" shed")?;
     add_numbers(out, numbers)?;
+    out.push(b'\n')?;
+    Ok(())
+}
+
+/// `NAME rotated G`, the generation behind.
+pub fn add_rotated(out: &mut Vec<u8>, name: &PeerName, generation: u64) -> Result<(), AllocError>
+    ensures { OnOk result (out.new.items ≡ out.old.items ++ rotated_text name.now generation) }
+{
+    out.extend_from_slice(name.bytes())?;
+    out.extend_from_slice(b" rotated ")?;
+    add_number(out, generation)?;
     out.push(b'\n')?;
     Ok(())
 }

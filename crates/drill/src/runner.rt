@@ -122,6 +122,7 @@ impl Drill {
             Step::On(number, action) => self.on(number, action, out),
             Step::Tick(now) => self.tick(now, out),
             Step::Shed(name) => self.shed(&name, out),
+            Step::Rotate(name) => self.rotate(&name, out),
             Step::Stop => self.stop(out),
             Step::Arm(arming) => self.arm(&arming),
             Step::Restart => self.restart(out),
@@ -210,6 +211,14 @@ impl Drill {
     fn shed(&mut self, name: &PeerName, out: &mut Vec<u8>) -> Result<(), Fault> {
         match &mut self.stage {
             Stage::Running(running) => running.shed(name, out),
+            Stage::Stopped(_) => Err(Fault::Stopped),
+        }
+    }
+
+    // Writes anew what is owed to a peer.
+    fn rotate(&mut self, name: &PeerName, out: &mut Vec<u8>) -> Result<(), Fault> {
+        match &mut self.stage {
+            Stage::Running(running) => running.rotate(name, out),
             Stage::Stopped(_) => Err(Fault::Stopped),
         }
     }

@@ -9,7 +9,7 @@ use crate::action::Action;
 use crate::connection::Connection;
 use crate::fault::Fault;
 use crate::peer::{Peer, StoppedPeer};
-use crate::report::add_shed;
+use crate::report::{add_rotated, add_shed};
 use crate::stop::{StopDisk, Trigger};
 use disk_model::Choice;
 use feed_conf::PeerConf;
@@ -100,15 +100,32 @@ impl Running {
     /// # Errors
     /// `NoPeer` where none has this name; the station's.
     pub fn shed(&mut self, name: &PeerName, out: &mut Vec<u8>) -> Result<(), Fault> {
+        let peer = self.peer_of(name)?;
+        let shed = peer.station.shed()?;
+        add_shed(out, &peer.conf.name, &shed.numbers)?;
+        Ok(())
+    }
+
+    /// Writes anew what is owed to a peer, and adds what it prints.
+    ///
+    /// # Errors
+    /// `NoPeer` where none has this name; the station's.
+    pub fn rotate(&mut self, name: &PeerName, out: &mut Vec<u8>) -> Result<(), Fault> {
+        let peer = self.peer_of(name)?;
+        let generation = peer.station.rotate()?;
+        add_rotated(out, &peer.conf.name, generation)?;
+        Ok(())
+    }
+
+    // The first peer of this name.
+    fn peer_of(&mut self, name: &PeerName) -> Result<&mut Peer<StopDisk>, Fault> {
         let Some(place) = self.place_of(name) else {
             return Err(Fault::NoPeer);
         };
         let Some(peer) = self.peers.get_mut(place) else {
             return Err(Fault::NoPeer);
         };
-        let shed = peer.station.shed()?;
-        add_shed(out, &peer.conf.name, &shed.numbers)?;
-        Ok(())
+        Ok(peer)
     }
 }
 
@@ -203,7 +220,7 @@ impl Opening {
         &mut self,
         alloc: Global,
         peer: StoppedPeer,
-        trigger: Rc<Cell<Trigger>>,
+        triggers: (Rc<Cell<Trigger>>, Rc<Cell<Trigger>>),
     ) -> Result<(), AllocError>
         ensures { (peers : List StoppedPeer) → HasTried peers self.old → OnOk result (HasTried (peers ++ peer ∷ []) self.new) }
     {
@@ -211,7 +228,7 @@ impl Opening {
             self.stopped.push(peer)?;
             return Ok(());
         }
-        match peer.open(alloc, self.running.len(), trigger) {
+        match peer.open(alloc, self.running.len(), triggers) {
             Ok(peer) => {
                 self.running.push(peer)?;
                 Ok(())
@@ -294,7 +311,7 @@ fn open_each(
         refused: None,
     };
     for peer in peers {
-        opening.add(alloc, peer, trigger.clone()?)?;
+        opening.add(alloc, peer, (trigger.clone()?, trigger.clone()?))?;
     }
     opening.end(alloc)
 }

@@ -26,6 +26,8 @@ pub enum Step<'a> {
     Tick(u64),
     /// What exceeds the backlog limit of this peer is dropped.
     Shed(PeerName),
+    /// What is owed to this peer is written anew.
+    Rotate(PeerName),
     /// All stops, at rest.
     Stop,
     /// A stop is armed.
@@ -63,6 +65,10 @@ impl<'a> Step<'a> {
             },
             (b"shed", Some(name)) => match PeerName::read(alloc, name)? {
                 Some(name) => Ok(Some(Step::Shed(name))),
+                None => Ok(None),
+            },
+            (b"rotate", Some(name)) => match PeerName::read(alloc, name)? {
+                Some(name) => Ok(Some(Step::Rotate(name))),
                 None => Ok(None),
             },
             (b"tick", Some(moment)) => match read_number(moment) {

@@ -14,8 +14,9 @@ use std::str;
 #[derive(Drop)]
 pub(crate) struct Disks {
     pub directory: TapeDirectory,
-    pub files: Vec<FileDisk<File>>,
-    /// Why the next one could not be opened.
+    /// The first file of each tape and the second.
+    pub files: Vec<(FileDisk<File>, FileDisk<File>)>,
+    /// Why the next ones could not be opened.
     pub missed: Option<Trouble>,
 }
 
@@ -88,20 +89,33 @@ fn add_disk<F: AllocGlobal + Files<File = File>>(
     disks: &mut Disks,
     name: &[u8],
 ) -> Result<(), Trouble> {
+    let first = open_file(files, disks, name, "~a")?;
+    let second = open_file(files, disks, name, "~b")?;
+    disks.files.push((first, second))?;
+    Ok(())
+}
+
+// Opens one file of a tape.
+fn open_file<F: AllocGlobal + Files<File = File>>(
+    files: &F,
+    disks: &Disks,
+    name: &[u8],
+    ending: &str,
+) -> Result<FileDisk<File>, Trouble> {
     let alloc = files.alloc();
-    let path = file_name(alloc, name)?;
+    let path = file_name(alloc, name, ending)?;
     match disks.directory.open(files, path.as_str()) {
-        Ok(disk) => Ok(disks.files.push(disk)?),
+        Ok(disk) => Ok(disk),
         Err(error) => Err(Trouble::tape_file(alloc, name, &error)),
     }
 }
 
-// `NAME~a`.
-fn file_name(alloc: Global, name: &[u8]) -> Result<String, Trouble> {
+// `NAME~a` or `NAME~b`.
+fn file_name(alloc: Global, name: &[u8], ending: &str) -> Result<String, Trouble> {
     let Ok(text) = str::from_utf8(name) else {
         return Err(Trouble::tape_file(alloc, name, &io::Error::from(ErrorKind::InvalidInput)));
     };
     let mut path = String::from_str(alloc, text)?;
-    path.push_str("~a")?;
+    path.push_str(ending)?;
     Ok(path)
 }

@@ -10,26 +10,30 @@ use std::alloc::Global;
 use std::fs::File;
 use std::rt::Files;
 
+/// The files of a tape, the first and the second.
+type TapeFiles = (FileDisk<File>, FileDisk<File>);
+
 /// What is opened of each peer.
 pub(crate) trait Opened: Sized {
-    /// Opens it from its tape's file.
-    fn open(alloc: Global, conf: &PeerConf, disk: FileDisk<File>) -> Result<Self, Trouble>;
+    /// Opens it from its tape's files.
+    fn open(alloc: Global, conf: &PeerConf, files: TapeFiles) -> Result<Self, Trouble>;
 }
 
 impl Opened for Tape<FileDisk<File>> {
-    fn open(alloc: Global, conf: &PeerConf, disk: FileDisk<File>) -> Result<Self, Trouble> {
-        open_tape(alloc, conf.name.bytes(), disk)
+    fn open(alloc: Global, conf: &PeerConf, files: TapeFiles) -> Result<Self, Trouble> {
+        open_tape(alloc, conf.name.bytes(), files)
     }
 }
 
 impl Opened for Peer<FileDisk<File>> {
-    fn open(alloc: Global, conf: &PeerConf, disk: FileDisk<File>) -> Result<Self, Trouble> {
+    fn open(alloc: Global, conf: &PeerConf, files: TapeFiles) -> Result<Self, Trouble> {
         let limits = Limits {
             backlog_limit: conf.backlog_limit,
             backlog_high: conf.backlog_high,
             drop_deferred: conf.drop_deferred,
         };
-        match Peer::open(alloc, conf.name.clone()?, disk, limits) {
+        let (a, b) = files;
+        match Peer::open(alloc, conf.name.clone()?, a, b, limits) {
             Ok(peer) => Ok(peer),
             Err(refused) => Err(Trouble::tape(alloc, conf.name.bytes(), refused.fault)),
         }
@@ -62,27 +66,28 @@ pub(crate) fn open_tapes<T: Opened + Drop, F: AllocGlobal + Files<File = File>>(
     let mut disks = disks.into_iter();
     let mut opened = Vec::new(alloc);
     for peer in peers {
-        let Some(disk) = disks.next() else {
+        let Some(both) = disks.next() else {
             return Err(missed.unwrap_or(Trouble::Lack));
         };
-        opened.push(T::open(alloc, peer, disk)?)?;
+        opened.push(T::open(alloc, peer, both)?)?;
     }
-    let Some(disk) = disks.next() else {
+    let Some(both) = disks.next() else {
         return Err(missed.unwrap_or(Trouble::Lack));
     };
     Ok(Tapes {
         directory,
         peers: opened,
-        intake: open_tape(alloc, INTAKE, disk)?,
+        intake: open_tape(alloc, INTAKE, both)?,
     })
 }
 
 fn open_tape(
     alloc: Global,
     name: &[u8],
-    disk: FileDisk<File>,
+    files: TapeFiles,
 ) -> Result<Tape<FileDisk<File>>, Trouble> {
-    match Tape::open(alloc, disk) {
+    let (a, b) = files;
+    match Tape::open(alloc, a, b) {
         Ok(tape) => Ok(tape),
         Err(refused) => Err(Trouble::tape(alloc, name, refused.fault)),
     }

@@ -1,5 +1,5 @@
 -- What a station's lock keeps is kept by the station's calls.
-use Rattle.std.proofs.Common.{◌≡◌, ℕ, ◌+◌, List, [], ◌∷◌, length, sym, ap, subst, arith}
+use Rattle.std.proofs.Common.{◌≡◌, Bool, true, false, ℕ, ◌+◌, List, [], ◌∷◌, length, sym, ap, subst, arith}
 use Rattle.std.specs.Prelude.{Result, OnOk, OnErr, Ok, Err, ◌↔◌}
 use Rattle.std.proofs.Math.Logic.{∥∥₁_map}
 use Rattle.disk_model.specs.declared.Disk.{Ghosts}
@@ -11,24 +11,44 @@ use Rattle.ledger_core.specs.declared.note.Cause.TheVariants.{Limit}
 use Rattle.ledger_core.specs.State.{State, step, after}
 use Rattle.recovery.specs.Notes.{History, noted, noted_all, flushed, drops}
 use Rattle.peer_queue.specs.Shed.{dropped}
-use Rattle.recovery.specs.Words.{disk_of as tape_disk, ledger_of as tape_ledger}
+use Rattle.recovery.specs.Pairs.{placed}
+use Rattle.recovery.specs.Words.{AreHonest as AreTapeHonest, disks_of as tape_disks, ledger_of as tape_ledger}
 use Rattle.recovery.specs.Tape.{StandsFor as TapeStandsFor}
 use Rattle.recovery.specs.declared.tape.Tape.{Tape}
 use Rattle.peer_queue.specs.declared.station.Station.{Station}
-use Rattle.peer_queue.specs.Words.{IsSame, IsSameTape, Notes, StandsFor, disk_of, ledger_of}
+use Rattle.peer_queue.specs.Words.{AreHonest, IsSame, IsSameTape, Notes, StandsFor, disks_of, ledger_of}
 use Rattle.flusher.specs.Kept.{IsKept}
 
+-- two disks, told by the one that lives
+module _ {D : Type 0} (g : Ghosts D) where
+  honest_there : (second : Bool) (live other : D) → g.honest live → g.honest other
+      → g.honest (placed second live other).0 × g.honest (placed second live other).1
+  honest_there true live other a b = (b, a)
+  honest_there false live other a b = (a, b)
+
+  honest_back : (second : Bool) (live other : D) → g.honest (placed second live other).0 → g.honest (placed second live other).1
+      → g.honest live × g.honest other
+  honest_back true live other a b = (b, a)
+  honest_back false live other a b = (a, b)
+
 module _ {D : Type 0} {g : Ghosts D} where
+  -- tapes on the same disks are honest alike
+  honest_along : (old new : Tape D g) → tape_disks old ≡ tape_disks new → AreTapeHonest old → AreTapeHonest new
+  honest_along old new same (live, other) =
+      let there = honest_there g old.segments.second old.segments.live.disk old.segments.other live other in
+      let here = subst (λ (d : D × D). g.honest d.0 × g.honest d.1) same there in
+      honest_back g new.segments.second new.segments.live.disk new.segments.other here.0 here.1
+
   noted_kept : (old new : Station D g) (note : Note) → Notes old new note → IsKept old → IsKept new
   noted_kept old new note took kept honest = let k =
-      kept (subst g.honest took.disk honest) in (noted k.0 note, took.stands k.0 k.1)
+      kept (honest_along new.tape old.tape took.disks honest) in (noted k.0 note, took.stands k.0 k.1)
 
   same_kept : (old new : Station D g) → IsSame old new → IsKept old → IsKept new
-  same_kept old new same kept honest = let k = kept (subst g.honest same.disk honest) in (k.0, same.stands k.0 k.1)
+  same_kept old new same kept honest = let k = kept (honest_along new.tape old.tape same.disks honest) in (k.0, same.stands k.0 k.1)
 
   tape_kept : (old new : Station D g) → IsSameTape old new → IsKept old → IsKept new
   tape_kept old new same kept =
-      let P : Tape D g → Type 0 = λ tape. g.honest (tape_disk tape) → (h : History) × TapeStandsFor tape h in
+      let P : Tape D g → Type 0 = λ tape. AreTapeHonest tape → (h : History) × TapeStandsFor tape h in
       subst P (sym same.tape) kept
 
   pub keeps_noted : (old new : Station D g) (note : Note) → Notes old new note → ∥ IsKept old ∥₁ → ∥ IsKept new ∥₁
@@ -41,27 +61,27 @@ module _ {D : Type 0} {g : Ghosts D} where
   keeps_tape old new same kept = ∥∥₁_map kept (tape_kept old new same)
 
   flushed_kept : {A E : Type 0} (old new : Station D g) (result : Result A E)
-      → (g.honest (disk_of old) ↔ g.honest (disk_of new))
+      → (AreHonest old ↔ AreHonest new)
       → ((h : History) → StandsFor old h → OnOk result (StandsFor new (flushed h)))
       → ((h : History) → StandsFor old h → OnErr result (StandsFor new h)) → IsKept old → IsKept new
   flushed_kept old new (Ok a) honest ok err kept is = let k = kept (honest.1 is) in (flushed k.0, ok k.0 k.1)
   flushed_kept old new (Err e) honest ok err kept is = let k = kept (honest.1 is) in (k.0, err k.0 k.1)
 
   pub keeps_flushed : {A E : Type 0} (old new : Station D g) (result : Result A E)
-      → (g.honest (disk_of old) ↔ g.honest (disk_of new))
+      → (AreHonest old ↔ AreHonest new)
       → ((h : History) → StandsFor old h → OnOk result (StandsFor new (flushed h)))
       → ((h : History) → StandsFor old h → OnErr result (StandsFor new h)) → ∥ IsKept old ∥₁ → ∥ IsKept new ∥₁
   keeps_flushed old new result honest ok err kept = ∥∥₁_map kept (flushed_kept old new result honest ok err)
 
-  shed_kept : (old new : Station D g) (numbers : List ℕ) → disk_of new ≡ disk_of old
+  shed_kept : (old new : Station D g) (numbers : List ℕ) → disks_of new ≡ disks_of old
       → ((h : History) → StandsFor old h → StandsFor new (noted_all h (dropped numbers))) → IsKept old → IsKept new
-  shed_kept old new numbers disk stands kept is = let k =
-      kept (subst g.honest disk is) in (noted_all k.0 (dropped numbers), stands k.0 k.1)
+  shed_kept old new numbers disks stands kept is = let k =
+      kept (honest_along new.tape old.tape disks is) in (noted_all k.0 (dropped numbers), stands k.0 k.1)
 
-  pub keeps_shed : (old new : Station D g) (numbers : List ℕ) → disk_of new ≡ disk_of old
+  pub keeps_shed : (old new : Station D g) (numbers : List ℕ) → disks_of new ≡ disks_of old
       → ((h : History) → StandsFor old h → StandsFor new (noted_all h (dropped numbers))) → ∥ IsKept old ∥₁
       → ∥ IsKept new ∥₁
-  keeps_shed old new numbers disk stands kept = ∥∥₁_map kept (shed_kept old new numbers disk stands)
+  keeps_shed old new numbers disks stands kept = ∥∥₁_map kept (shed_kept old new numbers disks stands)
 
   pub keeps_backed : {A E : Type 0} (P Q : Type 0) (old new : Station D g) (result : Result A E)
       → OnOk result (IsSameTape old new × P × Q) → OnErr result (IsSame old new) → ∥ IsKept old ∥₁ → ∥ IsKept new ∥₁

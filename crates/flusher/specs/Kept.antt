@@ -2,11 +2,12 @@
 use Rattle.std.specs.Prelude.{◌≡◌}
 use Rattle.disk_model.specs.declared.Disk.{Ghosts}
 use Rattle.peer_queue.specs.declared.station.Station.{Station}
-use Rattle.peer_queue.specs.Words.{StandsFor, disk_of}
+use Rattle.peer_queue.specs.Words.{AreHonest, StandsFor}
 use Rattle.recovery.specs.Notes.{History}
 
--- On an honest disk the station stands for some history: its ledger is the one after the acknowledged notes, followed
+-- On honest disks the station stands for some history: its ledger is the one after the acknowledged notes, followed
 -- by the notes that
--- pend, and whatever a stop leaves now is a tape of the first of them with every acknowledged one.
+-- pend, and whatever a stop leaves now is a tape that stands for the ledger
+-- after the first of them with every acknowledged one.
 abbrev pub IsKept : {D : Type 0} {g : Ghosts D} → Station D g → Type 0
-IsKept {D} {g} station = g.honest (disk_of station) → (h : History) × StandsFor station h
+IsKept {D} {g} station = AreHonest station → (h : History) × StandsFor station h

@@ -507,6 +507,37 @@ impl<D: Disk, N: Naming> Post<D, N> {
         }
     }
 
+    /// Writes each tape anew for which that is due: the stations' by name, and then the intake's. One that is refused
+    /// without a fault of its disks stays as it is.
+    ///
+    /// # Errors
+    /// A station's or the intake's `Disk`, after which that tape is broken, or its `Broken`.
+    pub fn rotate_all<R: Wait>(&self, rt: &R) -> Result<(), PostFault> {
+        for peer in 0..self.peers.len() {
+            self.rotate_one(rt, peer)?;
+        }
+        match self.intake.lock(rt).rotate() {
+            Err(fault @ (TapeFault::Disk | TapeFault::Broken)) => Err(PostFault::Intake(fault)),
+            _ => Ok(()),
+        }
+    }
+
+    // Writes one station's tape anew, where that is due.
+    fn rotate_one<R: Wait>(&self, rt: &R, peer: usize) -> Result<(), PostFault>
+        requires { peer < length self.now.names }
+    {
+        let mut desk = self.peers[peer].desk.lock(rt);
+        if !desk.rotate_due() {
+            return Ok(());
+        }
+        match desk.rotate() {
+            Err(fault @ (StationFault::Tape(TapeFault::Disk) | StationFault::Broken)) => {
+                Err(PostFault::Station { peer, fault })
+            }
+            _ => Ok(()),
+        }
+    }
+
     // Flushes one station.
     fn flush_one<P: Pace, R: Wait>(&self, rt: &R, pace: &P, peer: usize) -> Result<(), PostFault>
         requires { peer < length self.now.names }
@@ -542,6 +573,14 @@ impl<D: Disk> Intake<D> {
             return Err(fault);
         }
         self.tape.flush()?;
+        Ok(())
+    }
+
+    // Writes the intake tape anew, where that is due.
+    fn rotate(&mut self) -> Result<(), TapeFault> {
+        if self.tape.rotate_due() {
+            self.tape.rotate()?;
+        }
         Ok(())
     }
 }

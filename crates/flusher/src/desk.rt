@@ -209,7 +209,7 @@ impl<D: Disk, N: Naming> Desk<D, N> {
         Ok(shed)
     }
 
-    /// Puts the notes that pend on the disk.
+    /// Puts the notes that pend on the disks.
     pub fn flush(&mut self) -> Result<u64, StationFault>
         ensures ledger { ledger_of self.new.station ≡ ledger_of self.old.station }
         ensures places { places_of self.new.station ≡ places_of self.old.station }
@@ -218,6 +218,22 @@ impl<D: Disk, N: Naming> Desk<D, N> {
         let count = self.station.flush()?;
         self.flushed = noted_in(counted_at(&self.station));
         Ok(count)
+    }
+
+    /// Whether a rotation of its tape is due.
+    pub fn rotate_due(&self) -> bool {
+        self.station.rotate_due()
+    }
+
+    /// Writes its tape anew, the notes that pend among what is written.
+    pub fn rotate(&mut self) -> Result<u64, StationFault>
+        ensures ledger { ledger_of self.new.station ≡ ledger_of self.old.station }
+        ensures places { places_of self.new.station ≡ places_of self.old.station }
+        ensures none_pends { OnOk result (pending_of self.new.station ≡ 0) }
+    {
+        let generation = self.station.rotate()?;
+        self.flushed = noted_in(counted_at(&self.station));
+        Ok(generation)
     }
 
     /// How many notes it has taken since it was opened or flushed last.

@@ -14,8 +14,8 @@ use std::time::Instant;
 const SLOW: u64 = 1;
 
 /// Flushes all stations and the intake tape, for each order and once a second without one, until it is told to end.
-/// Before the flush of an
-/// order it drops what exceeds the peers' limits.
+/// Before the flush of an order it drops what exceeds the peers' limits; behind each flush it writes the tapes anew for
+/// which that is due.
 ///
 /// The first fault ends it, and stops all workers.
 #[derive(Drop)]
@@ -63,6 +63,7 @@ impl<N: Naming> Flusher<N> {
             }
             signals.answer(rt, orders, receipt);
             answered = orders;
+            post.rotate_all(rt)?;
         }
         unreachable!()
     }

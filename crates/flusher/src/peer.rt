@@ -26,19 +26,20 @@ pub struct Peer<D: Disk> {
 }
 
 impl<D: Disk> Peer<D> {
-    /// A peer whose station is opened from this disk.
+    /// A peer whose station is opened from these disks.
     ///
     /// # Errors
     /// The station's.
     pub fn open(
         alloc: Global,
         name: PeerName,
-        disk: D,
+        a: D,
+        b: D,
         limits: Limits,
     ) -> Result<Peer<D>, RefusedTape<D>>
         ensures { IfOk result (λ peer. peer.name ≡ name) }
     {
-        let station = match Station::open(alloc, disk, limits) {
+        let station = match Station::open(alloc, a, b, limits) {
             Ok(station) => station,
             Err(refused) => return Err(refused),
         };

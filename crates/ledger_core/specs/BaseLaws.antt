@@ -207,11 +207,11 @@ behind-never base behind index state (inr (inr (sound, (debts, has, live, (place
     (subst (λ ds. StopsFrom (based_on base ds) (drop (length ds) behind) place) same stop)
     whole.notes
 
-no-base : (payloads : List (List ℕ)) (base : Base) (behind : List (List ℕ)) → HasNoBase payloads
+pub no-base : (payloads : List (List ℕ)) (base : Base) (behind : List (List ℕ)) → HasNoBase payloads
     → BeginsWith payloads base behind → ⊥
 no-base payloads base behind none begins = subst HasNoBase begins.split none base begins.is refl
 
-one-base : (payloads : List (List ℕ)) (base other : Base) (behind others : List (List ℕ))
+pub one-base : (payloads : List (List ℕ)) (base other : Base) (behind others : List (List ℕ))
     → BeginsWith payloads base behind → BeginsWith payloads other others → (base ≡ other)
     × (behind ≡ others)
 one-base payloads base other behind others a b =

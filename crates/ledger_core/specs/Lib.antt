@@ -1,5 +1,6 @@
 pub mod Base
 pub mod BaseLaws
+pub mod StopLaws
 pub mod Codes
 pub mod Laws
 pub mod Ledger

@@ -1,9 +1,10 @@
 -- What a ledger writes of itself, a Base and its debts, and that it is restored from there.
 use Rattle.std.specs.Prelude.{◌≡◌, ◌==◌, ℕ, zero, suc, ◌+◌, ◌<◌, ◌≤◌, ◌^◌, Bool, true, false, cond}
 use Rattle.std.specs.Prelude.{not, List, [], ◌∷◌, ◌++◌, length, filter, refl}
-use Rattle.std.proofs.Common.{inl, inr, sym, ◌∙◌, ap, subst, arith, get_or, add-one}
+use Rattle.std.proofs.Common.{inl, inr, sym, ◌∙◌, ap, subst, arith, get_or, add-one, length-take}
 use Rattle.std.proofs.lemmas.Bool.Decides.{nat_tests}
-use Rattle.std.proofs.lemmas.List.{drop_all, get_or_default, length_push, map_push, take_all}
+use Rattle.std.proofs.lemmas.List.{drop_all, drop-append-le, get_or_default, length_push, map_push, take_all}
+use Rattle.std.proofs.lemmas.List.{take-append-le}
 use Rattle.std.proofs.lemmas.List.Elements.{All-push, All-weaker}
 use Rattle.std.proofs.lemmas.List.Filters.{sum_by-filter_both}
 use Rattle.std.proofs.lemmas.List.Kept.{IsStrictlyIncreasing-filter}
@@ -13,12 +14,12 @@ use Rattle.std.specs.List.Sorted.{IsStrictlyIncreasing}
 use Rattle.ledger_core.specs.declared.base.Base.{Base}
 use Rattle.ledger_core.specs.declared.note.Note.{Note}
 use Rattle.ledger_core.specs.declared.note.Note.TheVariants.{Owe, Final, Drop, Seen}
-use Rattle.ledger_core.specs.Base.{AreDebts, Restores, base_spelling, based_on, owe, owes}
-use Rattle.ledger_core.specs.BaseLaws.{length-owes}
-use Rattle.ledger_core.specs.Laws.{length-without, marked-without, numbers-without, rising-push}
+use Rattle.ledger_core.specs.Base.{AreDebts, HasNoBase, Restores, base_spelling, based_on, owe, owes}
+use Rattle.ledger_core.specs.BaseLaws.{base-no-note, length-owes}
+use Rattle.ledger_core.specs.Laws.{AllLegal-append, after-append, length-without, marked-without, numbers-without, rising-push}
 use Rattle.ledger_core.specs.Note.{AreNotes, IsNote, IsNumber}
 use Rattle.ledger_core.specs.Spelling.{spellings}
-use Rattle.ledger_core.specs.SpellingLaws.{AreNotes-append}
+use Rattle.ledger_core.specs.SpellingLaws.{AreNotes-append, spellings-append}
 use Rattle.ledger_core.specs.State.{Owing, State, AllLegal, IsLegal, after, line_octets, numbers}
 use Rattle.ledger_core.specs.State.{numbers_of, octets_of_debts, start, step, without}
 
@@ -250,3 +251,61 @@ restored-whole payloads generation state (inr (base, behind, begins, is, leaves)
     in
     subst IsWhole (sym notes.4) (whole-after (based_on base leaves.debts) notes.0 notes.1 notes.3
     whole)
+
+-- ---- notes behind it
+
+no_base-append : (payloads : List (List ℕ)) (notes : List Note) → HasNoBase payloads → HasNoBase (payloads ++ spellings notes)
+no_base-append [] [] none = tt
+no_base-append [] (note ∷ notes) none = λ base is same. base-no-note base note same
+no_base-append (first ∷ payloads) notes none = none
+
+-- Notes that are legal behind what payloads leave go on behind them.
+pub restores-on : (payloads : List (List ℕ)) (generation : ℕ) (state : State) (notes : List Note)
+    → Restores payloads generation state → AreNotes notes → AllLegal state notes
+    → Restores (payloads ++ spellings notes) generation (after state notes)
+restores-on payloads generation state notes (inl (none, lowest, (front, are, spelled, legal, left))) more lawful =
+    inl (
+      no_base-append payloads notes none,
+      lowest,
+      (
+        front ++ notes,
+        AreNotes-append front notes are more,
+        ap (λ (l : List (List ℕ)). l ++ spellings notes) spelled ∙ sym (spellings-append front notes),
+        AllLegal-append start front notes legal (subst (λ (s : State). AllLegal s notes) left lawful),
+        ap (λ (s : State). after s notes) left ∙ sym (after-append start front notes),
+      ),
+    )
+restores-on payloads generation state notes (inr (base, behind, begins, is, leaves)) more lawful =
+    let from = based_on base leaves.debts in
+    let all = spellings notes in
+    let behind-notes = leaves.notes in
+    let few : length leaves.debts ≤ length behind =
+    omega (arith, length-take (length leaves.debts) behind, ap length leaves.has.spelled, length-owes leaves.debts) in
+    inr (
+      base,
+      behind ++ all,
+      record {
+        is = begins.is;
+        split = ap (λ (l : List (List ℕ)). l ++ all) begins.split;
+      },
+      is,
+      record {
+        sound = leaves.sound;
+        debts = leaves.debts;
+        live = leaves.live;
+        has = record {
+          are = leaves.has.are;
+          spelled = take-append-le (length leaves.debts) behind all few ∙ leaves.has.spelled;
+        };
+        notes = (
+          behind-notes.0 ++ notes,
+          AreNotes-append behind-notes.0 notes behind-notes.1 more,
+          drop-append-le (length leaves.debts) behind all few
+              ∙ (ap (λ (l : List (List ℕ)). l ++ all) behind-notes.2
+              ∙ sym (spellings-append behind-notes.0 notes)),
+          AllLegal-append from behind-notes.0 notes behind-notes.3
+              (subst (λ (s : State). AllLegal s notes) behind-notes.4 lawful),
+          ap (λ (s : State). after s notes) behind-notes.4 ∙ sym (after-append from behind-notes.0 notes),
+        );
+      },
+    )

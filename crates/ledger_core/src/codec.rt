@@ -48,12 +48,37 @@ pub fn one_spelling()
     ensures { (one other : Note) → IsNote one → IsNote other → spelling one ≡ spelling other → one ≡ other }
 {}
 
+/// The spelling of the note that owes a debt, in one allocation of its size.
+///
+/// # Errors
+/// `NoMemory` where memory was refused.
+pub(crate) fn encode_owe(
+    alloc: Global,
+    number: u64,
+    token: &Token,
+    id: &MsgId,
+) -> Result<Vec<u8>, AllocError>
+    ensures octets { IfOk result (λ v. v.items ≡ spelling (Note.Owe number token.now id.now)) }
+    ensures note { OnOk result (IsNote (Note.Owe number token.now id.now)) }
+{
+    let mut octets = Vec::with_capacity(alloc, owe_len(token, id))?;
+    push_owe(&mut octets, number, token, id)?;
+    Ok(octets)
+}
+
+// The length of the spelling of a note that owes these texts.
+fn owe_len(token: &Token, id: &MsgId) -> usize
+    ensures { (number : ℕ) → result ≡ length (spelling (Note.Owe number token.now id.now)) }
+{
+    11 + token.bytes().len() + id.bytes().len()
+}
+
 // The length of a note's spelling.
 fn spelled_len(note: &Note) -> usize
     ensures { result ≡ length (spelling note.now) }
 {
     match note {
-        Note::Owe { token, id, .. } => 11 + token.bytes().len() + id.bytes().len(),
+        Note::Owe { token, id, .. } => owe_len(token, id),
         Note::Final { .. } => 11,
         Note::Drop { .. } => 10,
         Note::Seen { .. } => 9,
@@ -65,11 +90,7 @@ fn push_note(octets: &mut Vec<u8>, note: &Note) -> Result<(), AllocError>
     ensures note { OnOk result (IsNote note.now) }
 {
     match note {
-        Note::Owe { number, token, id } => {
-            push_head(octets, 1, *number)?;
-            push_sized(octets, token.bytes())?;
-            push_sized(octets, id.bytes())
-        }
+        Note::Owe { number, token, id } => push_owe(octets, *number, token, id),
         Note::Final { number, code } => {
             push_head(octets, 2, *number)?;
             octets.extend_from_slice(&code.number().to_be_bytes())
@@ -80,6 +101,17 @@ fn push_note(octets: &mut Vec<u8>, note: &Note) -> Result<(), AllocError>
         }
         Note::Seen { number } => push_head(octets, 5, *number),
     }
+}
+
+// Appends the spelling of the note that owes a debt.
+fn push_owe(octets: &mut Vec<u8>, number: u64, token: &Token, id: &MsgId) -> Result<(), AllocError>
+    ensures octets { OnOk result
+        (octets.new.items ≡ octets.old.items ++ spelling (Note.Owe number token.now id.now)) }
+    ensures note { OnOk result (IsNote (Note.Owe number token.now id.now)) }
+{
+    push_head(octets, 1, number)?;
+    push_sized(octets, token.bytes())?;
+    push_sized(octets, id.bytes())
 }
 
 // Appends a tag and a number.

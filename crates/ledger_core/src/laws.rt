@@ -5,6 +5,7 @@ ghost use Rattle.std.specs.List.Sorted.{IsStrictlyIncreasing};
 ghost use Rattle.ledger_core.specs.declared.note.Note.{Note};
 ghost use Rattle.ledger_core.specs.Base.{Restores};
 ghost use Rattle.ledger_core.specs.Note.{AreNotes, IsNumber};
+ghost use Rattle.ledger_core.specs.Spelling.{spellings};
 ghost use Rattle.ledger_core.specs.State.{AllLegal, State, after, numbers, start};
 ghost use Rattle.ledger_core.specs.Written.{IsWhole, written};
 
@@ -35,4 +36,7 @@ pub fn restores_itself()
         → Restores payloads generation state → IsWhole state }
     ensures kept { (state : State) (notes : List Note) → AreNotes notes → AllLegal state notes
         → IsWhole state → IsWhole (after state notes) }
+    ensures behind { (payloads : List (List ℕ)) (generation : ℕ) (state : State) (notes : List Note)
+        → Restores payloads generation state → AreNotes notes → AllLegal state notes
+        → Restores (payloads ++ spellings notes) generation (after state notes) }
 {}

@@ -12,6 +12,7 @@ mod laws;
 mod ledger;
 mod note;
 mod restore;
+mod written;
 
 pub use base::{Base, decode_base, encode_base, one_base_spelling};
 pub use codec::{decode, encode, one_spelling};

@@ -14,7 +14,7 @@ use Rattle.ledger_core.specs.State.{State, IsLegal, IsOwed, Owing, numbers, numb
 use Rattle.ledger_core.specs.declared.ledger.Totals.{Totals}
 use Rattle.recovery.specs.Words.{IsNoteFault, RefusesNote}
 use Rattle.recovery.specs.declared.fault.TapeFault.{TapeFault}
-use Rattle.recovery.specs.declared.fault.TapeFault.TheVariants.{Damaged, Disk, Broken, TapeFull, PendingFull, NoMemory as NoTapeMemory, Note as RefusedNote}
+use Rattle.recovery.specs.declared.fault.TapeFault.TheVariants.{Damaged, Disk, Broken, TapeFull, GenerationFull, PendingFull, NoMemory as NoTapeMemory, Note as RefusedNote}
 use Rattle.peer_queue.specs.Faults.{IsEndFault, station_fault}
 use Rattle.peer_queue.specs.Place.{Place, Places, Held, IsHeldBy, place_at, placed}
 use Rattle.peer_queue.specs.Words.{IsEnd}
@@ -69,6 +69,7 @@ end_kind state note (Damaged segment at) legal kind refused = absurd kind
 end_kind state note Disk legal kind refused = absurd kind
 end_kind state note Broken legal kind refused = tt
 end_kind state note TapeFull legal kind refused = absurd kind
+end_kind state note GenerationFull legal kind refused = absurd kind
 end_kind state note PendingFull legal kind refused = refl
 end_kind state note NoTapeMemory legal kind refused = tt
 end_kind state note (RefusedNote cause) legal kind refused = absurd (none_refused state note cause legal (refused cause refl))
@@ -79,6 +80,7 @@ told_full (Damaged segment at) told = absurd (cc)
 told_full Disk told = absurd (cc)
 told_full Broken told = absurd (cc)
 told_full TapeFull told = absurd (cc)
+told_full GenerationFull told = absurd (cc)
 told_full PendingFull told = refl
 told_full NoTapeMemory told = absurd (cc)
 told_full (RefusedNote cause) told = absurd (cc)

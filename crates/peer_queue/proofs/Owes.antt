@@ -11,7 +11,7 @@ use Rattle.ledger_core.specs.declared.note.Note.{Note}
 use Rattle.ledger_core.specs.declared.note.Note.TheVariants.{Owe, Final, Drop, Seen}
 use Rattle.ledger_core.specs.State.{State, Owing, numbers, step}
 use Rattle.recovery.specs.declared.fault.TapeFault.{TapeFault}
-use Rattle.recovery.specs.declared.fault.TapeFault.TheVariants.{Damaged, Disk, Broken, TapeFull, PendingFull, NoMemory, Note as RefusedNote}
+use Rattle.recovery.specs.declared.fault.TapeFault.TheVariants.{Damaged, Disk, Broken, TapeFull, GenerationFull, PendingFull, NoMemory, Note as RefusedNote}
 use Rattle.recovery.specs.Words.{IsNoteFault, RefusesNote}
 use Rattle.std.proofs.lemmas.List.{length-map}
 use Rattle.std.specs.Prelude.{Vec}
@@ -88,6 +88,7 @@ owe_fault state note n owes above (Damaged segment at) kind why = kind
 owe_fault state note n owes above Disk kind why = kind
 owe_fault state note n owes above Broken kind why = tt
 owe_fault state note n owes above TapeFull kind why = kind
+owe_fault state note n owes above GenerationFull kind why = kind
 owe_fault state note n owes above PendingFull kind why = tt
 owe_fault state note n owes above NoMemory kind why = tt
 owe_fault state note n owes above (RefusedNote other) kind why = refused_owe state note n owes above other (why other refl)
@@ -98,6 +99,7 @@ told_fault (Damaged segment at) other e = cc
 told_fault Disk other e = cc
 told_fault Broken other e = cc
 told_fault TapeFull other e = cc
+told_fault GenerationFull other e = cc
 told_fault PendingFull other e = cc
 told_fault NoMemory other e = cc
 told_fault (RefusedNote refused) other e = cc

@@ -12,7 +12,7 @@ use Rattle.ledger_core.specs.declared.ledger.LedgerFault.TheVariants.{NotOwed}
 use Rattle.recovery.specs.Notes.{AreOwed}
 use Rattle.recovery.specs.Words.{IsDropFault}
 use Rattle.recovery.specs.declared.fault.TapeFault.{TapeFault}
-use Rattle.recovery.specs.declared.fault.TapeFault.TheVariants.{Damaged, Disk, Broken as BrokenTape, TapeFull, PendingFull, NoMemory as NoTapeMemory, Note as RefusedNote}
+use Rattle.recovery.specs.declared.fault.TapeFault.TheVariants.{Damaged, Disk, Broken as BrokenTape, TapeFull, GenerationFull, PendingFull, NoMemory as NoTapeMemory, Note as RefusedNote}
 use Rattle.peer_queue.specs.Faults.{station_fault}
 use Rattle.peer_queue.specs.declared.fault.StationFault.TheVariants.{NoMemory}
 use Rattle.peer_queue.specs.Place.{AreAbove, AreRising, AreUnheld, IsUnheld, Place, Places, all_gone, gone, is_held, place_at, placed, unheld}
@@ -254,6 +254,7 @@ drop_fault (Damaged segment at) is broken owed room = absurd is
 drop_fault Disk is broken owed room = absurd is
 drop_fault BrokenTape is broken owed room = absurd (broken refl)
 drop_fault TapeFull is broken owed room = absurd is
+drop_fault GenerationFull is broken owed room = absurd is
 drop_fault PendingFull is broken owed room = absurd (room refl)
 drop_fault NoTapeMemory is broken owed room = refl
 drop_fault (RefusedNote fault) is broken owed room = absurd (owed (ap RefusedNote is))

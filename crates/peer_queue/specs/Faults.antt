@@ -2,7 +2,7 @@
 use Rattle.std.specs.Prelude.{◌≡◌, ◌⊎◌}
 use Rattle.ledger_core.specs.declared.ledger.LedgerFault.TheVariants.{CountFull}
 use Rattle.recovery.specs.declared.fault.TapeFault.{TapeFault}
-use Rattle.recovery.specs.declared.fault.TapeFault.TheVariants.{Damaged, Disk, Broken as BrokenTape, TapeFull, PendingFull, NoMemory as NoTapeMemory, Note as RefusedNote}
+use Rattle.recovery.specs.declared.fault.TapeFault.TheVariants.{Damaged, Disk, Broken as BrokenTape, TapeFull, GenerationFull, PendingFull, NoMemory as NoTapeMemory, Note as RefusedNote}
 use Rattle.peer_queue.specs.declared.fault.StationFault.{StationFault}
 use Rattle.peer_queue.specs.declared.fault.StationFault.TheVariants.{NotHeld, Broken, Tape as TapeRefused, NoMemory}
 
@@ -12,6 +12,7 @@ station_fault (Damaged segment at) = TapeRefused (Damaged segment at)
 station_fault Disk = TapeRefused Disk
 station_fault BrokenTape = Broken
 station_fault TapeFull = TapeRefused TapeFull
+station_fault GenerationFull = TapeRefused GenerationFull
 station_fault PendingFull = TapeRefused PendingFull
 station_fault NoTapeMemory = NoMemory
 station_fault (RefusedNote fault) = TapeRefused (RefusedNote fault)
@@ -22,6 +23,7 @@ IsOweTapeFault (Damaged segment at) = ⊥
 IsOweTapeFault Disk = ⊥
 IsOweTapeFault BrokenTape = ⊥
 IsOweTapeFault TapeFull = ⊥
+IsOweTapeFault GenerationFull = ⊥
 IsOweTapeFault PendingFull = Unit {0}
 IsOweTapeFault NoTapeMemory = ⊥
 IsOweTapeFault (RefusedNote fault) = fault ≡ CountFull
@@ -47,6 +49,17 @@ IsFlushFault NotHeld = ⊥
 IsFlushFault Broken = Unit {0}
 IsFlushFault (TapeRefused fault) = IsFlushTapeFault fault
 IsFlushFault NoMemory = Unit {0}
+
+-- the faults of a tape that `rotate` tells
+abbrev pub IsRotateTapeFault : TapeFault → Type 0
+IsRotateTapeFault fault = (fault ≡ GenerationFull) ⊎ (fault ≡ TapeFull) ⊎ (fault ≡ Disk)
+
+-- the faults that `rotate` tells
+abbrev pub IsRotateFault : StationFault → Type 0
+IsRotateFault NotHeld = ⊥
+IsRotateFault Broken = Unit {0}
+IsRotateFault (TapeRefused fault) = IsRotateTapeFault fault
+IsRotateFault NoMemory = Unit {0}
 
 -- the faults that a call tells which ends a debt
 abbrev pub IsEndFault : StationFault → Type 0

@@ -8,7 +8,7 @@ use Rattle.ledger_core.specs.State.{State, IsLegal, step}
 use Rattle.recovery.specs.Notes.{History, most_pending, noted}
 use Rattle.recovery.specs.Image.{Log}
 use Rattle.recovery.specs.Tape.{IsOpenedTape, StandsFor as TapeStandsFor}
-use Rattle.recovery.specs.Words.{log_of as tape_log, disk_of as tape_disk, ledger_of as tape_ledger, pending_of as tape_pending, IsBroken as IsBrokenTape}
+use Rattle.recovery.specs.Words.{log_of as tape_log, disks_of as tape_disks, told_of as tape_told, generation_of as tape_generation, AreHonest as AreTapeHonest, Continues as TapeContinues, ledger_of as tape_ledger, pending_of as tape_pending, IsBroken as IsBrokenTape}
 use Rattle.conn_core.specs.declared.verdict.Verdict.{Verdict}
 use Rattle.conn_core.specs.declared.deferral.Deferral.{Deferral}
 use Rattle.peer_queue.specs.Place.{Places, IsHeldBy}
@@ -48,15 +48,31 @@ IsEnd (Drop other cause) number = other ≡ number
 IsEnd (Seen other) number = ⊥
 
 module _ {D : Type 0} {g : Ghosts D} where
-  -- the disk beneath
-  abbrev pub disk_of : Station D g → D
-  disk_of station = tape_disk station.tape
+  -- the disks beneath, the first and the second
+  abbrev pub disks_of : Station D g → D × D
+  disks_of station = tape_disks station.tape
 
-  -- what has happened to it
+  -- they are honest
+  abbrev pub AreHonest : Station D g → Type 0
+  AreHonest station = AreTapeHonest station.tape
+
+  -- the counts of faults that they told
+  abbrev pub told_of : Station D g → ℕ × ℕ
+  told_of station = tape_told station.tape
+
+  -- they are honest where they were, and their counts of faults did not fall
+  abbrev pub Continues : Station D g → Station D g → Type 0
+  Continues old new = TapeContinues old.tape new.tape
+
+  -- the generation of its tape
+  abbrev pub generation_of : Station D g → ℕ
+  generation_of station = tape_generation station.tape
+
+  -- what has happened to them
   abbrev pub log_of : Station D g → Log
   log_of station = tape_log station.tape
 
-  -- the station was opened on a disk with this log, as its tape was
+  -- the station was opened on disks with this log, as its tape was
   abbrev pub IsOpened : Log → Station D g → Type 0
   IsOpened old station = IsOpenedTape old station.tape
 
@@ -94,7 +110,7 @@ module _ {D : Type 0} {g : Ghosts D} where
     pub stands : (h : History) → StandsFor old h → StandsFor new h
     pub ledger : ledger_of new ≡ ledger_of old
     pub pending : pending_of new ≡ pending_of old
-    pub disk : disk_of new ≡ disk_of old
+    pub disks : disks_of new ≡ disks_of old
     pub places : places_of new ≡ places_of old
     pub limits : limits_of new ≡ limits_of old
     pub works : IsBroken old ↔ IsBroken new
@@ -105,7 +121,7 @@ module _ {D : Type 0} {g : Ghosts D} where
     pub legal : IsLegal (ledger_of old) note
     pub ledger : ledger_of new ≡ step (ledger_of old) note
     pub pending : pending_of new ≡ pending_of old + 1
-    pub disk : disk_of new ≡ disk_of old
+    pub disks : disks_of new ≡ disks_of old
     pub limits : limits_of new ≡ limits_of old
     pub works : IsBroken old ↔ IsBroken new
 

@@ -7,13 +7,14 @@ use recovery::TapeFault;
 use std::alloc::AllocError;
 use thiserror::Error;
 
-/// Why a station refuses a call. A refusal changes nothing, but that a `Tape(Disk)` of `flush` breaks the station.
+/// Why a station refuses a call. A refusal changes nothing, but that a `Tape(Disk)` of `flush` or `rotate` breaks the
+/// station.
 #[derive(Clone, Copy, Debug, PartialEq, Eq, Error)]
 pub enum StationFault {
     /// That connection does not hold that number.
     #[error("NotHeld")]
     NotHeld,
-    /// A `flush` failed on the disk before.
+    /// A `flush` or a `rotate` failed on a disk before.
     #[error("Broken")]
     Broken,
     /// The tape refused; a tape's `Broken` and `NoMemory` are the station's.

@@ -1,10 +1,11 @@
 //! Laws of stations, each the contract of a function that does what it is about.
-ghost use Rattle.std.specs.Prelude.{◌≡◌, ◌≢◌, ◌↔◌, ◌≤◌, ◌+◌, ◌-◌, ◌^◌, ℕ, min, IfErr, IfOk};
+ghost use Rattle.std.specs.Prelude.{◌≡◌, ◌≢◌, ◌↔◌, ◌≤◌, ◌+◌, ◌-◌, ◌^◌, ℕ, length, IfErr, IfOk};
 ghost use Rattle.ledger_core.specs.State.{numbers};
 ghost use Rattle.recovery.specs.Image.{EachTape, Survives};
 ghost use Rattle.recovery.specs.Notes.{History, recovered};
+ghost use Rattle.recovery.specs.Words.{OneHasRisen};
 ghost use Rattle.peer_queue.specs.Place.{AreRising, all_ready, placed};
-ghost use Rattle.peer_queue.specs.Words.{IsBroken, StandsFor, Tells, disk_of, ledger_of, limits_of, pending_of};
+ghost use Rattle.peer_queue.specs.Words.{IsBroken, StandsFor, Tells, ledger_of, told_of, limits_of, pending_of};
 ghost use Rattle.peer_queue.specs.Words.{places_of};
 
 use crate::fault::station_fault;
@@ -21,17 +22,17 @@ pub fn each_number_has_one_place<D: Disk>(station: &Station<D>)
     let _ = station.index.unheld_from(0);
 }
 
-/// A station whose flush answered Ok owes the same once its disk is opened again, and all of it is ready.
+/// A station whose flush answered Ok owes the same once its disks are opened again, and all of it is ready.
 ///
 /// # Errors
-/// Those of `flush`, then those of `open`. The disk is handed back: a stop leaves of it a tape of the first of the
-/// notes, with every note that was acknowledged before.
+/// Those of `flush`, then those of `open`. The disks are handed back: a stop leaves of them a tape of the ledger after
+/// the first of the notes, with every note that was acknowledged before.
 pub fn reopened<D: Disk>(
     alloc: Global,
     mut station: Station<D>,
-) -> Result<Station<D>, (D, StationFault)>
+) -> Result<Station<D>, ((D, D), StationFault)>
     ensures stands { (h : History) → StandsFor station h
-        → IfOk result (λ opened. StandsFor opened (recovered h.notes)) }
+        → IfOk result (λ opened. StandsFor opened (recovered h (length h.notes))) }
     ensures ledger { (h : History) → StandsFor station h
         → IfOk result (λ opened. ledger_of opened ≡ ledger_of station) }
     ensures ready { (h : History) → StandsFor station h
@@ -39,19 +40,21 @@ pub fn reopened<D: Disk>(
     ensures fresh { IfOk result (λ opened. (IsBroken opened → ⊥) × (pending_of opened ≡ 0)
         × (limits_of opened ≡ limits_of station)) }
     ensures broken { Tells result StationFault.Broken ↔ IsBroken station }
-    ensures survives { (h : History) → StandsFor station h → IfErr result (λ e. D.honest e.0
-        × EachTape (Survives h) (D.log e.0)) }
+    ensures survives { (h : History) → StandsFor station h → IfErr result (λ e. D.honest e.0.0
+        × D.honest e.0.1 × EachTape (Survives h) (D.log e.0.0, D.log e.0.1)) }
     ensures undamaged { (h : History) → StandsFor station h
         → IfErr result (λ e. (segment at : ℕ) → e.1 ≢ StationFault.Tape (TapeFault.Damaged segment at)) }
     ensures cause { (h : History) → StandsFor station h → IfErr result (λ e.
-        e.1 ≡ StationFault.Tape TapeFault.Disk → min (D.told (disk_of station) + 1) (2 ^ 64 - 1) ≤ D.told e.0) }
+        e.1 ≡ StationFault.Tape TapeFault.Disk
+        → OneHasRisen (told_of station) (D.told e.0.0, D.told e.0.1)) }
 {
     let limits = station.limits;
     if let Err(fault) = station.flush() {
-        return Err((station.into_disk(), fault));
+        return Err((station.into_disks(), fault));
     }
-    match Station::open(alloc, station.into_disk(), limits) {
+    let (a, b) = station.into_disks();
+    match Station::open(alloc, a, b, limits) {
         Ok(opened) => Ok(opened),
-        Err(RefusedTape { disk, fault }) => Err((disk, station_fault(fault))),
+        Err(RefusedTape { a, b, fault }) => Err(((a, b), station_fault(fault))),
     }
 }

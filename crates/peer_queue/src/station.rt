@@ -35,50 +35,62 @@ pub struct Station<D: Disk> {
 impl<D: Disk> Station<D> {
     ghost use Rattle.std.specs.Prelude.{◌⊎◌, ◌↔◌, ◌==◌, ◌++◌, [], ◌∷◌, true, false, min, nat_lt, find, MatchResult, IfErr, IfNone, IfSome, OnErr, IsErr, IsErrOf, IsOk, IsSome, IsTrue, Ok, None, Some};
     ghost use Rattle.std.specs.List.{Contains};
-    ghost use Rattle.disk_model.specs.Disk.{content};
     ghost use Rattle.ledger_core.specs.Ledger.{totals_of};
     ghost use Rattle.ledger_core.specs.declared.ledger.LedgerFault.{LedgerFault};
     ghost use Rattle.ledger_core.specs.declared.note.Note.{Note};
     ghost use Rattle.ledger_core.specs.State.{IsOwed, Overflows, Owing, after};
     ghost use Rattle.recovery.specs.Image.{EachTape, IsNoTapeAt, IsSomeTape, Survives, TapeLeaves};
-    ghost use Rattle.recovery.specs.Notes.{History, flushed, most_pending, noted_all, recovered};
-    ghost use Rattle.recovery.specs.Tape.{IsRefusedTape, Recovers};
-    ghost use Rattle.recovery.specs.Words.{IsFull, IsOpenFault};
+    ghost use Rattle.recovery.specs.Notes.{History, flushed, most_pending, noted_all};
+    ghost use Rattle.recovery.specs.Tape.{IsRefusedTape, Recovers, contents_of};
+    ghost use Rattle.recovery.specs.Words.{IsDue, IsFull, IsOpenFault, OneHasRisen, refused_log, RotatesTooLong};
     ghost use Rattle.peer_queue.specs.Place.{AreRising, Held, IsHeldBy, IsLater, Later, Ready, all_gone, deferred_until, gone, held_count, least_candidate, moved, released, unheld};
     ghost use Rattle.peer_queue.specs.Index.{place_until};
     ghost use Rattle.peer_queue.specs.Shed.{IsShedSet, dropped};
     ghost use Rattle.peer_queue.specs.Station.{IsShed};
-    ghost use Rattle.peer_queue.specs.Faults.{IsClaimFault, IsEndFault, IsFlushFault, IsOweFault};
-    ghost use Rattle.peer_queue.specs.Words.{IsBroken, IsEnd, IsOpened, IsOweOf, IsSame, IsSameTape, MeetsFull, Notes, Refuses, StandsFor, Tells, code_of, deferred_number, disk_of, ledger_of, limits_of, log_of, number_of, pending_of, places_of};
+    ghost use Rattle.peer_queue.specs.Faults.{IsClaimFault, IsEndFault, IsFlushFault, IsOweFault, IsRotateFault};
+    ghost use Rattle.peer_queue.specs.Words.{IsBroken, IsEnd, IsOpened, IsOweOf, IsSame, IsSameTape, MeetsFull, Notes, Refuses, StandsFor, Tells, code_of, deferred_number, disks_of, generation_of, told_of, AreHonest, Continues, ledger_of, limits_of, log_of, number_of, pending_of, places_of};
 
-    /// Opens the station of a disk, an empty one among them: all that its tape owes is ready.
+    /// Opens the station of two disks, empty ones among them: all that its tape owes is ready.
     ///
     /// # Errors
-    /// The tape's: `Damaged`, `Disk`, `NoMemory`; then `NoMemory` of the station. The disk is handed back: as it was
-    /// where it is `Damaged`, and with the tape's end repaired where the station was refused memory.
-    pub fn open(alloc: Global, disk: D, limits: Limits) -> Result<Station<D>, RefusedTape<D>>
+    /// The tape's: `Damaged`, `Disk`, `NoMemory`; then `NoMemory` of the station. The disks are handed back: as they were
+    /// where they are `Damaged`, and with the tape's end repaired where the station was refused memory.
+    pub fn open(alloc: Global, a: D, b: D, limits: Limits) -> Result<Station<D>, RefusedTape<D>>
         // Whatever a stop left of a history is opened to the ledger after a front of it that holds every acknowledged note.
-        ensures recovers { (h : History) → D.honest disk → EachTape (Survives h) (D.log disk) → IfOk result (λ station. Recovers h (D.log disk) station.tape) }
-        ensures survives { (h : History) → D.honest disk → EachTape (Survives h) (D.log disk) → IfErr result (λ e. TapeLeaves (Survives h) (D.log disk) (D.log e.disk)) }
-        ensures undamaged { (h : History) → D.honest disk → EachTape (Survives h) (D.log disk) → IfErr result (λ e. (segment at : ℕ) → e.fault ≢ TapeFault.Damaged segment at) }
-        // At `Ok` the content was a tape; at `Err` a stop left an image from before, or one that reads as the content did.
-        ensures opened { D.honest disk → IfOk result (λ station. IsOpened (D.log disk) station) }
-        ensures err { D.honest disk → IfErr result (λ e. IsRefusedTape (D.log disk) e) }
-        ensures damaged { D.honest disk → IfErr result (λ e. (segment at : ℕ) → e.fault ≡ TapeFault.Damaged segment at → (segment ≡ 0) × IsNoTapeAt (content (D.log disk)) at) }
+        ensures recovers { (h : History) → D.honest a → D.honest b
+            → EachTape (Survives h) (D.log a, D.log b)
+            → IfOk result (λ station. Recovers h (D.log a, D.log b) station.tape) }
+        ensures survives { (h : History) → D.honest a → D.honest b
+            → EachTape (Survives h) (D.log a, D.log b)
+            → IfErr result (λ e. TapeLeaves (Survives h) (D.log a, D.log b) (refused_log e)) }
+        ensures undamaged { (h : History) → D.honest a → D.honest b
+            → EachTape (Survives h) (D.log a, D.log b)
+            → IfErr result (λ e. (segment at : ℕ) → e.fault ≢ TapeFault.Damaged segment at) }
+        // At `Ok` the disks held a tape; at `Err` a stop left images from before, or ones that read as the disks did.
+        ensures opened { D.honest a → D.honest b → IfOk result (IsOpened (D.log a, D.log b)) }
+        ensures err { D.honest a → D.honest b
+            → IfErr result (IsRefusedTape (D.log a, D.log b)) }
+        ensures damaged { D.honest a → D.honest b → IfErr result (λ e. (segment at : ℕ)
+            → e.fault ≡ TapeFault.Damaged segment at
+            → IsNoTapeAt (contents_of (D.log a, D.log b)) segment at) }
         // What is no tape is handed back as it was, and told before any `Disk` of a repair.
-        ensures untouched { D.honest disk → IfErr result (λ e. (segment at : ℕ)
-            → e.fault ≡ TapeFault.Damaged segment at → D.log e.disk ≡ D.log disk) }
-        ensures judged { D.honest disk → IfErr result (λ e. e.fault ≡ TapeFault.Disk
-            → (D.log e.disk ≡ D.log disk) ⊎ IsSomeTape (content (D.log disk))) }
-        ensures cause { D.honest disk → IfErr result (λ e. e.fault ≡ TapeFault.Disk → min (D.told disk + 1) (2 ^ 64 - 1) ≤ D.told e.disk) }
+        ensures untouched { D.honest a → D.honest b → IfErr result (λ e. (segment at : ℕ)
+            → e.fault ≡ TapeFault.Damaged segment at → refused_log e ≡ (D.log a, D.log b)) }
+        ensures judged { D.honest a → D.honest b → IfErr result (λ e. e.fault ≡ TapeFault.Disk
+            → (refused_log e ≡ (D.log a, D.log b))
+            ⊎ IsSomeTape (contents_of (D.log a, D.log b))) }
+        ensures cause { D.honest a → D.honest b → IfErr result (λ e. e.fault ≡ TapeFault.Disk
+            → OneHasRisen (D.told a, D.told b) (D.told e.a, D.told e.b)) }
         ensures kinds { IfErr result (λ e. IsOpenFault e.fault) }
         ensures ready { IfOk result (λ station. places_of station ≡ all_ready (numbers (ledger_of station))) }
         ensures fresh { IfOk result (λ station. (IsBroken station → ⊥) × (pending_of station ≡ 0) × (limits_of station ≡ limits)) }
-        ensures honest { MatchResult result (λ station. D.honest disk ↔ D.honest (disk_of station)) (λ e. D.honest disk ↔ D.honest e.disk) }
-        ensures later { IfErr result (λ e. D.told disk ≤ D.told e.disk) }
-        ensures quiet { IfOk result (λ station. D.told (disk_of station) ≡ D.told disk) }
+        ensures honest { MatchResult result
+            (λ station. (D.honest a × D.honest b) ↔ AreHonest station)
+            (λ e. (D.honest a × D.honest b) ↔ (D.honest e.a × D.honest e.b)) }
+        ensures quiet { MatchResult result (λ station. told_of station ≡ (D.told a, D.told b))
+            (λ e. (D.told a ≤ D.told e.a) × (D.told b ≤ D.told e.b)) }
     {
-        let tape = match Tape::open(alloc, disk) {
+        let tape = match Tape::open(alloc, a, b) {
             Ok(tape) => tape,
             Err(refused) => return Err(refused),
         };
@@ -89,10 +101,11 @@ impl<D: Disk> Station<D> {
                 index,
                 limits,
             }),
-            Err(_) => Err(RefusedTape {
-                disk: tape.into_disk(),
-                fault: TapeFault::NoMemory,
-            }),
+            Err(_) => {
+                let (a, b) = tape.into_disks();
+                let fault = TapeFault::NoMemory;
+                Err(RefusedTape { a, b, fault })
+            }
         }
     }
 
@@ -276,7 +289,7 @@ impl<D: Disk> Station<D> {
         ensures ledger { IfOk result (λ shed. ledger_of self.new ≡ after (ledger_of self.old) (dropped shed.numbers.items)) }
         ensures places { IfOk result (λ shed. places_of self.new ≡ all_gone (places_of self.old) shed.numbers.items) }
         ensures pends { IfOk result (λ shed. pending_of self.new ≡ pending_of self.old + length shed.numbers.items) }
-        ensures disk { disk_of self.new ≡ disk_of self.old }
+        ensures disks { disks_of self.new ≡ disks_of self.old }
         ensures works { IsBroken self.old ↔ IsBroken self.new }
         ensures limits { limits_of self.new ≡ limits_of self.old }
         ensures broken { IsErrOf result StationFault.Broken ↔ IsBroken self.old }
@@ -413,15 +426,16 @@ impl<D: Disk> Station<D> {
         Ok(set)
     }
 
-    /// Puts the notes that pend on the disk: from `Ok` on all notes are acknowledged. Answers how many notes of this opening are on
-    /// the tape now. Linear in what pends.
+    /// Puts the notes that pend on the disk: from `Ok` on all notes are acknowledged. Answers how many notes of this opening are
+    /// acknowledged now, or the greatest u64 where that is less. Linear in what pends.
     ///
     /// # Errors
     /// Tried in this order: `Broken`; `Tape(TapeFull)`; `NoMemory`; these change nothing. `Tape(Disk)`: the station is broken from now on.
     pub fn flush(&mut self) -> Result<u64, StationFault>
         ensures ok { (h : History) → StandsFor self.old h → OnOk result (StandsFor self.new (flushed h)) }
         ensures err { (h : History) → StandsFor self.old h → OnErr result (StandsFor self.new h) }
-        ensures count { (h : History) → StandsFor self.old h → IfOk result (λ n. n + h.opened ≡ length h.notes) }
+        ensures count { (h : History) → StandsFor self.old h
+            → IfOk result (λ n. n ≡ min (length h.notes - h.opened) (2 ^ 64 - 1)) }
         // A stop at any moment of the call leaves a tape of the first of the notes, with every acknowledged one.
         ensures moments { (h : History) → StandsFor self.old h → TapeLeaves (Survives h) (log_of self.old) (log_of self.new) }
         ensures none_pends { OnOk result (pending_of self.new ≡ 0) }
@@ -435,14 +449,60 @@ impl<D: Disk> Station<D> {
         ensures refused { IfErr result (λ e. e ≢ StationFault.Tape TapeFault.Disk → IsSame self.old self.new) }
         ensures breaks { IsErrOf result (StationFault.Tape TapeFault.Disk) → IsBroken self.new }
         ensures works { OnOk result (IsBroken self.new → ⊥) }
-        ensures cause { (h : History) → StandsFor self.old h → IsErrOf result (StationFault.Tape TapeFault.Disk) → min (D.told (disk_of self.old) + 1) (2 ^ 64 - 1) ≤ D.told (disk_of self.new) }
-        ensures honest { D.honest (disk_of self.old) ↔ D.honest (disk_of self.new) }
-        ensures later { D.told (disk_of self.old) ≤ D.told (disk_of self.new) }
-        ensures quiet { OnOk result (D.told (disk_of self.new) ≡ D.told (disk_of self.old)) }
+        ensures cause { (h : History) → StandsFor self.old h
+            → IsErrOf result (StationFault.Tape TapeFault.Disk) → OneHasRisen (told_of self.old) (told_of self.new) }
+        ensures continues { Continues self.old self.new }
+        ensures quiet { OnOk result (told_of self.new ≡ told_of self.old) }
         ensures kinds { IfErr result IsFlushFault }
     {
         match self.tape.flush() {
             Ok(count) => Ok(count),
+            Err(fault) => Err(station_fault(fault)),
+        }
+    }
+
+    /// Whether a rotation is due: the segment of its tape that lives is longer than 65,536 octets, and than four times what a
+    /// rotation would write. In constant time; a broken station answers too.
+    pub fn rotate_due(&self) -> bool
+        ensures { IsTrue result ↔ IsDue self.now.tape }
+    {
+        self.tape.rotate_due()
+    }
+
+    /// Writes what is owed into the segment of its tape that doesn't live, which lives from then on: from `Ok` on all notes are
+    /// acknowledged, and none pends. Answers the new generation. Linear in what is owed.
+    ///
+    /// # Errors
+    /// Tried in this order: `Broken`; `Tape(GenerationFull)`; `Tape(TapeFull)`; `NoMemory`; these change nothing. `Tape(Disk)`: the
+    /// station is broken from now on.
+    pub fn rotate(&mut self) -> Result<u64, StationFault>
+        ensures ok { (h : History) → StandsFor self.old h → OnOk result (StandsFor self.new (flushed h)) }
+        ensures err { (h : History) → StandsFor self.old h → OnErr result (StandsFor self.new h) }
+        ensures generation { IfOk result (λ n. (n ≡ generation_of self.old + 1)
+            × (generation_of self.new ≡ n)) }
+        // A stop at any moment of the call leaves a tape of the ledger after the first of the notes, with every acknowledged one.
+        ensures moments { (h : History) → StandsFor self.old h
+            → TapeLeaves (Survives h) (log_of self.old) (log_of self.new) }
+        ensures none_pends { OnOk result (pending_of self.new ≡ 0) }
+        ensures places { places_of self.new ≡ places_of self.old }
+        ensures ledger { ledger_of self.new ≡ ledger_of self.old }
+        ensures limits { limits_of self.new ≡ limits_of self.old }
+        ensures broken { IsErrOf result StationFault.Broken ↔ IsBroken self.old }
+        ensures generation_full { IsErrOf result (StationFault.Tape TapeFault.GenerationFull)
+            ↔ ((IsBroken self.old → ⊥) × (generation_of self.old ≡ 2 ^ 64 - 1)) }
+        ensures full { IsErrOf result (StationFault.Tape TapeFault.TapeFull) ↔ ((IsBroken self.old → ⊥)
+            × (generation_of self.old ≢ 2 ^ 64 - 1) × RotatesTooLong self.old.tape) }
+        ensures refused { IfErr result (λ e. e ≢ StationFault.Tape TapeFault.Disk → IsSame self.old self.new) }
+        ensures breaks { IsErrOf result (StationFault.Tape TapeFault.Disk) → IsBroken self.new }
+        ensures works { OnOk result (IsBroken self.new → ⊥) }
+        ensures cause { (h : History) → StandsFor self.old h
+            → IsErrOf result (StationFault.Tape TapeFault.Disk) → OneHasRisen (told_of self.old) (told_of self.new) }
+        ensures continues { Continues self.old self.new }
+        ensures quiet { OnOk result (told_of self.new ≡ told_of self.old) }
+        ensures kinds { IfErr result IsRotateFault }
+    {
+        match self.tape.rotate() {
+            Ok(generation) => Ok(generation),
             Err(fault) => Err(station_fault(fault)),
         }
     }
@@ -505,13 +565,15 @@ impl<D: Disk> Station<D> {
         self.index.all_later()
     }
 
-    /// The disk beneath. Notes that pend are gone. A broken station answers too.
-    pub fn into_disk(self) -> D
-        ensures disk { result ≡ disk_of self }
-        ensures survives { (h : History) → StandsFor self h → D.honest result × EachTape (Survives h) (D.log result) }
+    /// The disks beneath, the first and the second. Notes that pend are gone. A broken station answers too.
+    pub fn into_disks(self) -> (D, D)
+        ensures disks { result ≡ disks_of self }
+        ensures told { (D.told result.0, D.told result.1) ≡ told_of self }
+        ensures survives { (h : History) → StandsFor self h → D.honest result.0 × D.honest result.1
+            × EachTape (Survives h) (D.log result.0, D.log result.1) }
     {
         let Station { tape, .. } = self;
-        tape.into_disk()
+        tape.into_disks()
     }
 }
 

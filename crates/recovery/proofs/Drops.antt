@@ -8,11 +8,8 @@ use Rattle.std.proofs.lemmas.List.{length-map, map-append, take-append-le, drop-
 use Rattle.std.proofs.Math.Seq.{drop-cons}
 use Rattle.std.proofs.lemmas.Bool.{eqb-false, eqb-true}
 use Rattle.std.proofs.lemmas.List.Elements.{Contains-append_cases, Contains-append_left, Contains-append_right, Contains-push, Contains-push_cases}
-use Rattle.tape_journal.specs.Journal.{Holds, disk_of as journal_disk}
 use Rattle.tape_journal.specs.Segment.{AllShort}
 use Rattle.tape_journal.specs.Words.{octets_of}
-use Rattle.tape_journal.specs.declared.journal.Journal.{Journal}
-use Rattle.disk_model.specs.declared.Disk.{Ghosts}
 use Rattle.ledger_core.specs.declared.note.Note.{Note}
 use Rattle.ledger_core.specs.declared.note.Note.TheVariants.{Drop}
 use Rattle.ledger_core.specs.declared.note.Cause.{Cause}
@@ -21,13 +18,8 @@ use Rattle.ledger_core.specs.Note.{AreNotes}
 use Rattle.ledger_core.specs.Spelling.{spellings}
 use Rattle.ledger_core.specs.SpellingLaws.{AreNotes-append, spellings-append}
 use Rattle.ledger_core.specs.State.{State, AllLegal, IsLegal, IsOld, IsOwed, LacksDebt, Overflows, Owing, after, numbers_of, start, step, without}
-use Rattle.recovery.specs.Notes.{AreOwed, History, drops, noted_all}
-use Rattle.recovery.specs.Laws.{spellings-length}
-use Rattle.recovery.specs.Image.{Survives, EachTape, IsTape, Octets}
-use Rattle.recovery.specs.Words.{ledger_of}
-use Rattle.recovery.specs.Tape.{StandsFor}
-use Rattle.recovery.specs.declared.tape.Tape.{Tape}
-use Rattle.recovery.proofs.Stands.{note_short}
+use Rattle.recovery.specs.Notes.{AreOwed, drops}
+use Rattle.recovery.proofs.Stands.{note_short, spellings-length}
 
 -- one number more
 pub take_step : (ns : List ℕ) (i n : ℕ) → i < length ns → n ≡ get_or ns i 0 → take (i + 1) ns ≡ take i ns ++ n ∷ []
@@ -54,43 +46,6 @@ AllShort-notes (note ∷ notes) are = (note_short note are.0, AllShort-notes not
 pub AllShort-append : (one other : List (List ℕ)) → AllShort one → AllShort other → AllShort (one ++ other)
 AllShort-append [] other a b = b
 AllShort-append (p ∷ one) other a b = (a.0, AllShort-append one other a.1 b)
-
--- some notes more
-pub Survives-noted_all : (h : History) (notes : List Note) (octets : Octets) → Survives h octets → Survives (noted_all h notes) octets
-Survives-noted_all h notes octets is = record {
-  count = is.count;
-  enough = is.enough;
-  within = omega (arith, is.within, length-append h.notes notes);
-  tape = subst (IsTape octets) (sym (take-append-le is.count h.notes notes is.within)) is.tape;
-}
-
-pub octets_of-append : (one other : List (Vec ℕ Global)) → octets_of (one ++ other) ≡ octets_of one ++ octets_of other
-octets_of-append one other = map-append (λ (w : Vec ℕ Global). w.items) one other
-
--- some notes more, which pend
-pub stands_noted_all : {D : Type 0} {g : Ghosts D} (old new : Tape D g) (h : History) (notes : List Note) (payloads : List (Vec ℕ Global)) → StandsFor old h → new.journal ≡ old.journal → AreNotes notes → AllLegal (ledger_of old) notes → ledger_of new ≡ after (ledger_of old) notes
-    → new.pending.items ≡ old.pending.items ++ payloads → octets_of payloads ≡ spellings notes → new.flushed ≡ old.flushed → StandsFor new (noted_all h notes)
-stands_noted_all {D} {g} old new h notes payloads stands same are legal stepped pending spelled flushed =
-    let here : AllLegal (after start h.notes) notes = subst (λ (s : State). AllLegal s notes) stands.ledger legal in
-    let front : take h.kept (h.notes ++ notes) ≡ take h.kept h.notes = take-append-le h.kept h.notes notes stands.kept_within in
-    let back : drop h.kept (h.notes ++ notes) ≡ drop h.kept h.notes ++ notes = drop-append-le h.kept h.notes notes stands.kept_within in
-    record {
-      honest = subst (λ (j : Journal D g). g.honest (journal_disk j)) (sym same) stands.honest;
-      are_legal = record {
-        notes_are = AreNotes-append h.notes notes stands.are_legal.notes_are are;
-        legal = AllLegal-append start h.notes notes stands.are_legal.legal here;
-      };
-      kept_within = omega (arith, stands.kept_within, length-append h.notes notes);
-      ledger = stepped ∙ (ap (λ (s : State). after s notes) stands.ledger ∙ sym (after-append start h.notes notes));
-      images = subst (λ (j : Journal D g). EachTape (Survives (noted_all h notes)) (g.log (journal_disk j))) (sym same) (λ c image. Survives-noted_all h notes c (stands.images c image));
-      working = λ works.
-          let w = stands.working (subst (λ (j : Journal D g). j.broken ≡ true → ⊥) same works) in
-          record {
-            holds = subst (λ (l : List Note). Holds new.journal (spellings l)) (sym front) (subst (λ (j : Journal D g). Holds j (spellings (take h.kept h.notes))) (sym same) w.holds);
-            pending = ap octets_of pending ∙ (octets_of-append old.pending.items payloads ∙ (ap (λ (l : List (List ℕ)). l ++ octets_of payloads) w.pending ∙ (ap (λ (p : List (List ℕ)). spellings (drop h.kept h.notes) ++ p) spelled ∙ (sym (spellings-append (drop h.kept h.notes) notes) ∙ sym (ap spellings back)))));
-            count = ap (λ (n : ℕ). n + h.opened) flushed ∙ w.count;
-          };
-    }
 
 -- ---- drops of what is owed are legal in turn
 

@@ -1,5 +1,7 @@
+pub mod Counts
 pub mod Drops
 pub mod Opens
 pub mod Payloads
+pub mod Rotates
 pub mod Stands
 mod Rows

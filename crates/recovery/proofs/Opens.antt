@@ -1,94 +1,254 @@
 -- What an opening finds.
-use Rattle.std.proofs.Common.{◌≡◌, ℕ, List, [], length, take, sym, ap, ◌∙◌, subst, inl, arith}
-use Rattle.disk_model.specs.Disk.{Event, Image, FirstSync, content}
+use Rattle.std.proofs.Common.{◌≡◌, ◌⊎◌, inl, inr, ⊎_elim, ℕ, ◌+◌, ◌-◌, ◌<◌, ◌≤◌, ◌^◌, Bool, true, false, List, [], ◌∷◌, length, take, refl, sym, ap, ◌∙◌, subst, arith}
+use Rattle.std.specs.Prelude.{Result, Ok, IsTrue, cond, min}
+use Rattle.std.proofs.Common.{length-take}
+use Rattle.std.proofs.lemmas.Bool.{cases_lt}
+use Rattle.disk_model.specs.Disk.{Event, EachImage, FirstSync, Image, Leaves, Syncs, content}
+use Rattle.disk_model.specs.Disk.Event.{Synced}
 use Rattle.disk_model.specs.Disk.Leaves.{at_start}
-use Rattle.disk_model.specs.Moments.{FirstSync-weaker, Leaves-same}
+use Rattle.disk_model.specs.Moments.{FirstSync-sync, FirstSync-weaker, Leaves-now, Leaves-sync, Leaves-weaker}
 use Rattle.disk_model.specs.declared.Disk.{Ghosts}
-use Rattle.tape_journal.specs.Journal.{Holds, IsOpened, opening, disk_of as journal_disk}
+use Rattle.disk_model.specs.declared.DiskFault.{DiskFault}
+use Rattle.tape_journal.specs.Journal.{Holds, IsOpened, IsRefused, opening, disk_of as journal_disk}
 use Rattle.tape_journal.specs.Kept.{KeptFrom}
 use Rattle.tape_journal.specs.Segment.{Reads, records}
-use Rattle.tape_journal.specs.declared.journal.Journal.{Journal}
-use Rattle.tape_journal.specs.SegmentLaws.{reads_once}
-use Rattle.ledger_core.specs.declared.note.Note.{Note}
-use Rattle.ledger_core.specs.Replay.{Leaves}
-use Rattle.ledger_core.specs.Spelling.{spellings}
-use Rattle.ledger_core.specs.State.{State, after, start}
-use Rattle.recovery.specs.Notes.{AreLegal, History, recovered}
-use Rattle.recovery.specs.Image.{IsTape, Survives, EachTape, TapeFirstSync, TapeLeaves}
-use Rattle.recovery.specs.Laws.{leaves_of}
-use Rattle.recovery.specs.Words.{ledger_of}
-use Rattle.recovery.specs.Tape.{IsOpenedTape, IsRefusedTape, Recovers, StandsFor}
-use Rattle.recovery.specs.declared.fault.TapeFault.TheVariants.{Damaged, NoMemory}
+use Rattle.tape_journal.specs.declared.fault.OpenFault.{OpenFault}
+use Rattle.tape_journal.specs.declared.fault.OpenFault.TheVariants.{Damaged as JournalDamaged, Disk as JournalDisk, NoMemory as NoJournalMemory}
+use Rattle.ledger_core.specs.Base.{Restores}
+use Rattle.ledger_core.specs.State.{State, after}
+use Rattle.ledger_core.specs.Written.{restored-whole}
+use Rattle.recovery.specs.Notes.{History, found, recovered}
+use Rattle.recovery.specs.Image.{AsContent, EachTape, HasGeneration, IsNoTapeAt, IsTape, KeptTape, LeavesNothingAt, Lives, Log, Octets, Survives, TapeFirstSync, TapeLeaves}
+use Rattle.recovery.specs.Laws.{Survives-kept, generation_of_payloads, generation_once, tape_nowhere_damaged, tape_once}
+use Rattle.recovery.specs.PairLaws.{live_leaves, other_leaves, pairs-then, pairs-weaker}
+use Rattle.recovery.specs.Pairs.{EachPair, LeavesPair, live_of, placed}
+use Rattle.recovery.specs.Pairs.LeavesPair.{at_start as at_both}
+use Rattle.recovery.specs.Tape.{GoesBefore, IsOpenedTape, IsRefusedTape, Recovers, StandsFor, StaysBehind, contents_of, tape_opening}
+use Rattle.recovery.specs.Words.{open_fault, AreHonest, generation_of, ledger_of, live_segment, log_of, other_log, refused_log}
+use Rattle.recovery.specs.declared.fault.TapeFault.{TapeFault}
+use Rattle.recovery.specs.declared.fault.TapeFault.TheVariants.{Damaged}
 use Rattle.recovery.specs.declared.tape.RefusedTape.{RefusedTape}
 use Rattle.recovery.specs.declared.tape.Tape.{Tape}
-use Rattle.recovery.proofs.Stands.{stands_whole, open_moments}
+use Rattle.recovery.proofs.Stands.{stands_whole}
 
--- from the first sync on each image has the same payloads, and so it is a tape of the same notes
-pub first_sync_of : (old new : List Event) (payloads : List (List ℕ)) (notes : List Note) → Reads (content old) payloads → FirstSync (λ c. Reads c payloads) old new → IsTape (content old) notes → TapeFirstSync (λ c. IsTape c notes) old new
-first_sync_of old new payloads notes reads first is =
-    let same : payloads ≡ spellings notes = reads_once (content old) payloads (spellings notes) reads is.reads in
-    FirstSync-weaker (λ c. Reads c payloads) (λ c. IsTape c notes) (λ c here. record { legal = is.legal; reads = subst (Reads c) same here }) old new first
+-- ---- both disks, told by the one that lives
 
--- the payloads are those of these notes, and the ledger is their fold
-opened_stands : {D : Type 0} {g : Ghosts D} (old : List Event) (tape : Tape D g) (payloads : List (List ℕ)) (notes : List Note) → IsOpened old tape.journal payloads → payloads ≡ spellings notes → AreLegal notes
-    → ledger_of tape ≡ after start notes → tape.pending.items ≡ [] → tape.flushed ≡ 0 → StandsFor tape (recovered notes)
-opened_stands old tape payloads notes opened same legal ledger none zero =
-    stands_whole tape notes (length notes) legal ledger (subst (λ (l : List (List ℕ)). Holds tape.journal l) same opened.holds) none (omega (arith, zero))
+-- what is in place
+pub placed_live : {A : Type 0} (second : Bool) (live other : A) → live_of second (placed second live other) ≡ live
+placed_live true live other = refl
+placed_live false live other = refl
 
-pub opened_tape : {D : Type 0} {g : Ghosts D} (old : List Event) (tape : Tape D g) (payloads : List (List ℕ)) (notes : List Note) → IsOpened old tape.journal payloads → payloads ≡ spellings notes → AreLegal notes
-    → ledger_of tape ≡ after start notes → tape.pending.items ≡ [] → tape.flushed ≡ 0 → IsOpenedTape old tape
-opened_tape {D} {g} old tape payloads notes opened same legal ledger none zero =
-    let was : IsTape (content old) notes = record { legal = legal; reads = subst (Reads (content old)) same opened.reads } in
+contents_placed : (second : Bool) (live other : List Event) → contents_of (placed second live other) ≡ placed second (content live) (content other)
+contents_placed true live other = refl
+contents_placed false live other = refl
+
+kept_placed : (second : Bool) (live other : List Event) (c d : List ℕ) → KeptFrom live c → KeptFrom other d
+    → KeptTape (placed second live other) (placed second c d)
+kept_placed true live other c d a b = record { first = b; second = a }
+kept_placed false live other c d a b = record { first = a; second = b }
+
+first_placed : (second : Bool) (live other live' other' : List Event) → FirstSync (AsContent (content live)) live live'
+    → FirstSync (AsContent (content other)) other other' → TapeFirstSync (placed second live other) (placed second live' other')
+first_placed true live other live' other' a b = record { first = b; second = a }
+first_placed false live other live' other' a b = record { first = a; second = b }
+
+calls_placed : (second : Bool) (live other live' other' : List Event) (end : ℕ) → live' ≡ opening (length (content live)) end live
+    → other' ≡ Synced ∷ other → placed second live' other' ≡ tape_opening second end (placed second live other)
+calls_placed true live other live' other' end a b = ap (λ (l : List Event). (other', l)) a
+    ∙ ap (λ (l : List Event). (l, opening (length (content live)) end live)) b
+calls_placed false live other live' other' end a b = ap (λ (l : List Event). (l, other')) a
+    ∙ ap (λ (l : List Event). (opening (length (content live)) end live, l)) b
+
+-- ---- the moments of an opening
+
+-- the other disk is synced, or that fails
+pub other_synced : (other new : List Event) (result : Result (Unit {0}) DiskFault) → Image other (content other)
+    → Syncs other result new → Leaves (KeptFrom other) other new
+other_synced other new result now rule =
+    Leaves-sync (KeptFrom other) other other new result (at_start (λ c is. inl is)) rule (inl now)
+
+-- the one, and then the other
+pub kept_moments : (second : Bool) (live other live' other' : List Event) → Leaves (KeptFrom other) other other'
+    → Leaves (KeptFrom live) live live' → TapeLeaves (KeptTape (placed second live other)) (placed second live other) (placed second live' other')
+kept_moments second live other live' other' synced repaired =
+    let P = KeptTape (placed second live other) in
+    let first = other_leaves P second other other' live
+    (Leaves-weaker (KeptFrom other) (λ d. (c : List ℕ) → Image live c → P (placed second c d))
+    (λ d kept c is. kept_placed second live other c d (inl is) kept) other other' synced) in
+    let then = live_leaves P second live live' other'
+    (Leaves-weaker (KeptFrom live) (λ c. (d : List ℕ) → Image other' d → P (placed second c d))
+    (λ c kept d is. kept_placed second live other c d kept (Leaves-now (KeptFrom other) other other' synced d is)) live live' repaired) in
+    pairs-then P (placed second live other) (placed second live other') (placed second live' other') first then
+
+-- what survived before survives at each moment
+pub kept_survives : (h : History) (old new : Log) → Image old.0 (content old.0) → Image old.1 (content old.1)
+    → EachTape (Survives h) old → TapeLeaves (KeptTape old) old new → TapeLeaves (Survives h) old new
+kept_survives h old new first second each moments =
+    pairs-weaker (KeptTape old) (Survives h) (λ octets kept. Survives-kept h old octets first second each kept) old new moments
+
+-- ---- what was opened
+
+-- beside the segment that lives the other does not
+stays : (second : Bool) (live other : List ℕ) (payloads : List (List ℕ)) (generation : ℕ) (state : State)
+    → Lives (placed second live other) second → Reads live payloads → Restores payloads generation state → StaysBehind second generation other
+stays true live other payloads generation state lives reads restores =
+    let same : generation ≡ lives.other = generation_once live generation lives.other
+    (generation_of_payloads live payloads generation state reads restores) lives.second_has in
+    record { other = lives.one; has = lives.first_has; behind = omega (arith, same, lives.greater.0 refl) }
+stays false live other payloads generation state lives reads restores =
+    let same : generation ≡ lives.one = generation_once live generation lives.one
+    (generation_of_payloads live payloads generation state reads restores) lives.first_has in
     record {
-      notes = notes;
-      was = was;
-      stands = opened_stands old tape payloads notes opened same legal ledger none zero;
-      moments = opened.moments;
-      first_sync = first_sync_of old (g.log (journal_disk tape.journal)) payloads notes opened.reads opened.first_sync was;
+      other = lives.other;
+      has = lives.second_has;
+      behind = ⊎_elim (λ (less : lives.one < lives.other). cc (lives.greater.1 less)) (λ (h : lives.other ≤ lives.one). omega (arith, same, h))
+          (cases_lt lives.one lives.other);
     }
 
--- the calls of the opening, where the octets were a tape of these notes
-pub opening_of : {D : Type 0} {g : Ghosts D} (old : List Event) (journal : Journal D g) (payloads : List (List ℕ)) (notes : List Note) → IsOpened old journal payloads → IsTape (content old) notes
-    → g.log (journal_disk journal) ≡ opening (length (content old)) (length (records (spellings notes))) old
-opening_of old journal payloads notes opened is =
-    opened.calls ∙ ap (λ (l : List (List ℕ)). opening (length (content old)) (length (records l)) old) (reads_once (content old) payloads (spellings notes) opened.reads is.reads)
+module _ {D : Type 0} {g : Ghosts D} (tape : Tape D g) (live other : List Event) (payloads : List (List ℕ)) where
+  abbrev old : Log
+  old = placed tape.segments.second live other
 
--- what survived of a history is opened as such a front of it
-pub recovered_tape : {D : Type 0} {g : Ghosts D} (h : History) (old : List Event) (tape : Tape D g) (payloads : List (List ℕ)) → Image old (content old) → EachTape (Survives h) old → IsOpened old tape.journal payloads
-    → ((state : State) → Leaves payloads state → ledger_of tape ≡ state) → tape.pending.items ≡ [] → tape.flushed ≡ 0 → Recovers h old tape
-recovered_tape {D} {g} h old tape payloads now each opened ledger none zero =
-    let here = each (content old) now in
-    let notes = take here.count h.notes in
-    let same : payloads ≡ spellings notes = reads_once (content old) payloads (spellings notes) opened.reads here.tape.reads in
-    let leaves : Leaves payloads (after start notes) = subst (λ (l : List (List ℕ)). Leaves l (after start notes)) (sym same) (leaves_of notes here.tape.legal) in
-    record {
-      count = here.count;
-      enough = here.enough;
-      within = here.within;
-      stands = opened_stands old tape payloads notes opened same here.tape.legal (ledger (after start notes) leaves) none zero;
-      moments = open_moments h old (g.log (journal_disk tape.journal)) now each opened.moments;
-    }
+  -- what the code has done
+  pub record Opens : Type 0 where
+    pub lives : Lives (contents_of old) tape.segments.second
+    pub opened : IsOpened live (live_segment tape) payloads
+    pub restores : Restores payloads (generation_of tape) (ledger_of tape)
+    pub now : Image other (content other)
+    pub synced : other_log tape ≡ Synced ∷ other
+    pub honest : g.honest tape.segments.other
+    pub none : tape.pending.items ≡ []
+    pub zero : tape.flushed ≡ 0
 
--- a disk that is handed back as it was
-pub as_it_was : {D : Type 0} {g : Ghosts D} (old : List Event) (refused : RefusedTape D g) → g.honest refused.disk → g.log refused.disk ≡ old → IsRefusedTape old refused
-as_it_was old refused honest same = record {
-  honest = honest;
-  moments = Leaves-same (KeptFrom old) old old _ (at_start (λ c is. inl is)) same;
-  first_sync = λ payloads reads. inl same;
+  abbrev was_tape : Opens → IsTape (contents_of old) (ledger_of tape)
+  was_tape o = record {
+    second = tape.segments.second;
+    lives = o.lives;
+    generation = generation_of tape;
+    payloads = payloads;
+    reads = subst (λ (both : Octets). Reads (live_of tape.segments.second both) payloads) (sym (contents_placed tape.segments.second live other))
+        (subst (λ (segment : List ℕ). Reads segment payloads) (sym (placed_live tape.segments.second (content live) (content other))) o.opened.reads);
+    restores = o.restores;
+  }
+
+  rests : Opens → EachImage (StaysBehind tape.segments.second (generation_of tape)) (other_log tape)
+  rests o =
+      let lives = subst (λ (both : Octets). Lives both tape.segments.second) (contents_placed tape.segments.second live other) o.lives in
+      let behind = stays tape.segments.second (content live) (content other) payloads (generation_of tape) (ledger_of tape) lives o.opened.reads o.restores in
+      λ d is. subst (StaysBehind tape.segments.second (generation_of tape)) (sym (subst (λ (log : List Event). Image log d) o.synced is)) behind
+
+  moments_of : Opens → TapeLeaves (KeptTape old) old (log_of tape)
+  moments_of o =
+      let synced : Leaves (KeptFrom other) other (other_log tape) =
+      other_synced other (other_log tape) (Ok tt) o.now o.synced in
+      kept_moments tape.segments.second live other (g.log (journal_disk (live_segment tape))) (other_log tape) synced o.opened.moments
+
+  pub opened_tape : Opens → IsOpenedTape old tape
+  opened_tape o = record {
+    state = ledger_of tape;
+    was = was_tape o;
+    stands = stands_whole tape (found (ledger_of tape)) (o.opened.holds.honest, o.honest)
+        (record { whole = restored-whole payloads (generation_of tape) (ledger_of tape) o.restores; notes_are = tt; legal = tt })
+        refl refl payloads o.opened.holds o.restores (rests o) o.none (omega (arith, o.zero)) (omega arith);
+    calls = calls_placed tape.segments.second live other (g.log (journal_disk (live_segment tape))) (other_log tape)
+        (length (records payloads)) o.opened.calls o.synced;
+    moments = moments_of o;
+    first_sync = first_placed tape.segments.second live other (g.log (journal_disk (live_segment tape))) (other_log tape)
+        (FirstSync-weaker (λ c. Reads c payloads) (AsContent (content live)) (λ c reads. inr (payloads, o.opened.reads, reads)) live
+        (g.log (journal_disk (live_segment tape))) o.opened.first_sync)
+        (FirstSync-sync (AsContent (content other)) other (other_log tape) (Ok tt) o.synced (inl refl));
+  }
+
+  -- what survived of a history is opened as such a front of it
+  pub recovered_tape : (h : History) → Image old.0 (content old.0) → Image old.1 (content old.1) → EachTape (Survives h) old → Opens → Recovers h old tape
+  recovered_tape h first second each o =
+      let here = each (content old.0) (content old.1) first second in
+      let same : ledger_of tape ≡ after h.base (take here.count h.notes) =
+      tape_once (contents_of old) (ledger_of tape) (after h.base (take here.count h.notes)) (was_tape o) here.tape in
+      let short : length (take here.count h.notes) ≡ here.count = omega (arith, length-take here.count h.notes, here.within) in
+      record {
+        count = here.count;
+        enough = here.enough;
+        within = here.within;
+        stands = stands_whole tape (recovered h here.count) (o.opened.holds.honest, o.honest) here.legal
+            (sym short) same payloads o.opened.holds (subst (Restores payloads (generation_of tape)) same o.restores) (rests o) o.none
+            (omega (arith, o.zero)) (omega arith);
+        moments = kept_survives h old (log_of tape) first second each (moments_of o);
+      }
+
+-- ---- what was refused
+
+-- disks that are handed back as they were
+pub as_they_were : {D : Type 0} {g : Ghosts D} (old : Log) (refused : RefusedTape D g) → g.honest refused.a → g.honest refused.b
+    → refused_log refused ≡ old → IsRefusedTape old refused
+as_they_were old refused first second same = record {
+  first_honest = first;
+  second_honest = second;
+  moments = subst (λ (log : Log). TapeLeaves (KeptTape old) old log) (sym same) (at_both (λ c d is is'. record { first = inl is; second = inl is' }));
+  first_sync = subst (λ (log : Log). TapeFirstSync old log) (sym same) (record { first = inl refl; second = inl refl });
 }
 
 -- what survived of a history survives where nothing happens
-pub still_survives : (h : History) (old new : List Event) → EachTape (Survives h) old → new ≡ old → TapeLeaves (Survives h) old new
-still_survives h old new each same = Leaves-same (Survives h) old old new (at_start each) same
+pub still_survives : (h : History) (old new : Log) → EachTape (Survives h) old → new ≡ old → TapeLeaves (Survives h) old new
+still_survives h old new each same = subst (λ (log : Log). TapeLeaves (Survives h) old log) (sym same) (at_both each)
 
--- want of memory is no damage
-pub no_damage : (segment at : ℕ) → NoMemory ≡ Damaged segment at → ⊥
-no_damage segment at e = cc
+-- disks whose repair failed
+pub not_repaired : {D : Type 0} {g : Ghosts D} (second : Bool) (live other live' other' : List Event) (refused : RefusedTape D g) (payloads : List (List ℕ))
+    → g.honest refused.a → g.honest refused.b → refused_log refused ≡ placed second live' other' → Image other (content other) → other' ≡ Synced ∷ other
+    → Reads (content live) payloads → Leaves (KeptFrom live) live live' → FirstSync (λ c. Reads c payloads) live live'
+    → IsRefusedTape (placed second live other) refused
+not_repaired second live other live' other' refused payloads one two same now synced reads moments first = record {
+  first_honest = one;
+  second_honest = two;
+  moments = subst (λ (log : Log). TapeLeaves (KeptTape (placed second live other)) (placed second live other) log) (sym same)
+      (kept_moments second live other live' other' (other_synced other other' (Ok tt) now synced) moments);
+  first_sync = subst (λ (log : Log). TapeFirstSync (placed second live other) log) (sym same)
+      (first_placed second live other live' other'
+      (FirstSync-weaker (λ c. Reads c payloads) (AsContent (content live)) (λ c here. inr (payloads, reads, here)) live live' first)
+      (FirstSync-sync (AsContent (content other)) other other' (Ok tt) synced (inl refl)));
+}
 
--- of octets that survived of a history the payloads leave a ledger
-pub survived_leaves : (h : History) (old : List Event) (payloads : List (List ℕ)) → Image old (content old) → EachTape (Survives h) old → Reads (content old) payloads → (state : State) × Leaves payloads state
-survived_leaves h old payloads now each reads =
-    let here = each (content old) now in
-    let notes = take here.count h.notes in
-    let same : payloads ≡ spellings notes = reads_once (content old) payloads (spellings notes) reads here.tape.reads in
-    (after start notes, subst (λ (l : List (List ℕ)). Leaves l (after start notes)) (sym same) (leaves_of notes here.tape.legal))
+-- where the octets survived of a history there is no such place
+pub never_damaged : (h : History) (old : Log) (segment at : ℕ) → Image old.0 (content old.0) → Image old.1 (content old.1)
+    → EachTape (Survives h) old → IsNoTapeAt (contents_of old) segment at → ⊥
+never_damaged h old segment at first second each none =
+    let here = each (content old.0) (content old.1) first second in
+    tape_nowhere_damaged (contents_of old) (after h.base (take here.count h.notes)) segment at here.tape none
+
+-- the segment that lives gives no ledger
+pub nothing_placed : (second : Bool) (live other : List Event) (segment at : ℕ) → Lives (contents_of (placed second live other)) second
+    → segment ≡ cond second 1 0 → LeavesNothingAt (content live) at → IsNoTapeAt (contents_of (placed second live other)) segment at
+nothing_placed true live other segment at lives which nothing = inr (inr (true, lives, which, nothing))
+nothing_placed false live other segment at lives which nothing = inr (inr (false, lives, which, nothing))
+
+-- ---- disks that are handed back
+
+pub images_placed : (second : Bool) (live other : List Event) → Image live (content live) → Image other (content other)
+    → Image (placed second live other).0 (content (placed second live other).0) × Image (placed second live other).1 (content (placed second live other).1)
+images_placed true live other a b = (b, a)
+images_placed false live other a b = (a, b)
+
+module _ {D : Type 0} (g : Ghosts D) where
+  logs_of_both : (second : Bool) (live other : D) → (g.log (placed second live other).0, g.log (placed second live other).1) ≡ placed second (g.log live) (g.log other)
+  logs_of_both true live other = refl
+  logs_of_both false live other = refl
+
+  honest_both : (second : Bool) (live other : D) → g.honest live → g.honest other → g.honest (placed second live other).0 × g.honest (placed second live other).1
+  honest_both true live other a b = (b, a)
+  honest_both false live other a b = (a, b)
+
+module _ {D : Type 0} {g : Ghosts D} where
+  pub logs_refused : (second : Bool) (live other : D) (refused : RefusedTape D g) → (refused.a, refused.b) ≡ placed second live other
+      → refused_log refused ≡ placed second (g.log live) (g.log other)
+  logs_refused second live other refused same = ap (λ (both : D × D). (g.log both.0, g.log both.1)) same ∙ logs_of_both g second live other
+
+  pub honest_refused : (second : Bool) (live other : D) (refused : RefusedTape D g) → (refused.a, refused.b) ≡ placed second live other
+      → g.honest live → g.honest other → g.honest refused.a × g.honest refused.b
+  honest_refused second live other refused same a b =
+      subst (λ (both : D × D). g.honest both.0 × g.honest both.1) (sym same) (honest_both g second live other a b)
+
+-- a fault of the reading that tells damage
+pub damage_told : (segment : ℕ) (fault : OpenFault) (which at : ℕ) → open_fault segment fault ≡ Damaged which at → (which ≡ segment) × (fault ≡ JournalDamaged at)
+damage_told segment (JournalDamaged place) which at e = (cc e, cc e)
+damage_told segment JournalDisk which at e = cc e
+damage_told segment NoJournalMemory which at e = cc e

@@ -1,37 +1,46 @@
 -- How what a tape stands for goes on.
-use Rattle.std.proofs.Common.{◌≡◌, ℕ, ◌+◌, ◌≤◌, true, List, [], ◌∷◌, ◌++◌, length, take, drop, sym, ◌∙◌, ap, subst, arith, length-append, length-drop, take-append-drop}
-use Rattle.std.specs.Prelude.{Vec}
+use Rattle.std.proofs.Common.{◌≡◌, ◌⊎◌, ◌↔◌, inl, inr, ℕ, zero, suc, ◌+◌, ◌-◌, ◌≤◌, ◌<◌, ◌^◌, Bool, true, false, List, [], ◌∷◌, ◌++◌, length, take, drop, refl, sym, ◌∙◌, ap, subst, arith, length-append, length-drop, take-append-drop}
+use Rattle.std.specs.Prelude.{Vec, min}
 use Rattle.std.proofs.Math.Bridge.{le_prop}
+use Rattle.std.proofs.Math.Seq.{take-add, take-append-add}
 use Rattle.std.specs.declared.alloc.Global.{Global}
 use Rattle.std.proofs.lemmas.List.{map-append, length-map, take_all, drop_all, take-append-le, drop-append-le, length-take-le}
-use Rattle.disk_model.specs.Disk.{Event, Image, Leaves, content}
-use Rattle.disk_model.specs.Disk.Leaves.{at_start}
-use Rattle.disk_model.specs.Moments.{Leaves-weaker, Leaves-now}
+use Rattle.disk_model.specs.Disk.{Event, EachImage, Image, Leaves, content}
+use Rattle.disk_model.specs.Moments.{Leaves-weaker}
 use Rattle.disk_model.specs.declared.Disk.{Ghosts}
-use Rattle.tape_journal.specs.Kept.{KeptFrom}
-use Rattle.tape_journal.specs.Journal.{Holds, disk_of as journal_disk, end_of}
-use Rattle.tape_journal.specs.Segment.{Reads, ReadsFrom, AllShort, IsShort, records, gated, open_gate}
-use Rattle.tape_journal.specs.SegmentLaws.{reads_rest, length-gated}
+use Rattle.tape_journal.specs.Journal.{Holds, disk_of as journal_disk}
+use Rattle.tape_journal.specs.Segment.{Reads, ReadsFrom, AllShort, IsShort}
+use Rattle.tape_journal.specs.SegmentLaws.{reads_rest}
 use Rattle.tape_journal.specs.Words.{octets_of}
-use Rattle.tape_journal.specs.declared.journal.Journal.{Journal}
 use Rattle.ledger_core.specs.declared.note.Note.{Note}
-use Rattle.ledger_core.specs.Laws.{after-append}
-use Rattle.ledger_core.specs.Note.{IsNote}
+use Rattle.ledger_core.specs.Base.{Restores}
+use Rattle.ledger_core.specs.Laws.{after-append, AllLegal-back}
+use Rattle.ledger_core.specs.Note.{AreNotes, IsNote}
 use Rattle.ledger_core.specs.Spelling.{spelling, spellings}
-use Rattle.ledger_core.specs.SpellingLaws.{spellings-append, spelling-short}
-use Rattle.ledger_core.specs.State.{State, IsLegal, after, start, step}
-use Rattle.recovery.specs.Notes.{AreLegal, History, noted, flushed, most_pending}
+use Rattle.ledger_core.specs.SpellingLaws.{AreNotes-back, spellings-append, spelling-short}
+use Rattle.ledger_core.specs.State.{State, AllLegal, after}
+use Rattle.ledger_core.specs.Written.{restores-on}
+use Rattle.recovery.specs.Notes.{AreLegal, History, flushed, ledger_after, most_pending, noted_all}
 use Rattle.recovery.specs.Shorts.{AllShort-prop}
-use Rattle.recovery.specs.Image.{Survives, TapeLeaves, EachTape}
-use Rattle.recovery.specs.Laws.{AreLegal-push, Survives-noted, Survives-reads, Survives-whole, Survives-kept, spellings-length}
-use Rattle.recovery.specs.Words.{disk_of, log_of, ledger_of, IsBroken, IsSame}
-use Rattle.recovery.specs.Tape.{StandsFor}
+use Rattle.recovery.specs.Image.{EachTape, IsTape, Survives, TapeLeaves}
+use Rattle.recovery.specs.Laws.{AreLegal-append, AreLegal-take, Survives-noted_all, Survives-whole, tape_placed}
+use Rattle.recovery.specs.PairLaws.{live_leaves, pair-placed, pairs-now}
+use Rattle.recovery.specs.Pairs.{placed}
+use Rattle.recovery.specs.Tape.{StandsFor, StaysBehind}
+use Rattle.recovery.specs.Words.{AreHonest, IsBroken, generation_of, ledger_of, live_log, live_segment, log_of, other_log}
+use Rattle.recovery.specs.declared.segments.Segments.{Segments}
 use Rattle.recovery.specs.declared.tape.Tape.{Tape}
 
--- what lies on the disk and what pends are the spellings of all notes
-pub joined : (notes : List Note) (kept : ℕ) (pending : List (Vec ℕ Global)) → octets_of pending ≡ spellings (drop kept notes) → spellings (take kept notes) ++ octets_of pending ≡ spellings notes
-joined notes kept pending is =
-    ap (λ (l : List (List ℕ)). spellings (take kept notes) ++ l) is ∙ (sym (spellings-append (take kept notes) (drop kept notes)) ∙ ap spellings (take-append-drop kept notes))
+-- ---- payloads
+
+pub spellings-length : (notes : List Note) → length (spellings notes) ≡ length notes
+spellings-length [] = refl
+spellings-length (note ∷ notes) = omega (arith, spellings-length notes)
+
+pub spellings-take : (notes : List Note) (n : ℕ) → take n (spellings notes) ≡ spellings (take n notes)
+spellings-take notes zero = refl
+spellings-take [] (suc n) = refl
+spellings-take (note ∷ notes) (suc n) = ap (λ (l : List (List ℕ)). spelling note ∷ l) (spellings-take notes n)
 
 -- how many notes pend
 pub pending_count : (notes : List Note) (kept : ℕ) (pending : List (Vec ℕ Global)) → octets_of pending ≡ spellings (drop kept notes) → kept ≤ length notes → length pending + kept ≡ length notes
@@ -42,6 +51,9 @@ pending_count notes kept pending is within =
 pub octets_of-push : (vectors : List (Vec ℕ Global)) (v : Vec ℕ Global) → octets_of (vectors ++ v ∷ []) ≡ octets_of vectors ++ v.items ∷ []
 octets_of-push vectors v = map-append (λ (w : Vec ℕ Global). w.items) vectors (v ∷ [])
 
+pub octets_of-append : (one other : List (Vec ℕ Global)) → octets_of (one ++ other) ≡ octets_of one ++ octets_of other
+octets_of-append one other = map-append (λ (w : Vec ℕ Global). w.items) one other
+
 pub AllShort-push : (payloads : List (List ℕ)) (payload : List ℕ) → AllShort payloads → IsShort payload → AllShort (payloads ++ payload ∷ [])
 AllShort-push [] payload all one = (one, tt)
 AllShort-push (p ∷ payloads) payload all one = (all.0, AllShort-push payloads payload all.1 one)
@@ -49,119 +61,157 @@ AllShort-push (p ∷ payloads) payload all one = (all.0, AllShort-push payloads 
 pub note_short : (note : Note) → IsNote note → IsShort (spelling note)
 note_short note is = omega (arith, spelling-short note is)
 
--- each record has an octet or more
-pub records_count : (payloads : List (List ℕ)) → length payloads ≤ length (records payloads)
-records_count [] = omega arith
-records_count (p ∷ payloads) = omega (arith, records_count payloads, length-append (gated open_gate p) (records payloads), length-gated open_gate p (records payloads))
+-- ---- what goes on
 
-module _ {D : Type 0} {g : Ghosts D} (tape : Tape D g) (notes : List Note) (opened : ℕ) where
-  -- all notes are on the disk
-  pub stands_whole : AreLegal notes → ledger_of tape ≡ after start notes → Holds tape.journal (spellings notes) → tape.pending.items ≡ [] → tape.flushed + opened ≡ length notes
-      → StandsFor tape (record { notes = notes; kept = length notes; opened = opened })
-  stands_whole legal ledger holds none count =
-      let h : History = record { notes = notes; kept = length notes; opened = opened } in
-      let all : take (length notes) notes ≡ notes = take_all (length notes) notes (omega arith) in
-      let rest : drop (length notes) notes ≡ [] = drop_all (length notes) notes (omega arith) in
+module _ {D : Type 0} {g : Ghosts D} (tape : Tape D g) (h : History) where
+  -- nothing pends, and the segment that lives holds the ledger
+  pub stands_whole : AreHonest tape → AreLegal h.base h.notes → h.kept ≡ length h.notes → ledger_of tape ≡ ledger_after h
+      → (payloads : List (List ℕ)) → Holds (live_segment tape) payloads → Restores payloads (generation_of tape) (ledger_after h)
+      → EachImage (StaysBehind tape.segments.second (generation_of tape)) (other_log tape)
+      → tape.pending.items ≡ [] → tape.flushed ≡ min (h.kept - h.opened) (2 ^ 64 - 1) → h.opened ≤ h.kept → StandsFor tape h
+  stands_whole honest legal all ledger payloads holds restores other none count opened =
+      let here : take h.kept h.notes ≡ h.notes = take_all h.kept h.notes (omega (arith, all)) in
+      let rest : drop h.kept h.notes ≡ [] = drop_all h.kept h.notes (omega (arith, all)) in
       record {
-        honest = holds.honest;
+        honest = honest;
         are_legal = legal;
-        kept_within = omega arith;
+        kept_within = omega (arith, all);
         ledger = ledger;
-        images = λ c is. Survives-whole h c (omega arith) (record {
-          legal = legal;
-          reads = subst (λ (l : List ℕ). Reads l (spellings notes)) (sym (holds.rest.only.images c is)) (reads_rest (spellings notes) holds.rest.short);
-        });
+        images = pair-placed (Survives h) tape.segments.second (live_log tape) (other_log tape) (λ c d is is'.
+            let reads : Reads c payloads = subst (λ (l : List ℕ). Reads l payloads) (sym (holds.rest.only.images c is))
+            (reads_rest payloads holds.rest.short) in
+            let behind = other d is' in
+            Survives-whole h (placed tape.segments.second c d) legal (omega (arith, all))
+            (tape_placed tape.segments.second c d payloads (generation_of tape) behind.other (ledger_after h) reads restores
+            behind.has behind.behind));
         working = λ works. record {
-          holds = subst (λ (l : List Note). Holds tape.journal (spellings l)) (sym all) holds;
+          payloads = payloads;
+          holds = holds;
+          restores = subst (λ (notes : List Note). Restores payloads (generation_of tape) (after h.base notes)) (sym here) restores;
+          other = other;
           pending = ap octets_of none ∙ ap spellings (sym rest);
           count = count;
+          opened = opened;
         };
       }
 
--- one note more, which pends
-pub stands_noted : {D : Type 0} {g : Ghosts D} (old new : Tape D g) (h : History) (note : Note) (payload : Vec ℕ Global) → StandsFor old h → new.journal ≡ old.journal → IsNote note → IsLegal (ledger_of old) note → ledger_of new ≡ step (ledger_of old) note
-    → new.pending.items ≡ old.pending.items ++ payload ∷ [] → payload.items ≡ spelling note → new.flushed ≡ old.flushed → StandsFor new (noted h note)
-stands_noted {D} {g} old new h note payload stands same is legal stepped pending spelled flushed =
-    let one = note ∷ [] in
-    let here : IsLegal (after start h.notes) note = subst (λ (s : State). IsLegal s note) stands.ledger legal in
-    let front : take h.kept (h.notes ++ one) ≡ take h.kept h.notes = take-append-le h.kept h.notes one stands.kept_within in
-    let back : drop h.kept (h.notes ++ one) ≡ drop h.kept h.notes ++ one = drop-append-le h.kept h.notes one stands.kept_within in
+  -- what lies on the disk and the first of what pends
+  appended : StandsFor tape h → (works : IsBroken tape → ⊥) → (payloads : List (List ℕ)) → Restores payloads (generation_of tape) (after h.base (take h.kept h.notes))
+      → EachImage (StaysBehind tape.segments.second (generation_of tape)) (other_log tape)
+      → octets_of tape.pending.items ≡ spellings (drop h.kept h.notes)
+      → (c : List ℕ) → ReadsFrom (length payloads) (payloads ++ octets_of tape.pending.items) c
+      → (d : List ℕ) → Image (other_log tape) d → Survives h (placed tape.segments.second c d)
+  appended stands works payloads restores other pending c (n, low, high, reads) d is =
+      let m = n - length payloads in
+      let more = drop h.kept h.notes in
+      let state = after h.base (take h.kept h.notes) in
+      let behind = other d is in
+      let plus : n ≡ length payloads + m = omega (arith, low) in
+      let few : h.kept + m ≤ length h.notes =
+      omega (arith, high, length-append payloads (octets_of tape.pending.items), ap length pending, spellings-length more, length-drop h.kept h.notes, stands.kept_within) in
+      let front : take (h.kept + m) h.notes ≡ take h.kept h.notes ++ take m more = take-add h.kept m h.notes in
+      let legal : AreLegal h.base (take (h.kept + m) h.notes) = AreLegal-take h.base h.notes (h.kept + m) stands.are_legal in
+      let notes_are : AreNotes (take m more) =
+      AreNotes-back (take h.kept h.notes) (take m more) (subst AreNotes front legal.notes_are) in
+      let lawful : AllLegal state (take m more) =
+      AllLegal-back h.base (take h.kept h.notes) (take m more) (subst (AllLegal h.base) front legal.legal) in
+      let here : take n (payloads ++ octets_of tape.pending.items) ≡ payloads ++ spellings (take m more) =
+      ap (λ (k : ℕ). take k (payloads ++ octets_of tape.pending.items)) plus
+      ∙ (take-append-add payloads (octets_of tape.pending.items) m
+      ∙ ap (λ (l : List (List ℕ)). payloads ++ l) (ap (take m) pending ∙ spellings-take more m)) in
+      let left : after state (take m more) ≡ after h.base (take (h.kept + m) h.notes) =
+      sym (after-append h.base (take h.kept h.notes) (take m more)) ∙ ap (after h.base) (sym front) in
+      record {
+        count = h.kept + m;
+        enough = omega arith;
+        within = few;
+        legal = legal;
+        tape = subst (IsTape (placed tape.segments.second c d)) left
+            (tape_placed tape.segments.second c d (payloads ++ spellings (take m more)) (generation_of tape) behind.other
+            (after state (take m more)) (subst (Reads c) here reads)
+            (restores-on payloads (generation_of tape) state (take m more) restores notes_are lawful) behind.has behind.behind);
+      }
+
+  -- at each moment of a flush of a tape that works
+  pub flush_moments : (new : List Event) → StandsFor tape h → (IsBroken tape → ⊥)
+      → ((all : List (List ℕ)) → Holds (live_segment tape) all → Leaves (ReadsFrom (length all) (all ++ octets_of tape.pending.items)) (live_log tape) new)
+      → TapeLeaves (Survives h) (log_of tape) (placed tape.segments.second new (other_log tape))
+  flush_moments new stands works moments =
+      let w = stands.working works in
+      live_leaves (Survives h) tape.segments.second (live_log tape) new (other_log tape)
+      (Leaves-weaker (ReadsFrom (length w.payloads) (w.payloads ++ octets_of tape.pending.items))
+      (λ c. (d : List ℕ) → Image (other_log tape) d → Survives h (placed tape.segments.second c d))
+      (λ c reads. appended stands works w.payloads w.restores w.other w.pending c reads)
+      (live_log tape) new (moments w.payloads w.holds))
+
+  -- where nothing pends all is acknowledged
+  pub stands_idle : StandsFor tape h → (IsBroken tape → ⊥) → length tape.pending.items ≡ 0 → StandsFor tape (flushed h)
+  stands_idle stands works none =
+      let w = stands.working works in
+      let all : h.kept ≡ length h.notes = omega (arith, none, pending_count h.notes h.kept tape.pending.items w.pending stands.kept_within) in
+      subst (λ (k : ℕ). StandsFor tape (record h { kept = k })) all stands
+
+  pub idle_count : StandsFor tape h → (IsBroken tape → ⊥) → length tape.pending.items ≡ 0
+      → tape.flushed ≡ min (length h.notes - h.opened) (2 ^ 64 - 1)
+  idle_count stands works none =
+      let w = stands.working works in
+      omega (arith, none, w.count, pending_count h.notes h.kept tape.pending.items w.pending stands.kept_within)
+
+-- some notes more, which pend
+pub stands_noted_all : {D : Type 0} {g : Ghosts D} (old new : Tape D g) (h : History) (notes : List Note) (payloads : List (Vec ℕ Global)) → StandsFor old h → new.segments ≡ old.segments → AreNotes notes → AllLegal (ledger_of old) notes → ledger_of new ≡ after (ledger_of old) notes
+    → new.pending.items ≡ old.pending.items ++ payloads → octets_of payloads ≡ spellings notes → new.flushed ≡ old.flushed → StandsFor new (noted_all h notes)
+stands_noted_all {D} {g} old new h notes payloads stands same are legal stepped pending spelled flushed =
+    let here : AllLegal (ledger_after h) notes = subst (λ (s : State). AllLegal s notes) stands.ledger legal in
+    let front : take h.kept (h.notes ++ notes) ≡ take h.kept h.notes = take-append-le h.kept h.notes notes stands.kept_within in
+    let back : drop h.kept (h.notes ++ notes) ≡ drop h.kept h.notes ++ notes = drop-append-le h.kept h.notes notes stands.kept_within in
     record {
-      honest = subst (λ (j : Journal D g). g.honest (journal_disk j)) (sym same) stands.honest;
-      are_legal = AreLegal-push h.notes note stands.are_legal is here;
-      kept_within = omega (arith, stands.kept_within, length-append h.notes one);
-      ledger = stepped ∙ (ap (λ (s : State). step s note) stands.ledger ∙ sym (after-append start h.notes one));
-      images = subst (λ (j : Journal D g). EachTape (Survives (noted h note)) (g.log (journal_disk j))) (sym same) (λ c image. Survives-noted h note c (stands.images c image));
+      honest = subst (λ (s : Segments D g). g.honest (journal_disk s.live) × g.honest s.other) (sym same) stands.honest;
+      are_legal = AreLegal-append h.base h.notes notes stands.are_legal are here;
+      kept_within = omega (arith, stands.kept_within, length-append h.notes notes);
+      ledger = stepped ∙ (ap (λ (s : State). after s notes) stands.ledger ∙ sym (after-append h.base h.notes notes));
+      images = subst (λ (s : Segments D g). EachTape (Survives (noted_all h notes)) (placed s.second (g.log (journal_disk s.live)) (g.log s.other))) (sym same) (λ c d is is'. Survives-noted_all h notes (c, d) (stands.images c d is is'));
       working = λ works.
-          let w = stands.working (subst (λ (j : Journal D g). j.broken ≡ true → ⊥) same works) in
+          let w = stands.working (subst (λ (s : Segments D g). s.live.broken ≡ true → ⊥) same works) in
           record {
-            holds = subst (λ (l : List Note). Holds new.journal (spellings l)) (sym front) (subst (λ (j : Journal D g). Holds j (spellings (take h.kept h.notes))) (sym same) w.holds);
-            pending = ap octets_of pending ∙ (octets_of-push old.pending.items payload ∙ (ap (λ (l : List (List ℕ)). l ++ payload.items ∷ []) w.pending ∙ (ap (λ (p : List ℕ). spellings (drop h.kept h.notes) ++ p ∷ []) spelled ∙ (sym (spellings-append (drop h.kept h.notes) one) ∙ sym (ap spellings back)))));
-            count = ap (λ (n : ℕ). n + h.opened) flushed ∙ w.count;
+            payloads = w.payloads;
+            holds = subst (λ (s : Segments D g). Holds s.live w.payloads) (sym same) w.holds;
+            restores = subst (λ (s : Segments D g). Restores w.payloads s.generation (after h.base (take h.kept (h.notes ++ notes)))) (sym same)
+                (subst (λ (l : List Note). Restores w.payloads (generation_of old) (after h.base l)) (sym front) w.restores);
+            other = subst (λ (s : Segments D g). EachImage (StaysBehind s.second s.generation) (g.log s.other)) (sym same) w.other;
+            pending = ap octets_of pending ∙ (octets_of-append old.pending.items payloads ∙ (ap (λ (l : List (List ℕ)). l ++ octets_of payloads) w.pending ∙ (ap (λ (p : List (List ℕ)). spellings (drop h.kept h.notes) ++ p) spelled ∙ (sym (spellings-append (drop h.kept h.notes) notes) ∙ sym (ap spellings back)))));
+            count = flushed ∙ w.count;
+            opened = w.opened;
           };
     }
 
 -- after a call that was refused
-pub stands_refused : {D : Type 0} {g : Ghosts D} (old new : Tape D g) (h : History) → StandsFor old h → g.honest (disk_of new) → ledger_of new ≡ ledger_of old → octets_of new.pending.items ≡ octets_of old.pending.items → new.flushed ≡ old.flushed
-    → TapeLeaves (Survives h) (log_of old) (log_of new) → ((IsBroken new → ⊥) → new.journal ≡ old.journal) → StandsFor new h
+pub stands_refused : {D : Type 0} {g : Ghosts D} (old new : Tape D g) (h : History) → StandsFor old h → AreHonest new → ledger_of new ≡ ledger_of old → octets_of new.pending.items ≡ octets_of old.pending.items → new.flushed ≡ old.flushed
+    → TapeLeaves (Survives h) (log_of old) (log_of new) → ((IsBroken new → ⊥) → new.segments ≡ old.segments) → StandsFor new h
 stands_refused {D} {g} old new h stands honest ledger pending flushed moments same = record {
   honest = honest;
   are_legal = stands.are_legal;
   kept_within = stands.kept_within;
   ledger = ledger ∙ stands.ledger;
-  images = Leaves-now (Survives h) (log_of old) (log_of new) moments;
+  images = pairs-now (Survives h) (log_of old) (log_of new) moments;
   working = λ works.
-      let w = stands.working (subst (λ (j : Journal D g). j.broken ≡ true → ⊥) (same works) works) in
+      let stay = same works in
+      let w = stands.working (subst (λ (s : Segments D g). s.live.broken ≡ true → ⊥) stay works) in
       record {
-        holds = subst (λ (j : Journal D g). Holds j (spellings (take h.kept h.notes))) (sym (same works)) w.holds;
+        payloads = w.payloads;
+        holds = subst (λ (s : Segments D g). Holds s.live w.payloads) (sym stay) w.holds;
+        restores = subst (λ (s : Segments D g). Restores w.payloads s.generation (after h.base (take h.kept h.notes))) (sym stay) w.restores;
+        other = subst (λ (s : Segments D g). EachImage (StaysBehind s.second s.generation) (g.log s.other)) (sym stay) w.other;
         pending = pending ∙ w.pending;
-        count = ap (λ (n : ℕ). n + h.opened) flushed ∙ w.count;
+        count = flushed ∙ w.count;
+        opened = w.opened;
       };
 }
 
--- after a call that changed nothing
-pub stands_same : {D : Type 0} {g : Ghosts D} (old new : Tape D g) (h : History) → StandsFor old h → IsSame old new → StandsFor new h
-stands_same {D} {g} old new h stands same =
-    stands_refused old new h stands (subst (λ (j : Journal D g). g.honest (journal_disk j)) (sym same.journal) stands.honest) same.ledger same.pending same.flushed
-    (subst (λ (j : Journal D g). TapeLeaves (Survives h) (log_of old) (g.log (journal_disk j))) (sym same.journal) (at_start stands.images)) (λ works. same.journal)
-
--- Nothing pends: all notes are acknowledged already.
-pub stands_idle : {D : Type 0} {g : Ghosts D} (tape : Tape D g) (h : History) → StandsFor tape h → (IsBroken tape → ⊥) → length tape.pending.items ≡ 0 → StandsFor tape (flushed h)
-stands_idle tape h stands works none =
-    let w = stands.working works in
-    let all : h.kept ≡ length h.notes = omega (arith, none, pending_count h.notes h.kept tape.pending.items w.pending stands.kept_within) in
-    subst (λ (k : ℕ). StandsFor tape (record h { kept = k })) all stands
-
-pub idle_count : {D : Type 0} {g : Ghosts D} (tape : Tape D g) (h : History) → StandsFor tape h → (IsBroken tape → ⊥) → length tape.pending.items ≡ 0 → tape.flushed + h.opened ≡ length h.notes
-idle_count tape h stands works none =
-    let w = stands.working works in
-    omega (arith, none, w.count, pending_count h.notes h.kept tape.pending.items w.pending stands.kept_within)
-
--- A tape whose journal is the same is the same: what else it keeps are facts.
-pub same_tape : {D : Type 0} {g : Ghosts D} (tape : Tape D g) (journal : Journal D g) → journal ≡ tape.journal
-    → (counted : tape.flushed ≤ end_of journal) (few : length tape.pending.items ≤ most_pending) (short : AllShort (octets_of tape.pending.items))
-    → record tape { journal = journal; counted = counted; few = few; short = short } ≡ tape
-same_tape {D} {g} tape journal same =
-    subst (λ (j : Journal D g). (counted : tape.flushed ≤ end_of j) (few : length tape.pending.items ≤ most_pending) (short : AllShort (octets_of tape.pending.items))
-    → record tape { journal = j; counted = counted; few = few; short = short } ≡ tape) (sym same)
-    (λ counted few short.
-    ap (λ (x : tape.flushed ≤ end_of tape.journal). record tape { counted = x; few = few; short = short }) (le_prop counted tape.counted)
+-- A tape whose segments are the same is the same: what else it keeps are facts.
+pub same_tape : {D : Type 0} {g : Ghosts D} (tape : Tape D g) (segments : Segments D g) → segments ≡ tape.segments
+    → (few : length tape.pending.items ≤ most_pending) (short : AllShort (octets_of tape.pending.items))
+    → record tape { segments = segments; few = few; short = short } ≡ tape
+same_tape {D} {g} tape segments same few short =
+    ap (λ (s : Segments D g). record tape { segments = s; few = few; short = short }) same
     ∙ ap (λ (x : length tape.pending.items ≤ most_pending). record tape { few = x; short = short }) (le_prop few tape.few)
-    ∙ ap (λ (x : AllShort (octets_of tape.pending.items)). record tape { short = x }) (AllShort-prop (octets_of tape.pending.items) short tape.short))
-
--- at each moment of a flush of a tape that works
-pub flush_moments : {D : Type 0} {g : Ghosts D} (tape : Tape D g) (new : List Event) (h : History) → StandsFor tape h → (IsBroken tape → ⊥)
-    → ((all : List (List ℕ)) → Holds tape.journal all → Leaves (ReadsFrom (length all) (all ++ octets_of tape.pending.items)) (log_of tape) new)
-    → TapeLeaves (Survives h) (log_of tape) new
-flush_moments tape new h stands works moments =
-    let w = stands.working works in
-    let front = spellings (take h.kept h.notes) in
-    let whole = joined h.notes h.kept tape.pending.items w.pending in
-    let len : length front ≡ h.kept = spellings-length (take h.kept h.notes) ∙ length-take-le h.kept h.notes stands.kept_within in
-    Leaves-weaker (ReadsFrom (length front) (front ++ octets_of tape.pending.items)) (Survives h)
-    (λ c reads. Survives-reads h c stands.are_legal (subst (λ (k : ℕ). ReadsFrom k (spellings h.notes) c) len (subst (λ (l : List (List ℕ)). ReadsFrom (length front) l c) whole reads)))
-    (log_of tape) new (moments front w.holds)
-
--- at each moment of an opening of what survived
-pub open_moments : (h : History) (old new : List Event) → Image old (content old) → EachTape (Survives h) old → Leaves (KeptFrom old) old new → TapeLeaves (Survives h) old new
-open_moments h old new now each moments = Leaves-weaker (KeptFrom old) (Survives h) (λ c kept. Survives-kept h old c now each kept) old new moments
+    ∙ ap (λ (x : AllShort (octets_of tape.pending.items)). record tape { short = x }) (AllShort-prop (octets_of tape.pending.items) short tape.short)

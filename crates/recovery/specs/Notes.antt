@@ -1,26 +1,41 @@
 -- A peer's notes as a whole (profile): all that its tape ever took, which nothing stores.
-use Rattle.std.specs.Prelude.{ℕ, List, [], ◌∷◌, ◌++◌, length, map, Contains}
+use Rattle.std.specs.Prelude.{ℕ, List, [], ◌∷◌, ◌++◌, length, map, take, Contains}
 use Rattle.ledger_core.specs.declared.note.Cause.{Cause}
 use Rattle.ledger_core.specs.declared.note.Note.{Note}
 use Rattle.ledger_core.specs.declared.note.Note.TheVariants.{Drop}
 use Rattle.ledger_core.specs.Note.{AreNotes}
-use Rattle.ledger_core.specs.State.{State, IsOwed, start, AllLegal}
+use Rattle.ledger_core.specs.Written.{IsWhole}
+use Rattle.ledger_core.specs.State.{State, IsOwed, after, start, AllLegal}
 
--- notes that a ledger takes one after another, from the first on
-pub record AreLegal (notes : List Note) : Type 0 where
+-- notes that this ledger takes one after another, which began from nothing or from a Base
+pub record AreLegal (base : State) (notes : List Note) : Type 0 where
+  pub whole : IsWhole base
   pub notes_are : AreNotes notes
-  pub legal : AllLegal start notes
+  pub legal : AllLegal base notes
 
--- What a tape has been through: its notes, how many of them, from the first on, are acknowledged, and how many the last
--- opening found.
+-- What a tape has been through: the ledger that it began from, its notes since, how many of them, from the first on, are
+-- acknowledged, and how many the last opening found.
 pub record History : Type 0 where
+  pub base : State
   pub notes : List Note
   pub kept : ℕ
   pub opened : ℕ
 
--- an opening found these notes: all of them are acknowledged
-abbrev pub recovered : List Note → History
-recovered notes = record { notes = notes; kept = length notes; opened = length notes }
+-- nothing was noted yet
+abbrev pub begun : History
+begun = record { base = start; notes = []; kept = 0; opened = 0 }
+
+-- the ledger after all its notes
+abbrev pub ledger_after : History → State
+ledger_after h = after h.base h.notes
+
+-- an opening found this ledger, from which a history begins
+abbrev pub found : State → History
+found state = record { base = state; notes = []; kept = 0; opened = 0 }
+
+-- an opening found so many notes of a history, from the first on: they are all that there are, and acknowledged
+abbrev pub recovered : History → ℕ → History
+recovered h count = record { base = h.base; notes = take count h.notes; kept = count; opened = count }
 
 -- one note more, which pends
 abbrev pub noted : History → Note → History

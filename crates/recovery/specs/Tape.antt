@@ -1,61 +1,86 @@
 -- What a tape stands for (profile): a history, which nothing stores.
-use Rattle.std.specs.Prelude.{◌≡◌, ℕ, ◌+◌, ◌≤◌, List, length, take, drop}
-use Rattle.disk_model.specs.Disk.{content}
+use Rattle.std.specs.Prelude.{◌≡◌, ℕ, ◌-◌, ◌^◌, ◌<◌, ◌≤◌, Bool, true, false, min, List, ◌∷◌, length, take, drop}
+use Rattle.disk_model.specs.Disk.{EachImage, content}
+use Rattle.disk_model.specs.Disk.Event.{Synced}
 use Rattle.disk_model.specs.declared.Disk.{Ghosts}
-use Rattle.tape_journal.specs.Journal.{Holds}
-use Rattle.tape_journal.specs.Kept.{KeptFrom}
-use Rattle.tape_journal.specs.Segment.{Reads}
+use Rattle.tape_journal.specs.Journal.{Holds, opening}
+use Rattle.tape_journal.specs.Segment.{records}
 use Rattle.tape_journal.specs.Words.{octets_of}
-use Rattle.ledger_core.specs.declared.note.Note.{Note}
+use Rattle.ledger_core.specs.Base.{Restores}
 use Rattle.ledger_core.specs.Spelling.{spellings}
-use Rattle.ledger_core.specs.State.{start, after}
-use Rattle.recovery.specs.Notes.{AreLegal, History, recovered}
-use Rattle.recovery.specs.Image.{Log, IsTape, Survives, EachTape, TapeLeaves, TapeFirstSync}
-use Rattle.recovery.specs.Words.{disk_of, log_of, ledger_of, IsBroken}
+use Rattle.ledger_core.specs.State.{State, after}
+use Rattle.recovery.specs.Notes.{AreLegal, History, found, ledger_after, recovered}
+use Rattle.recovery.specs.Image.{EachTape, HasGeneration, IsTape, KeptTape, Log, Survives, TapeFirstSync, TapeLeaves}
+use Rattle.recovery.specs.Pairs.{Octets, live_of, other_of, placed}
+use Rattle.recovery.specs.Words.{AreHonest, IsBroken, generation_of, ledger_of, live_segment, log_of, other_log, refused_log}
 use Rattle.recovery.specs.declared.tape.Tape.{Tape}
 use Rattle.recovery.specs.declared.tape.RefusedTape.{RefusedTape}
 
--- the acknowledged notes lie on the disk, and the others pend
-pub record IsWorking {D : Type 0} {g : Ghosts D} (tape : Tape D g) (h : History) : Type 0 where
-  pub holds : Holds tape.journal (spellings (take h.kept h.notes))
-  pub pending : octets_of tape.pending.items ≡ spellings (drop h.kept h.notes)
-  pub count : tape.flushed + h.opened ≡ h.kept
+-- a segment of this generation on the first disk or the second goes before one of that
+abbrev pub GoesBefore : Bool → ℕ → ℕ → Type 0
+GoesBefore true generation other = other < generation
+GoesBefore false generation other = other ≤ generation
 
--- The tape stands for this history: its ledger is the fold of the notes, and whatever a stop leaves now is a tape of
--- the first of them with every acknowledged one. Unless it broke it can go on.
+-- the segment doesn't live beside one of this generation
+pub record StaysBehind (second : Bool) (generation : ℕ) (segment : List ℕ) : Type 0 where
+  pub other : ℕ
+  pub has : HasGeneration segment other
+  pub behind : GoesBefore second generation other
+
+-- The segment that lives holds the ledger after the acknowledged notes, the other doesn't live whatever a stop leaves of it,
+-- and the other notes pend.
+pub record IsWorking {D : Type 0} {g : Ghosts D} (tape : Tape D g) (h : History) : Type 0 where
+  pub payloads : List (List ℕ)
+  pub holds : Holds (live_segment tape) payloads
+  pub restores : Restores payloads (generation_of tape) (after h.base (take h.kept h.notes))
+  pub other : EachImage (StaysBehind tape.segments.second (generation_of tape)) (other_log tape)
+  pub pending : octets_of tape.pending.items ≡ spellings (drop h.kept h.notes)
+  pub count : tape.flushed ≡ min (h.kept - h.opened) (2 ^ 64 - 1)
+  pub opened : h.opened ≤ h.kept
+
+-- The tape stands for this history: its ledger is the fold of the notes, and whatever a stop leaves now stands for the ledger
+-- after the first of them with every acknowledged one. Unless it broke it can go on.
 pub record StandsFor {D : Type 0} {g : Ghosts D} (tape : Tape D g) (h : History) : Type 0 where
-  pub honest : g.honest (disk_of tape)
-  pub are_legal : AreLegal h.notes
+  pub honest : AreHonest tape
+  pub are_legal : AreLegal h.base h.notes
   pub kept_within : h.kept ≤ length h.notes
-  pub ledger : ledger_of tape ≡ after start h.notes
+  pub ledger : ledger_of tape ≡ ledger_after h
   pub images : EachTape (Survives h) (log_of tape)
   pub working : (IsBroken tape → ⊥) → IsWorking tape h
 
--- A tape was opened on a disk with this log: it stands for the notes of the content, all acknowledged; until the first
--- sync
--- the images were those from before, and from it on each is a tape of the same notes.
+-- what the disks of this log hold
+abbrev pub contents_of : Log → Octets
+contents_of log = (content log.0, content log.1)
+
+-- The calls that open a tape: the other disk is synced, and the end of the segment that lives is repaired, whose records
+-- end here.
+abbrev pub tape_opening : Bool → ℕ → Log → Log
+tape_opening second end old =
+    placed second (opening (length (content (live_of second old))) end (live_of second old)) (Synced ∷ other_of second old)
+
+-- A tape was opened on disks with this log: it stands for what they held, all acknowledged. Until a disk's first sync its
+-- images were those from before, and from it on each is its content, or reads as that.
 pub record IsOpenedTape {D : Type 0} {g : Ghosts D} (old : Log) (tape : Tape D g) : Type 0 where
-  pub notes : List Note
-  pub was : IsTape (content old) notes
-  pub stands : StandsFor tape (recovered notes)
-  pub moments : TapeLeaves (KeptFrom old) old (log_of tape)
-  pub first_sync : TapeFirstSync (λ c. IsTape c notes) old (log_of tape)
+  pub state : State
+  pub was : IsTape (contents_of old) state
+  pub stands : StandsFor tape (found state)
+  pub calls : log_of tape ≡ tape_opening was.second (length (records was.payloads)) old
+  pub moments : TapeLeaves (KeptTape old) old (log_of tape)
+  pub first_sync : TapeFirstSync old (log_of tape)
 
--- A disk with this log was handed back: a stop left an image from before, or, from the first sync on, one that reads
--- as the
--- content did.
+-- Disks with this log were handed back: a stop left of each an image from before, or, from its first sync on, its content or
+-- one that reads as that.
 pub record IsRefusedTape {D : Type 0} {g : Ghosts D} (old : Log) (refused : RefusedTape D g) : Type 0 where
-  pub honest : g.honest refused.disk
-  pub moments : TapeLeaves (KeptFrom old) old (g.log refused.disk)
-  pub first_sync : (payloads : List (List ℕ)) → Reads (content old) payloads
-      → TapeFirstSync (λ c. Reads c payloads) old (g.log refused.disk)
+  pub first_honest : g.honest refused.a
+  pub second_honest : g.honest refused.b
+  pub moments : TapeLeaves (KeptTape old) old (refused_log refused)
+  pub first_sync : TapeFirstSync old (refused_log refused)
 
--- A tape was opened on a disk each of whose images was a tape of the first of a history's notes with every
--- acknowledged one:
--- it stands for such a front of them, all acknowledged now, and so was each image at each moment.
+-- A tape was opened on disks each of whose images stood for the ledger after the first of a history's notes with every
+-- acknowledged one: it stands for such a front of them, all acknowledged now, and so was each image at each moment.
 pub record Recovers {D : Type 0} {g : Ghosts D} (h : History) (old : Log) (tape : Tape D g) : Type 0 where
   pub count : ℕ
   pub enough : h.kept ≤ count
   pub within : count ≤ length h.notes
-  pub stands : StandsFor tape (recovered (take count h.notes))
+  pub stands : StandsFor tape (recovered h count)
   pub moments : TapeLeaves (Survives h) old (log_of tape)

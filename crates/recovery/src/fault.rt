@@ -1,11 +1,11 @@
 // Why a call of a tape was refused.
 ghost use Rattle.std.specs.Prelude.{◌≡◌};
 ghost use Rattle.recovery.specs.declared.fault.TapeFault.TheVariants.{NoMemory as NoTapeMemory};
-ghost use Rattle.recovery.specs.Words.{append_fault, open_fault};
+ghost use Rattle.recovery.specs.Words.{append_fault, open_fault, renew_fault};
 
 use ledger_core::LedgerFault;
 use std::alloc::{AllocError, AllocFailed};
-use tape_journal::{AppendFault, OpenFault};
+use tape_journal::{AppendFault, OpenFault, RenewFault};
 use thiserror::Error;
 
 /// Why a tape refuses a call. Each call tells which of these come, and in which order they are tried.
@@ -15,15 +15,19 @@ pub enum TapeFault {
     /// a record is missing, or a record is no note that its ledger takes. Nothing was written.
     #[error("Damaged")]
     Damaged { segment: u8, at: u64 },
-    /// A call of the disk failed. After `flush` the tape is broken, and is to be opened again from its disk.
+    /// A call of the disk failed. After `flush` or `rotate` the tape is broken, and is to be opened again
+    /// from its disks.
     #[error("Disk")]
     Disk,
-    /// A `flush` failed on the disk before. Nothing was changed.
+    /// A `flush` or a `rotate` failed on a disk before. Nothing was changed.
     #[error("Broken")]
     Broken,
     /// The tape would be longer than 4,294,967,296 octets. Nothing was changed.
     #[error("TapeFull")]
     TapeFull,
+    /// The tape was written anew so often that its generation is the greatest u64. Nothing was changed.
+    #[error("GenerationFull")]
+    GenerationFull,
     /// 65,536 notes pend. Nothing was changed.
     #[error("PendingFull")]
     PendingFull,
@@ -51,12 +55,12 @@ impl<T: Drop> From<AllocFailed<T>> for TapeFault {
     }
 }
 
-// The fault of a journal that was not opened.
-pub(crate) fn open_fault(fault: OpenFault) -> TapeFault
-    ensures { result ≡ open_fault fault }
+// The fault of this segment, 0 or 1, where it was not read.
+pub(crate) fn open_fault(segment: u8, fault: OpenFault) -> TapeFault
+    ensures { result ≡ open_fault segment fault }
 {
     match fault {
-        OpenFault::Damaged { at } => TapeFault::Damaged { segment: 0, at },
+        OpenFault::Damaged { at } => TapeFault::Damaged { segment, at },
         OpenFault::Disk => TapeFault::Disk,
         OpenFault::NoMemory => TapeFault::NoMemory,
     }
@@ -71,5 +75,16 @@ pub(crate) fn append_fault(fault: AppendFault) -> TapeFault
         AppendFault::Broken => TapeFault::Broken,
         AppendFault::TapeFull | AppendFault::PayloadTooLong => TapeFault::TapeFull,
         AppendFault::NoMemory => TapeFault::NoMemory,
+    }
+}
+
+// The fault of a segment that was not written anew. None of its payloads is too long.
+pub(crate) fn renew_fault(fault: RenewFault) -> TapeFault
+    ensures { result ≡ renew_fault fault }
+{
+    match fault {
+        RenewFault::Disk => TapeFault::Disk,
+        RenewFault::TapeFull | RenewFault::PayloadTooLong => TapeFault::TapeFull,
+        RenewFault::NoMemory => TapeFault::NoMemory,
     }
 }

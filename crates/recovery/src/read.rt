@@ -3,12 +3,12 @@ ghost use Rattle.std.specs.Prelude.{◌≡◌, ◌-◌, ◌^◌, ◌<◌, ◌≤
 ghost use Rattle.tape_journal.specs.Segment.{records};
 ghost use Rattle.tape_journal.specs.Words.{octets_of};
 ghost use Rattle.ledger_core.specs.Ledger.{state_of};
-ghost use Rattle.ledger_core.specs.Replay.{Leaves, StopsAt};
+ghost use Rattle.ledger_core.specs.Base.{RestoreStopsAt, Restores};
 ghost use Rattle.ledger_core.specs.State.{State};
 ghost use Rattle.recovery.specs.Words.{IsReplayFault};
 
 use crate::TapeFault;
-use ledger_core::{Ledger, ReplayFault};
+use ledger_core::{Ledger, ReplayFault, Restored};
 use std::alloc::Global;
 
 // How long the records of these payloads are, or more than any disk.
@@ -30,17 +30,28 @@ fn gate_of(payloads: &[Vec<u8>], index: usize) -> u64
     records_len(&payloads[..index])
 }
 
-// The ledger that the payloads of a tape leave, or why they leave none.
-pub(crate) fn read_ledger(alloc: Global, payloads: &[Vec<u8>]) -> Result<Ledger, TapeFault>
-    ensures fold { IfOk result (λ ledger. Leaves (octets_of payloads.now) (state_of ledger)) }
-    ensures all { (state : State) → Leaves (octets_of payloads.now) state → MatchResult result (λ ledger. state_of ledger ≡ state) (λ fault. fault ≡ TapeFault.NoMemory) }
-    ensures damaged { IfErr result (λ fault. (segment at : ℕ) → fault ≡ TapeFault.Damaged segment at → (segment ≡ 0) × (length (records (octets_of payloads.now)) < 2 ^ 64 → (index : ℕ) × StopsAt (octets_of payloads.now) index × (at ≡ length (records (take index (octets_of payloads.now)))))) }
+// What the payloads of this segment, 0 or 1, leave, or why they leave nothing.
+pub(crate) fn read_ledger(
+    alloc: Global,
+    segment: u8,
+    payloads: &[Vec<u8>],
+) -> Result<Restored, TapeFault>
+    ensures ok { IfOk result
+        (λ r. Restores (octets_of payloads.now) r.generation (state_of r.ledger)) }
+    ensures all { (generation : ℕ) (state : State)
+        → Restores (octets_of payloads.now) generation state → MatchResult result
+        (λ r. (r.generation ≡ generation) × (state_of r.ledger ≡ state))
+        (λ fault. fault ≡ TapeFault.NoMemory) }
+    ensures damaged { IfErr result (λ fault. (which at : ℕ) → fault ≡ TapeFault.Damaged which at
+        → (which ≡ segment) × (length (records (octets_of payloads.now)) < 2 ^ 64
+        → (index : ℕ) × RestoreStopsAt (octets_of payloads.now) index
+        × (at ≡ length (records (take index (octets_of payloads.now)))))) }
     ensures kinds { IfErr result IsReplayFault }
 {
-    match Ledger::replay(alloc, payloads) {
-        Ok(ledger) => Ok(ledger),
+    match Ledger::restore(alloc, payloads) {
+        Ok(restored) => Ok(restored),
         Err(ReplayFault::Refused { index }) => Err(TapeFault::Damaged {
-            segment: 0,
+            segment,
             at: gate_of(payloads, index),
         }),
         Err(ReplayFault::NoMemory) => Err(TapeFault::NoMemory),

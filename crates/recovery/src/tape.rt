@@ -1,6 +1,5 @@
 // Tapes.
 ghost use Rattle.std.specs.Prelude.{◌≡◌, ◌≢◌, ◌+◌, ◌-◌, ◌*◌, ◌^◌, ◌≤◌, ◌<◌, ◌↔◌, ℕ, List, length, IsTrue};
-ghost use Rattle.tape_journal.specs.Journal.{end_of};
 ghost use Rattle.tape_journal.specs.Segment.{AllShort};
 ghost use Rattle.tape_journal.specs.Words.{octets_of};
 ghost use Rattle.recovery.specs.Image.{IsNoTapeAt};
@@ -16,64 +15,79 @@ ghost use Rattle.recovery.specs.Notes.{drops};
 ghost use Rattle.recovery.specs.declared.fault.TapeFault.TheVariants.{Broken};
 
 use crate::TapeFault;
-use crate::fault::{append_fault, open_fault};
+use crate::fault::{append_fault, open_fault, renew_fault};
 use crate::read::read_ledger;
+use crate::segments::{Segments, is_second_live};
 use disk_model::Disk;
 use ledger_core::{Cause, Debt, Ledger, LedgerFault, Note, Totals, encode};
 use std::alloc::{AllocError, Global};
-use tape_journal::{Journal, Refused, Unrepaired};
+use tape_journal::Journal;
 
 // How many notes may pend.
 const MOST_PENDING: usize = 65536;
 
-/// A disk on which no tape was opened, handed back as the call left it.
+// The longest segment, in octets, with its end gate.
+const LONGEST_SEGMENT: u64 = 4294967296;
+
+// The shortest segment for which a rotation is due is longer, in octets.
+const LONG_SEGMENT: u64 = 65536;
+
+// How many octets the record of a Base has, with the end gate behind.
+const BASE_LEN: u64 = 55;
+
+// How many octets the record of a debt has beside its token and its message-id, less the 2 that owed bytes count.
+const DEBT_LEN: u64 = 14;
+
+/// Two disks on which no tape was opened, handed back as the call left them.
 #[derive(Drop)]
 pub struct RefusedTape<D: Disk> {
-    /// The disk.
-    pub disk: D,
-    /// Why it was refused: `Damaged`, `Disk` or `NoMemory`.
+    /// The first disk.
+    pub a: D,
+    /// The second disk.
+    pub b: D,
+    /// Why they were refused: `Damaged`, `Disk` or `NoMemory`.
     pub fault: TapeFault,
     ghost is_refusal: { fault ≢ Broken },
 }
 
 impl<D: Disk> RefusedTape<D> {
-    ghost use Rattle.tape_journal.specs.Unrepaired.{read_disk};
-    ghost use Rattle.recovery.specs.Words.{open_fault};
+    ghost use Rattle.recovery.specs.Pairs.{placed};
 
-    // The disk as its journal handed it back.
-    fn of_journal(refused: Refused<D>) -> Self
-        ensures disk { result.disk ≡ refused.disk }
-        ensures fault { result.fault ≡ open_fault refused.fault }
-    {
-        let Refused { disk, fault, .. } = refused;
-        RefusedTape {
-            disk,
-            fault: open_fault(fault),
-        }
-    }
-
-    // The disk as it was read: nothing was written, since what was read is refused for this fault.
-    fn as_read(unrepaired: Unrepaired<D>, fault: TapeFault) -> Self
+    // The disks in their order, of which the second lives or the first.
+    fn of(second: bool, live: D, other: D, fault: TapeFault) -> Self
         requires { fault ≢ Broken }
-        ensures disk { result.disk ≡ read_disk unrepaired }
+        ensures disks { (result.a, result.b) ≡ placed second live other }
         ensures fault { result.fault ≡ fault }
     {
-        let disk = unrepaired.into_disk();
-        RefusedTape { disk, fault }
+        if second {
+            RefusedTape {
+                a: other,
+                b: live,
+                fault,
+            }
+        } else {
+            RefusedTape {
+                a: live,
+                b: other,
+                fault,
+            }
+        }
     }
 }
 
-/// What one peer is owed: its notes on a disk, those that pend, and the ledger that all of them leave.
+/// What one peer is owed: its notes on two disks, those that pend, and the ledger that all of them leave.
+///
+/// Each disk has a segment, and the one of greater generation lives: notes are added to it, until `rotate` writes the
+/// ledger into the other, which lives from then on.
 #[derive(Drop)]
 pub struct Tape<D: Disk> {
     pub(crate) alloc: Global,
-    pub(crate) journal: Journal<D>,
+    pub(crate) segments: Segments<D>,
     pub(crate) ledger: Ledger,
     // The spellings of the notes that pend.
     pub(crate) pending: Vec<Vec<u8>>,
-    // How many notes were put on the disk since the tape was opened.
+    // How many notes were put on the disks since the tape was opened.
     pub(crate) flushed: u64,
-    ghost counted: { flushed ≤ end_of journal },
     ghost few: { length pending.items ≤ most_pending },
     ghost short: { AllShort (octets_of pending.items) } by { AllShort-prop (octets_of pending.items) },
 }
@@ -83,78 +97,158 @@ impl<D: Disk> Tape<D> {
     ghost use Rattle.std.specs.Prelude.{MatchResult, IfErr, OnErr, IsOk, IsErrOf, IsSome, option_map};
     ghost use Rattle.std.specs.List.Sorted.{IsStrictlyIncreasing};
     ghost use Rattle.disk_model.specs.Disk.{content};
-    ghost use Rattle.tape_journal.specs.Journal.{appending, opening};
-    ghost use Rattle.tape_journal.specs.Segment.{records};
+    ghost use Rattle.tape_journal.specs.Segment.{longest_segment};
     ghost use Rattle.ledger_core.specs.Ledger.{totals_of};
+    ghost use Rattle.ledger_core.specs.Base.{owes};
+    ghost use Rattle.ledger_core.specs.Spelling.{spellings};
+    ghost use Rattle.ledger_core.specs.Written.{written};
     ghost use Rattle.ledger_core.specs.declared.ledger.LedgerFault.{LedgerFault};
     ghost use Rattle.ledger_core.specs.declared.note.Note.{Note};
     ghost use Rattle.ledger_core.specs.State.{IsLegal, IsOwed, Owing, line_octets, numbers, step};
     ghost use Rattle.recovery.specs.Notes.{AreOwed, History, noted, noted_all, flushed};
-    ghost use Rattle.recovery.specs.Image.{EachTape, IsSomeTape, IsTape, TapeLeaves, Survives};
-    ghost use Rattle.recovery.specs.Words.{disk_of, log_of, ledger_of, pending_of, IsBroken, IsFull, IsSame, RefusesNote, Tells, IsOpenFault, IsNoteFault, IsFlushFault, IsDebtFault, IsDropFault};
-    ghost use Rattle.recovery.specs.Tape.{StandsFor, IsOpenedTape, IsRefusedTape, Recovers};
+    ghost use Rattle.recovery.specs.Image.{EachTape, IsNoTapeAt, IsSomeTape, Lives, TapeLeaves, Survives};
+    ghost use Rattle.recovery.specs.Pairs.{live_of, placed};
+    ghost use Rattle.recovery.specs.Words.{AreHonest, Continues, OneHasRisen, disks_of, flushing};
+    ghost use Rattle.recovery.specs.Words.{generation_of, ledger_of};
+    ghost use Rattle.recovery.specs.Words.{log_of, pending_of, refused_log, rotated_length, rotating, told_of};
+    ghost use Rattle.recovery.specs.Words.{IsBroken, IsDue, RotatesTooLong, IsFull, IsSame, RefusesNote, Tells};
+    ghost use Rattle.recovery.specs.Words.{IsOpenFault, IsNoteFault, IsFlushFault, IsDebtFault};
+    ghost use Rattle.recovery.specs.Words.{IsDropFault, IsRotateFault};
+    ghost use Rattle.recovery.specs.Tape.{StandsFor, IsOpenedTape, IsRefusedTape, Recovers, contents_of};
 
-    /// Opens the tape of a disk, an empty one among them. Its ledger is the fold of the notes that lie there; all of them
-    /// are acknowledged, and none pends. The disk is read and its notes are judged first, which changes nothing; then its
-    /// end is repaired. Linear in the tape.
+    /// Opens the tape of two disks, empty ones among them: of their segments the one of greater generation lives, on a
+    /// tie the first. Its ledger is what that leaves; all notes are acknowledged, and none pends. The disks are read
+    /// and judged first, which changes nothing; then the other disk is synced, and the end of the segment that lives is
+    /// repaired. Linear in the segment that lives.
     ///
     /// # Errors
-    /// The disk is handed back. Tried in this order: what the reading meets first, `Damaged` where the segment has no
-    /// reading, `Disk`, or `NoMemory`; `Damaged` at the first record that is no legal note, or `NoMemory` of judging.
-    /// These leave the disk as it was, octet for octet. Then `Disk` of the repair, which leaves a tape of the same notes.
-    pub fn open(alloc: Global, disk: D) -> Result<Tape<D>, RefusedTape<D>>
-        ensures ok { D.honest disk → IfOk result (λ tape. IsOpenedTape (D.log disk) tape) }
-        ensures err { D.honest disk → IfErr result (λ e. IsRefusedTape (D.log disk) e) }
+    /// The disks are handed back. Tried in this order: what the reading of the first record of the first disk meets,
+    /// and then of the second, `Damaged` at 0 where it tells no generation, `Disk`, or `NoMemory`; the same of the
+    /// reading of the segment that lives; `Damaged` at its first payload at which no reading goes on, or at its end
+    /// where a debt of its Base is missing, or `NoMemory` of judging. These leave the disks as they were, octet for
+    /// octet. Then `Disk` of the sync and the repair, which leave a tape of the same ledger.
+    pub fn open(alloc: Global, mut a: D, mut b: D) -> Result<Tape<D>, RefusedTape<D>>
+        ensures ok { D.honest a → D.honest b
+            → IfOk result (IsOpenedTape (D.log a, D.log b)) }
+        ensures err { D.honest a → D.honest b
+            → IfErr result (IsRefusedTape (D.log a, D.log b)) }
 
-        // Whatever a stop left of a history is opened to the ledger after a front of it that holds every acknowledged note, and is
-        // never damaged.
-        ensures recovers { (h : History) → D.honest disk → EachTape (Survives h) (D.log disk) → IfOk result (λ tape. Recovers h (D.log disk) tape) }
-        ensures survives { (h : History) → D.honest disk → EachTape (Survives h) (D.log disk) → IfErr result (λ e. TapeLeaves (Survives h) (D.log disk) (D.log e.disk)) }
-        ensures undamaged { (h : History) → D.honest disk → EachTape (Survives h) (D.log disk) → IfErr result (λ e. (segment at : ℕ) → e.fault ≢ TapeFault.Damaged segment at) }
-
-        // The calls that it makes.
-        ensures calls { D.honest disk → (notes : List Note) → IsTape (content (D.log disk)) notes → IfOk result (λ tape. log_of tape ≡ opening (length (content (D.log disk))) (length (records (spellings notes))) (D.log disk)) }
+        // Whatever a stop left of a history is opened to the ledger after a front of it that holds every acknowledged
+        // note, and is never damaged.
+        ensures recovers { (h : History) → D.honest a → D.honest b
+            → EachTape (Survives h) (D.log a, D.log b) → IfOk result (Recovers h (D.log a, D.log b)) }
+        ensures survives { (h : History) → D.honest a → D.honest b
+            → EachTape (Survives h) (D.log a, D.log b) → IfErr result (λ e. TapeLeaves (Survives h) (D.log a, D.log b) (refused_log e)) }
+        ensures undamaged { (h : History) → D.honest a → D.honest b
+            → EachTape (Survives h) (D.log a, D.log b) → IfErr result (λ e. (segment at : ℕ) → e.fault ≢ TapeFault.Damaged segment at) }
 
         // Each fault has its cause.
-        ensures damaged { D.honest disk → IfErr result (λ e. (segment at : ℕ) → e.fault ≡ TapeFault.Damaged segment at → (segment ≡ 0) × IsNoTapeAt (content (D.log disk)) at) }
-        // A refused disk is as it was, but for a `Disk` of the repair; and only a tape is repaired.
-        ensures untouched { D.honest disk → IfErr result (λ e. e.fault ≢ TapeFault.Disk
-            → D.log e.disk ≡ D.log disk) }
-        ensures judged { D.honest disk → IfErr result (λ e. e.fault ≡ TapeFault.Disk
-            → (D.log e.disk ≡ D.log disk) ⊎ IsSomeTape (content (D.log disk))) }
-        ensures cause { D.honest disk → IfErr result (λ e. e.fault ≡ TapeFault.Disk → min (D.told disk + 1) (2 ^ 64 - 1) ≤ D.told e.disk) }
+        ensures damaged { D.honest a → D.honest b → IfErr result (λ e. (segment at : ℕ)
+            → e.fault ≡ TapeFault.Damaged segment at → IsNoTapeAt (contents_of (D.log a, D.log b)) segment at) }
+        // Refused disks are as they were, but for a `Disk` of the repair; and only a tape is repaired.
+        ensures untouched { D.honest a → D.honest b → IfErr result
+            (λ e. e.fault ≢ TapeFault.Disk → refused_log e ≡ (D.log a, D.log b)) }
+        ensures judged { D.honest a → D.honest b → IfErr result
+            (λ e. e.fault ≡ TapeFault.Disk → (refused_log e ≡ (D.log a, D.log b))
+            ⊎ IsSomeTape (contents_of (D.log a, D.log b))) }
+        ensures cause { D.honest a → D.honest b → IfErr result (λ e. e.fault ≡ TapeFault.Disk
+            → OneHasRisen (D.told a, D.told b) (D.told e.a, D.told e.b)) }
         ensures kinds { IfErr result (λ e. IsOpenFault e.fault) }
 
         ensures works { IfOk result (λ tape. (IsBroken tape → ⊥) × (pending_of tape ≡ 0)) }
-        ensures honest { MatchResult result (λ tape. D.honest disk ↔ D.honest (disk_of tape)) (λ e. D.honest disk ↔ D.honest e.disk) }
-        ensures later { MatchResult result (λ tape. D.told disk ≤ D.told (disk_of tape)) (λ e. D.told disk ≤ D.told e.disk) }
-        ensures quiet { IfOk result (λ tape. D.told (disk_of tape) ≡ D.told disk) }
+        ensures honest { MatchResult result (λ tape. (D.honest a × D.honest b) ↔ AreHonest tape)
+            (λ e. (D.honest a × D.honest b) ↔ (D.honest e.a × D.honest e.b)) }
+        ensures quiet { MatchResult result (λ tape. told_of tape ≡ (D.told a, D.told b))
+            (λ e. (D.told a ≤ D.told e.a) × (D.told b ≤ D.told e.b)) }
     {
-        let (unrepaired, payloads) = match Journal::read(alloc, disk) {
+        match is_second_live(alloc, &mut a, &mut b) {
+            Ok(false) => Tape::open_live(alloc, false, a, b),
+            Ok(true) => Tape::open_live(alloc, true, b, a),
+            Err(fault) => Err(RefusedTape { a, b, fault }),
+        }
+    }
+
+    // Opens the tape of a disk whose segment lives, that of the second or the first, and of the other.
+    fn open_live(
+        alloc: Global,
+        second: bool,
+        live: D,
+        mut other: D,
+    ) -> Result<Tape<D>, RefusedTape<D>>
+        requires lives { D.honest live → D.honest other
+            → Lives (contents_of (placed second (D.log live) (D.log other))) second }
+        ensures ok { D.honest live → D.honest other
+            → IfOk result (IsOpenedTape (placed second (D.log live) (D.log other))) }
+        ensures err { D.honest live → D.honest other
+            → IfErr result (IsRefusedTape (placed second (D.log live) (D.log other))) }
+        ensures recovers { (h : History) → D.honest live → D.honest other
+            → EachTape (Survives h) (placed second (D.log live) (D.log other))
+            → IfOk result (Recovers h (placed second (D.log live) (D.log other))) }
+        ensures survives { (h : History) → D.honest live → D.honest other
+            → EachTape (Survives h) (placed second (D.log live) (D.log other))
+            → IfErr result (λ e. TapeLeaves (Survives h) (placed second (D.log live) (D.log other)) (refused_log e)) }
+        ensures undamaged { (h : History) → D.honest live → D.honest other
+            → EachTape (Survives h) (placed second (D.log live) (D.log other))
+            → IfErr result (λ e. (segment at : ℕ) → e.fault ≢ TapeFault.Damaged segment at) }
+        ensures damaged { D.honest live → D.honest other → IfErr result (λ e. (segment at : ℕ)
+            → e.fault ≡ TapeFault.Damaged segment at
+            → IsNoTapeAt (contents_of (placed second (D.log live) (D.log other))) segment at) }
+        ensures untouched { D.honest live → D.honest other → IfErr result
+            (λ e. e.fault ≢ TapeFault.Disk → refused_log e ≡ (placed second (D.log live) (D.log other))) }
+        ensures judged { D.honest live → D.honest other → IfErr result
+            (λ e. e.fault ≡ TapeFault.Disk → (refused_log e ≡ (placed second (D.log live) (D.log other)))
+            ⊎ IsSomeTape (contents_of (placed second (D.log live) (D.log other)))) }
+        ensures cause { D.honest live → D.honest other → IfErr result (λ e. e.fault ≡ TapeFault.Disk
+            → OneHasRisen (placed second (D.told live) (D.told other)) (D.told e.a, D.told e.b)) }
+        ensures kinds { IfErr result (λ e. IsOpenFault e.fault) }
+        ensures works { IfOk result (λ tape. (IsBroken tape → ⊥) × (pending_of tape ≡ 0)) }
+        ensures honest { MatchResult result (λ tape. (D.honest live × D.honest other) ↔ AreHonest tape)
+            (λ e. (D.honest live × D.honest other) ↔ (D.honest e.a × D.honest e.b)) }
+        ensures quiet { MatchResult result (λ tape. told_of tape ≡ (placed second (D.told live) (D.told other)))
+            (λ e. ((placed second (D.told live) (D.told other)).0 ≤ D.told e.a)
+            × ((placed second (D.told live) (D.told other)).1 ≤ D.told e.b)) }
+    {
+        let segment = if second { 1 } else { 0 };
+        let (unrepaired, payloads) = match Journal::read(alloc, live) {
             Ok(read) => read,
-            Err(refused) => return Err(RefusedTape::of_journal(refused)),
+            Err(refused) => {
+                let fault = open_fault(segment, refused.fault);
+                return Err(RefusedTape::of(second, refused.disk, other, fault));
+            }
         };
-        let ledger = match read_ledger(alloc, &payloads) {
-            Ok(ledger) => ledger,
-            Err(fault) => return Err(RefusedTape::as_read(unrepaired, fault)),
+        let restored = match read_ledger(alloc, segment, &payloads) {
+            Ok(restored) => restored,
+            Err(fault) => return Err(RefusedTape::of(second, unrepaired.into_disk(), other, fault)),
         };
+        match other.sync() {
+            Ok(()) => {}
+            Err(_) => {
+                let fault = TapeFault::Disk;
+                return Err(RefusedTape::of(second, unrepaired.into_disk(), other, fault));
+            }
+        }
         match unrepaired.repair() {
-            Ok(journal) => Ok(Tape {
+            Ok(live) => Ok(Tape {
                 alloc,
-                journal,
-                ledger,
+                segments: Segments {
+                    live,
+                    other,
+                    second,
+                    generation: restored.generation,
+                },
+                ledger: restored.ledger,
                 pending: Vec::new(alloc),
                 flushed: 0,
             }),
-            Err(refused) => Err(RefusedTape::of_journal(refused)),
+            Err(refused) => Err(RefusedTape::of(second, refused.disk, other, TapeFault::Disk)),
         }
     }
 
     /// Takes a note, which pends until the next flush. Logarithmic in what is owed.
     ///
     /// # Errors
-    /// The note is handed back, and nothing changes. Tried in this order: `Broken`; `Note`, why the ledger refuses it; `PendingFull`
-    /// with 65,536 notes pending; `NoMemory`.
+    /// The note is handed back, and nothing changes. Tried in this order: `Broken`; `Note`, why the ledger refuses it;
+    /// `PendingFull` with 65,536 notes pending; `NoMemory`.
     pub fn note(&mut self, note: Note) -> Result<(), (Note, TapeFault)>
         ensures ok { (h : History) → StandsFor self.old h → OnOk result (StandsFor self.new (noted h note)) }
         ensures ledger { OnOk result (IsLegal (ledger_of self.old) note × (ledger_of self.new ≡ step (ledger_of self.old) note)) }
@@ -169,7 +263,7 @@ impl<D: Disk> Tape<D> {
         ensures no_memory { Tells result TapeFault.NoMemory → (IsBroken self.old → ⊥) × IsLegal (ledger_of self.old) note × (pending_of self.old < most_pending) }
         ensures kinds { IfErr result (λ e. IsNoteFault e.1) }
 
-        ensures disk { disk_of self.new ≡ disk_of self.old }
+        ensures disks { disks_of self.new ≡ disks_of self.old }
         ensures works { IsBroken self.old ↔ IsBroken self.new }
     {
         match self.try_note(&note) {
@@ -192,10 +286,10 @@ impl<D: Disk> Tape<D> {
         ensures no_memory { IsErrOf result TapeFault.NoMemory → (IsBroken self.old → ⊥) × IsLegal (ledger_of self.old) note.now × (pending_of self.old < most_pending) }
         ensures kinds { IfErr result IsNoteFault }
 
-        ensures disk { disk_of self.new ≡ disk_of self.old }
+        ensures disks { disks_of self.new ≡ disks_of self.old }
         ensures works { IsBroken self.old ↔ IsBroken self.new }
     {
-        if self.journal.is_broken() {
+        if self.segments.live.is_broken() {
             return Err(TapeFault::Broken);
         }
         if let Err(fault) = self.ledger.check(note) {
@@ -216,7 +310,7 @@ impl<D: Disk> Tape<D> {
         ensures pends { OnOk result (pending_of self.new ≡ pending_of self.old + 1) }
         ensures unchanged { OnErr result (IsSame self.old self.new) }
         ensures memory { IfErr result (λ fault. fault ≡ TapeFault.NoMemory) }
-        ensures journal { self.new.journal ≡ self.old.journal }
+        ensures segments { self.new.segments ≡ self.old.segments }
     {
         let payload = encode(self.alloc, note)?;
         self.pending.push(payload)?;
@@ -229,12 +323,12 @@ impl<D: Disk> Tape<D> {
         }
     }
 
-    /// Takes the note that drops each of these debts, in this order, all of them or none; they pend until the next flush. Where the
-    /// numbers rise each costs the logarithm of what is owed.
+    /// Takes the note that drops each of these debts, in this order, all of them or none; they pend until the next
+    /// flush. Where the numbers rise each costs the logarithm of what is owed.
     ///
     /// # Errors
-    /// Nothing changes. Tried in this order: `Broken`; `Note(NotOwed)` where one of them is not owed, or is named twice;
-    /// `PendingFull` where more than 65,536 notes would pend; `NoMemory`.
+    /// Nothing changes. Tried in this order: `Broken`; `Note(NotOwed)` where one of them is not owed, or is named
+    /// twice; `PendingFull` where more than 65,536 notes would pend; `NoMemory`.
     pub fn drop_all(&mut self, numbers: &[u64], cause: Cause) -> Result<(), TapeFault>
         ensures ok { (h : History) → StandsFor self.old h → OnOk result (StandsFor self.new (noted_all h (drops cause numbers.now))) }
         ensures legal { OnOk result (AllLegal (ledger_of self.old) (drops cause numbers.now)) }
@@ -248,10 +342,10 @@ impl<D: Disk> Tape<D> {
         ensures pending_full { IsErrOf result TapeFault.PendingFull ↔ ((IsBroken self.old → ⊥) × AreOwed (ledger_of self.old) [] numbers.now × (most_pending < pending_of self.old + length numbers.now)) }
         ensures kinds { IfErr result IsDropFault }
 
-        ensures disk { disk_of self.new ≡ disk_of self.old }
+        ensures disks { disks_of self.new ≡ disks_of self.old }
         ensures works { IsBroken self.old ↔ IsBroken self.new }
     {
-        if self.journal.is_broken() {
+        if self.segments.live.is_broken() {
             return Err(TapeFault::Broken);
         }
         if !self.owes_all(numbers) {
@@ -288,7 +382,7 @@ impl<D: Disk> Tape<D> {
         ensures pends { OnOk result (pending_of self.new ≡ pending_of self.old + length numbers.now) }
         ensures unchanged { OnErr result (IsSame self.old self.new) }
         ensures memory { IfErr result (λ fault. fault ≡ TapeFault.NoMemory) }
-        ensures journal { self.new.journal ≡ self.old.journal }
+        ensures segments { self.new.segments ≡ self.old.segments }
     {
         let mut payloads = spelled_drops(self.alloc, numbers, cause)?;
         // What was taken, all of it, is a sum with what was dropped, so that no count passes the greatest number.
@@ -298,21 +392,25 @@ impl<D: Disk> Tape<D> {
         Ok(())
     }
 
-    /// Puts the notes that pend on the disk: from `Ok` on all notes are acknowledged. Answers how many notes of this opening are
-    /// on the tape now. Where nothing pends it makes no disk call. Linear in what pends.
+    /// Puts the notes that pend on the disk: from `Ok` on all notes are acknowledged. Answers how many notes of this
+    /// opening are acknowledged now, or the greatest u64 where that is less. Where nothing pends it makes no disk call.
+    /// Linear in what pends.
     ///
     /// # Errors
-    /// Tried in this order: `Broken`; `TapeFull`; `NoMemory`; these change nothing. `Disk`: the tape is broken from now on.
+    /// Tried in this order: `Broken`; `TapeFull`; `NoMemory`; these change nothing. `Disk`: the tape is broken from now
+    /// on.
     pub fn flush(&mut self) -> Result<u64, TapeFault>
         ensures ok { (h : History) → StandsFor self.old h → OnOk result (StandsFor self.new (flushed h)) }
         ensures err { (h : History) → StandsFor self.old h → OnErr result (StandsFor self.new h) }
-        ensures count { (h : History) → StandsFor self.old h → IfOk result (λ n. n + h.opened ≡ length h.notes) }
+        ensures count { (h : History) → StandsFor self.old h
+            → IfOk result (λ n. n ≡ min (length h.notes - h.opened) (2 ^ 64 - 1)) }
 
         // A stop at any moment of the call leaves a tape of the first of the notes, with every acknowledged one.
         ensures moments { (h : History) → StandsFor self.old h → TapeLeaves (Survives h) (log_of self.old) (log_of self.new) }
 
         // The calls that it makes.
-        ensures calls { (h : History) → StandsFor self.old h → pending_of self.old ≢ 0 → OnOk result (log_of self.new ≡ appending (length (records (spellings (take h.kept h.notes)))) (spellings (drop h.kept h.notes)) (log_of self.old)) }
+        ensures calls { (h : History) → StandsFor self.old h → pending_of self.old ≢ 0 → OnOk result
+            (log_of self.new ≡ flushing (spellings (drop h.kept h.notes)) self.old) }
         ensures empty { pending_of self.old ≡ 0 → self.new ≡ self.old }
         ensures empty_ok { pending_of self.old ≡ 0 → (IsBroken self.old → ⊥) → IsOk result }
         ensures none_pends { OnOk result (pending_of self.new ≡ 0) }
@@ -322,15 +420,15 @@ impl<D: Disk> Tape<D> {
         ensures refused { IfErr result (λ e. e ≢ TapeFault.Disk → self.new ≡ self.old) }
         ensures breaks { IsErrOf result TapeFault.Disk → IsBroken self.new }
         ensures works { OnOk result (IsBroken self.new → ⊥) }
-        ensures cause { (h : History) → StandsFor self.old h → IsErrOf result TapeFault.Disk → min (D.told (disk_of self.old) + 1) (2 ^ 64 - 1) ≤ D.told (disk_of self.new) }
+        ensures cause { (h : History) → StandsFor self.old h
+            → IsErrOf result TapeFault.Disk → OneHasRisen (told_of self.old) (told_of self.new) }
         ensures kinds { IfErr result IsFlushFault }
 
         ensures ledger { ledger_of self.new ≡ ledger_of self.old }
-        ensures honest { D.honest (disk_of self.old) ↔ D.honest (disk_of self.new) }
-        ensures later { D.told (disk_of self.old) ≤ D.told (disk_of self.new) }
-        ensures quiet { OnOk result (D.told (disk_of self.new) ≡ D.told (disk_of self.old)) }
+        ensures continues { Continues self.old self.new }
+        ensures quiet { OnOk result (told_of self.new ≡ told_of self.old) }
     {
-        if self.journal.is_broken() {
+        if self.segments.live.is_broken() {
             return Err(TapeFault::Broken);
         }
         if self.nothing_pends() {
@@ -351,29 +449,150 @@ impl<D: Disk> Tape<D> {
         requires pends { pending_of self.old ≢ 0 }
         ensures ok { (h : History) → StandsFor self.old h → OnOk result (StandsFor self.new (flushed h)) }
         ensures err { (h : History) → StandsFor self.old h → OnErr result (StandsFor self.new h) }
-        ensures count { (h : History) → StandsFor self.old h → IfOk result (λ n. n + h.opened ≡ length h.notes) }
+        ensures count { (h : History) → StandsFor self.old h
+            → IfOk result (λ n. n ≡ min (length h.notes - h.opened) (2 ^ 64 - 1)) }
         ensures moments { (h : History) → StandsFor self.old h → TapeLeaves (Survives h) (log_of self.old) (log_of self.new) }
-        ensures calls { (h : History) → StandsFor self.old h → OnOk result (log_of self.new ≡ appending (length (records (spellings (take h.kept h.notes)))) (spellings (drop h.kept h.notes)) (log_of self.old)) }
+        ensures calls { (h : History) → StandsFor self.old h → OnOk result
+            (log_of self.new ≡ flushing (spellings (drop h.kept h.notes)) self.old) }
         ensures none_pends { OnOk result (pending_of self.new ≡ 0) }
         ensures broken { IsErrOf result TapeFault.Broken → ⊥ }
         ensures full { IsErrOf result TapeFault.TapeFull ↔ IsFull self.old }
         ensures refused { IfErr result (λ e. e ≢ TapeFault.Disk → self.new ≡ self.old) }
         ensures breaks { IsErrOf result TapeFault.Disk → IsBroken self.new }
         ensures works { OnOk result (IsBroken self.new → ⊥) }
-        ensures cause { (h : History) → StandsFor self.old h → IsErrOf result TapeFault.Disk → min (D.told (disk_of self.old) + 1) (2 ^ 64 - 1) ≤ D.told (disk_of self.new) }
+        ensures cause { (h : History) → StandsFor self.old h
+            → IsErrOf result TapeFault.Disk → OneHasRisen (told_of self.old) (told_of self.new) }
         ensures kinds { IfErr result IsFlushFault }
         ensures ledger { ledger_of self.new ≡ ledger_of self.old }
-        ensures honest { D.honest (disk_of self.old) ↔ D.honest (disk_of self.new) }
-        ensures later { D.told (disk_of self.old) ≤ D.told (disk_of self.new) }
-        ensures quiet { OnOk result (D.told (disk_of self.new) ≡ D.told (disk_of self.old)) }
+        ensures continues { Continues self.old self.new }
+        ensures quiet { OnOk result (told_of self.new ≡ told_of self.old) }
     {
-        match self.journal.append_all(&self.pending) {
+        match self.segments.live.append_all(&self.pending) {
             Ok(()) => {
-                self.flushed += self.pending.len() as u64;
+                self.flushed = self.flushed.saturating_add(self.pending.len() as u64);
                 self.pending.clear();
                 Ok(self.flushed)
             }
             Err(fault) => Err(append_fault(fault)),
+        }
+    }
+
+    /// Whether a rotation is due: the segment that lives is longer than 65,536 octets, and than four times what a
+    /// rotation would write. In constant time.
+    pub fn rotate_due(&self) -> bool
+        ensures { IsTrue result ↔ IsDue self.now }
+    {
+        let bytes = self.segments.live.bytes();
+        bytes > LONG_SEGMENT && bytes > self.rotated_len().saturating_mul(4)
+    }
+
+    // How long the segment is that a rotation writes, or more than any disk.
+    fn rotated_len(&self) -> u64
+        ensures { result ≡ min (rotated_length self.now) (2 ^ 64 - 1) }
+    {
+        let totals = self.ledger.totals();
+        let debts = totals.owed.saturating_mul(DEBT_LEN);
+        BASE_LEN
+            .saturating_add(debts)
+            .saturating_add(totals.owed_bytes)
+    }
+
+    /// Writes the ledger, the notes that pend in it, into the segment that doesn't live, which lives from then on: from
+    /// `Ok` on all notes are acknowledged, and none pends. Its first gate opens last, so that until then the other
+    /// lives, which is not written. Answers the new generation. Linear in what is owed.
+    ///
+    /// # Errors
+    /// Tried in this order: `Broken`; `GenerationFull`; `TapeFull`; `NoMemory`; these change nothing. `Disk`: the tape
+    /// is broken from now on.
+    pub fn rotate(&mut self) -> Result<u64, TapeFault>
+        ensures ok { (h : History) → StandsFor self.old h → OnOk result (StandsFor self.new (flushed h)) }
+        ensures err { (h : History) → StandsFor self.old h → OnErr result (StandsFor self.new h) }
+        ensures generation { IfOk result (λ n. (n ≡ generation_of self.old + 1)
+            × (generation_of self.new ≡ n)) }
+
+        // A stop at any moment of the call leaves a tape of the ledger after the first of the notes, with every
+        // acknowledged one.
+        ensures moments { (h : History) → StandsFor self.old h
+            → TapeLeaves (Survives h) (log_of self.old) (log_of self.new) }
+
+        // The calls that it makes.
+        ensures calls { (h : History) → StandsFor self.old h
+            → OnOk result (log_of self.new ≡ rotating self.old) }
+        ensures none_pends { OnOk result (pending_of self.new ≡ 0) }
+
+        ensures broken { IsErrOf result TapeFault.Broken ↔ IsBroken self.old }
+        ensures generation_full { IsErrOf result TapeFault.GenerationFull
+            ↔ ((IsBroken self.old → ⊥) × (generation_of self.old ≡ 2 ^ 64 - 1)) }
+        ensures full { IsErrOf result TapeFault.TapeFull ↔ ((IsBroken self.old → ⊥)
+            × (generation_of self.old ≢ 2 ^ 64 - 1) × RotatesTooLong self.old) }
+        ensures refused { IfErr result (λ e. e ≢ TapeFault.Disk → self.new ≡ self.old) }
+        ensures breaks { IsErrOf result TapeFault.Disk → IsBroken self.new }
+        ensures works { OnOk result (IsBroken self.new → ⊥) }
+        ensures cause { (h : History) → StandsFor self.old h
+            → IsErrOf result TapeFault.Disk → OneHasRisen (told_of self.old) (told_of self.new) }
+        ensures kinds { IfErr result IsRotateFault }
+
+        ensures ledger { ledger_of self.new ≡ ledger_of self.old }
+        ensures continues { Continues self.old self.new }
+        ensures quiet { OnOk result (told_of self.new ≡ told_of self.old) }
+    {
+        if self.segments.live.is_broken() {
+            return Err(TapeFault::Broken);
+        }
+        if self.segments.generation == u64::MAX {
+            return Err(TapeFault::GenerationFull);
+        }
+        if self.rotated_len() > LONGEST_SEGMENT {
+            return Err(TapeFault::TapeFull);
+        }
+        let payloads = self
+            .ledger
+            .written(self.alloc, self.segments.generation + 1)?;
+        self.go_on_in(&payloads)
+    }
+
+    // Goes on in the segment that doesn't live, with these payloads, which its ledger writes.
+    fn go_on_in(&mut self, payloads: &[Vec<u8>]) -> Result<u64, TapeFault>
+        requires works { IsBroken self.old → ⊥ }
+        requires room { generation_of self.old < 2 ^ 64 - 1 }
+        requires fits { rotated_length self.old ≤ longest_segment }
+        requires written { octets_of payloads.now ≡ written (generation_of self.old + 1) (ledger_of self.old) }
+        requires notes { AreNotes (owes (ledger_of self.old).debts) }
+        ensures ok { (h : History) → StandsFor self.old h → OnOk result (StandsFor self.new (flushed h)) }
+        ensures err { (h : History) → StandsFor self.old h → OnErr result (StandsFor self.new h) }
+        ensures generation { IfOk result (λ n. (n ≡ generation_of self.old + 1)
+            × (generation_of self.new ≡ n)) }
+        ensures moments { (h : History) → StandsFor self.old h
+            → TapeLeaves (Survives h) (log_of self.old) (log_of self.new) }
+        ensures calls { (h : History) → StandsFor self.old h
+            → OnOk result (log_of self.new ≡ rotating self.old) }
+        ensures none_pends { OnOk result (pending_of self.new ≡ 0) }
+        ensures refused { IfErr result (λ e. e ≢ TapeFault.Disk → self.new ≡ self.old) }
+        ensures breaks { IsErrOf result TapeFault.Disk → IsBroken self.new }
+        ensures works { OnOk result (IsBroken self.new → ⊥) }
+        ensures cause { (h : History) → StandsFor self.old h
+            → IsErrOf result TapeFault.Disk → OneHasRisen (told_of self.old) (told_of self.new) }
+        ensures broken { IsErrOf result TapeFault.Broken → ⊥ }
+        ensures generation_full { IsErrOf result TapeFault.GenerationFull → ⊥ }
+        ensures full { IsErrOf result TapeFault.TapeFull → ⊥ }
+        ensures kinds { IfErr result IsRotateFault }
+        ensures ledger { ledger_of self.new ≡ ledger_of self.old }
+        ensures continues { Continues self.old self.new }
+        ensures quiet { OnOk result (told_of self.new ≡ told_of self.old) }
+    {
+        match self
+            .segments
+            .live
+            .move_to(&mut self.segments.other, payloads)
+        {
+            Ok(()) => {
+                self.segments.second = !self.segments.second;
+                self.segments.generation += 1;
+                self.flushed = self.flushed.saturating_add(self.pending.len() as u64);
+                self.pending.clear();
+                Ok(self.segments.generation)
+            }
+            Err(fault) => Err(renew_fault(fault)),
         }
     }
 
@@ -387,7 +606,7 @@ impl<D: Disk> Tape<D> {
         ensures no_memory { IsErrOf result TapeFault.NoMemory → IsOwed (ledger_of self.now) number }
         ensures kinds { IfErr result IsDebtFault }
     {
-        if self.journal.is_broken() {
+        if self.segments.live.is_broken() {
             return Err(TapeFault::Broken);
         }
         let Some((token, id)) = self.ledger.debt(number) else {
@@ -398,8 +617,8 @@ impl<D: Disk> Tape<D> {
         Ok(Some(Debt::new(number, token, id)))
     }
 
-    /// What the debt of this number counts in owed bytes, where it is owed: the octets of token and message-id, and 2. Takes no
-    /// memory, and a broken tape answers too. Logarithmic in what is owed.
+    /// What the debt of this number counts in owed bytes, where it is owed: the octets of token and message-id, and 2.
+    /// Takes no memory, and a broken tape answers too. Logarithmic in what is owed.
     pub fn octets(&self, number: u64) -> Option<u64>
         ensures octets { result ≡ option_map (λ (owing : Owing). line_octets owing.1.0 owing.1.1) (find (λ (owing : Owing). owing.0 == number) (ledger_of self.now).debts) }
         ensures owed { IsSome result ↔ IsOwed (ledger_of self.now) number }
@@ -415,11 +634,11 @@ impl<D: Disk> Tape<D> {
         self.ledger.owes(number)
     }
 
-    /// Whether a flush failed on the disk, so that the tape is to be opened again.
+    /// Whether a flush or a rotation failed on a disk, so that the tape is to be opened again.
     pub fn is_broken(&self) -> bool
         ensures { IsTrue result ↔ IsBroken self.now }
     {
-        self.journal.is_broken()
+        self.segments.live.is_broken()
     }
 
     /// The numbers that are owed, rising. None is above the mark.
@@ -456,13 +675,26 @@ impl<D: Disk> Tape<D> {
         MOST_PENDING - self.pending.len()
     }
 
-    /// The disk beneath. Notes that pend are gone; a stop leaves of it what it could leave of the tape.
-    pub fn into_disk(self) -> D
-        ensures disk { result ≡ disk_of self }
-        ensures survives { (h : History) → StandsFor self h → D.honest result × EachTape (Survives h) (D.log result) }
+    /// The disks beneath, the first and the second. Notes that pend are gone; a stop leaves of them what it could leave
+    /// of the tape.
+    pub fn into_disks(self) -> (D, D)
+        ensures disks { result ≡ disks_of self }
+        ensures told { (D.told result.0, D.told result.1) ≡ told_of self }
+        ensures survives { (h : History) → StandsFor self h → D.honest result.0 × D.honest result.1
+            × EachTape (Survives h) (D.log result.0, D.log result.1) }
     {
-        let Tape { journal, .. } = self;
-        journal.into_disk()
+        let Tape { segments, .. } = self;
+        let Segments {
+            live,
+            other,
+            second,
+            ..
+        } = segments;
+        if second {
+            (other, live.into_disk())
+        } else {
+            (live.into_disk(), other)
+        }
     }
 }
 

@@ -21,9 +21,25 @@ pub(crate) const UNLIMITED: Limits = Limits {
     drop_deferred: false,
 };
 
-// How many calls of the disk the opening of a tape makes that owes three debts: two reads of each, one of the end
-// behind them, and a sync, a cut, a sync, a write and a sync.
-const OPENING_CALLS: u64 = 12;
+pub(crate) const SMALL: Limits = Limits {
+    backlog_limit: 10,
+    backlog_high: 20,
+    drop_deferred: false,
+};
+
+pub(crate) const NOT_HELD: StationFault = StationFault::NotHeld;
+
+// How many calls of the first disk the opening of a tape makes that owes three debts there: two reads of what stands
+// first, two of each debt, one of the end behind them, and a sync, a cut, a sync, a write and a sync.
+const OPENING_CALLS: u64 = 14;
+
+// And of the second disk, where it is empty: a sync.
+const OTHER_CALLS: u64 = 1;
+
+// How many calls the first disk passes, and how many the second.
+type Calls = (u64, u64);
+
+const NO_FUSE: Calls = (u64::MAX, u64::MAX);
 
 #[derive(Clone, Copy)]
 pub(crate) enum Step {
@@ -50,6 +66,8 @@ pub(crate) enum Step {
     Shed(&'static [u64], bool),
     ShedRefused(StationFault),
     Flush(Result<u64, StationFault>),
+    Rotate(Result<u64, StationFault>),
+    RotateDue(bool),
     // The debt of this number is told to have the number that is wanted, 0 where there is none.
     Debt(u64, Result<u64, StationFault>),
     List(&'static [u64]),
@@ -60,19 +78,21 @@ pub(crate) enum Step {
     Mark(u64),
 }
 
-// How the disk of a station is opened again.
+// How the disks of a station are opened again.
 #[derive(Clone, Copy)]
 pub(crate) enum Opening {
-    // As it is, with these limits.
+    // As they are, with these limits.
     Again(Limits),
-    // With these limits, and from the opening on it passes so many calls. The tape owes three debts.
+    // With these limits, and from the opening on the first passes so many calls. The tape owes three debts there.
     Fused(Limits, u64),
+    // With these limits, and from the opening on the second, which is empty, passes so many calls.
+    OtherFused(Limits, u64),
     // After a flush, with the station's own limits.
     Flushed,
 }
 
 // A script of a station that owes the numbers from 1 to `owed`, all of which pend. The steps behind each opening
-// follow, and at the end these octets lie on the disk, where they are given.
+// follow, and at the end these octets lie on the disks, where they are given.
 #[derive(Clone, Copy)]
 pub(crate) struct Script {
     pub(crate) name: &'static str,
@@ -80,7 +100,7 @@ pub(crate) struct Script {
     pub(crate) limits: Limits,
     pub(crate) steps: &'static [Step],
     pub(crate) opened: &'static [(Opening, &'static [Step])],
-    pub(crate) tape: Option<&'static [u8]>,
+    pub(crate) tape: Option<(&'static [u8], &'static [u8])>,
 }
 
 // A station, and what connections hold of its debts: a debt that no peer answered as one that comes back.
@@ -92,15 +112,20 @@ pub(crate) struct Caller {
     place: Place,
 }
 
-// The caller of the station of this disk, which passes so many calls.
+// The caller of the station of these disks, which pass so many calls.
 fn open(
     alloc: Global,
-    disk: MemDisk,
-    calls: u64,
+    (a, b): (MemDisk, MemDisk),
+    (first, second): Calls,
     limits: Limits,
     place: Place,
 ) -> Result<Caller, Fail> {
-    match Station::open(alloc, FuseDisk::new(disk, calls), limits) {
+    match Station::open(
+        alloc,
+        FuseDisk::new(a, first),
+        FuseDisk::new(b, second),
+        limits,
+    ) {
         Ok(station) => Ok(calling(alloc, station, place)),
         Err(refused) => Err(Fail::from(refused.fault)),
     }
@@ -122,8 +147,8 @@ pub(crate) fn begin(
     owed: u64,
     limits: Limits,
 ) -> Result<Caller, Fail> {
-    let disk = MemDisk::new(alloc);
-    let mut caller = open(alloc, disk, u64::MAX, limits, Place::first(name))?;
+    let disks = (MemDisk::new(alloc), MemDisk::new(alloc));
+    let mut caller = open(alloc, disks, NO_FUSE, limits, Place::first(name))?;
     let (token, id) = names(alloc, b"<x@y>")?;
     for number in 0..owed {
         owe(&mut caller.station, number.saturating_add(1), &token, &id)?;
@@ -131,19 +156,24 @@ pub(crate) fn begin(
     Ok(caller)
 }
 
-fn disk_of(caller: Caller) -> MemDisk {
-    caller.station.into_disk().into_inner()
+fn disks_of(caller: Caller) -> (MemDisk, MemDisk) {
+    let (a, b) = caller.station.into_disks();
+    (a.into_inner(), b.into_inner())
 }
 
-// The caller of the same disk, opened again.
+// The caller of the same disks, opened again.
 fn opened_again(caller: Caller, opening: Opening) -> Result<Caller, Fail> {
     let alloc = caller.alloc;
     let place = caller.place;
     match opening {
-        Opening::Again(limits) => open(alloc, disk_of(caller), u64::MAX, limits, place),
+        Opening::Again(limits) => open(alloc, disks_of(caller), NO_FUSE, limits, place),
         Opening::Fused(limits, calls) => {
-            let calls = calls.saturating_add(OPENING_CALLS);
-            open(alloc, disk_of(caller), calls, limits, place)
+            let calls = (calls.saturating_add(OPENING_CALLS), u64::MAX);
+            open(alloc, disks_of(caller), calls, limits, place)
+        }
+        Opening::OtherFused(limits, calls) => {
+            let calls = (u64::MAX, calls.saturating_add(OTHER_CALLS));
+            open(alloc, disks_of(caller), calls, limits, place)
         }
         Opening::Flushed => match reopened(alloc, caller.station) {
             Ok(station) => Ok(calling(alloc, station, place)),
@@ -175,21 +205,32 @@ pub(crate) fn play_script<A: Abort>(rt: &A, alloc: Global, script: Script) -> Re
     }
 }
 
-fn assert_tape<A: Abort>(rt: &A, caller: Caller, want: &[u8]) -> Result<(), Fail> {
-    let (alloc, place) = (caller.alloc, caller.place);
-    assert_octets(rt, alloc, place, disk_of(caller), want)
+pub(crate) fn play_scripts<A: Abort>(
+    rt: &A,
+    alloc: Global,
+    scripts: &[Script],
+) -> Result<(), Fail> {
+    for script in scripts {
+        play_script(rt, alloc, *script)?;
+    }
+    Ok(())
 }
 
-// These octets lie on the disk.
+fn assert_tape<A: Abort>(rt: &A, caller: Caller, want: (&[u8], &[u8])) -> Result<(), Fail> {
+    let (alloc, place) = (caller.alloc, caller.place);
+    assert_octets(rt, alloc, place, disks_of(caller), want)
+}
+
+// These octets lie on the disks.
 pub(crate) fn assert_octets<A: Abort>(
     rt: &A,
     alloc: Global,
     place: Place,
-    mut disk: MemDisk,
-    want: &[u8],
+    (mut a, mut b): (MemDisk, MemDisk),
+    (first, second): (&[u8], &[u8]),
 ) -> Result<(), Fail> {
-    let octets = octets_of(alloc, &mut disk)?;
-    assert_same(rt, place, &octets.as_slice(), &want);
+    assert_same(rt, place, &octets_of(alloc, &mut a)?.as_slice(), &first);
+    assert_same(rt, place, &octets_of(alloc, &mut b)?.as_slice(), &second);
     Ok(())
 }
 
@@ -230,6 +271,13 @@ fn assert_told<A: Abort>(rt: &A, caller: &mut Caller, step: Step) -> Result<(), 
         Step::Flush(want) => {
             let flushed = caller.station.flush();
             assert_answer(rt, caller, flushed, want)?;
+        }
+        Step::Rotate(want) => {
+            let rotated = caller.station.rotate();
+            assert_answer(rt, caller, rotated, want)?;
+        }
+        Step::RotateDue(want) => {
+            assert_same(rt, caller.place, &caller.station.rotate_due(), &want);
         }
         Step::Release(connection, want) => {
             let released = caller.station.release(connection);

@@ -3,7 +3,7 @@ use crate::exchange::{
     CHECKED, Exchange, PLAIN, Row, STREAMING, Step, WIRES, Wire, begin, end, play, play_rows,
 };
 use crate::shared::{BACK, LATER, MISSING, UNSENDABLE};
-use conn_core::{OfferFault, Ready, Reason};
+use conn_core::{Mode, OfferFault, Ready, Reason};
 use reply_reader::ReplyFault;
 use std::alloc::Global;
 use std::process::Abort;
@@ -17,7 +17,9 @@ const ANSWERED: &[Row] = &[
         steps: &[
             Step::Line(b"200 ready"),
             Step::Output(b"MODE STREAM\r\n"),
+            Step::Mode(None),
             Step::Line(b"203 ok"),
+            Step::Mode(Some(Mode::Streaming)),
             Step::Offer(1, b"<x@y>"),
             Step::Output(b"CHECK <x@y>\r\n"),
             Step::Line(b"238 <x@y>"),
@@ -58,6 +60,7 @@ const ANSWERED: &[Row] = &[
             Step::Line(b"200"),
             Step::Output(b"MODE STREAM\r\n"),
             Step::Line(b"501 what"),
+            Step::Mode(Some(Mode::Ihave)),
             Step::Offer(1, b"<x@y>"),
             Step::Text(1, b"one\n"),
             Step::Output(b"IHAVE <x@y>\r\n"),

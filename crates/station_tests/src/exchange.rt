@@ -2,7 +2,7 @@
 // it is to tell.
 use crate::shared::{Place, article, assert_same, connection, hand, input, names, offer, told};
 use article_store::Found;
-use conn_core::{ArticleFault, Conn, CxnId, OfferFault, Ready, Reason};
+use conn_core::{ArticleFault, Conn, CxnId, Mode, OfferFault, Ready, Reason};
 use ledger_core::Debt;
 use std::alloc::Global;
 use std::process::Abort;
@@ -63,6 +63,7 @@ pub(crate) enum Step {
     Ready(Ready),
     Need(Option<u64>),
     Checks(bool),
+    Mode(Option<Mode>),
 }
 
 // A mode stands: streaming mode, and a CHECK of the debt 1 is out; streaming mode; IHAVE mode.
@@ -176,6 +177,7 @@ fn assert_told<A: Abort>(rt: &A, exchange: &mut Exchange, step: Step) {
         Step::Ready(want) => assert_ready(rt, exchange, want),
         Step::Need(want) => assert_need(rt, exchange, want),
         Step::Checks(want) => assert_same(rt, exchange.place, &exchange.conn.checks(), &want),
+        Step::Mode(want) => assert_same(rt, exchange.place, &exchange.conn.mode(), &want),
         _ => {}
     }
 }

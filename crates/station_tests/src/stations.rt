@@ -1,21 +1,13 @@
 // Scripts of stations. A debt of a script has ten octets.
 use crate::caller::{
-    ONE, OTHER, Opening, Script, Step, UNLIMITED, assert_octets, begin, play, play_script,
+    NOT_HELD, ONE, OTHER, SMALL, Script, Step, UNLIMITED, begin, play, play_script, play_scripts,
 };
-use crate::shared::{Place, assert_same};
 use conn_core::CxnId;
-use disk_model::{Disk, MemDisk};
-use peer_queue::{Limits, Owed, Station, StationFault, deferred_until};
-use recovery::{RefusedTape, TapeFault};
+use peer_queue::{Limits, Owed, StationFault, deferred_until};
+use recovery::TapeFault;
 use std::alloc::Global;
 use std::process::Abort;
 use std::test::Fail;
-
-// The tape of the Owe 1 of token `a/1` and id `<x@y>`, and of its Final with 239.
-const ANSWERED: [u8; 41] = [
-    0xa5, 0, 0, 0, 0x13, 1, 0, 0, 0, 0, 0, 0, 0, 1, 3, 0x61, 0x2f, 0x31, 5, 0x3c, 0x78, 0x40, 0x79,
-    0x3e, 0xa5, 0, 0, 0, 0x0b, 2, 0, 0, 0, 0, 0, 0, 0, 1, 0, 0xef, 0,
-];
 
 // How many notes may pend.
 const MOST_PENDING: u64 = 65536;
@@ -25,22 +17,10 @@ const NEARLY_FULL: u64 = 65534;
 
 const FULL: StationFault = StationFault::Tape(TapeFault::PendingFull);
 
-const NOT_HELD: StationFault = StationFault::NotHeld;
-
-const BROKEN: StationFault = StationFault::Broken;
-
-const DISK: StationFault = StationFault::Tape(TapeFault::Disk);
-
 const DROPPING: Limits = Limits {
     backlog_limit: 0,
     backlog_high: 0,
     drop_deferred: true,
-};
-
-const SMALL: Limits = Limits {
-    backlog_limit: 10,
-    backlog_high: 20,
-    drop_deferred: false,
 };
 
 // Where the station is nearly full, five debts are above the limit.
@@ -48,12 +28,6 @@ const JUST_ABOVE: Limits = Limits {
     backlog_limit: 10 * NEARLY_FULL - 50,
     backlog_high: 10 * NEARLY_FULL - 40,
     drop_deferred: false,
-};
-
-const MIXED: Limits = Limits {
-    backlog_limit: 30,
-    backlog_high: 40,
-    drop_deferred: true,
 };
 
 const ENDING: &[Script] = &[
@@ -358,211 +332,6 @@ const PENDING_FULL: Script = Script {
     tape: None,
 };
 
-// Of the mixed run of ten debts two are answered, one is lost, one is deferred and dropped, three are shed, and one
-// stays held.
-const REOPENING: &[Script] = &[
-    Script {
-        name: "an article is taken",
-        owed: 0,
-        limits: UNLIMITED,
-        steps: &[
-            Step::Owe(1, Ok(Owed::New)),
-            Step::Claim(ONE, 0, Ok(1)),
-            Step::Taken(1),
-            Step::Settle(ONE, 1, Ok(())),
-            Step::Flush(Ok(2)),
-        ],
-        opened: &[],
-        tape: Some(&ANSWERED),
-    },
-    Script {
-        name: "all is ready after opening",
-        owed: 3,
-        limits: UNLIMITED,
-        steps: &[
-            Step::Flush(Ok(3)),
-            Step::Claim(ONE, 1000, Ok(1)),
-            Step::WantedLater(1),
-            Step::Defer(ONE, 1, 1000, Ok(())),
-            Step::Claim(ONE, 0, Ok(2)),
-            Step::Owe(4, Ok(Owed::New)),
-            Step::Mark(4),
-        ],
-        opened: &[(
-            Opening::Again(UNLIMITED),
-            &[
-                Step::Mark(3),
-                Step::Release(ONE, 0),
-                Step::Claim(OTHER, 0, Ok(1)),
-                Step::Claim(OTHER, 0, Ok(2)),
-                Step::Claim(OTHER, 0, Ok(3)),
-                Step::Claim(ONE, u64::MAX, Ok(0)),
-                Step::Owe(4, Ok(Owed::New)),
-            ],
-        )],
-        tape: None,
-    },
-    Script {
-        name: "what was flushed is opened again",
-        owed: 2,
-        limits: SMALL,
-        steps: &[Step::Claim(ONE, 0, Ok(1)), Step::Totals(2, 0, 0, 2)],
-        opened: &[(
-            Opening::Flushed,
-            &[
-                Step::Totals(2, 0, 0, 2),
-                Step::Owe(3, Ok(Owed::New)),
-                Step::Shed(&[1, 2], false),
-            ],
-        )],
-        tape: None,
-    },
-    Script {
-        name: "a failed flush breaks a station",
-        owed: 3,
-        limits: UNLIMITED,
-        steps: &[Step::Flush(Ok(3))],
-        opened: &[(
-            Opening::Fused(SMALL, 0),
-            &[
-                Step::Claim(ONE, 0, Ok(1)),
-                Step::Claim(ONE, 0, Ok(2)),
-                Step::Claim(ONE, 0, Ok(3)),
-                Step::NotWanted(1),
-                Step::WantedLater(2),
-                Step::Owe(4, Ok(Owed::New)),
-                Step::Flush(Err(DISK)),
-                Step::Owe(5, Err(BROKEN)),
-                Step::Claim(ONE, 0, Err(BROKEN)),
-                Step::Settle(ONE, 1, Err(BROKEN)),
-                Step::Defer(ONE, 2, 0, Err(BROKEN)),
-                Step::Lose(ONE, 3, Err(BROKEN)),
-                Step::Back(OTHER, 3, Err(BROKEN)),
-                Step::ShedRefused(BROKEN),
-                Step::Debt(1, Err(BROKEN)),
-                Step::Flush(Err(BROKEN)),
-            ],
-        )],
-        tape: None,
-    },
-    Script {
-        name: "a broken station still answers",
-        owed: 3,
-        limits: UNLIMITED,
-        steps: &[Step::Flush(Ok(3))],
-        opened: &[
-            (
-                Opening::Fused(UNLIMITED, 0),
-                &[
-                    Step::Owe(4, Ok(Owed::New)),
-                    Step::Claim(ONE, 0, Ok(1)),
-                    Step::Totals(4, 0, 0, 4),
-                    Step::Flush(Err(DISK)),
-                    Step::Release(ONE, 1),
-                    Step::Totals(4, 0, 0, 4),
-                    Step::Mark(4),
-                    Step::List(&[1, 2, 3, 4]),
-                ],
-            ),
-            (Opening::Again(UNLIMITED), &[Step::List(&[1, 2, 3])]),
-        ],
-        tape: None,
-    },
-    Script {
-        name: "what was taken is owed or has ended",
-        owed: 10,
-        limits: MIXED,
-        steps: &[
-            Step::Claim(ONE, 0, Ok(1)),
-            Step::NotWanted(1),
-            Step::Settle(ONE, 1, Ok(())),
-            Step::Claim(ONE, 0, Ok(2)),
-            Step::Claim(ONE, 0, Ok(3)),
-            Step::Claim(ONE, 0, Ok(4)),
-            Step::NotWanted(2),
-            Step::WantedLater(3),
-            Step::Settle(ONE, 2, Ok(())),
-            Step::Defer(ONE, 3, 0, Ok(())),
-            Step::Lose(ONE, 4, Ok(())),
-            Step::Claim(ONE, 0, Ok(5)),
-            Step::Shed(&[6, 7, 8], false),
-            Step::Flush(Ok(17)),
-            Step::Totals(10, 2, 5, 3),
-            Step::List(&[5, 9, 10]),
-        ],
-        opened: &[(Opening::Again(MIXED), &[Step::Totals(10, 2, 5, 3)])],
-        tape: None,
-    },
-];
-
-const FAILS: &[Step] = &[
-    Step::Owe(4, Ok(Owed::New)),
-    Step::Owe(5, Ok(Owed::New)),
-    Step::Flush(Err(DISK)),
-];
-
-const KEEPS: &[Step] = &[Step::ListBetween(&[1, 2, 3], &[1, 2, 3, 4, 5])];
-
-// A flush of the numbers 4 and 5 that fails after so many calls of the disk keeps the three before them, and nothing
-// else that was not owed: one write, a sync, a write for the gate of each of two notes, and a sync.
-const CUT: &[Script] = &[
-    Script {
-        name: "a flush that fails after no call",
-        owed: 3,
-        limits: UNLIMITED,
-        steps: &[Step::Flush(Ok(3))],
-        opened: &[
-            (Opening::Fused(UNLIMITED, 0), FAILS),
-            (Opening::Again(UNLIMITED), KEEPS),
-        ],
-        tape: None,
-    },
-    Script {
-        name: "a flush that fails after 1 call",
-        owed: 3,
-        limits: UNLIMITED,
-        steps: &[Step::Flush(Ok(3))],
-        opened: &[
-            (Opening::Fused(UNLIMITED, 1), FAILS),
-            (Opening::Again(UNLIMITED), KEEPS),
-        ],
-        tape: None,
-    },
-    Script {
-        name: "a flush that fails after 2 calls",
-        owed: 3,
-        limits: UNLIMITED,
-        steps: &[Step::Flush(Ok(3))],
-        opened: &[
-            (Opening::Fused(UNLIMITED, 2), FAILS),
-            (Opening::Again(UNLIMITED), KEEPS),
-        ],
-        tape: None,
-    },
-    Script {
-        name: "a flush that fails after 3 calls",
-        owed: 3,
-        limits: UNLIMITED,
-        steps: &[Step::Flush(Ok(3))],
-        opened: &[
-            (Opening::Fused(UNLIMITED, 3), FAILS),
-            (Opening::Again(UNLIMITED), KEEPS),
-        ],
-        tape: None,
-    },
-    Script {
-        name: "a flush that fails after 4 calls",
-        owed: 3,
-        limits: UNLIMITED,
-        steps: &[Step::Flush(Ok(3))],
-        opened: &[
-            (Opening::Fused(UNLIMITED, 4), FAILS),
-            (Opening::Again(UNLIMITED), KEEPS),
-        ],
-        tape: None,
-    },
-];
-
 // So many debts, of which the first is held, a limit and a high water: which are shed.
 const SHED: [(u64, u64, u64, &[u64]); 10] = [
     (11, 100, 110, &[]),
@@ -584,13 +353,6 @@ const DEFERRED_UNTIL: [(u64, u64); 5] = [
     (u64::MAX - 59, u64::MAX),
     (u64::MAX, u64::MAX),
 ];
-
-fn play_scripts<A: Abort>(rt: &A, alloc: Global, scripts: &[Script]) -> Result<(), Fail> {
-    for script in scripts {
-        play_script(rt, alloc, *script)?;
-    }
-    Ok(())
-}
 
 #[test]
 fn a_debt_ends_once_and_by_who_holds_it(rt: HostRuntime) -> Result<(), Fail> {
@@ -615,16 +377,6 @@ fn as_much_is_shed_as_has_room(rt: HostRuntime) -> Result<(), Fail> {
 #[test]
 fn no_more_notes_pend_than_may(rt: HostRuntime) -> Result<(), Fail> {
     play_script(&rt, rt.alloc(), PENDING_FULL)
-}
-
-#[test]
-fn a_disk_is_opened_again(rt: HostRuntime) -> Result<(), Fail> {
-    play_scripts(&rt, rt.alloc(), REOPENING)
-}
-
-#[test]
-fn a_flush_that_fails_midway_keeps_what_is_acknowledged(rt: HostRuntime) -> Result<(), Fail> {
-    play_scripts(&rt, rt.alloc(), CUT)
 }
 
 // Of so many debts, the first of which is held, these are shed.
@@ -665,35 +417,4 @@ fn a_deferral_ends_a_minute_later_or_at_the_last_moment(rt: HostRuntime) {
     for (now, until) in DEFERRED_UNTIL {
         assert_eq!(rt; deferred_until(now), until, "at {now}");
     }
-}
-
-fn write(disk: &mut MemDisk, octets: &[u8]) -> Result<(), Fail> {
-    Ok(disk.write_at(0, octets)?)
-}
-
-// The refusal to open a disk.
-fn not_opened(alloc: Global, disk: MemDisk) -> Result<RefusedTape<MemDisk>, Fail> {
-    match Station::open(alloc, disk, UNLIMITED) {
-        Ok(_) => Err(Fail::from("opened")),
-        Err(refused) => Ok(refused),
-    }
-}
-
-#[test]
-fn a_damaged_disk_is_handed_back(rt: HostRuntime) -> Result<(), Fail> {
-    let alloc = rt.alloc();
-    let mut disk = MemDisk::new(alloc);
-    write(&mut disk, &ANSWERED[..30])?;
-    let RefusedTape { disk, fault } = not_opened(alloc, disk)?;
-    if fault == TapeFault::NoMemory {
-        return Err(Fail::from(fault));
-    }
-    let place = Place::first("a damaged disk is handed back");
-    assert_same(
-        &rt,
-        place,
-        &fault,
-        &TapeFault::Damaged { segment: 0, at: 24 },
-    );
-    assert_octets(&rt, alloc, place, disk, &ANSWERED[..30])
 }

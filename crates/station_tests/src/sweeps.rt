@@ -1,4 +1,4 @@
-// Stations over a disk of which one call fails, each call in turn.
+// Stations over two disks of which one call fails, each call in turn.
 use crate::caller::{ONE, UNLIMITED};
 use crate::shared::names;
 use disk_model::{Disk, FlakyDisk, MemDisk};
@@ -12,37 +12,43 @@ use std::test::Fail;
 // No sweep meets as many calls.
 const MOST_CALLS: u64 = 1_000;
 
-// What is owed after each front of the notes: of one debt, of another, and of the end of the first.
-const FRONTS: [&[u64]; 4] = [&[], &[1], &[1, 2], &[2]];
+// What is owed after each front of the notes: of one debt, of another, of the end of the first, and of a third debt.
+const FRONTS: [&[u64]; 5] = [&[], &[1], &[1, 2], &[2], &[2, 3]];
 
 type Flaky = Station<FlakyDisk<MemDisk>>;
 
 // How many notes are acknowledged, and how many were made.
 type Counts = (u64, u64);
 
-// The station of this disk, or why it is refused and the disk.
-fn opened<D: Disk + Drop>(alloc: Global, disk: D) -> Result<Station<D>, (TapeFault, D)> {
-    match Station::open(alloc, disk, UNLIMITED) {
+// How many calls of the first disk come before the one that fails, and how many of the second.
+type Calls = (u64, u64);
+
+// The station of these disks, or why it is refused and the disks.
+fn opened<D: Disk + Drop>(
+    alloc: Global,
+    (a, b): (D, D),
+) -> Result<Station<D>, (TapeFault, (D, D))> {
+    match Station::open(alloc, a, b, UNLIMITED) {
         Ok(station) => Ok(station),
         Err(refused) => {
-            let RefusedTape { disk, fault, .. } = refused;
-            Err((fault, disk))
+            let RefusedTape { a, b, fault, .. } = refused;
+            Err((fault, (a, b)))
         }
     }
 }
 
-// The station of this disk, of which a call of the opening may fail: then it is opened a second
+// The station of these disks, of which a call of the opening may fail: then they are opened a second
 // time.
 fn opened_at_last<A: Abort>(
     rt: &A,
     alloc: Global,
-    disk: FlakyDisk<MemDisk>,
+    disks: (FlakyDisk<MemDisk>, FlakyDisk<MemDisk>),
 ) -> Result<Flaky, Fail> {
-    match opened(alloc, disk) {
+    match opened(alloc, disks) {
         Ok(station) => Ok(station),
-        Err((fault, disk)) => {
+        Err((fault, disks)) => {
             assert_eq!(rt; fault, TapeFault::Disk);
-            match opened(alloc, disk) {
+            match opened(alloc, disks) {
                 Ok(station) => Ok(station),
                 Err((fault, _)) => Err(Fail::from(fault)),
             }
@@ -57,6 +63,13 @@ fn owe(alloc: Global, station: &mut Flaky, number: u64) -> Result<Owed, Fail> {
 
 fn flush(station: &mut Flaky) -> Result<Result<u64, StationFault>, Fail> {
     match station.flush() {
+        Err(StationFault::NoMemory) => Err(Fail::from(StationFault::NoMemory)),
+        answer => Ok(answer),
+    }
+}
+
+fn rotate(station: &mut Flaky) -> Result<Result<u64, StationFault>, Fail> {
+    match station.rotate() {
         Err(StationFault::NoMemory) => Err(Fail::from(StationFault::NoMemory)),
         answer => Ok(answer),
     }
@@ -87,13 +100,14 @@ fn end_first(station: &mut Flaky) -> Result<(), Fail> {
 fn assert_broken<A: Abort>(rt: &A, station: &mut Flaky) -> Result<(), Fail> {
     for _ in 0..2 {
         assert_eq!(rt; flush(station)?, Err(StationFault::Broken));
+        assert_eq!(rt; rotate(station)?, Err(StationFault::Broken));
     }
     assert_eq!(rt; is_told(station, 1), Err(StationFault::Broken));
     assert_eq!(rt; claim(station).is_err(), true);
     Ok(())
 }
 
-// How many notes are acknowledged after a flush, of so many before: the disk alone fails one.
+// How many notes are acknowledged after a flush, of so many before: a disk alone fails one.
 fn flushed<A: Abort>(rt: &A, station: &mut Flaky, acknowledged: u64) -> Result<u64, Fail> {
     match flush(station)? {
         Ok(count) => Ok(count),
@@ -105,7 +119,22 @@ fn flushed<A: Abort>(rt: &A, station: &mut Flaky, acknowledged: u64) -> Result<u
     }
 }
 
-// Owes two debts and flushes them, ends one and flushes that.
+// The same after the first rotation, which acknowledges one note more.
+fn rotated<A: Abort>(rt: &A, station: &mut Flaky, acknowledged: u64) -> Result<u64, Fail> {
+    match rotate(station)? {
+        Ok(generation) => {
+            assert_eq!(rt; generation, 1);
+            Ok(acknowledged.saturating_add(1))
+        }
+        Err(fault) => {
+            assert_eq!(rt; fault, StationFault::Tape(TapeFault::Disk));
+            assert_broken(rt, station)?;
+            Ok(acknowledged)
+        }
+    }
+}
+
+// Owes two debts and flushes them, ends one and flushes that, and owes a third and rotates.
 fn work<A: Abort>(rt: &A, alloc: Global, station: &mut Flaky) -> Result<Counts, Fail> {
     owe(alloc, station, 1)?;
     owe(alloc, station, 2)?;
@@ -115,25 +144,30 @@ fn work<A: Abort>(rt: &A, alloc: Global, station: &mut Flaky) -> Result<Counts, 
     }
     assert_eq!(rt; is_told(station, 2)?, true);
     end_first(station)?;
-    Ok((flushed(rt, station, acknowledged)?, 3))
+    let acknowledged = flushed(rt, station, acknowledged)?;
+    if acknowledged == 2 {
+        return Ok((2, 3));
+    }
+    owe(alloc, station, 3)?;
+    Ok((rotated(rt, station, acknowledged)?, 4))
 }
 
-fn listed(alloc: Global, disk: MemDisk) -> Result<Vec<u64>, Fail> {
-    match opened(alloc, disk) {
+fn listed(alloc: Global, disks: (MemDisk, MemDisk)) -> Result<Vec<u64>, Fail> {
+    match opened(alloc, disks) {
         Ok(station) => Ok(station.list()?),
         Err((fault, _)) => Err(Fail::from(fault)),
     }
 }
 
-// What a station of this disk owes is what it owed after so many notes at least, and so many at
+// What a station of these disks owes is what it owed after so many notes at least, and so many at
 // most.
 fn assert_front<A: Abort>(
     rt: &A,
     alloc: Global,
-    disk: MemDisk,
+    disks: (MemDisk, MemDisk),
     (least, most): Counts,
 ) -> Result<(), Fail> {
-    let listed = listed(alloc, disk)?;
+    let listed = listed(alloc, disks)?;
     let is_front = FRONTS.iter().enumerate().any(|(notes, owed)| least <= notes as u64
         && notes as u64 <= most
         && listed.as_slice() == *owed);
@@ -142,29 +176,37 @@ fn assert_front<A: Abort>(
 }
 
 // Whether the call behind so many, which fails, comes.
-fn meets_fault<A: Abort>(rt: &A, alloc: Global, calls: u64) -> Result<bool, Fail> {
-    let disk = FlakyDisk::new(MemDisk::new(alloc), calls);
-    let mut station = opened_at_last(rt, alloc, disk)?;
+fn meets_fault<A: Abort>(rt: &A, alloc: Global, (first, second): Calls) -> Result<bool, Fail> {
+    let a = FlakyDisk::new(MemDisk::new(alloc), first);
+    let b = FlakyDisk::new(MemDisk::new(alloc), second);
+    let mut station = opened_at_last(rt, alloc, (a, b))?;
     let counts = work(rt, alloc, &mut station)?;
-    let disk = station.into_disk();
-    let met = 0 < disk.faults();
-    assert_front(rt, alloc, disk.into_inner(), counts)?;
+    let (a, b) = station.into_disks();
+    let met = 0 < a.faults() || 0 < b.faults();
+    assert_front(rt, alloc, (a.into_inner(), b.into_inner()), counts)?;
     Ok(met)
 }
 
-fn calls_of<A: Abort>(rt: &A, alloc: Global) -> Result<u64, Fail> {
+// How many calls of the first disk there are to fail, or of the second.
+fn calls_of<A: Abort>(rt: &A, alloc: Global, second: bool) -> Result<u64, Fail> {
     for calls in 0..MOST_CALLS {
-        if !meets_fault(rt, alloc, calls)? {
+        let before = if second {
+            (u64::MAX, calls)
+        } else {
+            (calls, u64::MAX)
+        };
+        if !meets_fault(rt, alloc, before)? {
             return Ok(calls);
         }
     }
     Err(Fail::from("no end of calls"))
 }
 
-// The opening makes five calls, the flush of two notes five, that of one four, and no other call
-// makes one.
+// Of the first disk the opening makes five calls, the flush of two notes five, that of one four, and no other call
+// makes one. Of the second the opening makes one, and the rotation eight.
 #[test]
 fn a_fault_at_any_call_leaves_a_front(rt: HostRuntime) -> Result<(), Fail> {
-    assert_eq!(rt; calls_of(&rt, rt.alloc())?, 14);
+    assert_eq!(rt; calls_of(&rt, rt.alloc(), false)?, 14);
+    assert_eq!(rt; calls_of(&rt, rt.alloc(), true)?, 9);
     Ok(())
 }

@@ -34,4 +34,9 @@ pub fn what_stands_first()
         → Ends segment → Reads segment payloads → payloads ≡ [] }
     ensures cut_short { (segment : List ℕ) (payloads : List (List ℕ))
         → IsCutShort segment → Reads segment payloads → ⊥ }
+    ensures once { (segment payload other : List ℕ)
+        → IsRecord payload segment → IsRecord other segment → payload ≡ other }
+    ensures goes_on { (segment payload : List ℕ) → IsRecord payload segment → Ends segment → ⊥ }
+    ensures uncut { (segment payload : List ℕ) → IsRecord payload segment → IsCutShort segment → ⊥ }
+    ensures ends_uncut { (segment : List ℕ) → Ends segment → IsCutShort segment → ⊥ }
 {}

@@ -1,8 +1,9 @@
 // Writing a whole segment, whose first gate opens last.
 ghost use Rattle.std.specs.Prelude.{◌≡◌, ◌≢◌, ◌+◌, ◌-◌, ◌^◌, ◌<◌, ◌≤◌, ◌↔◌, [], ◌∷◌, ◌++◌, ℕ, List};
-ghost use Rattle.std.specs.Prelude.{length, drop, min, IfOk, OnOk, IsErrOf};
+ghost use Rattle.std.specs.Prelude.{length, drop, min, IfErr, IfOk, OnOk, IsErrOf};
 ghost use Rattle.disk_model.specs.Disk.{content, CountsFaults, Image, IsOnly, Leaves};
 ghost use Rattle.disk_model.specs.Disk.Event.{Wrote, Synced};
+ghost use Rattle.tape_journal.specs.Kept.{AtRest};
 ghost use Rattle.tape_journal.specs.Rewrite.{EmptiedFrom, GatedAs, RenewedFrom, emptying, filling};
 ghost use Rattle.tape_journal.specs.Rewrite.{opened, renewing};
 ghost use Rattle.tape_journal.specs.Segment.{AllShort, at_rest, longest_segment, open_gate};
@@ -16,6 +17,7 @@ use crate::read::OPEN;
 use crate::{Journal, RenewFault};
 use disk_model::{Disk, DiskFault};
 use std::alloc::{AllocError, Global};
+use std::mem;
 
 /// A disk on which no whole segment was written, handed back as the call left it.
 #[derive(Drop)]
@@ -120,8 +122,38 @@ fn rewrite<D: Disk>(disk: &mut D, segment: &[u8]) -> Result<(), DiskFault>
     write_segment(disk, segment)
 }
 
+// Writes a whole segment of these payloads in place of what the disk has, and answers where its end gate stands.
+fn renew_on<D: Disk>(alloc: Global, disk: &mut D, payloads: &[Vec<u8>]) -> Result<u64, RenewFault>
+    requires some { payloads.now ≢ [] }
+    ensures end { IfOk result (λ end. (end ≡ length (records (octets_of payloads.now)))
+        × (end < longest_segment)) }
+    ensures done { D.honest disk.old
+        → OnOk result (AtRest (D.log disk.new) (octets_of payloads.now)) }
+    ensures calls { D.honest disk.old
+        → OnOk result (D.log disk.new ≡ renewing (octets_of payloads.now) (D.log disk.old)) }
+    ensures moments { D.honest disk.old
+        → Leaves (RenewedFrom (D.log disk.old) (octets_of payloads.now)) (D.log disk.old) (D.log disk.new) }
+    ensures too_long { IsErrOf result RenewFault.PayloadTooLong
+        ↔ (AllShort (octets_of payloads.now) → ⊥) }
+    ensures full { IsErrOf result RenewFault.TapeFull ↔ (AllShort (octets_of payloads.now)
+        × (longest_segment < 1 + length (records (octets_of payloads.now)))) }
+    ensures refused { IfErr result (λ e. e ≢ RenewFault.Disk → disk.new ≡ disk.old) }
+    ensures cause { D.honest disk.old → IsErrOf result RenewFault.Disk
+        → min (D.told disk.old + 1) (2 ^ 64 - 1) ≤ D.told disk.new }
+    ensures honest { D.honest disk.old ↔ D.honest disk.new }
+    ensures later { D.told disk.old ≤ D.told disk.new }
+    ensures quiet { OnOk result (D.told disk.new ≡ D.told disk.old) }
+{
+    let (segment, end) = renewal_of(alloc, payloads)?;
+    match rewrite(disk, &segment) {
+        Ok(()) => Ok(end),
+        Err(_) => Err(RenewFault::Disk),
+    }
+}
+
 impl<D: Disk> Journal<D> {
-    ghost use Rattle.std.specs.Prelude.{IfErr, IsErrAnd, MatchResult};
+    ghost use Rattle.std.specs.Prelude.{IsErrAnd, MatchResult, OnErr};
+    ghost use Rattle.tape_journal.specs.Journal.{disk_of, end_of, IsBroken};
     ghost use Rattle.tape_journal.specs.Renew.{IsHandedBack, IsNotRenewed, IsRenewed, Works};
 
     /// Writes a whole segment of these payloads in place of what the disk has. Its first gate opens
@@ -155,21 +187,60 @@ impl<D: Disk> Journal<D> {
         ensures works { IfOk result (Works disk) }
         ensures handed_back { IfErr result (IsHandedBack disk) }
     {
-        let (segment, end) = match renewal_of(alloc, payloads) {
-            Ok(renewal) => renewal,
-            Err(fault) => return Err(NotRenewed { disk, fault }),
-        };
-        match rewrite(&mut disk, &segment) {
-            Ok(()) => Ok(Journal {
+        match renew_on(alloc, &mut disk, payloads) {
+            Ok(end) => Ok(Journal {
                 alloc,
                 disk,
                 end,
                 broken: false,
             }),
-            Err(_) => Err(NotRenewed {
-                disk,
-                fault: RenewFault::Disk,
-            }),
+            Err(fault) => Err(NotRenewed { disk, fault }),
+        }
+    }
+
+    /// Goes on in a whole new segment of these payloads on another disk, in place of what that has, and leaves there
+    /// the disk that the journal had. The first gate opens last, as in `renew`; nothing is written on the disk that
+    /// the journal leaves.
+    ///
+    /// # Errors
+    /// Tried in this order; the disks are not exchanged. `PayloadTooLong`, over 16,777,216 octets; `TapeFull`, the
+    /// length with the end gate would pass 4,294,967,296; `NoMemory`; these change nothing. `Disk`: a call failed on
+    /// the other disk, and the journal is broken.
+    pub fn move_to(&mut self, other: &mut D, payloads: &[Vec<u8>]) -> Result<(), RenewFault>
+        requires some { payloads.now ≢ [] }
+        ensures ok { D.honest other.old → OnOk result
+            (IsRenewed (D.log other.old) self.new (octets_of payloads.now)) }
+        ensures err { D.honest other.old → OnErr result
+            (Leaves (RenewedFrom (D.log other.old) (octets_of payloads.now)) (D.log other.old) (D.log other.new)) }
+        ensures exchanged { MatchResult result (λ _. other.new ≡ disk_of self.old)
+            (λ _. (disk_of self.new ≡ disk_of self.old) × (end_of self.new ≡ end_of self.old)) }
+
+        ensures too_long { IsErrOf result RenewFault.PayloadTooLong
+            ↔ (AllShort (octets_of payloads.now) → ⊥) }
+        ensures full { IsErrOf result RenewFault.TapeFull ↔ (AllShort (octets_of payloads.now)
+            × (longest_segment < 1 + length (records (octets_of payloads.now)))) }
+        ensures refused { IfErr result (λ e. e ≢ RenewFault.Disk
+            → (self.new ≡ self.old) × (other.new ≡ other.old)) }
+        ensures breaks { IsErrOf result RenewFault.Disk → IsBroken self.new }
+        ensures cause { D.honest other.old → IsErrOf result RenewFault.Disk
+            → min (D.told other.old + 1) (2 ^ 64 - 1) ≤ D.told other.new }
+
+        ensures works { MatchResult result (λ _. Works other.old self.new)
+            (λ _. (D.honest other.old ↔ D.honest other.new) × (D.told other.old ≤ D.told other.new)) }
+    {
+        match renew_on(self.alloc, other, payloads) {
+            Ok(end) => {
+                mem::swap(&mut self.disk, other);
+                self.end = end;
+                self.broken = false;
+                Ok(())
+            }
+            Err(fault) => {
+                if fault == RenewFault::Disk {
+                    self.broken = true;
+                }
+                Err(fault)
+            }
         }
     }
 }

@@ -46,6 +46,19 @@ pub(crate) fn disk_of(alloc: Global, octets: &[u8]) -> Result<MemDisk, Fail> {
     disk_after(alloc, &[Call::Write(0, octets), Call::Sync])
 }
 
+// The disks of a tape of one segment, which is that of the first.
+pub(crate) fn beside_empty(alloc: Global, disk: MemDisk) -> (MemDisk, MemDisk) {
+    (disk, MemDisk::new(alloc))
+}
+
+// The disks of a tape of these octets.
+pub(crate) fn disks_of(
+    alloc: Global,
+    (first, second): (&[u8], &[u8]),
+) -> Result<(MemDisk, MemDisk), Fail> {
+    Ok((disk_of(alloc, first)?, disk_of(alloc, second)?))
+}
+
 // All octets of a disk.
 pub(crate) fn octets_of<D: Disk>(alloc: Global, disk: &mut D) -> Result<Vec<u8>, Fail> {
     let mut octets = vec![in alloc; 0; disk.len() as usize]?;
@@ -66,6 +79,18 @@ pub(crate) fn assert_octets<A: Abort, D: Disk>(
 ) -> Result<(), Fail> {
     assert_answer(rt, at, &octets_of(alloc, disk)?.as_slice(), &want);
     Ok(())
+}
+
+// The disks of a tape have these octets in all.
+pub(crate) fn assert_both<A: Abort, D: Disk>(
+    rt: &A,
+    alloc: Global,
+    at: usize,
+    disks: &mut (D, D),
+    (first, second): (&[u8], &[u8]),
+) -> Result<(), Fail> {
+    assert_octets(rt, alloc, at, &mut disks.0, first)?;
+    assert_octets(rt, alloc, at, &mut disks.1, second)
 }
 
 pub(crate) fn assert_faults<A: Abort, D: Disk>(rt: &A, at: usize, disk: &D, want: u64) {

@@ -1,10 +1,13 @@
-// Tapes on disks of which one call fails, each call in turn.
+// Tapes on two disks of which one call fails, each call in turn.
 use crate::answers::assert_answer;
-use crate::disks::disk_of;
+use crate::disks::disks_of;
 use crate::planned_file::{Plan, PlannedFile};
+use crate::rotations::ROTATED;
 use crate::samples::Sample;
-use crate::tapes::{Counts, OWED, TORN, assert_fronts, flush, front_of, note, opened};
-use disk_model::{Disk, FileDisk, FlakyDisk, MemDisk};
+use crate::tapes::{
+    Calls, Counts, OWED, TORN, assert_fronts, flaky, flush, front_of, note, opened, rotate,
+};
+use disk_model::{Disk, FileDisk};
 use recovery::{Tape, TapeFault};
 use std::alloc::Global;
 use std::process::Abort;
@@ -18,7 +21,7 @@ fn owe(alloc: Global, tape: &mut Tape<impl Disk>) -> Result<(), Fail> {
 }
 
 // Owes so many debts more, and flushes them. Answers how many debts are acknowledged then, of so
-// many before: the disk alone fails a flush, and every later one is broken.
+// many before: a disk alone fails a flush, and every later one is broken.
 fn flush_more<A: Abort, D: Disk>(
     rt: &A,
     alloc: Global,
@@ -39,10 +42,44 @@ fn flush_more<A: Abort, D: Disk>(
     Ok(acknowledged)
 }
 
-// Flushes two debts more, and then one more. Answers how many debts are acknowledged, and how many
-// were noted.
-fn work<A: Abort, D: Disk>(rt: &A, alloc: Global, tape: &mut Tape<D>) -> Result<Counts, Fail> {
+// The same by a rotation to this generation.
+fn rotate_more<A: Abort, D: Disk>(
+    rt: &A,
+    alloc: Global,
+    tape: &mut Tape<D>,
+    generation: u64,
+    acknowledged: u64,
+) -> Result<u64, Fail> {
+    owe(alloc, tape)?;
+    let rotated = rotate(tape)?;
+    if rotated.is_ok() {
+        assert_answer(rt, 3, &rotated, &Ok(generation));
+        return Ok(tape.mark());
+    }
+    assert_answer(rt, 4, &rotated, &Err(TapeFault::Disk));
+    assert_answer(rt, 5, &tape.is_broken(), &true);
+    assert_answer(rt, 6, &rotate(tape)?, &Err(TapeFault::Broken));
+    assert_answer(rt, 7, &flush(tape)?, &Err(TapeFault::Broken));
+    Ok(acknowledged)
+}
+
+// Flushes two debts more, and then one more, rotates with one more to this generation, and flushes one more. Answers
+// how many debts are acknowledged, and how many were noted.
+fn work<A: Abort, D: Disk>(
+    rt: &A,
+    alloc: Global,
+    tape: &mut Tape<D>,
+    generation: u64,
+) -> Result<Counts, Fail> {
     let acknowledged = flush_more(rt, alloc, tape, 2, tape.mark())?;
+    if tape.is_broken() {
+        return Ok((acknowledged, tape.mark()));
+    }
+    let acknowledged = flush_more(rt, alloc, tape, 1, acknowledged)?;
+    if tape.is_broken() {
+        return Ok((acknowledged, tape.mark()));
+    }
+    let acknowledged = rotate_more(rt, alloc, tape, generation, acknowledged)?;
     if tape.is_broken() {
         return Ok((acknowledged, tape.mark()));
     }
@@ -50,77 +87,119 @@ fn work<A: Abort, D: Disk>(rt: &A, alloc: Global, tape: &mut Tape<D>) -> Result<
     Ok((acknowledged, tape.mark()))
 }
 
-// The tape of this disk, which has to be opened, or to be handed back for the disk's fault.
-fn opened_or_back<A: Abort, D: Disk + Drop>(rt: &A, alloc: Global, disk: D) -> Result<Tape<D>, D> {
-    match opened(alloc, disk) {
+// The tape of these disks, which has to be opened, or to be handed back for a disk's fault.
+fn opened_or_back<A: Abort, D: Disk + Drop>(
+    rt: &A,
+    alloc: Global,
+    disks: (D, D),
+) -> Result<Tape<D>, (D, D)> {
+    match opened(alloc, disks) {
         Ok(tape) => Ok(tape),
-        Err((fault, disk)) => {
+        Err((fault, disks)) => {
             assert_answer(rt, 0, &fault, &TapeFault::Disk);
-            Err(disk)
+            Err(disks)
         }
     }
 }
 
-fn opened_again<D: Disk + Drop>(alloc: Global, disk: D) -> Result<Tape<D>, Fail> {
-    match opened(alloc, disk) {
+fn opened_again<D: Disk + Drop>(alloc: Global, disks: (D, D)) -> Result<Tape<D>, Fail> {
+    match opened(alloc, disks) {
         Ok(tape) => Ok(tape),
         Err((fault, _)) => Err(Fail::from(fault)),
     }
 }
 
-// A disk of these octets, of which the call behind so many fails: where that is one of the opening,
-// the disk is opened a second time. What a stop leaves then is a front with every acknowledged
-// debt. Whether that call came.
-fn meets_fault<A: Abort>(rt: &A, alloc: Global, octets: &[u8], calls: u64) -> Result<bool, Fail> {
-    let disk = FlakyDisk::new(disk_of(alloc, octets)?, calls);
-    let mut tape = match opened_or_back(rt, alloc, disk) {
+// What lies on two disks, and the generation of a rotation of the tape.
+type Rotated<'a> = (&'a [u8], &'a [u8], u64);
+
+// Disks of these octets, of each of which the call behind so many fails: where that is one of the opening, the disks
+// are opened a second time. What a stop leaves then is a front with every acknowledged debt. Whether that call came.
+fn meets_fault<A: Abort>(
+    rt: &A,
+    alloc: Global,
+    (first, second, generation): Rotated<'_>,
+    calls: Calls,
+) -> Result<bool, Fail> {
+    let disks = flaky(disks_of(alloc, (first, second))?, calls);
+    let mut tape = match opened_or_back(rt, alloc, disks) {
         Ok(tape) => tape,
-        Err(disk) => opened_again(alloc, disk)?,
+        Err(disks) => opened_again(alloc, disks)?,
     };
-    let counts = work(rt, alloc, &mut tape)?;
-    let disk = tape.into_disk();
-    let met = 0 < disk.faults();
-    assert_fronts(rt, alloc, &disk.into_inner(), counts)?;
+    let counts = work(rt, alloc, &mut tape, generation)?;
+    let (a, b) = tape.into_disks();
+    let met = 0 < a.faults() || 0 < b.faults();
+    assert_fronts(rt, alloc, &(a.into_inner(), b.into_inner()), counts)?;
     Ok(met)
 }
 
-// How many calls there are to fail.
-fn calls_of<A: Abort>(rt: &A, alloc: Global, octets: &[u8]) -> Result<u64, Fail> {
+// The call of the first disk that is to fail, or of the second, behind so many.
+fn calls_before(second: bool, calls: u64) -> Calls {
+    if second {
+        (u64::MAX, calls)
+    } else {
+        (calls, u64::MAX)
+    }
+}
+
+// How many calls of the first disk there are to fail, or of the second.
+fn calls_of<A: Abort>(rt: &A, alloc: Global, tape: Rotated<'_>, second: bool) -> Result<u64, Fail> {
     for calls in 0..MOST_CALLS {
-        if !meets_fault(rt, alloc, octets, calls)? {
+        if !meets_fault(rt, alloc, tape, calls_before(second, calls))? {
             return Ok(calls);
         }
     }
     Err(Fail::from("no end of calls"))
 }
 
-// Opening an empty disk takes five calls, and three more for one record: two reads of it, and one
-// of the end. The flush of two notes takes five calls, and that of one takes four.
+// How many calls of each disk there are to fail. Opening makes five calls of an empty disk whose segment lives, and
+// more where records lie there: two reads of what stands first, two of each record and one of the end. It makes one
+// call of the other disk, behind two reads of what stands first there. The flush of two notes makes five calls, and
+// that of one four, on the disk whose segment lives; a rotation makes eight on the other, and the flush of one note
+// behind it goes there.
+const TAPES: [(Rotated<'static>, Calls); 4] = [
+    ((&[], &[], 1), (14, 13)),
+    ((&OWED, &[], 1), (19, 13)),
+    ((&TORN, &[], 1), (19, 13)),
+    ((&OWED, &ROTATED, 2), (15, 21)),
+];
+
 #[test]
 fn a_fault_at_any_call_leaves_a_front(rt: HostRuntime) -> Result<(), Fail> {
-    for (octets, calls) in [([].as_slice(), 14), (&OWED, 17), (&TORN, 17)] {
-        assert_answer(
-            &rt,
-            octets.len(),
-            &calls_of(&rt, rt.alloc(), octets)?,
-            &calls,
-        );
+    for (row, (tape, (first, second))) in TAPES.iter().enumerate() {
+        for (is_second, want) in [(false, *first), (true, *second)] {
+            let calls = calls_of(&rt, rt.alloc(), *tape, is_second)?;
+            assert_answer(&rt, row, &calls, &want);
+        }
     }
     Ok(())
 }
 
-// The file of these octets, of which the call behind so many fails: as above, but that a file is
-// opened a second time as the next process does.
-fn tape_of_file<A: Abort>(
+fn files_of(
+    alloc: Global,
+    (first, second): (&[u8], &[u8]),
+    plans: (Plan, Plan),
+) -> Result<(FileDisk<PlannedFile>, FileDisk<PlannedFile>), Fail> {
+    Ok((
+        FileDisk::new(PlannedFile::new(alloc, first, plans.0)?),
+        FileDisk::new(PlannedFile::new(alloc, second, plans.1)?),
+    ))
+}
+
+fn opened_anew(disk: FileDisk<PlannedFile>) -> Result<FileDisk<PlannedFile>, Fail> {
+    Ok(FileDisk::new(disk.into_inner().opened_anew()?))
+}
+
+// The tape of files of these octets that go by these plans: as above, but that files are opened a second time as the
+// next process does.
+fn tape_of_files<A: Abort>(
     rt: &A,
     alloc: Global,
-    octets: &[u8],
-    plan: Plan,
+    octets: (&[u8], &[u8]),
+    plans: (Plan, Plan),
 ) -> Result<Tape<FileDisk<PlannedFile>>, Fail> {
-    let disk = FileDisk::new(PlannedFile::new(alloc, octets, plan)?);
-    match opened_or_back(rt, alloc, disk) {
+    match opened_or_back(rt, alloc, files_of(alloc, octets, plans)?) {
         Ok(tape) => Ok(tape),
-        Err(disk) => opened_again(alloc, FileDisk::new(disk.into_inner().opened_anew()?)),
+        Err((a, b)) => opened_again(alloc, (opened_anew(a)?, opened_anew(b)?)),
     }
 }
 
@@ -128,33 +207,51 @@ fn tape_of_file<A: Abort>(
 fn assert_front<A: Abort>(
     rt: &A,
     alloc: Global,
-    octets: &[u8],
+    octets: (&[u8], &[u8]),
     (least, most): Counts,
 ) -> Result<(), Fail> {
-    let mark = front_of(alloc, disk_of(alloc, octets)?)??;
+    let mark = front_of(alloc, disks_of(alloc, octets)?)??;
     assert_answer(rt, 0, &(least <= mark && mark <= most), &true);
     Ok(())
 }
 
-// A front is what a read of the file gives, and what the device has.
+// A front is what a read of the files gives, and what the device has.
 fn file_meets_fault<A: Abort>(
     rt: &A,
     alloc: Global,
-    octets: &[u8],
-    plan: Plan,
+    (first, second, generation): Rotated<'_>,
+    plans: (Plan, Plan),
 ) -> Result<bool, Fail> {
-    let mut tape = tape_of_file(rt, alloc, octets, plan)?;
-    let counts = work(rt, alloc, &mut tape)?;
-    let file = tape.into_disk().into_inner();
-    assert_front(rt, alloc, file.octets(), counts)?;
-    assert_front(rt, alloc, file.durable(), counts)?;
-    Ok(!file.is_sound())
+    let mut tape = tape_of_files(rt, alloc, (first, second), plans)?;
+    let counts = work(rt, alloc, &mut tape, generation)?;
+    let (a, b) = tape.into_disks();
+    let (a, b) = (a.into_inner(), b.into_inner());
+    assert_front(rt, alloc, (a.octets(), b.octets()), counts)?;
+    assert_front(rt, alloc, (a.durable(), b.durable()), counts)?;
+    Ok(!a.is_sound() && !b.is_sound())
 }
 
-// Each call of the file fails in turn, and keeps so much.
-fn sweep_file<A: Abort>(rt: &A, alloc: Global, octets: &[u8], kept: usize) -> Result<(), Fail> {
+// A call of the first file fails behind so many, or of the second, and keeps so much.
+fn plans_failing(second: bool, calls: u64, kept: usize) -> (Plan, Plan) {
+    let sound = Plan::sound(7, u64::MAX);
+    let failing = Plan::failing(calls, kept);
+    if second {
+        (sound, failing)
+    } else {
+        (failing, sound)
+    }
+}
+
+// Each call of the first file fails in turn, or of the second, and keeps so much.
+fn sweep_file<A: Abort>(
+    rt: &A,
+    alloc: Global,
+    tape: Rotated<'_>,
+    second: bool,
+    kept: usize,
+) -> Result<(), Fail> {
     for calls in 0..MOST_CALLS {
-        if !file_meets_fault(rt, alloc, octets, Plan::failing(calls, kept))? {
+        if !file_meets_fault(rt, alloc, tape, plans_failing(second, calls, kept))? {
             return Ok(());
         }
     }
@@ -163,9 +260,10 @@ fn sweep_file<A: Abort>(rt: &A, alloc: Global, octets: &[u8], kept: usize) -> Re
 
 #[test]
 fn a_fault_of_a_file_at_any_call_leaves_a_front(rt: HostRuntime) -> Result<(), Fail> {
-    for octets in [[].as_slice(), &OWED, &TORN] {
+    for (tape, _) in TAPES {
         for kept in [0, 1, 3, 30, 1_000] {
-            sweep_file(&rt, rt.alloc(), octets, kept)?;
+            sweep_file(&rt, rt.alloc(), tape, false, kept)?;
+            sweep_file(&rt, rt.alloc(), tape, true, kept)?;
         }
     }
     Ok(())

@@ -21,6 +21,8 @@ mod planned_file;
 #[cfg(test)]
 mod read_only;
 #[cfg(test)]
+mod rotations;
+#[cfg(test)]
 mod samples;
 #[cfg(test)]
 mod spellings;

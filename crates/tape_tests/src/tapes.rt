@@ -1,6 +1,6 @@
 // Tapes at which steps are taken, on disks that fail or that a stop leaves too.
 use crate::answers::assert_answer;
-use crate::disks::{assert_faults, assert_octets, disk_of};
+use crate::disks::{assert_both, assert_faults, beside_empty, disk_of, disks_of};
 use crate::planned_file::{Plan, PlannedFile};
 use crate::read_only::ReadOnly;
 use crate::samples::{Sample, TEXTS, is_sample, note_of, texts};
@@ -32,13 +32,19 @@ pub(crate) const TORN: [u8; 28] = [
 
 // What is done to a tape, or asked of it, and the answer that is wanted.
 #[derive(Clone, Copy)]
-enum Step {
+pub(crate) enum Step {
     // A note that is refused has to be handed back.
     Note(Sample, Result<(), TapeFault>),
     // Each funnel line from this number on, below that one, is told as seen.
     SeenEach(u64, u64),
+    // Each is owed.
+    OweEach(u64, u64),
+    // Each is answered for good.
+    EndEach(u64, u64),
     DropAll(&'static [u64], Result<(), TapeFault>),
     Flush(Result<u64, TapeFault>),
+    Rotate(Result<u64, TapeFault>),
+    RotateDue(bool),
     // The debt of this number is told with it, where there is one.
     Debt(u64, Result<Option<u64>, TapeFault>),
     Octets(u64, Option<u64>),
@@ -72,6 +78,30 @@ fn see_each<D: Disk>(tape: &mut Tape<D>, first: u64, behind: u64) -> Result<(), 
     Ok(())
 }
 
+fn owe_each<D: Disk>(
+    alloc: Global,
+    tape: &mut Tape<D>,
+    first: u64,
+    behind: u64,
+) -> Result<(), Fail> {
+    for number in first..behind {
+        note(alloc, tape, Sample::Owe(number))??;
+    }
+    Ok(())
+}
+
+fn end_each<D: Disk>(
+    alloc: Global,
+    tape: &mut Tape<D>,
+    first: u64,
+    behind: u64,
+) -> Result<(), Fail> {
+    for number in first..behind {
+        note(alloc, tape, Sample::Final(number))??;
+    }
+    Ok(())
+}
+
 fn drop_all<D: Disk>(tape: &mut Tape<D>, numbers: &[u64]) -> Result<Result<(), TapeFault>, Fail> {
     match tape.drop_all(numbers, Cause::Limit) {
         Err(TapeFault::NoMemory) => Err(Fail::from(TapeFault::NoMemory)),
@@ -81,6 +111,13 @@ fn drop_all<D: Disk>(tape: &mut Tape<D>, numbers: &[u64]) -> Result<Result<(), T
 
 pub(crate) fn flush<D: Disk>(tape: &mut Tape<D>) -> Result<Result<u64, TapeFault>, Fail> {
     match tape.flush() {
+        Err(TapeFault::NoMemory) => Err(Fail::from(TapeFault::NoMemory)),
+        answer => Ok(answer),
+    }
+}
+
+pub(crate) fn rotate<D: Disk>(tape: &mut Tape<D>) -> Result<Result<u64, TapeFault>, Fail> {
+    match tape.rotate() {
         Err(TapeFault::NoMemory) => Err(Fail::from(TapeFault::NoMemory)),
         answer => Ok(answer),
     }
@@ -114,8 +151,12 @@ fn take<A: Abort, D: Disk>(
     match step {
         Step::Note(sample, want) => assert_answer(rt, at, &note(alloc, tape, sample)?, &want),
         Step::SeenEach(first, behind) => see_each(tape, first, behind)?,
+        Step::OweEach(first, behind) => owe_each(alloc, tape, first, behind)?,
+        Step::EndEach(first, behind) => end_each(alloc, tape, first, behind)?,
         Step::DropAll(numbers, want) => assert_answer(rt, at, &drop_all(tape, numbers)?, &want),
         Step::Flush(want) => assert_answer(rt, at, &flush(tape)?, &want),
+        Step::Rotate(want) => assert_answer(rt, at, &rotate(tape)?, &want),
+        Step::RotateDue(want) => assert_answer(rt, at, &tape.rotate_due(), &want),
         Step::Debt(number, want) => assert_answer(rt, at, &told(tape, number)?, &want),
         Step::Octets(number, want) => assert_answer(rt, at, &tape.octets(number), &want),
         Step::Owes(number, want) => assert_answer(rt, at, &tape.owes(number), &want),
@@ -128,38 +169,41 @@ fn take<A: Abort, D: Disk>(
     Ok(())
 }
 
-// The tape of a disk, or the disk handed back and why.
-pub(crate) fn opened<D: Disk + Drop>(alloc: Global, disk: D) -> Result<Tape<D>, (TapeFault, D)> {
-    match Tape::open(alloc, disk) {
+// The tape of two disks, or the disks handed back and why.
+pub(crate) fn opened<D: Disk + Drop>(
+    alloc: Global,
+    (a, b): (D, D),
+) -> Result<Tape<D>, (TapeFault, (D, D))> {
+    match Tape::open(alloc, a, b) {
         Ok(tape) => Ok(tape),
         Err(refused) => {
-            let RefusedTape { disk, fault, .. } = refused;
-            Err((fault, disk))
+            let RefusedTape { a, b, fault, .. } = refused;
+            Err((fault, (a, b)))
         }
     }
 }
 
-// Takes these steps, each of which has to answer as is wanted. Answers the disk that they leave.
+// Takes these steps, each of which has to answer as is wanted. Answers the disks that they leave.
 fn play<A: Abort, D: Disk + Drop>(
     rt: &A,
     alloc: Global,
     mut tape: Tape<D>,
     steps: &[Step],
-) -> Result<D, Fail> {
+) -> Result<(D, D), Fail> {
     for (at, step) in steps.iter().enumerate() {
         take(rt, alloc, &mut tape, at, *step)?;
     }
-    Ok(tape.into_disk())
+    Ok(tape.into_disks())
 }
 
-// The same at the tape of this disk.
-fn run<A: Abort, D: Disk + Drop>(
+// The same at the tape of these disks.
+pub(crate) fn run<A: Abort, D: Disk + Drop>(
     rt: &A,
     alloc: Global,
-    disk: D,
+    disks: (D, D),
     steps: &[Step],
-) -> Result<D, Fail> {
-    match opened(alloc, disk) {
+) -> Result<(D, D), Fail> {
+    match opened(alloc, disks) {
         Ok(tape) => play(rt, alloc, tape, steps),
         Err((fault, _)) => Err(Fail::from(fault)),
     }
@@ -167,30 +211,33 @@ fn run<A: Abort, D: Disk + Drop>(
 
 const NOT_OWED: TapeFault = TapeFault::Note(LedgerFault::NotOwed);
 
-const OLD_NUMBER: TapeFault = TapeFault::Note(LedgerFault::OldNumber);
+pub(crate) const OLD_NUMBER: TapeFault = TapeFault::Note(LedgerFault::OldNumber);
 
-// The steps at one opening of a tape, and what lies on the disk then where it is asked for.
-type Opening = (&'static [Step], Option<&'static [u8]>);
+// What lies on the first disk of a tape, and on the second.
+pub(crate) type Octets = (&'static [u8], &'static [u8]);
 
-// Opens the tape of a disk again and again.
-fn run_each<A: Abort, D: Disk + Drop>(
+// The steps at one opening of a tape, and what lies on the disks then where it is asked for.
+pub(crate) type Opening = (&'static [Step], Option<Octets>);
+
+// Opens the tape of two disks again and again.
+pub(crate) fn run_each<A: Abort, D: Disk + Drop>(
     rt: &A,
     alloc: Global,
-    mut disk: D,
+    mut disks: (D, D),
     openings: &[Opening],
 ) -> Result<(), Fail> {
     for (at, (steps, left)) in openings.iter().enumerate() {
-        disk = run(rt, alloc, disk, steps)?;
+        disks = run(rt, alloc, disks, steps)?;
         if let Some(left) = left {
-            assert_octets(rt, alloc, at, &mut disk, left)?;
+            assert_both(rt, alloc, at, &mut disks, *left)?;
         }
     }
     Ok(())
 }
 
-// What lies on a disk, and what is done at each opening of its tape.
+// What lies on the first disk, where the second is empty, and what is done at each opening of the tape.
 const SCRIPTS: &[(&[u8], &[Opening])] = &[
-    // Notes lie on the disk.
+    // Notes lie on the first disk, and nothing comes to lie on the other.
     (
         &[],
         &[
@@ -200,7 +247,7 @@ const SCRIPTS: &[(&[u8], &[Opening])] = &[
                     Step::Room(65535),
                     Step::Flush(Ok(1)),
                 ],
-                Some(&OWED),
+                Some((&OWED, &[])),
             ),
             (
                 &[
@@ -219,9 +266,9 @@ const SCRIPTS: &[(&[u8], &[Opening])] = &[
                         owed_bytes: 0,
                     }),
                 ],
-                Some(&ANSWERED),
+                Some((&ANSWERED, &[])),
             ),
-            (&[Step::Mark(1)], Some(&ANSWERED)),
+            (&[Step::Mark(1)], Some((&ANSWERED, &[]))),
         ],
     ),
     // A debt is told.
@@ -322,41 +369,46 @@ const SCRIPTS: &[(&[u8], &[Opening])] = &[
         )],
     ),
     // What a torn write left is cut off.
-    (&TORN, &[(&[], Some(&OWED))]),
+    (&TORN, &[(&[], Some((&OWED, &[])))]),
     // A gate that is the last octet ends a tape, whatever it is.
-    (&[0xa5], &[(&[Step::Mark(0)], Some(&[0]))]),
+    (&[0xa5], &[(&[Step::Mark(0)], Some((&[0], &[])))]),
 ];
 
 #[test]
 fn steps_are_taken_at_a_tape(rt: HostRuntime) -> Result<(), Fail> {
     for (octets, openings) in SCRIPTS {
-        run_each(&rt, rt.alloc(), disk_of(rt.alloc(), octets)?, openings)?;
+        let disks = beside_empty(rt.alloc(), disk_of(rt.alloc(), octets)?);
+        run_each(&rt, rt.alloc(), disks, openings)?;
     }
     Ok(())
 }
 
-// The same on a file whose calls go by this plan.
-fn run_on_file<A: Abort>(rt: &A, alloc: Global, plan: Plan) -> Result<(), Fail> {
+// The same on files whose calls go by this plan.
+fn run_on_files<A: Abort>(rt: &A, alloc: Global, plan: Plan) -> Result<(), Fail> {
     for (octets, openings) in SCRIPTS {
-        let file = PlannedFile::new(alloc, octets, plan)?;
-        run_each(rt, alloc, FileDisk::new(file), openings)?;
+        let first = FileDisk::new(PlannedFile::new(alloc, octets, plan)?);
+        let second = FileDisk::new(PlannedFile::new(alloc, &[], plan)?);
+        run_each(rt, alloc, (first, second), openings)?;
     }
     Ok(())
 }
 
 #[test]
-fn steps_are_taken_at_a_tape_on_a_file(rt: HostRuntime) -> Result<(), Fail> {
+fn steps_are_taken_at_a_tape_on_files(rt: HostRuntime) -> Result<(), Fail> {
     // How many octets a call moves, and how many calls are interrupted first. Of one transfer a
     // thousand may be.
     for (piece, interruptions) in [(1, 900), (2, u64::MAX), (7, u64::MAX)] {
-        run_on_file(&rt, rt.alloc(), Plan::sound(piece, interruptions))?;
+        run_on_files(&rt, rt.alloc(), Plan::sound(piece, interruptions))?;
     }
     Ok(())
 }
 
-// The mark of the tape of this disk, or why it is refused. No number but those owed was ever noted.
-pub(crate) fn front_of(alloc: Global, disk: MemDisk) -> Result<Result<u64, TapeFault>, Fail> {
-    match opened(alloc, disk) {
+// The mark of the tape of these disks, or why it is refused. No number but those owed was ever noted.
+pub(crate) fn front_of(
+    alloc: Global,
+    disks: (MemDisk, MemDisk),
+) -> Result<Result<u64, TapeFault>, Fail> {
+    match opened(alloc, disks) {
         Ok(tape) => {
             let mark = tape.mark();
             let totals = tape.totals();
@@ -371,17 +423,49 @@ pub(crate) fn front_of(alloc: Global, disk: MemDisk) -> Result<Result<u64, TapeF
     }
 }
 
-// Why the tape of this disk is refused, and the disk handed back.
-fn refused<D: Disk + Drop>(alloc: Global, disk: D) -> Result<(TapeFault, D), Fail> {
-    match opened(alloc, disk) {
+// Why the tape of these disks is refused, and the disks handed back.
+fn refused<D: Disk + Drop>(alloc: Global, disks: (D, D)) -> Result<(TapeFault, (D, D)), Fail> {
+    match opened(alloc, disks) {
         Ok(_) => Err(Fail::from("opened")),
         Err(refused) => Ok(refused),
     }
 }
 
-// The tape of these octets is refused as damaged at this place, and its disk is handed back as it was: where each call
-// but a read would fail too, since none is made.
-fn assert_damaged<A: Abort>(
+// Both disks tell so many faults.
+fn assert_each_faults<A: Abort, D: Disk>(
+    rt: &A,
+    at: usize,
+    disks: &(D, D),
+    (first, second): (u64, u64),
+) {
+    assert_faults(rt, at, &disks.0, first);
+    assert_faults(rt, at, &disks.1, second);
+}
+
+fn read_only((a, b): (MemDisk, MemDisk)) -> (ReadOnly<MemDisk>, ReadOnly<MemDisk>) {
+    (ReadOnly::new(a), ReadOnly::new(b))
+}
+
+// The tape of these octets is refused as damaged at this place of this segment, and its disks are handed back as they
+// were: where each call but a read would fail too, since none is made.
+pub(crate) fn assert_damaged<A: Abort>(
+    rt: &A,
+    alloc: Global,
+    row: usize,
+    octets: (&[u8], &[u8]),
+    want: TapeFault,
+) -> Result<(), Fail> {
+    let (fault, mut disks) = refused(alloc, disks_of(alloc, octets)?)?;
+    assert_answer(rt, row, &fault, &want);
+    assert_both(rt, alloc, row, &mut disks, octets)?;
+    let (fault, mut disks) = refused(alloc, read_only(disks))?;
+    assert_answer(rt, row, &fault, &want);
+    assert_each_faults(rt, row, &disks, (0, 0));
+    assert_both(rt, alloc, row, &mut disks, octets)
+}
+
+// The same of the first segment, where the second disk is empty.
+fn assert_first_damaged<A: Abort>(
     rt: &A,
     alloc: Global,
     row: usize,
@@ -392,20 +476,14 @@ fn assert_damaged<A: Abort>(
         segment: 0,
         at: place,
     };
-    let (fault, mut disk) = refused(alloc, disk_of(alloc, octets)?)?;
-    assert_answer(rt, row, &fault, &want);
-    assert_octets(rt, alloc, row, &mut disk, octets)?;
-    let (fault, mut disk) = refused(alloc, ReadOnly::new(disk))?;
-    assert_answer(rt, row, &fault, &want);
-    assert_faults(rt, row, &disk, 0);
-    assert_octets(rt, alloc, row, &mut disk, octets)
+    assert_damaged(rt, alloc, row, (octets, &[]), want)
 }
 
 #[test]
 fn what_is_cut_short_is_damaged(rt: HostRuntime) -> Result<(), Fail> {
     for len in 2..25 {
         let place = if len == 24 { 24 } else { 0 };
-        assert_damaged(&rt, rt.alloc(), len, &OWED[..len], place)?;
+        assert_first_damaged(&rt, rt.alloc(), len, &OWED[..len], place)?;
     }
     Ok(())
 }
@@ -452,30 +530,54 @@ fn a_damaged_tape_is_left_as_it_was(rt: HostRuntime) -> Result<(), Fail> {
         ),
     ];
     for (row, (octets, place)) in ROWS.iter().enumerate() {
-        assert_damaged(&rt, rt.alloc(), row, octets, *place)?;
+        assert_first_damaged(&rt, rt.alloc(), row, octets, *place)?;
     }
     Ok(())
 }
 
-// What is a tape is refused for the disk alone, at the first call that is no read.
+// What is a tape is refused for the disks alone, at the first call that is no read: that of the disk whose segment
+// does not live, or of the other where that one's calls are let through.
 #[test]
 fn a_tape_is_repaired(rt: HostRuntime) -> Result<(), Fail> {
-    const ROWS: &[&[u8]] = &[&[], &[0xa5], &OWED, &ANSWERED, &TORN];
-    for (row, octets) in ROWS.iter().enumerate() {
-        let disk = ReadOnly::new(disk_of(rt.alloc(), octets)?);
-        let (fault, mut disk) = refused(rt.alloc(), disk)?;
-        assert_answer(&rt, row, &fault, &TapeFault::Disk);
-        assert_faults(&rt, row, &disk, 1);
-        assert_octets(&rt, rt.alloc(), row, &mut disk, octets)?;
+    // What lies on the first disk, and how many reads of it an opening makes: two of each record, first of the one
+    // that stands first, and one of the end.
+    const ROWS: &[(&[u8], u64)] = &[
+        (&[], 0),
+        (&[0xa5], 2),
+        (&OWED, 5),
+        (&ANSWERED, 7),
+        (&TORN, 5),
+    ];
+    for (row, (octets, reads)) in ROWS.iter().enumerate() {
+        assert_repaired(&rt, rt.alloc(), row, octets, *reads)?;
     }
     Ok(())
+}
+
+fn assert_repaired<A: Abort>(
+    rt: &A,
+    alloc: Global,
+    row: usize,
+    octets: &[u8],
+    reads: u64,
+) -> Result<(), Fail> {
+    let disks = disks_of(alloc, (octets, &[]))?;
+    let (fault, mut disks) = refused(alloc, read_only(disks))?;
+    assert_answer(rt, row, &fault, &TapeFault::Disk);
+    assert_each_faults(rt, row, &disks, (0, 1));
+    assert_both(rt, alloc, row, &mut disks, (octets, &[]))?;
+    let disks = fused(disks_of(alloc, (octets, &[]))?, (reads, 1));
+    let (fault, disks) = refused(alloc, disks)?;
+    assert_answer(rt, row, &fault, &TapeFault::Disk);
+    assert_each_faults(rt, row, &disks, (1, 0));
+    assert_both(rt, alloc, row, &mut unfused(disks), (octets, &[]))
 }
 
 #[test]
 fn a_failed_sync_breaks_the_tape(rt: HostRuntime) -> Result<(), Fail> {
-    // The call of an empty disk that fails, the last of the first flush, from 0; the steps, and those at the next
-    // opening: what was broken drops nothing, and what was written is owed still. Opening takes five calls, and a flush
-    // three and one for each note.
+    // The call of an empty first disk that fails, the last of the first flush, from 0; the steps, and those at the
+    // next opening: what was broken drops nothing, and what was written is owed still. Opening takes five calls of it,
+    // and a flush three and one for each note.
     const ROWS: &[(u64, &[Step], &[Step])] = &[
         (
             10,
@@ -504,26 +606,48 @@ fn a_failed_sync_breaks_the_tape(rt: HostRuntime) -> Result<(), Fail> {
         ),
     ];
     for (at, (calls, steps, kept)) in ROWS.iter().enumerate() {
-        let disk = FlakyDisk::new(MemDisk::new(rt.alloc()), *calls);
-        let disk = run(&rt, rt.alloc(), disk, steps)?;
-        assert_faults(&rt, at, &disk, 1);
-        run(&rt, rt.alloc(), disk, kept)?;
+        let disks = flaky(disks_of(rt.alloc(), (&[], &[]))?, (*calls, u64::MAX));
+        let disks = run(&rt, rt.alloc(), disks, steps)?;
+        assert_each_faults(&rt, at, &disks, (1, 0));
+        run(&rt, rt.alloc(), disks, kept)?;
     }
     Ok(())
 }
 
-// Opens the tape of a disk that fails after so many calls, and takes these steps where it is opened. No other fault
-// than one of the disk is met here. Answers the disk as a stop finds it.
-fn stopped<A: Abort>(
+// How many calls the first disk of a tape passes, and how many the second: those of it that fails, before that, and all
+// that are made of the other. Since a tape makes no call once one has failed, each stop is one of the two.
+pub(crate) type Calls = (u64, u64);
+
+pub(crate) fn fused(
+    (a, b): (MemDisk, MemDisk),
+    (first, second): Calls,
+) -> (FuseDisk<MemDisk>, FuseDisk<MemDisk>) {
+    (FuseDisk::new(a, first), FuseDisk::new(b, second))
+}
+
+pub(crate) fn unfused((a, b): (FuseDisk<MemDisk>, FuseDisk<MemDisk>)) -> (MemDisk, MemDisk) {
+    (a.into_inner(), b.into_inner())
+}
+
+pub(crate) fn flaky(
+    (a, b): (MemDisk, MemDisk),
+    (first, second): Calls,
+) -> (FlakyDisk<MemDisk>, FlakyDisk<MemDisk>) {
+    (FlakyDisk::new(a, first), FlakyDisk::new(b, second))
+}
+
+// Opens the tape of disks that fail after so many calls, and takes these steps where it is opened. No other fault
+// than one of the disks is met here. Answers the disks as a stop finds them.
+pub(crate) fn stopped<A: Abort>(
     rt: &A,
     alloc: Global,
-    disk: MemDisk,
-    calls: u64,
+    disks: (MemDisk, MemDisk),
+    calls: Calls,
     steps: &[Step],
-) -> Result<MemDisk, Fail> {
-    match opened(alloc, FuseDisk::new(disk, calls)) {
-        Ok(tape) => Ok(play(rt, alloc, tape, steps)?.into_inner()),
-        Err((TapeFault::Disk, disk)) => Ok(disk.into_inner()),
+) -> Result<(MemDisk, MemDisk), Fail> {
+    match opened(alloc, fused(disks, calls)) {
+        Ok(tape) => Ok(unfused(play(rt, alloc, tape, steps)?)),
+        Err((TapeFault::Disk, disks)) => Ok(unfused(disks)),
         Err((fault, _)) => Err(Fail::from(fault)),
     }
 }
@@ -532,30 +656,37 @@ fn stopped<A: Abort>(
 pub(crate) type Counts = (u64, u64);
 
 // What stands where a write did not happen, for each choice of what happened of three operations.
-const FILLS: [u8; 24] = [
+pub(crate) const FILLS: [u8; 24] = [
     0, 0, 0, 0, 0, 0, 0, 0, 0xa5, 0xa5, 0xa5, 0xa5, 0xa5, 0xa5, 0xa5, 0xa5, 0xff, 0xff, 0xff, 0xff,
     0xff, 0xff, 0xff, 0xff,
 ];
 
-// Each image of the disk that a choice names is the tape of so many of the first debts.
+// The image of both disks that a choice names.
+pub(crate) fn image(
+    (a, b): &(MemDisk, MemDisk),
+    happened: u64,
+    fill: u8,
+) -> Result<(MemDisk, MemDisk), Fail> {
+    let choice = Choice { happened, fill };
+    Ok((a.image(choice)?, b.image(choice)?))
+}
+
+// Each image of the disks that a choice names is the tape of so many of the first debts.
 pub(crate) fn assert_fronts<A: Abort>(
     rt: &A,
     alloc: Global,
-    disk: &MemDisk,
+    disks: &(MemDisk, MemDisk),
     (least, most): Counts,
 ) -> Result<(), Fail> {
     for (at, fill) in FILLS.iter().enumerate() {
-        let choice = Choice {
-            happened: (at % 8) as u64,
-            fill: *fill,
-        };
-        let mark = front_of(alloc, disk.image(choice)?)??;
+        let mark = front_of(alloc, image(disks, (at % 8) as u64, *fill)?)??;
         assert_answer(rt, at, &(least <= mark && mark <= most), &true);
     }
     Ok(())
 }
 
-// The same of what each stop leaves: on a disk of these octets that fails after so many calls, with these steps.
+// The same of what each stop leaves: on disks of which one, of these octets, fails after so many calls, with these
+// steps. The other is empty.
 fn assert_stops<A: Abort>(
     rt: &A,
     alloc: Global,
@@ -565,14 +696,15 @@ fn assert_stops<A: Abort>(
     counts: Counts,
 ) -> Result<(), Fail> {
     for calls in calls {
-        let disk = stopped(rt, alloc, disk_of(alloc, octets)?, calls, steps)?;
-        assert_fronts(rt, alloc, &disk, counts)?;
+        let disks = disks_of(alloc, (octets, &[]))?;
+        let disks = stopped(rt, alloc, disks, (calls, u64::MAX), steps)?;
+        assert_fronts(rt, alloc, &disks, counts)?;
     }
     Ok(())
 }
 
-// Opening an empty disk takes five calls. The flush of two notes takes five, a write, a sync, a write for each gate
-// and a sync, and that of one takes four.
+// Opening makes five calls of an empty first disk, behind the sync of the second. The flush of two notes takes five, a
+// write, a sync, a write for each gate and a sync, and that of one takes four.
 #[test]
 fn a_stop_leaves_a_front(rt: HostRuntime) -> Result<(), Fail> {
     const FIRST: &[Step] = &[
@@ -594,17 +726,29 @@ fn a_stop_leaves_a_front(rt: HostRuntime) -> Result<(), Fail> {
         Step::Note(Sample::Owe(3), Ok(())),
         Step::Flush(Ok(3)),
     ];
-    // What lies on a disk, the stops from this call on, below that one, the steps, and how many debts are left. The
-    // last is of an opening that cuts off what a torn write left.
+    // What lies on the first disk, its stops from this call on, below that one, the steps, and how many debts are
+    // left. The last is of an opening that cuts off what a torn write left, and reads five times first.
     const STOPS: &[(&[u8], u64, u64, &[Step], Counts)] = &[
         (&[], 0, 5, &[], (0, 0)),
         (&[], 5, 10, FIRST, (0, 2)),
         (&[], 10, 14, SECOND, (2, 3)),
         (&[], 14, 17, NEITHER, (3, 3)),
-        (&TORN, 0, 12, &[], (1, 1)),
+        (&TORN, 0, 14, &[], (1, 1)),
     ];
     for (octets, first, behind, steps, counts) in STOPS {
         assert_stops(&rt, rt.alloc(), octets, *first..*behind, steps, *counts)?;
+    }
+    Ok(())
+}
+
+// The second disk is synced before the first is repaired: the one call of it.
+#[test]
+fn a_stop_before_the_repair_leaves_the_tape(rt: HostRuntime) -> Result<(), Fail> {
+    const ROWS: &[(&[u8], Counts)] = &[(&[], (0, 0)), (&OWED, (1, 1)), (&TORN, (1, 1))];
+    for (octets, counts) in ROWS {
+        let disks = disks_of(rt.alloc(), (octets, &[]))?;
+        let disks = stopped(&rt, rt.alloc(), disks, (u64::MAX, 0), &[])?;
+        assert_fronts(&rt, rt.alloc(), &disks, *counts)?;
     }
     Ok(())
 }

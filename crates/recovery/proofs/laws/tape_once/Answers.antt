@@ -1,8 +1,8 @@
-use Rattle.recovery.specs.Laws.{tape_once, tape_nowhere_damaged, nowhere_once}
+use Rattle.recovery.specs.Laws.{nowhere_once, tape_nowhere_damaged, tape_once}
 use Rattle.recovery.proofs.laws.tape_once.Goals as goal
 
-pub returns-clause-notes : goal.returns-clause-notes
-returns-clause-notes c = tape_once
+pub returns-clause-ledger : goal.returns-clause-ledger
+returns-clause-ledger c = tape_once
 
 pub returns-clause-none : goal.returns-clause-none
 returns-clause-none c = tape_nowhere_damaged

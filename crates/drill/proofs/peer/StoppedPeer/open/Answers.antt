@@ -1,17 +1,24 @@
--- What the tape promises of its disk holds of the disk beneath.
+-- What the tape promises of its disks holds of the disks beneath.
 use Rattle.std.proofs.Common.{sym, subst}
-use Rattle.disk_model.specs.Moments.{Leaves-now}
 use Rattle.disk_model.specs.InMemory.{events}
 use Rattle.disk_model.specs.declared.memory.MemDisk.{MemDisk}
 use Rattle.recovery.specs.Image.{EachTape, Survives}
+use Rattle.recovery.specs.PairLaws.{pairs-now}
 use Rattle.drill.proofs.peer.StoppedPeer.open.Goals as goal
 
 pub returns-in-Err-clause-survives : goal.returns-in-Err-clause-survives
 returns-in-Err-clause-survives c = λ h each.
-    let given = subst (λ (d : MemDisk). EachTape (Survives h) (events d)) (sym c.new-disk.ensures) each in
-    let left = Leaves-now (Survives h) _ _ (c.in-Err.ensures.survives h tt given) in
-    subst (λ (d : MemDisk). EachTape (Survives h) (events d)) (sym c.into_inner-disk.ensures) left
+    let a = c.args.self.a in
+    let b = c.args.self.b in
+    let first = subst (λ (d : MemDisk). EachTape (Survives h) (events d, events b)) (sym c.new-a.ensures) each in
+    let given = subst (λ (d : MemDisk). EachTape (Survives h) (events c.new-a.result.disk, events d)) (sym c.new-b.ensures) first in
+    let left = pairs-now (Survives h) _ _ (c.in-Err.ensures.survives h tt tt given) in
+    let back = subst (λ (d : MemDisk). EachTape (Survives h) (events d, events c.in-Err.refused.b.disk)) (sym c.into_inner-a.ensures) left in
+    subst (λ (d : MemDisk). EachTape (Survives h) (events c.into_inner-a.result, events d)) (sym c.into_inner-b.ensures) back
 
 pub returns-in-Err-clause-undamaged : goal.returns-in-Err-clause-undamaged
 returns-in-Err-clause-undamaged c = λ h each.
-    c.in-Err.ensures.undamaged h tt (subst (λ (d : MemDisk). EachTape (Survives h) (events d)) (sym c.new-disk.ensures) each)
+    let b = c.args.self.b in
+    let first = subst (λ (d : MemDisk). EachTape (Survives h) (events d, events b)) (sym c.new-a.ensures) each in
+    let given = subst (λ (d : MemDisk). EachTape (Survives h) (events c.new-a.result.disk, events d)) (sym c.new-b.ensures) first in
+    c.in-Err.ensures.undamaged h tt tt given

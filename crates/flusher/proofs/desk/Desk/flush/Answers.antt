@@ -14,7 +14,7 @@ invariant_of-self g c =
     let new = c.flush.new.self in
     let e = c.flush.ensures in
     record {
-      kept = keeps_flushed old.station new c.flush.result e.honest e.ok e.err old.kept;
+      kept = keeps_flushed old.station new c.flush.result e.continues.honest e.ok e.err old.kept;
       one_part = old.one_part;
       counted =
           counted_along _ _ _ (ledger_of old.station) (ledger_of new) e.ledger old.counted;
@@ -26,7 +26,7 @@ invariant_of-self-2 g c =
     let new = c.flush.new.self in
     let e = c.flush.ensures in
     record {
-      kept = keeps_flushed old.station new c.flush.result e.honest e.ok e.err old.kept;
+      kept = keeps_flushed old.station new c.flush.result e.continues.honest e.ok e.err old.kept;
       one_part = old.one_part;
       counted =
           counted_along _ _ _ (ledger_of old.station) (ledger_of new) e.ledger old.counted;

@@ -1,8 +1,8 @@
 use Rattle.std.proofs.Common.{sym, ap, ◌∙◌, subst}
 use Rattle.ledger_core.specs.State.{numbers}
-use Rattle.recovery.specs.Image.{Survives, TapeLeaves}
+use Rattle.recovery.specs.Image.{Log, Survives, TapeLeaves}
 use Rattle.recovery.specs.Words.{ledger_of as tape_ledger}
-use Rattle.recovery.specs.Laws.{refused_as_opened}
+use Rattle.recovery.specs.Laws.{logs_of_disks, refused_as_opened}
 use Rattle.peer_queue.specs.Place.{placed}
 use Rattle.peer_queue.proofs.Owes.{placed-all_ready}
 use Rattle.peer_queue.proofs.station.Station.open.Goals as goal
@@ -14,11 +14,12 @@ invariant_of-result g c = record {
 }
 
 pub returns-in-Err-index_of-clause-survives : goal.returns-in-Err-index_of-clause-survives
-returns-in-Err-index_of-clause-survives g c = λ h honest each.
-    let old = g.D.Disk.log c.args.disk in
-    let recovers = c.in-Ok.ensures.recovers h honest each in
-    subst (λ (disk : g.row.D.Denot). TapeLeaves (Survives h) old (g.D.Disk.log disk)) (sym c.into_disk.ensures.disk) recovers.moments
+returns-in-Err-index_of-clause-survives g c = λ h honest honest' each.
+    let old : Log = (g.D.Disk.log c.args.a, g.D.Disk.log c.args.b) in
+    let recovers = c.in-Ok.ensures.recovers h honest honest' each in
+    let logs = logs_of_disks c.in-Ok.tape c.into_disks-a.result c.into_disks-a.ensures.disks in
+    subst (λ (log : Log). TapeLeaves (Survives h) old log) (sym logs) recovers.moments
 
 pub returns-in-Err-index_of-clause-err : goal.returns-in-Err-index_of-clause-err
-returns-in-Err-index_of-clause-err g c = λ honest.
-    refused_as_opened (g.D.Disk.log c.args.disk) c.in-Ok.tape _ c.into_disk.ensures.disk (c.in-Ok.ensures.ok honest)
+returns-in-Err-index_of-clause-err g c = λ honest honest'.
+    refused_as_opened _ c.in-Ok.tape _ c.into_disks-a.ensures.disks (c.in-Ok.ensures.ok honest honest')

@@ -1,4 +1,4 @@
-use Rattle.disk_model.specs.Disk.Leaves.{at_start}
+use Rattle.recovery.specs.Pairs.LeavesPair.{at_start}
 use Rattle.std.proofs.lemmas.Bool.{iff_false}
 use Rattle.recovery.proofs.Stands.{stands_idle, idle_count}
 use Rattle.recovery.proofs.tape.Tape.flush.Goals as goal

@@ -1,5 +1,5 @@
 -- What pended is on the disk, and nothing pends; or the tape broke, and stands for what it stood for.
-use Rattle.std.proofs.Common.{◌≡◌, ℕ, ◌+◌, List, ◌++◌, length, take, Err, refl, ap, ◌∙◌, subst, arith}
+use Rattle.std.proofs.Common.{◌≡◌, ℕ, ◌+◌, List, ◌++◌, length, take, drop, take-append-drop, Err, refl, sym, ap, ◌∙◌, subst, arith}
 use Rattle.std.proofs.lemmas.List.{length-map}
 use Rattle.std.specs.Prelude.{Vec}
 use Rattle.std.specs.declared.alloc.Global.{Global}
@@ -9,7 +9,17 @@ use Rattle.tape_journal.specs.Segment.{records}
 use Rattle.tape_journal.specs.Words.{octets_of}
 use Rattle.tape_journal.specs.declared.fault.AppendFault.{AppendFault}
 use Rattle.tape_journal.specs.declared.fault.AppendFault.TheVariants.{Disk as AppendDisk, Broken as AppendBroken, TapeFull as AppendTapeFull, PayloadTooLong, NoMemory as NoAppendMemory}
-use Rattle.recovery.proofs.Stands.{stands_whole, stands_refused, flush_moments, joined, pending_count, records_count, same_tape}
+use Rattle.disk_model.specs.declared.Disk.{Ghosts}
+use Rattle.tape_journal.specs.declared.journal.Journal.{Journal}
+use Rattle.ledger_core.specs.Base.{Restores}
+use Rattle.ledger_core.specs.Laws.{after-append, AllLegal-back}
+use Rattle.ledger_core.specs.SpellingLaws.{AreNotes-back}
+use Rattle.ledger_core.specs.State.{after}
+use Rattle.ledger_core.specs.Written.{restores-on}
+use Rattle.recovery.specs.Notes.{AreLegal, flushed}
+use Rattle.recovery.specs.declared.segments.Segments.{Segments}
+use Rattle.recovery.proofs.Counts.{live_risen}
+use Rattle.recovery.proofs.Stands.{stands_whole, stands_refused, flush_moments, pending_count, same_tape}
 use Rattle.recovery.specs.Words.{append_fault}
 use Rattle.recovery.specs.declared.fault.TapeFault.TheVariants.{Disk}
 use Rattle.recovery.proofs.tape.Tape.flush_pending.Goals as goal
@@ -22,42 +32,50 @@ disk_told AppendTapeFull e = cc
 disk_told PayloadTooLong e = cc
 disk_told NoAppendMemory e = cc
 
-pub invariant_of-self-clause-counted : goal.invariant_of-self-clause-counted
-invariant_of-self-clause-counted g c =
-    let tape = c.args.self.now in
-    let end : end_of c.append_all.new.self ≡ end_of tape.journal + length (records (octets_of tape.pending.items)) = rw c.deref.ensures.value at c.in-Ok.ensures.end in
-    omega (arith, end, records_count (octets_of tape.pending.items), length-map tape.pending.items (λ (v : Vec ℕ Global). v.items), c.len.ensures, tape.counted)
+-- a segment whose journal is the same is the same
+same_segments : {D : Type 0} {g : Ghosts D} (segments : Segments D g) (live : Journal D g) → live ≡ segments.live → record segments { live = live } ≡ segments
+same_segments segments live same = ap (λ (j : Journal _ _). record segments { live = j }) same
 
 pub returns-in-Ok-clause-ok : goal.returns-in-Ok-clause-ok
 returns-in-Ok-clause-ok g c = λ h stands.
     let tape = c.args.self.now in
     let w = stands.working c.requires.works in
-    let front = spellings (take h.kept h.notes) in
-    let held : Holds c.append_all.new.self (front ++ octets_of tape.pending.items) = rw c.deref.ensures.value at (c.in-Ok.ensures.ok front w.holds) in
-    let count : tape.flushed + c.len.result + h.opened ≡ length h.notes = omega (arith, w.count, pending_count h.notes h.kept tape.pending.items w.pending stands.kept_within, c.len.ensures) in
-    stands_whole _ h.notes h.opened stands.are_legal stands.ledger (subst (λ (l : List (List ℕ)). Holds c.append_all.new.self l) (joined h.notes h.kept tape.pending.items w.pending) held) c.clear.ensures.items count
+    let more = drop h.kept h.notes in
+    let held : Holds c.append_all.new.self (w.payloads ++ octets_of tape.pending.items) = rw c.deref.ensures.value at (c.in-Ok.ensures.ok w.payloads w.holds) in
+    let count = pending_count h.notes h.kept tape.pending.items w.pending stands.kept_within in
+    let parts = take-append-drop h.kept h.notes in
+    let are = subst (AreLegal h.base) (sym parts) stands.are_legal in
+    let left : after (after h.base (take h.kept h.notes)) more ≡ after h.base h.notes = sym (after-append h.base (take h.kept h.notes) more) ∙ ap (after h.base) parts in
+    let restores = restores-on w.payloads tape.segments.generation (after h.base (take h.kept h.notes)) more w.restores
+    (AreNotes-back (take h.kept h.notes) more are.notes_are) (AllLegal-back h.base (take h.kept h.notes) more are.legal) in
+    stands_whole _ (flushed h) (c.append_all.ensures.honest.0 stands.honest.0, stands.honest.1) stands.are_legal refl stands.ledger
+    (w.payloads ++ spellings more) (subst (λ (l : List (List ℕ)). Holds c.append_all.new.self (w.payloads ++ l)) w.pending held)
+    (subst (Restores (w.payloads ++ spellings more) tape.segments.generation) left restores) w.other c.clear.ensures.items
+    (omega (arith, w.count, count, c.len.ensures, c.saturating_add-self.ensures, w.opened)) (omega (arith, w.opened, stands.kept_within))
 
 pub returns-in-Ok-clause-count : goal.returns-in-Ok-clause-count
 returns-in-Ok-clause-count g c = λ h stands.
     let tape = c.args.self.now in
     let w = stands.working c.requires.works in
-    omega (arith, w.count, pending_count h.notes h.kept tape.pending.items w.pending stands.kept_within, c.len.ensures)
+    omega (arith, w.count, pending_count h.notes h.kept tape.pending.items w.pending stands.kept_within, c.len.ensures, c.saturating_add-self.ensures, w.opened)
 
 pub returns-in-Ok-clause-moments : goal.returns-in-Ok-clause-moments
 returns-in-Ok-clause-moments g c = λ h stands.
-    flush_moments c.args.self.now (g.D.Disk.log (journal_disk c.append_all.new.self)) h stands c.requires.works (rw c.deref.ensures.value at c.append_all.ensures.moments)
+    flush_moments c.args.self.now h (g.D.Disk.log (journal_disk c.append_all.new.self)) stands c.requires.works (rw c.deref.ensures.value at c.append_all.ensures.moments)
 
 pub returns-in-Err-clause-moments : goal.returns-in-Err-clause-moments
 returns-in-Err-clause-moments g c = λ h stands.
-    flush_moments c.args.self.now (g.D.Disk.log (journal_disk c.append_all.new.self)) h stands c.requires.works (rw c.deref.ensures.value at c.append_all.ensures.moments)
+    flush_moments c.args.self.now h (g.D.Disk.log (journal_disk c.append_all.new.self)) stands c.requires.works (rw c.deref.ensures.value at c.append_all.ensures.moments)
 
 pub returns-in-Err-clause-err : goal.returns-in-Err-clause-err
 returns-in-Err-clause-err g c = λ h stands.
-    stands_refused c.args.self.now _ h stands (c.append_all.ensures.honest.0 stands.honest) refl refl refl (returns-in-Err-clause-moments g c h stands) c.in-Err.ensures.unchanged
+    stands_refused c.args.self.now _ h stands (c.append_all.ensures.honest.0 stands.honest.0, stands.honest.1) refl refl refl
+    (returns-in-Err-clause-moments g c h stands) (λ works. same_segments c.args.self.now.segments c.append_all.new.self (c.in-Err.ensures.unchanged works))
 
 pub returns-in-Err-clause-refused : goal.returns-in-Err-clause-refused
 returns-in-Err-clause-refused g c = λ other.
-    same_tape c.args.self.now c.append_all.new.self (c.in-Err.ensures.refused (λ disk. other (c.append_fault.ensures ∙ ap append_fault disk))) _ _ _
+    same_tape c.args.self.now _ (same_segments c.args.self.now.segments c.append_all.new.self
+    (c.in-Err.ensures.refused (λ disk. other (c.append_fault.ensures ∙ ap append_fault disk)))) _ _
 
 pub returns-in-Err-clause-breaks : goal.returns-in-Err-clause-breaks
 returns-in-Err-clause-breaks g c = λ told.
@@ -66,4 +84,5 @@ returns-in-Err-clause-breaks g c = λ told.
 pub returns-in-Err-clause-cause : goal.returns-in-Err-clause-cause
 returns-in-Err-clause-cause g c = λ h stands told.
     let w = stands.working c.requires.works in
-    c.in-Err.ensures.cause (spellings (take h.kept h.notes)) w.holds (ap Err (disk_told c.in-Err.fault (cc (told, c.append_fault.ensures))))
+    live_risen c.args.self.now.segments.second _ _ _
+    (c.in-Err.ensures.cause w.payloads w.holds (ap Err (disk_told c.in-Err.fault (cc (told, c.append_fault.ensures)))))

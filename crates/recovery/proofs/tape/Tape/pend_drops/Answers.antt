@@ -5,7 +5,8 @@ use Rattle.tape_journal.specs.Words.{octets_of}
 use Rattle.ledger_core.specs.Spelling.{spellings}
 use Rattle.recovery.specs.Notes.{drops}
 use Rattle.recovery.specs.Words.{ledger_of}
-use Rattle.recovery.proofs.Drops.{AllShort-append, AllShort-notes, drops_count, legal_drops, octets_of-append, stands_noted_all}
+use Rattle.recovery.proofs.Drops.{AllShort-append, AllShort-notes, drops_count, legal_drops}
+use Rattle.recovery.proofs.Stands.{octets_of-append, stands_noted_all}
 use Rattle.recovery.proofs.tape.Tape.pend_drops.Goals as goal
 
 pub apply_drops-requires : goal.apply_drops-requires
@@ -25,7 +26,6 @@ invariant_of-self g c =
     let tape = c.args.self.now in
     let same : c.append.new.self.items ≡ tape.pending.items = c.in_err-append.ensures.items in
     record {
-      counted = tape.counted;
       few = omega (arith, tape.few, ap length same);
       short = subst AllShort (sym (ap octets_of same)) tape.short;
     }
@@ -42,7 +42,6 @@ invariant_of-self-2 g c =
     let spelled : octets_of payloads ≡ spellings notes = c.in_ok-payloads.ensures.spelled in
     let pends : c.append.new.self.items ≡ tape.pending.items ++ payloads = c.in_ok-append.ensures.items in
     record {
-      counted = tape.counted;
       few = omega (arith, ap length pends, length-append tape.pending.items payloads, drops_count payloads c.args.cause c.args.numbers.now spelled, c.requires.room);
       short = subst AllShort (sym (ap octets_of pends ∙ octets_of-append tape.pending.items payloads))
           (AllShort-append (octets_of tape.pending.items) (octets_of payloads) tape.short (subst AllShort (sym spelled) (AllShort-notes notes c.in_ok-payloads.ensures.notes)));

@@ -1,0 +1,599 @@
+// Tapes of two segments, of which the one of greater generation lives, and rotations, which write the ledger into the
+// other.
+use crate::answers::assert_answer;
+use crate::disks::{assert_both, disks_of};
+use crate::samples::Sample;
+use crate::tapes::{
+    Calls, Counts, FILLS, OLD_NUMBER, OWED, Octets, Opening, Step, assert_damaged, assert_fronts,
+    image, opened, run_each, stopped,
+};
+use disk_model::MemDisk;
+use ledger_core::Totals;
+use recovery::TapeFault;
+use std::alloc::Global;
+use std::process::Abort;
+use std::test::Fail;
+
+// The tape of the Owe 1 of token `a/1` and id `<x@y>`, after a first rotation.
+pub(crate) const ROTATED: [u8; 79] = [
+    0xa5, 0, 0, 0, 0x31, 4, 0, 0, 0, 0, 0, 0, 0, 1, 0, 0, 0, 0, 0, 0, 0, 1, 0, 0, 0, 0, 0, 0, 0, 1,
+    0, 0, 0, 0, 0, 0, 0, 0, 0, 0, 0, 0, 0, 0, 0, 0, 0, 0, 0, 0, 0, 0, 0, 1, 0xa5, 0, 0, 0, 0x13, 1,
+    0, 0, 0, 0, 0, 0, 0, 1, 3, 0x61, 0x2f, 0x31, 5, 0x3c, 0x78, 0x40, 0x79, 0x3e, 0,
+];
+
+// Six notes: three debts of five are owed.
+const NOTED: [u8; 128] = [
+    0xa5, 0, 0, 0, 0x13, 1, 0, 0, 0, 0, 0, 0, 0, 1, 3, 0x61, 0x2f, 0x31, 5, 0x3c, 0x78, 0x40, 0x79,
+    0x3e, 0xa5, 0, 0, 0, 0x13, 1, 0, 0, 0, 0, 0, 0, 0, 2, 3, 0x61, 0x2f, 0x31, 5, 0x3c, 0x78, 0x40,
+    0x79, 0x3e, 0xa5, 0, 0, 0, 0x13, 1, 0, 0, 0, 0, 0, 0, 0, 3, 3, 0x61, 0x2f, 0x31, 5, 0x3c, 0x78,
+    0x40, 0x79, 0x3e, 0xa5, 0, 0, 0, 0x13, 1, 0, 0, 0, 0, 0, 0, 0, 5, 3, 0x61, 0x2f, 0x31, 5, 0x3c,
+    0x78, 0x40, 0x79, 0x3e, 0xa5, 0, 0, 0, 0x0b, 2, 0, 0, 0, 0, 0, 0, 0, 1, 0, 0xef, 0xa5, 0, 0, 0,
+    0x0a, 3, 0, 0, 0, 0, 0, 0, 0, 2, 3, 0,
+];
+
+// What the first rotation makes of them, of the Owe 7 and of the Final 3.
+const ONCE: [u8; 103] = [
+    0xa5, 0, 0, 0, 0x31, 4, 0, 0, 0, 0, 0, 0, 0, 1, 0, 0, 0, 0, 0, 0, 0, 7, 0, 0, 0, 0, 0, 0, 0, 5,
+    0, 0, 0, 0, 0, 0, 0, 2, 0, 0, 0, 0, 0, 0, 0, 1, 0, 0, 0, 0, 0, 0, 0, 2, 0xa5, 0, 0, 0, 0x13, 1,
+    0, 0, 0, 0, 0, 0, 0, 5, 3, 0x61, 0x2f, 0x31, 5, 0x3c, 0x78, 0x40, 0x79, 0x3e, 0xa5, 0, 0, 0,
+    0x13, 1, 0, 0, 0, 0, 0, 0, 0, 7, 3, 0x61, 0x2f, 0x31, 5, 0x3c, 0x78, 0x40, 0x79, 0x3e, 0,
+];
+
+// That segment with the Seen 8 and the Owe 9 behind.
+const ONCE_NOTED: [u8; 141] = [
+    0xa5, 0, 0, 0, 0x31, 4, 0, 0, 0, 0, 0, 0, 0, 1, 0, 0, 0, 0, 0, 0, 0, 7, 0, 0, 0, 0, 0, 0, 0, 5,
+    0, 0, 0, 0, 0, 0, 0, 2, 0, 0, 0, 0, 0, 0, 0, 1, 0, 0, 0, 0, 0, 0, 0, 2, 0xa5, 0, 0, 0, 0x13, 1,
+    0, 0, 0, 0, 0, 0, 0, 5, 3, 0x61, 0x2f, 0x31, 5, 0x3c, 0x78, 0x40, 0x79, 0x3e, 0xa5, 0, 0, 0,
+    0x13, 1, 0, 0, 0, 0, 0, 0, 0, 7, 3, 0x61, 0x2f, 0x31, 5, 0x3c, 0x78, 0x40, 0x79, 0x3e, 0xa5, 0,
+    0, 0, 9, 5, 0, 0, 0, 0, 0, 0, 0, 8, 0xa5, 0, 0, 0, 0x13, 1, 0, 0, 0, 0, 0, 0, 0, 9, 3, 0x61,
+    0x2f, 0x31, 5, 0x3c, 0x78, 0x40, 0x79, 0x3e, 0,
+];
+
+// The second rotation, with the Final 5.
+const TWICE: [u8; 103] = [
+    0xa5, 0, 0, 0, 0x31, 4, 0, 0, 0, 0, 0, 0, 0, 2, 0, 0, 0, 0, 0, 0, 0, 9, 0, 0, 0, 0, 0, 0, 0, 6,
+    0, 0, 0, 0, 0, 0, 0, 3, 0, 0, 0, 0, 0, 0, 0, 1, 0, 0, 0, 0, 0, 0, 0, 2, 0xa5, 0, 0, 0, 0x13, 1,
+    0, 0, 0, 0, 0, 0, 0, 7, 3, 0x61, 0x2f, 0x31, 5, 0x3c, 0x78, 0x40, 0x79, 0x3e, 0xa5, 0, 0, 0,
+    0x13, 1, 0, 0, 0, 0, 0, 0, 0, 9, 3, 0x61, 0x2f, 0x31, 5, 0x3c, 0x78, 0x40, 0x79, 0x3e, 0,
+];
+
+// The third, with the Drop 9.
+const THRICE: [u8; 79] = [
+    0xa5, 0, 0, 0, 0x31, 4, 0, 0, 0, 0, 0, 0, 0, 3, 0, 0, 0, 0, 0, 0, 0, 9, 0, 0, 0, 0, 0, 0, 0, 6,
+    0, 0, 0, 0, 0, 0, 0, 3, 0, 0, 0, 0, 0, 0, 0, 2, 0, 0, 0, 0, 0, 0, 0, 1, 0xa5, 0, 0, 0, 0x13, 1,
+    0, 0, 0, 0, 0, 0, 0, 7, 3, 0x61, 0x2f, 0x31, 5, 0x3c, 0x78, 0x40, 0x79, 0x3e, 0,
+];
+
+// That segment with the Final 7 behind.
+const THRICE_NOTED: [u8; 95] = [
+    0xa5, 0, 0, 0, 0x31, 4, 0, 0, 0, 0, 0, 0, 0, 3, 0, 0, 0, 0, 0, 0, 0, 9, 0, 0, 0, 0, 0, 0, 0, 6,
+    0, 0, 0, 0, 0, 0, 0, 3, 0, 0, 0, 0, 0, 0, 0, 2, 0, 0, 0, 0, 0, 0, 0, 1, 0xa5, 0, 0, 0, 0x13, 1,
+    0, 0, 0, 0, 0, 0, 0, 7, 3, 0x61, 0x2f, 0x31, 5, 0x3c, 0x78, 0x40, 0x79, 0x3e, 0xa5, 0, 0, 0,
+    0x0b, 2, 0, 0, 0, 0, 0, 0, 0, 7, 0, 0xef, 0,
+];
+
+// The fourth, where nothing is owed.
+const FOUR_TIMES: [u8; 55] = [
+    0xa5, 0, 0, 0, 0x31, 4, 0, 0, 0, 0, 0, 0, 0, 4, 0, 0, 0, 0, 0, 0, 0, 9, 0, 0, 0, 0, 0, 0, 0, 6,
+    0, 0, 0, 0, 0, 0, 0, 4, 0, 0, 0, 0, 0, 0, 0, 2, 0, 0, 0, 0, 0, 0, 0, 0, 0,
+];
+
+// The last generation, in which the debt 1 is owed.
+const LAST: [u8; 79] = [
+    0xa5, 0, 0, 0, 0x31, 4, 0xff, 0xff, 0xff, 0xff, 0xff, 0xff, 0xff, 0xff, 0, 0, 0, 0, 0, 0, 0, 1,
+    0, 0, 0, 0, 0, 0, 0, 1, 0, 0, 0, 0, 0, 0, 0, 0, 0, 0, 0, 0, 0, 0, 0, 0, 0, 0, 0, 0, 0, 0, 0, 1,
+    0xa5, 0, 0, 0, 0x13, 1, 0, 0, 0, 0, 0, 0, 0, 1, 3, 0x61, 0x2f, 0x31, 5, 0x3c, 0x78, 0x40, 0x79,
+    0x3e, 0,
+];
+
+// That segment with the Owe 2 behind.
+const LAST_NOTED: [u8; 103] = [
+    0xa5, 0, 0, 0, 0x31, 4, 0xff, 0xff, 0xff, 0xff, 0xff, 0xff, 0xff, 0xff, 0, 0, 0, 0, 0, 0, 0, 1,
+    0, 0, 0, 0, 0, 0, 0, 1, 0, 0, 0, 0, 0, 0, 0, 0, 0, 0, 0, 0, 0, 0, 0, 0, 0, 0, 0, 0, 0, 0, 0, 1,
+    0xa5, 0, 0, 0, 0x13, 1, 0, 0, 0, 0, 0, 0, 0, 1, 3, 0x61, 0x2f, 0x31, 5, 0x3c, 0x78, 0x40, 0x79,
+    0x3e, 0xa5, 0, 0, 0, 0x13, 1, 0, 0, 0, 0, 0, 0, 0, 2, 3, 0x61, 0x2f, 0x31, 5, 0x3c, 0x78, 0x40,
+    0x79, 0x3e, 0,
+];
+
+// The generation before that.
+const LAST_BUT_ONE: [u8; 79] = [
+    0xa5, 0, 0, 0, 0x31, 4, 0xff, 0xff, 0xff, 0xff, 0xff, 0xff, 0xff, 0xfe, 0, 0, 0, 0, 0, 0, 0, 1,
+    0, 0, 0, 0, 0, 0, 0, 1, 0, 0, 0, 0, 0, 0, 0, 0, 0, 0, 0, 0, 0, 0, 0, 0, 0, 0, 0, 0, 0, 0, 0, 1,
+    0xa5, 0, 0, 0, 0x13, 1, 0, 0, 0, 0, 0, 0, 0, 1, 3, 0x61, 0x2f, 0x31, 5, 0x3c, 0x78, 0x40, 0x79,
+    0x3e, 0,
+];
+
+// The first generation, in which the debt 2 is owed.
+const OTHER: [u8; 79] = [
+    0xa5, 0, 0, 0, 0x31, 4, 0, 0, 0, 0, 0, 0, 0, 1, 0, 0, 0, 0, 0, 0, 0, 2, 0, 0, 0, 0, 0, 0, 0, 1,
+    0, 0, 0, 0, 0, 0, 0, 0, 0, 0, 0, 0, 0, 0, 0, 0, 0, 0, 0, 0, 0, 0, 0, 1, 0xa5, 0, 0, 0, 0x13, 1,
+    0, 0, 0, 0, 0, 0, 0, 2, 3, 0x61, 0x2f, 0x31, 5, 0x3c, 0x78, 0x40, 0x79, 0x3e, 0,
+];
+
+// The second, of the same.
+const OTHER_TWICE: [u8; 79] = [
+    0xa5, 0, 0, 0, 0x31, 4, 0, 0, 0, 0, 0, 0, 0, 2, 0, 0, 0, 0, 0, 0, 0, 2, 0, 0, 0, 0, 0, 0, 0, 1,
+    0, 0, 0, 0, 0, 0, 0, 0, 0, 0, 0, 0, 0, 0, 0, 0, 0, 0, 0, 0, 0, 0, 0, 1, 0xa5, 0, 0, 0, 0x13, 1,
+    0, 0, 0, 0, 0, 0, 0, 2, 3, 0x61, 0x2f, 0x31, 5, 0x3c, 0x78, 0x40, 0x79, 0x3e, 0,
+];
+
+// The first generation, and octets behind it that are no segment.
+const UNENDED: [u8; 58] = [
+    0xa5, 0, 0, 0, 0x31, 4, 0, 0, 0, 0, 0, 0, 0, 1, 0, 0, 0, 0, 0, 0, 0, 2, 0, 0, 0, 0, 0, 0, 0, 1,
+    0, 0, 0, 0, 0, 0, 0, 0, 0, 0, 0, 0, 0, 0, 0, 0, 0, 0, 0, 0, 0, 0, 0, 1, 0, 0xa5, 0, 7,
+];
+
+// A Base of no generation.
+const NEVER: [u8; 79] = [
+    0xa5, 0, 0, 0, 0x31, 4, 0, 0, 0, 0, 0, 0, 0, 0, 0, 0, 0, 0, 0, 0, 0, 1, 0, 0, 0, 0, 0, 0, 0, 1,
+    0, 0, 0, 0, 0, 0, 0, 0, 0, 0, 0, 0, 0, 0, 0, 0, 0, 0, 0, 0, 0, 0, 0, 1, 0xa5, 0, 0, 0, 0x13, 1,
+    0, 0, 0, 0, 0, 0, 0, 1, 3, 0x61, 0x2f, 0x31, 5, 0x3c, 0x78, 0x40, 0x79, 0x3e, 0,
+];
+
+// A Base whose counts do not add up.
+const MISCOUNTED: [u8; 79] = [
+    0xa5, 0, 0, 0, 0x31, 4, 0, 0, 0, 0, 0, 0, 0, 1, 0, 0, 0, 0, 0, 0, 0, 1, 0, 0, 0, 0, 0, 0, 0, 2,
+    0, 0, 0, 0, 0, 0, 0, 0, 0, 0, 0, 0, 0, 0, 0, 0, 0, 0, 0, 0, 0, 0, 0, 1, 0xa5, 0, 0, 0, 0x13, 1,
+    0, 0, 0, 0, 0, 0, 0, 1, 3, 0x61, 0x2f, 0x31, 5, 0x3c, 0x78, 0x40, 0x79, 0x3e, 0,
+];
+
+// A Base whose debt is missing.
+const MISSING: [u8; 55] = [
+    0xa5, 0, 0, 0, 0x31, 4, 0, 0, 0, 0, 0, 0, 0, 1, 0, 0, 0, 0, 0, 0, 0, 1, 0, 0, 0, 0, 0, 0, 0, 1,
+    0, 0, 0, 0, 0, 0, 0, 0, 0, 0, 0, 0, 0, 0, 0, 0, 0, 0, 0, 0, 0, 0, 0, 1, 0,
+];
+
+// A Base below its debt.
+const ABOVE: [u8; 79] = [
+    0xa5, 0, 0, 0, 0x31, 4, 0, 0, 0, 0, 0, 0, 0, 1, 0, 0, 0, 0, 0, 0, 0, 1, 0, 0, 0, 0, 0, 0, 0, 1,
+    0, 0, 0, 0, 0, 0, 0, 0, 0, 0, 0, 0, 0, 0, 0, 0, 0, 0, 0, 0, 0, 0, 0, 1, 0xa5, 0, 0, 0, 0x13, 1,
+    0, 0, 0, 0, 0, 0, 0, 2, 3, 0x61, 0x2f, 0x31, 5, 0x3c, 0x78, 0x40, 0x79, 0x3e, 0,
+];
+
+// The first rotation without its end.
+const CUT: [u8; 78] = [
+    0xa5, 0, 0, 0, 0x31, 4, 0, 0, 0, 0, 0, 0, 0, 1, 0, 0, 0, 0, 0, 0, 0, 1, 0, 0, 0, 0, 0, 0, 0, 1,
+    0, 0, 0, 0, 0, 0, 0, 0, 0, 0, 0, 0, 0, 0, 0, 0, 0, 0, 0, 0, 0, 0, 0, 1, 0xa5, 0, 0, 0, 0x13, 1,
+    0, 0, 0, 0, 0, 0, 0, 1, 3, 0x61, 0x2f, 0x31, 5, 0x3c, 0x78, 0x40, 0x79, 0x3e,
+];
+
+// The first rotation with its debt once more.
+const REPEATED: [u8; 103] = [
+    0xa5, 0, 0, 0, 0x31, 4, 0, 0, 0, 0, 0, 0, 0, 1, 0, 0, 0, 0, 0, 0, 0, 1, 0, 0, 0, 0, 0, 0, 0, 1,
+    0, 0, 0, 0, 0, 0, 0, 0, 0, 0, 0, 0, 0, 0, 0, 0, 0, 0, 0, 0, 0, 0, 0, 1, 0xa5, 0, 0, 0, 0x13, 1,
+    0, 0, 0, 0, 0, 0, 0, 1, 3, 0x61, 0x2f, 0x31, 5, 0x3c, 0x78, 0x40, 0x79, 0x3e, 0xa5, 0, 0, 0,
+    0x13, 1, 0, 0, 0, 0, 0, 0, 0, 1, 3, 0x61, 0x2f, 0x31, 5, 0x3c, 0x78, 0x40, 0x79, 0x3e, 0,
+];
+
+// The first generation, with a note behind.
+const OLDER: [u8; 103] = [
+    0xa5, 0, 0, 0, 0x31, 4, 0, 0, 0, 0, 0, 0, 0, 1, 0, 0, 0, 0, 0, 0, 0, 1, 0, 0, 0, 0, 0, 0, 0, 1,
+    0, 0, 0, 0, 0, 0, 0, 0, 0, 0, 0, 0, 0, 0, 0, 0, 0, 0, 0, 0, 0, 0, 0, 1, 0xa5, 0, 0, 0, 0x13, 1,
+    0, 0, 0, 0, 0, 0, 0, 1, 3, 0x61, 0x2f, 0x31, 5, 0x3c, 0x78, 0x40, 0x79, 0x3e, 0xa5, 0, 0, 0,
+    0x13, 1, 0, 0, 0, 0, 0, 0, 0, 2, 3, 0x61, 0x2f, 0x31, 5, 0x3c, 0x78, 0x40, 0x79, 0x3e, 0,
+];
+
+// The second, with another.
+const YOUNGER: [u8; 119] = [
+    0xa5, 0, 0, 0, 0x31, 4, 0, 0, 0, 0, 0, 0, 0, 2, 0, 0, 0, 0, 0, 0, 0, 2, 0, 0, 0, 0, 0, 0, 0, 2,
+    0, 0, 0, 0, 0, 0, 0, 0, 0, 0, 0, 0, 0, 0, 0, 0, 0, 0, 0, 0, 0, 0, 0, 2, 0xa5, 0, 0, 0, 0x13, 1,
+    0, 0, 0, 0, 0, 0, 0, 1, 3, 0x61, 0x2f, 0x31, 5, 0x3c, 0x78, 0x40, 0x79, 0x3e, 0xa5, 0, 0, 0,
+    0x13, 1, 0, 0, 0, 0, 0, 0, 0, 2, 3, 0x61, 0x2f, 0x31, 5, 0x3c, 0x78, 0x40, 0x79, 0x3e, 0xa5, 0,
+    0, 0, 0x0b, 2, 0, 0, 0, 0, 0, 0, 0, 1, 0, 0xef, 0,
+];
+
+// What lies on the disks, and what is done at each opening of the tape.
+const SCRIPTS: &[(Octets, &[Opening])] = &[
+    // The first rotation of one debt, and the next.
+    (
+        (&[], &[]),
+        &[
+            (
+                &[
+                    Step::Note(Sample::Owe(1), Ok(())),
+                    Step::Flush(Ok(1)),
+                    Step::Rotate(Ok(1)),
+                ],
+                Some((&OWED, &ROTATED)),
+            ),
+            (
+                &[
+                    Step::Numbers(&[1]),
+                    Step::Rotate(Ok(2)),
+                    Step::Numbers(&[1]),
+                ],
+                None,
+            ),
+            (&[Step::Rotate(Ok(3)), Step::Rotate(Ok(4))], None),
+            (&[Step::Numbers(&[1]), Step::Debt(1, Ok(Some(1)))], None),
+        ],
+    ),
+    // Each rotation keeps the ledger, and what pends is in it.
+    (
+        (&[], &[]),
+        &[
+            (
+                &[
+                    Step::OweEach(1, 4),
+                    Step::Note(Sample::Owe(5), Ok(())),
+                    Step::Note(Sample::Final(1), Ok(())),
+                    Step::Note(Sample::Drop(2), Ok(())),
+                    Step::Flush(Ok(6)),
+                ],
+                Some((&NOTED, &[])),
+            ),
+            (
+                &[
+                    Step::Note(Sample::Owe(7), Ok(())),
+                    Step::Note(Sample::Final(3), Ok(())),
+                    Step::Room(65534),
+                    Step::Rotate(Ok(1)),
+                    Step::Room(65536),
+                    Step::Flush(Ok(2)),
+                    Step::Numbers(&[5, 7]),
+                    Step::IsBroken(false),
+                ],
+                Some((&NOTED, &ONCE)),
+            ),
+            (
+                &[
+                    Step::Mark(7),
+                    Step::Numbers(&[5, 7]),
+                    Step::Totals(Totals {
+                        taken: 5,
+                        answered: 2,
+                        dropped: 1,
+                        owed: 2,
+                        owed_bytes: 20,
+                    }),
+                    Step::Debt(5, Ok(Some(5))),
+                    Step::Debt(7, Ok(Some(7))),
+                    Step::Debt(3, Ok(None)),
+                    Step::Note(Sample::Seen(8), Ok(())),
+                    Step::Note(Sample::Owe(9), Ok(())),
+                    Step::Flush(Ok(2)),
+                    Step::Note(Sample::Final(5), Ok(())),
+                    Step::Rotate(Ok(2)),
+                    Step::Flush(Ok(3)),
+                ],
+                Some((&TWICE, &ONCE_NOTED)),
+            ),
+            (
+                &[
+                    Step::Mark(9),
+                    Step::Numbers(&[7, 9]),
+                    Step::Totals(Totals {
+                        taken: 6,
+                        answered: 3,
+                        dropped: 1,
+                        owed: 2,
+                        owed_bytes: 20,
+                    }),
+                    Step::DropAll(&[9], Ok(())),
+                    Step::Rotate(Ok(3)),
+                ],
+                Some((&TWICE, &THRICE)),
+            ),
+            (
+                &[
+                    Step::Mark(9),
+                    Step::Numbers(&[7]),
+                    Step::Totals(Totals {
+                        taken: 6,
+                        answered: 3,
+                        dropped: 2,
+                        owed: 1,
+                        owed_bytes: 10,
+                    }),
+                    Step::Debt(7, Ok(Some(7))),
+                    Step::Note(Sample::Final(7), Ok(())),
+                    Step::Flush(Ok(1)),
+                ],
+                Some((&TWICE, &THRICE_NOTED)),
+            ),
+            (
+                &[Step::Numbers(&[]), Step::Rotate(Ok(4))],
+                Some((&FOUR_TIMES, &THRICE_NOTED)),
+            ),
+            (
+                &[
+                    Step::Mark(9),
+                    Step::Totals(Totals {
+                        taken: 6,
+                        answered: 4,
+                        dropped: 2,
+                        owed: 0,
+                        owed_bytes: 0,
+                    }),
+                    Step::Note(Sample::Seen(9), Err(OLD_NUMBER)),
+                ],
+                Some((&FOUR_TIMES, &THRICE_NOTED)),
+            ),
+        ],
+    ),
+    // On a tie the first segment lives, with no Base and with one; else the one of greater generation.
+    ((&OWED, &NOTED), &[(&[Step::Numbers(&[1])], None)]),
+    ((&ROTATED, &OTHER), &[(&[Step::Numbers(&[1])], None)]),
+    ((&OTHER, &ROTATED), &[(&[Step::Numbers(&[2])], None)]),
+    ((&ROTATED, &NOTED), &[(&[Step::Numbers(&[1])], None)]),
+    ((&NOTED, &ROTATED), &[(&[Step::Numbers(&[1])], None)]),
+    ((&ROTATED, &OTHER_TWICE), &[(&[Step::Numbers(&[2])], None)]),
+    ((&OTHER_TWICE, &ROTATED), &[(&[Step::Numbers(&[2])], None)]),
+    // Of the other segment nothing is read behind its first record, and nothing is repaired.
+    (
+        (&UNENDED, &OTHER_TWICE),
+        &[(&[Step::Numbers(&[2])], Some((&UNENDED, &OTHER_TWICE)))],
+    ),
+    // A rotation goes over whatever the other segment was.
+    (
+        (&NOTED, &ROTATED),
+        &[
+            (&[Step::Rotate(Ok(2)), Step::Rotate(Ok(3))], None),
+            (&[Step::Numbers(&[1])], None),
+        ],
+    ),
+    // There is no generation behind the last, and the tape goes on.
+    (
+        (&OWED, &LAST),
+        &[
+            (
+                &[
+                    Step::Rotate(Err(TapeFault::GenerationFull)),
+                    Step::Note(Sample::Owe(2), Ok(())),
+                    Step::Rotate(Err(TapeFault::GenerationFull)),
+                    Step::Room(65535),
+                    Step::IsBroken(false),
+                    Step::Flush(Ok(1)),
+                ],
+                Some((&OWED, &LAST_NOTED)),
+            ),
+            (&[Step::Numbers(&[1, 2])], None),
+        ],
+    ),
+    (
+        (&LAST_BUT_ONE, &OWED),
+        &[(
+            &[
+                Step::Rotate(Ok(u64::MAX)),
+                Step::Rotate(Err(TapeFault::GenerationFull)),
+            ],
+            Some((&LAST_BUT_ONE, &LAST)),
+        )],
+    ),
+    // A rotation is due above 65,536 octets: 4 debts, their Final and their Drop, and 4,672 notes of 14 octets are as
+    // many with the end gate.
+    (
+        (&[], &[]),
+        &[(
+            &[
+                Step::RotateDue(false),
+                Step::OweEach(1, 5),
+                Step::Note(Sample::Final(1), Ok(())),
+                Step::Note(Sample::Drop(2), Ok(())),
+                Step::SeenEach(5, 4677),
+                Step::Flush(Ok(4678)),
+                Step::RotateDue(false),
+                Step::Note(Sample::Seen(4677), Ok(())),
+                Step::RotateDue(false),
+                Step::Flush(Ok(4679)),
+                Step::RotateDue(true),
+                Step::Rotate(Ok(1)),
+                Step::RotateDue(false),
+            ],
+            None,
+        )],
+    ),
+    // And above four times what a rotation writes: 3,005 debts, 1,932 Finals, one Drop and 6 notes of 14 octets are
+    // 103,132 octets, and what is owed then 25,783.
+    (
+        (&[], &[]),
+        &[(
+            &[
+                Step::OweEach(1, 3006),
+                Step::EndEach(1, 1933),
+                Step::Note(Sample::Drop(3005), Ok(())),
+                Step::SeenEach(3006, 3012),
+                Step::Flush(Ok(4944)),
+                Step::RotateDue(false),
+                Step::Note(Sample::Seen(3012), Ok(())),
+                Step::Flush(Ok(4945)),
+                Step::RotateDue(true),
+                Step::Rotate(Ok(1)),
+                Step::RotateDue(false),
+            ],
+            None,
+        )],
+    ),
+];
+
+#[test]
+fn a_tape_is_rotated(rt: HostRuntime) -> Result<(), Fail> {
+    for (octets, openings) in SCRIPTS {
+        run_each(&rt, rt.alloc(), disks_of(rt.alloc(), *octets)?, openings)?;
+    }
+    Ok(())
+}
+
+#[test]
+fn a_segment_is_damaged(rt: HostRuntime) -> Result<(), Fail> {
+    // What lies on the disks, and the segment and the place in it that are told.
+    const ROWS: &[(Octets, u8, u64)] = &[
+        // The first record tells no generation.
+        ((&OWED, &[0xa5, 0]), 1, 0),
+        ((&[0xa5, 0], &[0xa5, 0]), 0, 0),
+        ((&[0xa5, 0], &ROTATED), 0, 0),
+        ((&OWED, &NEVER), 1, 0),
+        ((&NEVER, &ROTATED), 0, 0),
+        // The segment that lives is no tape.
+        ((&OWED, &MISCOUNTED), 1, 0),
+        ((&OWED, &MISSING), 1, 54),
+        ((&OWED, &ABOVE), 1, 54),
+        ((&OWED, &CUT), 1, 78),
+        ((&OWED, &REPEATED), 1, 78),
+        ((&MISSING, &OWED), 0, 54),
+        ((&REPEATED, &ROTATED), 0, 78),
+    ];
+    for (row, (octets, segment, at)) in ROWS.iter().enumerate() {
+        let (segment, at) = (*segment, *at);
+        assert_damaged(
+            &rt,
+            rt.alloc(),
+            row,
+            *octets,
+            TapeFault::Damaged { segment, at },
+        )?;
+    }
+    Ok(())
+}
+
+// Whether this place is within a segment of so many octets, or at its end.
+fn is_place((first, second): (&[u8], &[u8]), segment: u8, at: u64) -> bool {
+    match segment {
+        0 => at <= first.len() as u64,
+        1 => at <= second.len() as u64,
+        _ => false,
+    }
+}
+
+// The tape of these octets is read, or told as damaged and handed back as it was.
+fn assert_read_or_damaged<A: Abort>(
+    rt: &A,
+    alloc: Global,
+    row: usize,
+    octets: (&[u8], &[u8]),
+) -> Result<(), Fail> {
+    match opened(alloc, disks_of(alloc, octets)?) {
+        Ok(_) => Ok(()),
+        Err((TapeFault::Damaged { segment, at }, mut disks)) => {
+            assert_answer(rt, row, &is_place(octets, segment, at), &true);
+            assert_both(rt, alloc, row, &mut disks, octets)
+        }
+        Err((fault, _)) => Err(Fail::from(fault)),
+    }
+}
+
+// These octets, with another at this place.
+fn with_octet(alloc: Global, octets: &[u8], at: usize, octet: u8) -> Result<Vec<u8>, Fail> {
+    let mut octets = octets.to_vec(alloc)?;
+    if let Some(changed) = octets.get_mut(at) {
+        *changed = octet;
+    }
+    Ok(octets)
+}
+
+// Each octet of a segment is changed in turn, beside this other segment.
+fn change_each<A: Abort>(
+    rt: &A,
+    alloc: Global,
+    octets: &[u8],
+    other: &[u8],
+    octet: u8,
+) -> Result<(), Fail> {
+    for at in 0..octets.len() {
+        let changed = with_octet(alloc, octets, at, octet)?;
+        assert_read_or_damaged(rt, alloc, at, (changed.as_slice(), other))?;
+        assert_read_or_damaged(rt, alloc, at, (other, changed.as_slice()))?;
+    }
+    Ok(())
+}
+
+#[test]
+fn a_changed_octet_is_read_or_told_as_damage(rt: HostRuntime) -> Result<(), Fail> {
+    for octet in [0, 0xa5, 0xff] {
+        change_each(&rt, rt.alloc(), &OLDER, &YOUNGER, octet)?;
+        change_each(&rt, rt.alloc(), &YOUNGER, &OLDER, octet)?;
+    }
+    Ok(())
+}
+
+// No opening here makes as many calls of a disk, reads among them.
+const OPENING_CALLS: u64 = 15;
+
+// An opening of this image of the disks is stopped behind each call of either: what is left is a front all the same.
+fn assert_openings<A: Abort>(
+    rt: &A,
+    alloc: Global,
+    disks: &(MemDisk, MemDisk),
+    (happened, fill): (u64, u8),
+    counts: Counts,
+) -> Result<(), Fail> {
+    for calls in 0..OPENING_CALLS {
+        for calls in [(calls, u64::MAX), (u64::MAX, calls)] {
+            let disks = stopped(rt, alloc, image(disks, happened, fill)?, calls, &[])?;
+            assert_fronts(rt, alloc, &disks, counts)?;
+        }
+    }
+    Ok(())
+}
+
+// The same of some images that choices name, one of each fill among them.
+fn assert_each_opening<A: Abort>(
+    rt: &A,
+    alloc: Global,
+    disks: &(MemDisk, MemDisk),
+    counts: Counts,
+) -> Result<(), Fail> {
+    for (at, fill) in FILLS.iter().enumerate().step_by(7) {
+        assert_openings(rt, alloc, disks, ((at % 8) as u64, *fill), counts)?;
+    }
+    Ok(())
+}
+
+// Two debts are acknowledged and a third pends when the ledger is written.
+const STOPPED: &[Step] = &[
+    Step::Note(Sample::Owe(2), Ok(())),
+    Step::Flush(Ok(1)),
+    Step::Note(Sample::Owe(3), Ok(())),
+    Step::Rotate(Err(TapeFault::Disk)),
+    Step::IsBroken(true),
+    Step::Rotate(Err(TapeFault::Broken)),
+    Step::Flush(Err(TapeFault::Broken)),
+    Step::Numbers(&[1, 2, 3]),
+];
+
+const FIRST: &[Step] = &[
+    Step::Note(Sample::Owe(2), Ok(())),
+    Step::Flush(Ok(1)),
+    Step::Note(Sample::Owe(3), Ok(())),
+    Step::Rotate(Ok(1)),
+];
+
+const SECOND: &[Step] = &[
+    Step::Note(Sample::Owe(2), Ok(())),
+    Step::Flush(Ok(1)),
+    Step::Note(Sample::Owe(3), Ok(())),
+    Step::Rotate(Ok(2)),
+];
+
+// A rotation makes eight calls of the disk whose segment does not live: a cut, a sync, and then three writes, each
+// with a sync. The opening before makes one call of it, and two reads where something lies there.
+const STOPS: &[(Octets, Calls, &[Step], Counts)] = &[
+    ((&OWED, &[]), (u64::MAX, 1), STOPPED, (2, 3)),
+    ((&OWED, &[]), (u64::MAX, 2), STOPPED, (2, 3)),
+    ((&OWED, &[]), (u64::MAX, 3), STOPPED, (2, 3)),
+    ((&OWED, &[]), (u64::MAX, 4), STOPPED, (2, 3)),
+    ((&OWED, &[]), (u64::MAX, 5), STOPPED, (2, 3)),
+    ((&OWED, &[]), (u64::MAX, 6), STOPPED, (2, 3)),
+    ((&OWED, &[]), (u64::MAX, 7), STOPPED, (2, 3)),
+    ((&OWED, &[]), (u64::MAX, 8), STOPPED, (2, 3)),
+    ((&OWED, &[]), (u64::MAX, 9), FIRST, (3, 3)),
+    ((&OWED, &ROTATED), (3, u64::MAX), STOPPED, (2, 3)),
+    ((&OWED, &ROTATED), (4, u64::MAX), STOPPED, (2, 3)),
+    ((&OWED, &ROTATED), (5, u64::MAX), STOPPED, (2, 3)),
+    ((&OWED, &ROTATED), (6, u64::MAX), STOPPED, (2, 3)),
+    ((&OWED, &ROTATED), (7, u64::MAX), STOPPED, (2, 3)),
+    ((&OWED, &ROTATED), (8, u64::MAX), STOPPED, (2, 3)),
+    ((&OWED, &ROTATED), (9, u64::MAX), STOPPED, (2, 3)),
+    ((&OWED, &ROTATED), (10, u64::MAX), STOPPED, (2, 3)),
+    ((&OWED, &ROTATED), (11, u64::MAX), SECOND, (3, 3)),
+];
+
+#[test]
+fn a_stop_in_a_rotation_leaves_a_front(rt: HostRuntime) -> Result<(), Fail> {
+    for (octets, calls, steps, counts) in STOPS {
+        let disks = disks_of(rt.alloc(), *octets)?;
+        let disks = stopped(&rt, rt.alloc(), disks, *calls, steps)?;
+        assert_each_opening(&rt, rt.alloc(), &disks, *counts)?;
+    }
+    Ok(())
+}
