@@ -26,7 +26,8 @@ says_none view word (Some t) lone more (Supply Unsendable) says = says
 says_none view word (Some t) lone more Break says = says
 
 -- a word that names none of the other steps says a step on a connection, where one is said
-module _ (word : List ℕ) (line : word ≢ codes "line") (connect : word ≢ codes "connect") (shed : word ≢ codes "shed") (rotate : word ≢ codes "rotate") (tick : word ≢ codes "tick") (stop : word ≢ codes "stop") where
+module _ (word : List ℕ) (line : word ≢ codes "line") (connect : word ≢ codes "connect") (shed : word ≢ codes "shed")
+    (rotate : word ≢ codes "rotate") (tick : word ≢ codes "tick") (stop : word ≢ codes "stop") where
   says_no_step : (rest : List ℕ) → ((number : ℕ) (action : Action) → SaysOn word rest number action → ⊥) → (step : Step) → SaysStep word (Some rest) step → ⊥
   says_no_step rest none (Line text) says = line says.0
   says_no_step rest none Flush says = says

@@ -26,7 +26,8 @@ module _ {D : Type 0} (g : Ghosts D) where
   honest_there true live other a b = (b, a)
   honest_there false live other a b = (a, b)
 
-  honest_back : (second : Bool) (live other : D) → g.honest (placed second live other).0 → g.honest (placed second live other).1
+  honest_back : (second : Bool) (live other : D) → g.honest (placed second live other).0 → g.honest
+      (placed second live other).1
       → g.honest live × g.honest other
   honest_back true live other a b = (b, a)
   honest_back false live other a b = (a, b)
@@ -44,7 +45,8 @@ module _ {D : Type 0} {g : Ghosts D} where
       kept (honest_along new.tape old.tape took.disks honest) in (noted k.0 note, took.stands k.0 k.1)
 
   same_kept : (old new : Station D g) → IsSame old new → IsKept old → IsKept new
-  same_kept old new same kept honest = let k = kept (honest_along new.tape old.tape same.disks honest) in (k.0, same.stands k.0 k.1)
+  same_kept old new same kept honest = let k = kept (honest_along new.tape old.tape same.disks honest) in
+      (k.0, same.stands k.0 k.1)
 
   tape_kept : (old new : Station D g) → IsSameTape old new → IsKept old → IsKept new
   tape_kept old new same kept =

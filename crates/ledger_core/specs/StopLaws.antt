@@ -56,21 +56,26 @@ behind_once base behind one other (inl a) (inr (inl b)) = absurd (a.0 b.0)
 behind_once base behind one other (inl a) (inr (inr b)) = absurd (a.0 b.0)
 behind_once base behind one other (inr (inl a)) (inl b) = absurd (b.0 a.0)
 behind_once base behind one other (inr (inr a)) (inl b) = absurd (b.0 a.0)
-behind_once base behind one other (inr (inl (sound, (debts, end, few, is)))) (inr (inl (sound', (debts', end', few', is')))) =
+behind_once base behind one other (inr (inl (sound, (debts, end, few, is))))
+    (inr (inl (sound', (debts', end', few', is')))) =
     ⊎_elim
     (λ (h : length debts < length debts'). absurd (ended base.mark behind debts debts' end h end'.has))
     (λ (h : length debts' ≤ length debts). ⊎_elim
     (λ (k : length debts' < length debts). absurd (ended base.mark behind debts' debts end' k end.has))
     (λ (k : length debts ≤ length debts'). omega (arith, h, k, is, is')) (cases_lt (length debts') (length debts)))
     (cases_lt (length debts) (length debts'))
-behind_once base behind one other (inr (inl (sound, (debts, end, few, is)))) (inr (inr (sound', (debts', has, live, rest)))) =
+behind_once base behind one other (inr (inl (sound, (debts, end, few, is))))
+    (inr (inr (sound', (debts', has, live, rest)))) =
     absurd (ended base.mark behind debts debts' end (omega (arith, few, live)) has)
-behind_once base behind one other (inr (inr (sound', (debts', has, live, rest)))) (inr (inl (sound, (debts, end, few, is)))) =
+behind_once base behind one other (inr (inr (sound', (debts', has, live, rest))))
+    (inr (inl (sound, (debts, end, few, is)))) =
     absurd (ended base.mark behind debts debts' end (omega (arith, few, live)) has)
-behind_once base behind one other (inr (inr (sound, (debts, has, live, (place, is, stop))))) (inr (inr (sound', (debts', has', live', (place', is', stop'))))) =
+behind_once base behind one other (inr (inr (sound, (debts, has, live, (place, is, stop)))))
+    (inr (inr (sound', (debts', has', live', (place', is', stop'))))) =
     let same : debts' ≡ debts = HasDebts-once base.mark behind debts' debts (live' ∙ sym live) has' has in
     let there = subst (λ ds. StopsFrom (based_on base ds) (drop (length ds) behind) place') same stop' in
-    let here : place ≡ place' = stops_from_once (based_on base debts) (drop (length debts) behind) place place' stop there in
+    let here : place ≡ place' = stops_from_once (based_on base debts) (drop (length debts) behind) place place' stop
+        there in
     omega (arith, is, is', here, ap length same)
 
 -- of a tape's payloads

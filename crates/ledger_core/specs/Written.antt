@@ -254,7 +254,8 @@ restored-whole payloads generation state (inr (base, behind, begins, is, leaves)
 
 -- ---- notes behind it
 
-no_base-append : (payloads : List (List ℕ)) (notes : List Note) → HasNoBase payloads → HasNoBase (payloads ++ spellings notes)
+no_base-append : (payloads : List (List ℕ)) (notes : List Note) → HasNoBase payloads → HasNoBase
+    (payloads ++ spellings notes)
 no_base-append [] [] none = tt
 no_base-append [] (note ∷ notes) none = λ base is same. base-no-note base note same
 no_base-append (first ∷ payloads) notes none = none

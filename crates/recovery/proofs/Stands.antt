@@ -65,10 +65,13 @@ note_short note is = omega (arith, spelling-short note is)
 
 module _ {D : Type 0} {g : Ghosts D} (tape : Tape D g) (h : History) where
   -- nothing pends, and the segment that lives holds the ledger
-  pub stands_whole : AreHonest tape → AreLegal h.base h.notes → h.kept ≡ length h.notes → ledger_of tape ≡ ledger_after h
-      → (payloads : List (List ℕ)) → Holds (live_segment tape) payloads → Restores payloads (generation_of tape) (ledger_after h)
+  pub stands_whole : AreHonest tape → AreLegal h.base h.notes → h.kept ≡ length h.notes → ledger_of tape ≡
+      ledger_after h
+      → (payloads : List (List ℕ)) → Holds (live_segment tape) payloads → Restores payloads (generation_of tape)
+          (ledger_after h)
       → EachImage (StaysBehind tape.segments.second (generation_of tape)) (other_log tape)
-      → tape.pending.items ≡ [] → tape.flushed ≡ min (h.kept - h.opened) (2 ^ 64 - 1) → h.opened ≤ h.kept → StandsFor tape h
+      → tape.pending.items ≡ [] → tape.flushed ≡ min (h.kept - h.opened) (2 ^ 64 - 1) → h.opened ≤ h.kept → StandsFor
+          tape h
   stands_whole honest legal all ledger payloads holds restores other none count opened =
       let here : take h.kept h.notes ≡ h.notes = take_all h.kept h.notes (omega (arith, all)) in
       let rest : drop h.kept h.notes ≡ [] = drop_all h.kept h.notes (omega (arith, all)) in
@@ -82,12 +85,14 @@ module _ {D : Type 0} {g : Ghosts D} (tape : Tape D g) (h : History) where
             (reads_rest payloads holds.rest.short) in
             let behind = other d is' in
             Survives-whole h (placed tape.segments.second c d) legal (omega (arith, all))
-            (tape_placed tape.segments.second c d payloads (generation_of tape) behind.other (ledger_after h) reads restores
+            (tape_placed tape.segments.second c d payloads (generation_of tape) behind.other (ledger_after h) reads
+                restores
             behind.has behind.behind));
         working = λ works. record {
           payloads = payloads;
           holds = holds;
-          restores = subst (λ (notes : List Note). Restores payloads (generation_of tape) (after h.base notes)) (sym here) restores;
+          restores = subst (λ (notes : List Note). Restores payloads (generation_of tape) (after h.base notes))
+              (sym here) restores;
           other = other;
           pending = ap octets_of none ∙ ap spellings (sym rest);
           count = count;
@@ -96,7 +101,8 @@ module _ {D : Type 0} {g : Ghosts D} (tape : Tape D g) (h : History) where
       }
 
   -- what lies on the disk and the first of what pends
-  appended : StandsFor tape h → (works : IsBroken tape → ⊥) → (payloads : List (List ℕ)) → Restores payloads (generation_of tape) (after h.base (take h.kept h.notes))
+  appended : StandsFor tape h → (works : IsBroken tape → ⊥) → (payloads : List (List ℕ)) → Restores payloads
+      (generation_of tape) (after h.base (take h.kept h.notes))
       → EachImage (StaysBehind tape.segments.second (generation_of tape)) (other_log tape)
       → octets_of tape.pending.items ≡ spellings (drop h.kept h.notes)
       → (c : List ℕ) → ReadsFrom (length payloads) (payloads ++ octets_of tape.pending.items) c
@@ -108,9 +114,11 @@ module _ {D : Type 0} {g : Ghosts D} (tape : Tape D g) (h : History) where
       let behind = other d is in
       let plus : n ≡ length payloads + m = omega (arith, low) in
       let few : h.kept + m ≤ length h.notes =
-      omega (arith, high, length-append payloads (octets_of tape.pending.items), ap length pending, spellings-length more, length-drop h.kept h.notes, stands.kept_within) in
+      omega (arith, high, length-append payloads (octets_of tape.pending.items), ap length pending, spellings-length
+          more, length-drop h.kept h.notes, stands.kept_within) in
       let front : take (h.kept + m) h.notes ≡ take h.kept h.notes ++ take m more = take-add h.kept m h.notes in
-      let legal : AreLegal h.base (take (h.kept + m) h.notes) = AreLegal-take h.base h.notes (h.kept + m) stands.are_legal in
+      let legal : AreLegal h.base (take (h.kept + m) h.notes) = AreLegal-take h.base h.notes (h.kept + m)
+          stands.are_legal in
       let notes_are : AreNotes (take m more) =
       AreNotes-back (take h.kept h.notes) (take m more) (subst AreNotes front legal.notes_are) in
       let lawful : AllLegal state (take m more) =
@@ -127,14 +135,17 @@ module _ {D : Type 0} {g : Ghosts D} (tape : Tape D g) (h : History) where
         within = few;
         legal = legal;
         tape = subst (IsTape (placed tape.segments.second c d)) left
-            (tape_placed tape.segments.second c d (payloads ++ spellings (take m more)) (generation_of tape) behind.other
+            (tape_placed tape.segments.second c d (payloads ++ spellings (take m more)) (generation_of tape)
+                behind.other
             (after state (take m more)) (subst (Reads c) here reads)
-            (restores-on payloads (generation_of tape) state (take m more) restores notes_are lawful) behind.has behind.behind);
+            (restores-on payloads (generation_of tape) state (take m more) restores notes_are lawful) behind.has
+                behind.behind);
       }
 
   -- at each moment of a flush of a tape that works
   pub flush_moments : (new : List Event) → StandsFor tape h → (IsBroken tape → ⊥)
-      → ((all : List (List ℕ)) → Holds (live_segment tape) all → Leaves (ReadsFrom (length all) (all ++ octets_of tape.pending.items)) (live_log tape) new)
+      → ((all : List (List ℕ)) → Holds (live_segment tape) all → Leaves
+          (ReadsFrom (length all) (all ++ octets_of tape.pending.items)) (live_log tape) new)
       → TapeLeaves (Survives h) (log_of tape) (placed tape.segments.second new (other_log tape))
   flush_moments new stands works moments =
       let w = stands.working works in
@@ -148,7 +159,8 @@ module _ {D : Type 0} {g : Ghosts D} (tape : Tape D g) (h : History) where
   pub stands_idle : StandsFor tape h → (IsBroken tape → ⊥) → length tape.pending.items ≡ 0 → StandsFor tape (flushed h)
   stands_idle stands works none =
       let w = stands.working works in
-      let all : h.kept ≡ length h.notes = omega (arith, none, pending_count h.notes h.kept tape.pending.items w.pending stands.kept_within) in
+      let all : h.kept ≡ length h.notes = omega (arith, none, pending_count h.notes h.kept tape.pending.items
+          w.pending stands.kept_within) in
       subst (λ (k : ℕ). StandsFor tape (record h { kept = k })) all stands
 
   pub idle_count : StandsFor tape h → (IsBroken tape → ⊥) → length tape.pending.items ≡ 0
@@ -158,35 +170,51 @@ module _ {D : Type 0} {g : Ghosts D} (tape : Tape D g) (h : History) where
       omega (arith, none, w.count, pending_count h.notes h.kept tape.pending.items w.pending stands.kept_within)
 
 -- some notes more, which pend
-pub stands_noted_all : {D : Type 0} {g : Ghosts D} (old new : Tape D g) (h : History) (notes : List Note) (payloads : List (Vec ℕ Global)) → StandsFor old h → new.segments ≡ old.segments → AreNotes notes → AllLegal (ledger_of old) notes → ledger_of new ≡ after (ledger_of old) notes
-    → new.pending.items ≡ old.pending.items ++ payloads → octets_of payloads ≡ spellings notes → new.flushed ≡ old.flushed → StandsFor new (noted_all h notes)
+pub stands_noted_all : {D : Type 0} {g : Ghosts D} (old new : Tape D g) (h : History) (notes : List Note)
+    (payloads : List (Vec ℕ Global)) → StandsFor old h → new.segments ≡ old.segments → AreNotes notes → AllLegal
+    (ledger_of old) notes → ledger_of new ≡ after (ledger_of old) notes
+    → new.pending.items ≡ old.pending.items ++ payloads → octets_of payloads ≡ spellings notes → new.flushed ≡
+        old.flushed → StandsFor new (noted_all h notes)
 stands_noted_all {D} {g} old new h notes payloads stands same are legal stepped pending spelled flushed =
     let here : AllLegal (ledger_after h) notes = subst (λ (s : State). AllLegal s notes) stands.ledger legal in
-    let front : take h.kept (h.notes ++ notes) ≡ take h.kept h.notes = take-append-le h.kept h.notes notes stands.kept_within in
-    let back : drop h.kept (h.notes ++ notes) ≡ drop h.kept h.notes ++ notes = drop-append-le h.kept h.notes notes stands.kept_within in
+    let front : take h.kept (h.notes ++ notes) ≡ take h.kept h.notes = take-append-le h.kept h.notes notes
+        stands.kept_within in
+    let back : drop h.kept (h.notes ++ notes) ≡ drop h.kept h.notes ++ notes = drop-append-le h.kept h.notes notes
+        stands.kept_within in
     record {
       honest = subst (λ (s : Segments D g). g.honest (journal_disk s.live) × g.honest s.other) (sym same) stands.honest;
       are_legal = AreLegal-append h.base h.notes notes stands.are_legal are here;
       kept_within = omega (arith, stands.kept_within, length-append h.notes notes);
       ledger = stepped ∙ (ap (λ (s : State). after s notes) stands.ledger ∙ sym (after-append h.base h.notes notes));
-      images = subst (λ (s : Segments D g). EachTape (Survives (noted_all h notes)) (placed s.second (g.log (journal_disk s.live)) (g.log s.other))) (sym same) (λ c d is is'. Survives-noted_all h notes (c, d) (stands.images c d is is'));
+      images = subst (λ (s : Segments D g). EachTape (Survives (noted_all h notes))
+          (placed s.second (g.log (journal_disk s.live)) (g.log s.other))) (sym same)
+          (λ c d is is'. Survives-noted_all h notes (c, d) (stands.images c d is is'));
       working = λ works.
           let w = stands.working (subst (λ (s : Segments D g). s.live.broken ≡ true → ⊥) same works) in
           record {
             payloads = w.payloads;
             holds = subst (λ (s : Segments D g). Holds s.live w.payloads) (sym same) w.holds;
-            restores = subst (λ (s : Segments D g). Restores w.payloads s.generation (after h.base (take h.kept (h.notes ++ notes)))) (sym same)
-                (subst (λ (l : List Note). Restores w.payloads (generation_of old) (after h.base l)) (sym front) w.restores);
-            other = subst (λ (s : Segments D g). EachImage (StaysBehind s.second s.generation) (g.log s.other)) (sym same) w.other;
-            pending = ap octets_of pending ∙ (octets_of-append old.pending.items payloads ∙ (ap (λ (l : List (List ℕ)). l ++ octets_of payloads) w.pending ∙ (ap (λ (p : List (List ℕ)). spellings (drop h.kept h.notes) ++ p) spelled ∙ (sym (spellings-append (drop h.kept h.notes) notes) ∙ sym (ap spellings back)))));
+            restores = subst (λ (s : Segments D g). Restores w.payloads s.generation
+                (after h.base (take h.kept (h.notes ++ notes)))) (sym same)
+                (subst (λ (l : List Note). Restores w.payloads (generation_of old) (after h.base l)) (sym front)
+                    w.restores);
+            other = subst (λ (s : Segments D g). EachImage (StaysBehind s.second s.generation) (g.log s.other))
+                (sym same) w.other;
+            pending = ap octets_of pending ∙ (octets_of-append old.pending.items payloads ∙
+                (ap (λ (l : List (List ℕ)). l ++ octets_of payloads) w.pending ∙
+                (ap (λ (p : List (List ℕ)). spellings (drop h.kept h.notes) ++ p) spelled ∙
+                (sym (spellings-append (drop h.kept h.notes) notes) ∙ sym (ap spellings back)))));
             count = flushed ∙ w.count;
             opened = w.opened;
           };
     }
 
 -- after a call that was refused
-pub stands_refused : {D : Type 0} {g : Ghosts D} (old new : Tape D g) (h : History) → StandsFor old h → AreHonest new → ledger_of new ≡ ledger_of old → octets_of new.pending.items ≡ octets_of old.pending.items → new.flushed ≡ old.flushed
-    → TapeLeaves (Survives h) (log_of old) (log_of new) → ((IsBroken new → ⊥) → new.segments ≡ old.segments) → StandsFor new h
+pub stands_refused : {D : Type 0} {g : Ghosts D} (old new : Tape D g) (h : History) → StandsFor old h → AreHonest new
+    → ledger_of new ≡ ledger_of old → octets_of new.pending.items ≡ octets_of old.pending.items → new.flushed ≡
+    old.flushed
+    → TapeLeaves (Survives h) (log_of old) (log_of new) → ((IsBroken new → ⊥) → new.segments ≡ old.segments) →
+        StandsFor new h
 stands_refused {D} {g} old new h stands honest ledger pending flushed moments same = record {
   honest = honest;
   are_legal = stands.are_legal;
@@ -199,8 +227,10 @@ stands_refused {D} {g} old new h stands honest ledger pending flushed moments sa
       record {
         payloads = w.payloads;
         holds = subst (λ (s : Segments D g). Holds s.live w.payloads) (sym stay) w.holds;
-        restores = subst (λ (s : Segments D g). Restores w.payloads s.generation (after h.base (take h.kept h.notes))) (sym stay) w.restores;
-        other = subst (λ (s : Segments D g). EachImage (StaysBehind s.second s.generation) (g.log s.other)) (sym stay) w.other;
+        restores = subst (λ (s : Segments D g). Restores w.payloads s.generation (after h.base (take h.kept h.notes)))
+            (sym stay) w.restores;
+        other = subst (λ (s : Segments D g). EachImage (StaysBehind s.second s.generation) (g.log s.other)) (sym stay)
+            w.other;
         pending = pending ∙ w.pending;
         count = flushed ∙ w.count;
         opened = w.opened;
@@ -214,4 +244,5 @@ pub same_tape : {D : Type 0} {g : Ghosts D} (tape : Tape D g) (segments : Segmen
 same_tape {D} {g} tape segments same few short =
     ap (λ (s : Segments D g). record tape { segments = s; few = few; short = short }) same
     ∙ ap (λ (x : length tape.pending.items ≤ most_pending). record tape { few = x; short = short }) (le_prop few tape.few)
-    ∙ ap (λ (x : AllShort (octets_of tape.pending.items)). record tape { short = x }) (AllShort-prop (octets_of tape.pending.items) short tape.short)
+    ∙ ap (λ (x : AllShort (octets_of tape.pending.items)). record tape { short = x })
+        (AllShort-prop (octets_of tape.pending.items) short tape.short)

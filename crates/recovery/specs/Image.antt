@@ -1,4 +1,5 @@
--- What a stop may leave of a tape (profile). A tape lies on two disks, a segment on each, of which one lives; its image is
+-- What a stop may leave of a tape (profile). A tape lies on two disks, a segment on each, of which one lives;
+-- its image is
 -- an image of both.
 use Rattle.std.specs.Prelude.{◌≡◌, ◌⊎◌, ◌↔◌, ℕ, ◌<◌, ◌≤◌, Bool, cond, IsTrue, List, length, take}
 use Rattle.disk_model.specs.Disk.{FirstSync, content}
@@ -24,7 +25,8 @@ Log = PairLog
 abbrev pub TellsGeneration : List ℕ → ℕ → Type 0
 TellsGeneration payload generation =
     (SpellsNoBase payload × (generation ≡ 0))
-    ⊎ ((base : Base) × IsBase base × (payload ≡ base_spelling base) × (1 ≤ base.generation) × (generation ≡ base.generation))
+    ⊎ ((base : Base) × IsBase base × (payload ≡ base_spelling base) × (1 ≤ base.generation) ×
+        (generation ≡ base.generation))
 
 -- The generation of a segment, which what stands first tells, whatever stands behind that.
 abbrev pub HasGeneration : List ℕ → ℕ → Type 0
@@ -61,7 +63,8 @@ pub record IsTape (octets : Octets) (state : State) : Type 0 where
 abbrev pub IsSomeTape : Octets → Type 0
 IsSomeTape octets = (state : State) × IsTape octets state
 
--- The segment gives no ledger, and this is the place: it is damaged there, or there stands the gate of the first payload at
+-- The segment gives no ledger, and this is the place: it is damaged there, or there stands the gate of the
+-- first payload at
 -- which no reading goes on, or the end gate where a debt of its Base is missing.
 abbrev pub LeavesNothingAt : List ℕ → ℕ → Type 0
 LeavesNothingAt segment at =
@@ -104,7 +107,8 @@ pub record KeptTape (old : Log) (octets : Octets) : Type 0 where
 abbrev pub AsContent : List ℕ → List ℕ → Type 0
 AsContent old segment = (segment ≡ old) ⊎ ReadsAs old segment
 
--- until a disk's first sync that succeeded its images are those of old, and from it on each is its content, or reads as that
+-- until a disk's first sync that succeeded its images are those of old, and from it on each is its content,
+-- or reads as that
 pub record TapeFirstSync (old new : Log) : Type 0 where
   pub first : FirstSync (AsContent (content old.0)) old.0 new.0
   pub second : FirstSync (AsContent (content old.1)) old.1 new.1

@@ -54,7 +54,8 @@ whole_behind base notes are = whole-after base notes are.notes_are are.legal are
 
 -- ---- generations
 
-tells_once : (payload : List ℕ) (one other : ℕ) → TellsGeneration payload one → TellsGeneration payload other → one ≡ other
+tells_once : (payload : List ℕ) (one other : ℕ) → TellsGeneration payload one → TellsGeneration payload other → one ≡
+    other
 tells_once payload one other (inl a) (inl b) = a.1 ∙ sym b.1
 tells_once payload one other (inl a) (inr (base, is, same, from, told)) = absurd (a.0 base is (sym same))
 tells_once payload one other (inr (base, is, same, from, told)) (inl b) = absurd (b.0 base is (sym same))
@@ -62,7 +63,8 @@ tells_once payload one other (inr (base, is, same, from, told)) (inr (base', is'
     told ∙ (ap (λ (b : Base). b.generation) (same-base base base' is is' (sym same ∙ same')) ∙ sym told')
 
 -- a segment has one generation at most
-pub generation_once : (segment : List ℕ) (one other : ℕ) → HasGeneration segment one → HasGeneration segment other → one ≡ other
+pub generation_once : (segment : List ℕ) (one other : ℕ) → HasGeneration segment one → HasGeneration segment other →
+    one ≡ other
 generation_once segment one other (inl a) (inl b) = a.1 ∙ sym b.1
 generation_once segment one other (inl a) (inr (payload, is, tells)) = absurd (record_goes_on segment payload is a.0)
 generation_once segment one other (inr (payload, is, tells)) (inl b) = absurd (record_goes_on segment payload is b.0)
@@ -78,12 +80,15 @@ no_base_of_none payload generation base same none (inr (base', is', same', from,
     omega (arith, from, none, ap (λ (b : Base). b.generation) one)
 
 -- and then what stands first tells one
-pub generation_told : (segment : List ℕ) (generation : ℕ) → HasGeneration segment generation → HasNoGeneration segment → ⊥
+pub generation_told : (segment : List ℕ) (generation : ℕ) → HasGeneration segment generation → HasNoGeneration segment
+    → ⊥
 generation_told segment generation (inl a) (inl cut) = ends_uncut segment a.0 cut
-generation_told segment generation (inl a) (inr (base, is, first, none)) = record_goes_on segment (base_spelling base) first a.0
+generation_told segment generation (inl a) (inr (base, is, first, none)) = record_goes_on segment (base_spelling base)
+    first a.0
 generation_told segment generation (inr (payload, first, tells)) (inl cut) = record_uncut segment payload first cut
 generation_told segment generation (inr (payload, first, tells)) (inr (base, is, first', none)) =
-    no_base_of_none payload generation base (record_once segment payload (base_spelling base) first first') none tells is
+    no_base_of_none payload generation base (record_once segment payload (base_spelling base) first first') none tells
+        is
 
 same_truth : (one other : Bool) → (IsTrue one → IsTrue other) → (IsTrue other → IsTrue one) → one ≡ other
 same_truth true true to from = refl
@@ -123,7 +128,8 @@ tape_once octets one other a b =
     (restores_once b.payloads a.generation b.generation one other
     (subst (λ ps. Restores ps a.generation one) same a.restores) b.restores).1
 
-nothing_left : (segment : List ℕ) (payloads : List (List ℕ)) (generation at : ℕ) (state : State) → Reads segment payloads
+nothing_left : (segment : List ℕ) (payloads : List (List ℕ)) (generation at : ℕ) (state : State) → Reads segment
+    payloads
     → Restores payloads generation state → LeavesNothingAt segment at → ⊥
 nothing_left segment payloads generation at state reads restores (inl damaged) =
     read_or_damaged segment payloads at reads damaged
@@ -134,7 +140,8 @@ nothing_left segment payloads generation at state reads restores (inr (payloads'
 -- what is no tape at some place stands for no ledger
 pub tape_nowhere_damaged : (octets : Octets) (state : State) (segment at : ℕ) → IsTape octets state
     → IsNoTapeAt octets segment at → ⊥
-tape_nowhere_damaged octets state segment at is (inl none) = generation_told octets.0 is.lives.one is.lives.first_has none.0
+tape_nowhere_damaged octets state segment at is (inl none) = generation_told octets.0 is.lives.one is.lives.first_has
+    none.0
 tape_nowhere_damaged octets state segment at is (inr (inl none)) =
     generation_told octets.1 is.lives.other is.lives.second_has none.1
 tape_nowhere_damaged octets state segment at is (inr (inr (second, lives, which, nothing))) =
@@ -142,20 +149,24 @@ tape_nowhere_damaged octets state segment at is (inr (inr (second, lives, which,
     nothing_left (live_of second octets) is.payloads is.generation at state
     (subst (λ s. Reads (live_of s octets) is.payloads) here is.reads) is.restores nothing
 
-left_nothing_once : (segment : List ℕ) (one other : ℕ) → LeavesNothingAt segment one → LeavesNothingAt segment other → one ≡ other
+left_nothing_once : (segment : List ℕ) (one other : ℕ) → LeavesNothingAt segment one → LeavesNothingAt segment other →
+    one ≡ other
 left_nothing_once segment one other (inl a) (inl b) = damaged_once segment one other a b
 left_nothing_once segment one other (inl a) (inr (payloads, index, reads, stops, place)) = absurd
     (read_or_damaged segment payloads one reads a)
 left_nothing_once segment one other (inr (payloads, index, reads, stops, place)) (inl b) = absurd
     (read_or_damaged segment payloads other reads b)
-left_nothing_once segment one other (inr (payloads, index, reads, stops, place)) (inr (payloads', index', reads', stops', place')) =
+left_nothing_once segment one other (inr (payloads, index, reads, stops, place))
+    (inr (payloads', index', reads', stops', place')) =
     let same : payloads ≡ payloads' = reads_once segment payloads payloads' reads reads' in
-    let here : index ≡ index' = restore_stops_once payloads' index index' (subst (λ ps. RestoreStopsAt ps index) same stops) stops' in
+    let here : index ≡ index' = restore_stops_once payloads' index index'
+        (subst (λ ps. RestoreStopsAt ps index) same stops) stops' in
     place ∙ (ap (λ ps. length (records (take index ps))) same ∙ (ap (λ i. length (records (take i payloads'))) here
     ∙ sym place'))
 
 -- octets are no tape at one place at most
-pub nowhere_once : (octets : Octets) (segment at segment' at' : ℕ) → IsNoTapeAt octets segment at → IsNoTapeAt octets segment' at'
+pub nowhere_once : (octets : Octets) (segment at segment' at' : ℕ) → IsNoTapeAt octets segment at → IsNoTapeAt octets
+    segment' at'
     → (segment ≡ segment') × (at ≡ at')
 nowhere_once octets segment at segment' at' (inl a) (inl b) = (a.1 ∙ sym b.1, a.2 ∙ sym b.2)
 nowhere_once octets segment at segment' at' (inl a) (inr (inl b)) = absurd (generation_told octets.0 b.0.0 b.0.1 a.0)
@@ -169,7 +180,8 @@ nowhere_once octets segment at segment' at' (inr (inr (second, lives, which, not
     (generation_told octets.0 lives.one lives.first_has b.0)
 nowhere_once octets segment at segment' at' (inr (inr (second, lives, which, nothing))) (inr (inl b)) = absurd
     (generation_told octets.1 lives.other lives.second_has b.1)
-nowhere_once octets segment at segment' at' (inr (inr (second, lives, which, nothing))) (inr (inr (second', lives', which', nothing'))) =
+nowhere_once octets segment at segment' at' (inr (inr (second, lives, which, nothing)))
+    (inr (inr (second', lives', which', nothing'))) =
     let here : second ≡ second' = lives_once octets second second' lives lives' in
     let there = subst (λ s. LeavesNothingAt (live_of s octets) at) here nothing in (
       which ∙ (ap (λ s. cond s 1 0) here ∙ sym which'),
@@ -212,10 +224,13 @@ tape_placed false live rest payloads generation other state reads restores has b
 -- ---- segments that read alike
 
 -- the one, or a segment that reads as that
-generation_as : (old new : List ℕ) (generation : ℕ) → ReadsAs old new → HasGeneration old generation → HasGeneration new generation
+generation_as : (old new : List ℕ) (generation : ℕ) → ReadsAs old new → HasGeneration old generation → HasGeneration
+    new generation
 generation_as old new generation ([], was, is) (inl a) = inl (is, a.1)
-generation_as old new generation ([], was, is) (inr (payload, first, tells)) = absurd (record_goes_on old payload first was)
-generation_as old new generation (p ∷ ps, was, is) (inl a) = absurd (record_goes_on old p (reads_first old p ps was) a.0)
+generation_as old new generation ([], was, is) (inr (payload, first, tells)) = absurd
+    (record_goes_on old payload first was)
+generation_as old new generation (p ∷ ps, was, is) (inl a) = absurd
+    (record_goes_on old p (reads_first old p ps was) a.0)
 generation_as old new generation (p ∷ ps, was, is) (inr (payload, first, tells)) =
     inr (
       p,
@@ -223,7 +238,8 @@ generation_as old new generation (p ∷ ps, was, is) (inr (payload, first, tells
       subst (λ q. TellsGeneration q generation) (record_once old payload p first (reads_first old p ps was)) tells,
     )
 
-pub generation_like : (old new : List ℕ) (generation : ℕ) → AsContent old new → HasGeneration old generation → HasGeneration new generation
+pub generation_like : (old new : List ℕ) (generation : ℕ) → AsContent old new → HasGeneration old generation →
+    HasGeneration new generation
 generation_like old new generation (inl same) has = subst (λ s. HasGeneration s generation) (sym same) has
 generation_like old new generation (inr alike) has = generation_as old new generation alike has
 
@@ -232,7 +248,8 @@ reads_like old new payloads (inl same) reads = subst (λ s. Reads s payloads) (s
 reads_like old new payloads (inr (payloads', was, is)) reads =
     subst (Reads new) (reads_once old payloads' payloads was reads) is
 
-live_like : (second : Bool) (old new : Octets) (payloads : List (List ℕ)) → AsContent old.0 new.0 → AsContent old.1 new.1
+live_like : (second : Bool) (old new : Octets) (payloads : List (List ℕ)) → AsContent old.0 new.0 → AsContent old.1
+    new.1
     → Reads (live_of second old) payloads → Reads (live_of second new) payloads
 live_like true old new payloads first other reads = reads_like old.1 new.1 payloads other reads
 live_like false old new payloads first other reads = reads_like old.0 new.0 payloads first reads
@@ -282,7 +299,8 @@ Survives-whole h octets are within is =
     }
 
 -- some notes more
-pub Survives-noted_all : (h : History) (notes : List Note) (octets : Octets) → Survives h octets → Survives (noted_all h notes) octets
+pub Survives-noted_all : (h : History) (notes : List Note) (octets : Octets) → Survives h octets → Survives
+    (noted_all h notes) octets
 Survives-noted_all h notes octets is =
     let same : take is.count h.notes ≡ take is.count (h.notes ++ notes) =
     sym (take-append-le is.count h.notes notes is.within) in
@@ -315,7 +333,8 @@ like_kept old segment now (inl image) = (segment, image, inl refl)
 like_kept old segment now (inr alike) = (content old, now, inr alike)
 
 -- what survived of a history before an opening survives at each moment of it
-pub Survives-kept : (h : History) (old : Log) (octets : Octets) → Image old.0 (content old.0) → Image old.1 (content old.1)
+pub Survives-kept : (h : History) (old : Log) (octets : Octets) → Image old.0 (content old.0) → Image old.1
+    (content old.1)
     → EachTape (Survives h) old → KeptTape old octets → Survives h octets
 Survives-kept h old octets first second each kept =
     let one = like_kept old.0 octets.0 first kept.first in
@@ -327,17 +346,21 @@ pub logs_of_disks : {D : Type 0} {g : Ghosts D} (tape : Tape D g) (disks : D × 
     → (g.log disks.0, g.log disks.1) ≡ log_of tape
 logs_of_disks {D} {g} tape disks same = ap (λ (d : D × D). (g.log d.0, g.log d.1)) same ∙ by_place tape.segments.second
   where
-    by_place : (second : Bool) → (g.log (placed second tape.segments.live.disk tape.segments.other).0, g.log (placed second tape.segments.live.disk tape.segments.other).1) ≡ placed second (g.log tape.segments.live.disk) (g.log tape.segments.other)
+    by_place : (second : Bool) → (g.log (placed second tape.segments.live.disk tape.segments.other).0, g.log
+        (placed second tape.segments.live.disk tape.segments.other).1) ≡ placed second (g.log tape.segments.live.disk)
+        (g.log tape.segments.other)
     by_place true = refl
     by_place false = refl
 
 -- they are honest where the tape's are
-pub honest_disks : {D : Type 0} {g : Ghosts D} (tape : Tape D g) (disks : D × D) → disks ≡ disks_of tape → AreHonest tape
+pub honest_disks : {D : Type 0} {g : Ghosts D} (tape : Tape D g) (disks : D × D) → disks ≡ disks_of tape → AreHonest
+    tape
     → g.honest disks.0 × g.honest disks.1
 honest_disks {D} {g} tape disks same (live, other) =
     subst (λ (d : D × D). g.honest d.0 × g.honest d.1) (sym same) (by_place tape.segments.second)
   where
-    by_place : (second : Bool) → g.honest (placed second tape.segments.live.disk tape.segments.other).0 × g.honest (placed second tape.segments.live.disk tape.segments.other).1
+    by_place : (second : Bool) → g.honest (placed second tape.segments.live.disk tape.segments.other).0 × g.honest
+        (placed second tape.segments.live.disk tape.segments.other).1
     by_place true = (other, live)
     by_place false = (live, other)
 

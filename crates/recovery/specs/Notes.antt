@@ -13,7 +13,8 @@ pub record AreLegal (base : State) (notes : List Note) : Type 0 where
   pub notes_are : AreNotes notes
   pub legal : AllLegal base notes
 
--- What a tape has been through: the ledger that it began from, its notes since, how many of them, from the first on, are
+-- What a tape has been through: the ledger that it began from, its notes since, how many of them, from the
+-- first on, are
 -- acknowledged, and how many the last opening found.
 pub record History : Type 0 where
   pub base : State

@@ -19,7 +19,8 @@ pairs-first P old new (first_next one other event so_far here) = pairs-first P o
 pairs-first P old new (second_next one other event so_far here) = pairs-first P old (one, other) so_far
 
 -- two runs, one after the other
-pub pairs-then : (P : Octets → Type 0) (old mid new : Log) → LeavesPair P old mid → LeavesPair P mid new → LeavesPair P old new
+pub pairs-then : (P : Octets → Type 0) (old mid new : Log) → LeavesPair P old mid → LeavesPair P mid new → LeavesPair
+    P old new
 pairs-then P old mid new first (at_start here) = first
 pairs-then P old mid new first (first_next one other event so_far here) =
     first_next one other event (pairs-then P old mid (one, other) first so_far) here
@@ -27,12 +28,15 @@ pairs-then P old mid new first (second_next one other event so_far here) =
     second_next one other event (pairs-then P old mid (one, other) first so_far) here
 
 -- a weaker claim
-pub pairs-weaker : (P Q : Octets → Type 0) → ((octets : Octets) → P octets → Q octets) → (old new : Log) → LeavesPair P old new → LeavesPair Q old new
+pub pairs-weaker : (P Q : Octets → Type 0) → ((octets : Octets) → P octets → Q octets) → (old new : Log) → LeavesPair
+    P old new → LeavesPair Q old new
 pairs-weaker P Q weaker old new (at_start here) = at_start (λ c d is is'. weaker (c, d) (here c d is is'))
 pairs-weaker P Q weaker old new (first_next one other event so_far here) =
-    first_next one other event (pairs-weaker P Q weaker old (one, other) so_far) (λ c d is is'. weaker (c, d) (here c d is is'))
+    first_next one other event (pairs-weaker P Q weaker old (one, other) so_far)
+        (λ c d is is'. weaker (c, d) (here c d is is'))
 pairs-weaker P Q weaker old new (second_next one other event so_far here) =
-    second_next one other event (pairs-weaker P Q weaker old (one, other) so_far) (λ c d is is'. weaker (c, d) (here c d is is'))
+    second_next one other event (pairs-weaker P Q weaker old (one, other) so_far)
+        (λ c d is is'. weaker (c, d) (here c d is is'))
 
 -- a run of calls on the first disk
 first_leaves : (P : Octets → Type 0) (old rest new : List Event)

@@ -27,7 +27,8 @@ pub record StaysBehind (second : Bool) (generation : ℕ) (segment : List ℕ) :
   pub has : HasGeneration segment other
   pub behind : GoesBefore second generation other
 
--- The segment that lives holds the ledger after the acknowledged notes, the other doesn't live whatever a stop leaves of it,
+-- The segment that lives holds the ledger after the acknowledged notes, the other doesn't live whatever a
+-- stop leaves of it,
 -- and the other notes pend.
 pub record IsWorking {D : Type 0} {g : Ghosts D} (tape : Tape D g) (h : History) : Type 0 where
   pub payloads : List (List ℕ)
@@ -38,7 +39,8 @@ pub record IsWorking {D : Type 0} {g : Ghosts D} (tape : Tape D g) (h : History)
   pub count : tape.flushed ≡ min (h.kept - h.opened) (2 ^ 64 - 1)
   pub opened : h.opened ≤ h.kept
 
--- The tape stands for this history: its ledger is the fold of the notes, and whatever a stop leaves now stands for the ledger
+-- The tape stands for this history: its ledger is the fold of the notes, and whatever a stop leaves now
+-- stands for the ledger
 -- after the first of them with every acknowledged one. Unless it broke it can go on.
 pub record StandsFor {D : Type 0} {g : Ghosts D} (tape : Tape D g) (h : History) : Type 0 where
   pub honest : AreHonest tape
@@ -52,13 +54,16 @@ pub record StandsFor {D : Type 0} {g : Ghosts D} (tape : Tape D g) (h : History)
 abbrev pub contents_of : Log → Octets
 contents_of log = (content log.0, content log.1)
 
--- The calls that open a tape: the other disk is synced, and the end of the segment that lives is repaired, whose records
+-- The calls that open a tape: the other disk is synced, and the end of the segment that lives is repaired,
+-- whose records
 -- end here.
 abbrev pub tape_opening : Bool → ℕ → Log → Log
 tape_opening second end old =
-    placed second (opening (length (content (live_of second old))) end (live_of second old)) (Synced ∷ other_of second old)
+    placed second (opening (length (content (live_of second old))) end (live_of second old))
+        (Synced ∷ other_of second old)
 
--- A tape was opened on disks with this log: it stands for what they held, all acknowledged. Until a disk's first sync its
+-- A tape was opened on disks with this log: it stands for what they held, all acknowledged. Until a disk's
+-- first sync its
 -- images were those from before, and from it on each is its content, or reads as that.
 pub record IsOpenedTape {D : Type 0} {g : Ghosts D} (old : Log) (tape : Tape D g) : Type 0 where
   pub state : State
@@ -68,7 +73,8 @@ pub record IsOpenedTape {D : Type 0} {g : Ghosts D} (old : Log) (tape : Tape D g
   pub moments : TapeLeaves (KeptTape old) old (log_of tape)
   pub first_sync : TapeFirstSync old (log_of tape)
 
--- Disks with this log were handed back: a stop left of each an image from before, or, from its first sync on, its content or
+-- Disks with this log were handed back: a stop left of each an image from before, or, from its first sync on,
+-- its content or
 -- one that reads as that.
 pub record IsRefusedTape {D : Type 0} {g : Ghosts D} (old : Log) (refused : RefusedTape D g) : Type 0 where
   pub first_honest : g.honest refused.a

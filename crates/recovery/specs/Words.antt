@@ -85,7 +85,8 @@ module _ {D : Type 0} {g : Ghosts D} where
 
   -- A rotation is due: the segment that lives is longer than 65,536 octets, and than four times what a rotation writes.
   abbrev pub IsDue : Tape D g → Type 0
-  IsDue tape = (65536 < journal_end tape.segments.live + 1) × (4 * rotated_length tape < journal_end tape.segments.live + 1)
+  IsDue tape = (65536 < journal_end tape.segments.live + 1) × (4 * rotated_length tape < journal_end
+      tape.segments.live + 1)
 
   -- the calls of a flush of these payloads
   abbrev pub flushing : List (List ℕ) → Tape D g → Log
@@ -98,7 +99,8 @@ module _ {D : Type 0} {g : Ghosts D} where
       placed tape.segments.second (live_log tape)
       (renewing (written (generation_of tape + 1) (ledger_of tape)) (other_log tape))
 
-  -- Nothing changed: neither the segments nor the ledger, nor the octets of what pends, nor how many notes were flushed.
+  -- Nothing changed: neither the segments nor the ledger, nor the octets of what pends, nor how many notes
+  -- were flushed.
   pub record IsSame (old new : Tape D g) : Type 0 where
     pub segments : new.segments ≡ old.segments
     pub ledger : ledger_of new ≡ ledger_of old

@@ -7,5 +7,7 @@ use Rattle.drill.proofs.step.Step.of_parts.Goals as goal
 pub returns-in_default-Some : goal.returns-in_default-Some
 returns-in_default-Some c =
     says_step c.args.word.now (λ (same : c.args.word.now ≡ codes "line"). grind arith) (λ (same : c.args.word.now ≡ codes "connect"). grind arith)
-    (λ (same : c.args.word.now ≡ codes "shed"). grind arith) (λ (same : c.args.word.now ≡ codes "rotate"). grind arith) (λ (same : c.args.word.now ≡ codes "tick"). grind arith) (λ (same : c.args.word.now ≡ codes "stop"). grind arith)
+    (λ (same : c.args.word.now ≡ codes "shed"). grind arith) (λ (same : c.args.word.now ≡ codes "rotate"). grind
+        arith) (λ (same : c.args.word.now ≡ codes "tick"). grind arith)
+        (λ (same : c.args.word.now ≡ codes "stop"). grind arith)
     (λ t. t.now) c.args.text _ c.step_on.result c.step_on.ensures (grind arith)

@@ -10,6 +10,7 @@ use Rattle.ledger_core.proofs.ledger.Ledger.written.Given as goal
 
 abbrev pub invariant-loop-number : goal.invariant-loop-number
 invariant-loop-number l = record {
-  spelled : octets_of l.payloads.items ≡ base_spelling (base_of l.generation (state_of l.self)) ∷ spellings (owes (map deref_pair l.yielded));
+  spelled : octets_of l.payloads.items ≡ base_spelling (base_of l.generation (state_of l.self)) ∷ spellings
+      (owes (map deref_pair l.yielded));
   notes : AreNotes (owes (map deref_pair l.yielded));
 }
