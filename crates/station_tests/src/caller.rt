@@ -30,8 +30,8 @@ pub(crate) const SMALL: Limits = Limits {
 pub(crate) const NOT_HELD: StationFault = StationFault::NotHeld;
 
 // How many calls of the first disk the opening of a tape makes that owes three debts there: two reads of what stands
-// first, two of each debt, one of the end behind them, and a sync, a cut, a sync, a write and a sync.
-const OPENING_CALLS: u64 = 14;
+// first, one of all of it, and a sync, a cut, a sync, a write and a sync.
+const OPENING_CALLS: u64 = 8;
 
 // And of the second disk, where it is empty: a sync.
 const OTHER_CALLS: u64 = 1;

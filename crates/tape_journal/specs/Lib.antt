@@ -7,4 +7,5 @@ pub mod Segment
 pub mod SegmentLaws
 pub mod Stage
 pub mod Unrepaired
+pub mod Window
 pub mod Words

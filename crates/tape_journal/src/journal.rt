@@ -6,6 +6,7 @@ ghost use Rattle.tape_journal.specs.declared.fault.OpenFault.TheVariants.{Damage
 
 use crate::append::{add_records, are_short, length_of, staging_of};
 use crate::read::{payloads_of, record_at};
+use crate::window::Window;
 use crate::{AppendFault, OpenFault, ReadFault, Unrepaired};
 use disk_model::Disk;
 use std::alloc::Global;
@@ -214,7 +215,14 @@ impl<D: Disk> Journal<D> {
         if offset >= len {
             return Err(ReadFault::Disk);
         }
-        match record_at(self.alloc, &mut self.disk, offset, len) {
+        let found = record_at(
+            self.alloc,
+            &mut Window::unbuffered(self.alloc),
+            &mut self.disk,
+            offset,
+            len,
+        );
+        match found {
             Ok(Some(payload)) => Ok(payload),
             Ok(None) => Err(ReadFault::Disk),
             Err(fault) => Err(read_fault_of(fault)),

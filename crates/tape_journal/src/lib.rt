@@ -14,6 +14,7 @@ mod read;
 mod renew;
 mod repair;
 mod unrepaired;
+mod window;
 
 pub use fault::{AppendFault, OpenFault, ReadFault, RenewFault};
 pub use journal::{Journal, Refused};

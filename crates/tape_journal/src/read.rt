@@ -1,13 +1,15 @@
 // Reading a segment, front to back.
 ghost use Rattle.std.specs.Prelude.{◌≡◌, ◌+◌, ◌-◌, ◌^◌, ◌<◌, ◌≤◌, ◌↔◌, ℕ, List, length, min, take, drop, IfOk, OnOk, IsErrOf, MatchOption, IfSome};
 ghost use Rattle.std.specs.Int.{to_be_bytes, from_be_bytes, w32};
-ghost use Rattle.disk_model.specs.Disk.{content, CountsFaults};
+ghost use Rattle.disk_model.specs.Disk.{content};
 ghost use Rattle.tape_journal.specs.Head.{IsHead, FitsHead};
 ghost use Rattle.tape_journal.specs.Segment.{Ends, IsRecord, IsCutShort, IsDamagedAt, HasPayloads};
+ghost use Rattle.tape_journal.specs.Window.{Shows};
 ghost use Rattle.tape_journal.specs.Words.{octets_of};
 
 use crate::OpenFault;
-use disk_model::{Disk, DiskFault};
+use crate::window::Window;
+use disk_model::Disk;
 use std::alloc::Global;
 
 pub(crate) const OPEN: u8 = 0xa5;
@@ -26,29 +28,16 @@ pub(crate) enum Head {
     Record(u32),
 }
 
-// Fills a slice from an offset on, which may lie behind the end of a disk that doesn't keep the model.
-fn fill<D: Disk>(disk: &mut D, at: u64, into: &mut [u8]) -> Result<(), DiskFault>
-    ensures honest { D.honest disk.old ↔ D.honest disk.new }
-    ensures log { D.honest disk.old → D.log disk.new ≡ D.log disk.old }
-    ensures octets { D.honest disk.old → OnOk result (into.new ≡ take (length into.old) (drop at (content (D.log disk.old)))) }
-    ensures later { D.told disk.old ≤ D.told disk.new }
-    ensures cause { D.honest disk.old → at + length into.old ≤ length (content (D.log disk.old)) → CountsFaults (D.told disk.old) (D.told disk.new) result }
-    ensures quiet { OnOk result (D.told disk.new ≡ D.told disk.old) }
-{
-    let len = disk.len();
-    if at > len || into.len() as u64 > len - at {
-        return Err(DiskFault);
-    }
-    disk.read_at(at, into)
-}
-
 // This many octets from an offset on.
 fn octets_at<D: Disk>(
     alloc: Global,
+    window: &mut Window,
     disk: &mut D,
     at: u64,
     count: usize,
 ) -> Result<Vec<u8>, OpenFault>
+    requires { D.honest disk.old → Shows window.old (content (D.log disk.old)) }
+    ensures shows { D.honest disk.old → Shows window.new (content (D.log disk.old)) }
     ensures honest { D.honest disk.old ↔ D.honest disk.new }
     ensures log { D.honest disk.old → D.log disk.new ≡ D.log disk.old }
     ensures octets { D.honest disk.old → IfOk result (λ v. v.items ≡ take count (drop at (content (D.log disk.old)))) }
@@ -59,7 +48,7 @@ fn octets_at<D: Disk>(
     ensures quiet { OnOk result (D.told disk.new ≡ D.told disk.old) }
 {
     let mut octets = vec![in alloc; 0u8; count]?;
-    fill(disk, at, &mut octets)?;
+    window.fill(disk, at, &mut octets)?;
     Ok(octets)
 }
 
@@ -95,11 +84,14 @@ fn head_of(octets: &[u8], left: u64) -> Head
 // The record at an offset before the segment's end, or None where the segment ends there.
 pub(crate) fn record_at<D: Disk>(
     alloc: Global,
+    window: &mut Window,
     disk: &mut D,
     at: u64,
     len: u64,
 ) -> Result<Option<Vec<u8>>, OpenFault>
-    requires { at < len }
+    requires inside { at < len }
+    requires shows { D.honest disk.old → Shows window.old (content (D.log disk.old)) }
+    ensures shows { D.honest disk.old → Shows window.new (content (D.log disk.old)) }
     ensures honest { D.honest disk.old ↔ D.honest disk.new }
     ensures log { D.honest disk.old → D.log disk.new ≡ D.log disk.old }
     ensures within { IfOk result (λ o. IfSome o (λ p. at + 5 + length p.items ≤ len)) }
@@ -112,12 +104,12 @@ pub(crate) fn record_at<D: Disk>(
     let left = len - at;
     let mut octets = [0u8; 5];
     let first = &mut octets[..left.min(HEAD_LEN) as usize];
-    fill(disk, at, first)?;
+    window.fill(disk, at, first)?;
     match head_of(first, left) {
         Head::End => Ok(None),
         Head::CutShort => Err(OpenFault::Damaged { at }),
         Head::Record(size) => {
-            let payload = octets_at(alloc, disk, at + HEAD_LEN, size as usize)?;
+            let payload = octets_at(alloc, window, disk, at + HEAD_LEN, size as usize)?;
             Ok(Some(payload))
         }
     }
@@ -142,9 +134,10 @@ pub(crate) fn payloads_of<D: Disk>(
     if len == 0 {
         return Ok((payloads, 0));
     }
+    let mut window = Window::onto(alloc, len)?;
     let mut end = 0;
     while end < len {
-        match record_at(alloc, disk, end, len)? {
+        match record_at(alloc, &mut window, disk, end, len)? {
             None => return Ok((payloads, end)),
             Some(payload) => {
                 end += HEAD_LEN + payload.len() as u64;
@@ -176,5 +169,5 @@ pub fn peek_first<D: Disk>(alloc: Global, disk: &mut D) -> Result<Option<Vec<u8>
     if len == 0 {
         return Ok(None);
     }
-    record_at(alloc, disk, 0, len)
+    record_at(alloc, &mut Window::unbuffered(alloc), disk, 0, len)
 }

@@ -486,11 +486,11 @@ fn calls_of<A: Abort>(rt: &A, alloc: Global, segment: &[u8]) -> Result<u64, Fail
     Err(Fail::from("no end of calls"))
 }
 
-// Opening an empty disk takes five calls, and three more for one record: two reads of it, and one
-// of the end. Two payloads take five calls, and one takes four.
+// Opening an empty disk takes five calls, and one more, a read, where something lies there. Two
+// payloads take five calls, and one takes four.
 #[test]
 fn a_fault_at_any_call_leaves_a_front(rt: HostRuntime) -> Result<(), Fail> {
-    for (segment, calls) in [([].as_slice(), 14), (&SEGMENT, 17)] {
+    for (segment, calls) in [([].as_slice(), 14), (&SEGMENT, 15)] {
         assert_answer(
             &rt,
             segment.len(),

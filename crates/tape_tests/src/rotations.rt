@@ -507,7 +507,7 @@ fn a_changed_octet_is_read_or_told_as_damage(rt: HostRuntime) -> Result<(), Fail
 }
 
 // No opening here makes as many calls of a disk, reads among them.
-const OPENING_CALLS: u64 = 15;
+const OPENING_CALLS: u64 = 9;
 
 // An opening of this image of the disks is stopped behind each call of either: what is left is a front all the same.
 fn assert_openings<A: Abort>(

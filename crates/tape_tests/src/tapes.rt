@@ -539,14 +539,14 @@ fn a_damaged_tape_is_left_as_it_was(rt: HostRuntime) -> Result<(), Fail> {
 // does not live, or of the other where that one's calls are let through.
 #[test]
 fn a_tape_is_repaired(rt: HostRuntime) -> Result<(), Fail> {
-    // What lies on the first disk, and how many reads of it an opening makes: two of each record, first of the one
-    // that stands first, and one of the end.
+    // What lies on the first disk, and how many reads of it an opening makes: two of the record that stands first, and
+    // then one of all that lies there.
     const ROWS: &[(&[u8], u64)] = &[
         (&[], 0),
         (&[0xa5], 2),
-        (&OWED, 5),
-        (&ANSWERED, 7),
-        (&TORN, 5),
+        (&OWED, 3),
+        (&ANSWERED, 3),
+        (&TORN, 3),
     ];
     for (row, (octets, reads)) in ROWS.iter().enumerate() {
         assert_repaired(&rt, rt.alloc(), row, octets, *reads)?;
@@ -727,7 +727,7 @@ fn a_stop_leaves_a_front(rt: HostRuntime) -> Result<(), Fail> {
         Step::Flush(Ok(3)),
     ];
     // What lies on the first disk, its stops from this call on, below that one, the steps, and how many debts are
-    // left. The last is of an opening that cuts off what a torn write left, and reads five times first.
+    // left. The last is of an opening that cuts off what a torn write left, and reads three times first.
     const STOPS: &[(&[u8], u64, u64, &[Step], Counts)] = &[
         (&[], 0, 5, &[], (0, 0)),
         (&[], 5, 10, FIRST, (0, 2)),

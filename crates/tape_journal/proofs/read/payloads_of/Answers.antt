@@ -4,6 +4,7 @@ use Rattle.std.specs.declared.alloc.Global.{Global}
 use Rattle.std.proofs.lemmas.List.{map_push}
 use Rattle.disk_model.specs.Disk.{Event, content}
 use Rattle.tape_journal.specs.Segment.{Ends, IsRecord}
+use Rattle.tape_journal.specs.Window.{Shows}
 use Rattle.tape_journal.specs.Words.{octets_of}
 use Rattle.tape_journal.proofs.Reading.{HasRead, read_more, read_end}
 use Rattle.tape_journal.proofs.read.payloads_of.Goals as goal
@@ -39,6 +40,7 @@ loop-end-preserved g c =
           let place : c.loop-end.end + (5 + length c.in-Some.payload.items) ≡ c.loop-end.end + (5 + c.len.result) = omega (arith, c.len.ensures) in
           let all = content (g.D.Disk.log c.args.disk.now) in
           subst (λ (n : ℕ). HasRead all (octets_of c.push.new.self.items) n) place (subst (λ (ps : List (List ℕ)). HasRead all ps (c.loop-end.end + (5 + length c.in-Some.payload.items))) (sym items) more);
+      shows = λ h. same_content _ _ (Shows c.record_at.new.window) (i.log h) (c.record_at.ensures.shows (i.honest.0 h));
       later = omega (arith, i.later, c.record_at.ensures.later);
       quiet = omega (arith, i.quiet, c.in_ok-record_at.ensures.quiet);
     }

@@ -27,3 +27,14 @@ returns-in_ok-payload-in-Record-clause-reads g c honest len =
     c.in_ok-payload-in-Record.ensures.octets (c.fill.ensures.honest.0 honest)
     ∙ (ap (λ (l : List Event). take size (drop (c.args.at + 5) (content l))) (c.fill.ensures.log honest) ∙ ap (take size) (sym (drop-drop 5 c.args.at all))) in
     record_begins size rest payload begins is c.in_ok-payload-in-Record.ensures.length
+
+pub returns-in-End-clause-reads : goal.returns-in-End-clause-reads
+returns-in-End-clause-reads g c honest len =
+    let all = content (g.D.Disk.log c.args.disk.now) in
+    let rest = drop c.args.at all in
+    let left : length rest ≡ c.args.len - c.args.at = omega (arith, length-drop c.args.at all) in
+    let long : length c.fill.new.into ≡ min (c.args.len - c.args.at) 5 =
+    omega (arith, c.fill.auto.into, length-take {A = ℕ}) in
+    let first = first_five rest c.fill.new.into _ (c.in_ok-fill.ensures.octets honest)
+    (omega (arith, left, long)) in
+    c.in-End.ensures.is rest left first
