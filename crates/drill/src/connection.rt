@@ -2,6 +2,8 @@
 ghost use Rattle.std.specs.Prelude.{◌≡◌, ◌++◌, ◌∷◌, [], ℕ, List, IfOk, OnOk, decimal};
 ghost use Rattle.conn_core.specs.Stands.{Stands};
 ghost use Rattle.conn_core.specs.State.{untold_at};
+ghost use Rattle.peer_queue.specs.Settled.{settled_by};
+ghost use Rattle.peer_queue.specs.Words.{limits_of};
 ghost use Rattle.drill.specs.Exchange.{AllSettle, Settles, options_of, reason_text, reply_fault_text};
 
 use crate::action::Action;
@@ -9,13 +11,13 @@ use crate::fault::Fault;
 use crate::lines::first_line;
 use crate::numbers::add_number;
 use crate::peer::Peer;
-use crate::told::told_by;
+use crate::told::add_settled;
 use article_store::Found;
 use conn_core::{ArticleFault, Conn, CxnId, OfferFault, Options, Outcome, Reason};
 use disk_model::Disk;
 use feed_conf::PeerConf;
 use funnel::{PeerName, without_cr};
-use peer_queue::Station;
+use peer_queue::{Settled, Station, number_in};
 use reply_reader::ReplyFault;
 use std::alloc::{AllocError, Global};
 
@@ -152,11 +154,11 @@ impl Connection {
     {
         let id = self.conn.id();
         while let Some(outcome) = self.conn.outcome() {
-            let told = told_by(&outcome, peer.conf.drop_deferred, now);
-            settle(peer, id, outcome, now)?;
+            let number = number_in(&outcome);
+            let settled = settle(peer, id, outcome, now)?;
             add_name(out, id)?;
             out.push(b' ')?;
-            told.add_to(out)?;
+            add_settled(out, number, settled)?;
             out.push(b'\n')?;
         }
         Ok(())
@@ -187,18 +189,19 @@ fn options_of(conf: &PeerConf) -> Options
 }
 
 // Takes an outcome of a connection to its peer's station.
-fn settle<D: Disk>(peer: &mut Peer<D>, id: CxnId, outcome: Outcome, now: u64) -> Result<(), Fault>
-    ensures { OnOk result (Settles id now outcome peer.old peer.new) }
+fn settle<D: Disk>(
+    peer: &mut Peer<D>,
+    id: CxnId,
+    outcome: Outcome,
+    now: u64,
+) -> Result<Settled, Fault>
+    ensures settled { IfOk result (λ settled.
+        settled ≡ settled_by (limits_of peer.old.station) now outcome) }
+    ensures ok { OnOk result (Settles id now outcome peer.old peer.new) }
 {
-    let refused = match outcome {
-        Outcome::Final(verdict) => peer.station.settle(id, verdict).map_err(|e| e.1),
-        Outcome::Deferred(deferral) => peer.station.defer(id, deferral, now).map_err(|e| e.1),
-        Outcome::Lost(debt, cause) => peer.station.lose(id, debt, cause).map_err(|e| e.1),
-        Outcome::Back(debt) => peer.station.back(id, debt).map_err(|e| e.1),
-    };
-    match refused {
-        Ok(()) => Ok(()),
-        Err(fault) => Err(Fault::from(fault)),
+    match peer.station.finish(id, outcome, now) {
+        Ok(settled) => Ok(settled),
+        Err((_, fault)) => Err(Fault::from(fault)),
     }
 }
 

@@ -17,6 +17,10 @@ use Rattle.recovery.specs.Tape.{StandsFor as TapeStandsFor}
 use Rattle.recovery.specs.declared.tape.Tape.{Tape}
 use Rattle.peer_queue.specs.declared.station.Station.{Station}
 use Rattle.peer_queue.specs.Words.{AreHonest, IsSame, IsSameTape, Notes, StandsFor, disks_of, ledger_of}
+use Rattle.peer_queue.specs.Settled.{Settles}
+use Rattle.peer_queue.specs.declared.settled.Settled.{Settled}
+use Rattle.peer_queue.specs.declared.settled.Settled.TheVariants.{Answered, Dropped, Later, Ready}
+use Rattle.flusher.specs.Counted.{answered_by, dropped_by}
 use Rattle.flusher.specs.Kept.{IsKept}
 
 -- two disks, told by the one that lives
@@ -85,15 +89,13 @@ module _ {D : Type 0} {g : Ghosts D} where
       → ∥ IsKept new ∥₁
   keeps_shed old new numbers disks stands kept = ∥∥₁_map kept (shed_kept old new numbers disks stands)
 
-  pub keeps_backed : {A E : Type 0} (P Q : Type 0) (old new : Station D g) (result : Result A E)
-      → OnOk result (IsSameTape old new × P × Q) → OnErr result (IsSame old new) → ∥ IsKept old ∥₁ → ∥ IsKept new ∥₁
-  keeps_backed P Q old new (Ok a) ok err kept = keeps_tape old new ok.0 kept
-  keeps_backed P Q old new (Err e) ok err kept = keeps_same old new err kept
-
-  pub ledger_backed : {A E : Type 0} (P Q : Type 0) (old new : Station D g) (result : Result A E)
-      → OnOk result (IsSameTape old new × P × Q) → OnErr result (IsSame old new) → ledger_of new ≡ ledger_of old
-  ledger_backed P Q old new (Ok a) ok err = ap tape_ledger ok.0.tape
-  ledger_backed P Q old new (Err e) ok err = err.ledger
+  -- what became of a debt is one note, or leaves the tape as it was
+  pub keeps_settled : (connection number : ℕ) (settled : Settled) (old new : Station D g)
+      → Settles connection number settled old new → ∥ IsKept old ∥₁ → ∥ IsKept new ∥₁
+  keeps_settled connection number (Answered code) old new made kept = keeps_noted old new _ made.notes kept
+  keeps_settled connection number (Dropped cause) old new made kept = keeps_noted old new _ made.notes kept
+  keeps_settled connection number (Later moment) old new made kept = keeps_tape old new made.tape kept
+  keeps_settled connection number Ready old new made kept = keeps_tape old new made.tape kept
 
 -- these are what the state counts
 abbrev pub Counted : ℕ → ℕ → ℕ → State → Type 0
@@ -116,6 +118,26 @@ pub counted_drop : (a b c d n : ℕ) (cause : Cause) (old new : State) → new �
     → Counted a b c old → Counted a b d new
 counted_drop a b c d n cause old new same more was =
     subst (Counted a b d) (sym same) (was.0, was.1, omega (arith, was.2, more))
+
+counted_none : (a b n : ℕ) → b ≡ a + 0 → a ≡ n → b ≡ n
+counted_none a b n none was = omega (arith, none, was)
+
+module _ {D : Type 0} {g : Ghosts D} where
+  pub counted_settled : (a b c d e connection number : ℕ) (settled : Settled) (old new : Station D g)
+      → Settles connection number settled old new → d ≡ b + answered_by settled → e ≡ c + dropped_by settled
+      → Counted a b c (ledger_of old) → Counted a d e (ledger_of new)
+  counted_settled a b c d e connection number (Answered code) old new made more none was =
+      counted_final a b e d number code (ledger_of old) (ledger_of new) made.notes.ledger more
+      (was.0, was.1, counted_none c e _ none was.2)
+  counted_settled a b c d e connection number (Dropped cause) old new made none more was =
+      counted_drop a d c e number cause (ledger_of old) (ledger_of new) made.notes.ledger more
+      (was.0, counted_none b d _ none was.1, was.2)
+  counted_settled a b c d e connection number (Later moment) old new made none nor was =
+      counted_along a d e (ledger_of old) (ledger_of new) (ap tape_ledger made.tape.tape)
+      (was.0, counted_none b d _ none was.1, counted_none c e _ nor was.2)
+  counted_settled a b c d e connection number Ready old new made none nor was =
+      counted_along a d e (ledger_of old) (ledger_of new) (ap tape_ledger made.tape.tape)
+      (was.0, counted_none b d _ none was.1, counted_none c e _ nor was.2)
 
 counted_drops : (a b c : ℕ) (cause : Cause) (numbers : List ℕ) (old : State) → Counted a b c old
     → Counted a b (c + length numbers) (after old (drops cause numbers))

@@ -1,7 +1,7 @@
 // What workers ask of a post.
 ghost use Rattle.std.specs.Prelude.{◌≡◌, ◌+◌, ◌-◌, ◌<◌, ◌≤◌, ◌^◌, [], length, slice_index_or, true, false};
 ghost use Rattle.std.specs.Prelude.{if◌then◌else◌, IfOk, IfErr, OnOk, OnErr, max, nat_lt};
-ghost use Rattle.flusher.specs.Ended.{IsCounted};
+ghost use Rattle.flusher.specs.Counted.{IsCounted};
 ghost use Rattle.flusher.specs.Marks.{IsRaised, IsRaisedBy, IsTakenAt, rises};
 
 use crate::desk::Desk;
@@ -15,7 +15,7 @@ use conn_core::{CxnId, Outcome};
 use disk_model::Disk;
 use funnel::{FunnelLine, LineFault, read_line};
 use ledger_core::{Debt, Note, Totals};
-use peer_queue::{Shed, StationFault};
+use peer_queue::{Settled, Shed, StationFault};
 use recovery::TapeFault;
 use std::hint::spin_loop;
 use std::sync::atomic::Ordering;
@@ -27,15 +27,6 @@ const HALF: u64 = 32_768;
 
 // How often a call that waits for nobody looks whether a station is free.
 const LOOKS: u32 = 100;
-
-/// What became of a debt that a feeder finished.
-#[derive(Clone, Copy, Debug, PartialEq, Eq)]
-pub enum Ended {
-    Answered,
-    Dropped,
-    Later,
-    Ready,
-}
 
 /// All lines up to this number are acknowledged. `Post::flush_all` alone makes one.
 #[derive(Clone, Copy, Debug, PartialEq, Eq)]
@@ -185,7 +176,10 @@ impl<D: Disk, N: Naming> Post<D, N> {
         }
     }
 
-    /// Finishes what became of a debt, and counts it.
+    /// Takes what a connection tells of a debt to its peer's station, and counts what became of it.
+    ///
+    /// # Errors
+    /// The outcome is handed back. `CountFull`; then the station's.
     pub fn finish<R: Wait>(
         &self,
         rt: &R,
@@ -194,10 +188,10 @@ impl<D: Disk, N: Naming> Post<D, N> {
         outcome: Outcome,
         now: u64,
         mine: &mut FeederShare<N>,
-    ) -> Result<Ended, (Outcome, PostFault)>
+    ) -> Result<Settled, (Outcome, PostFault)>
         requires { peer < length self.now.names }
         ensures counted { IfOk result
-            (λ ended. IsCounted outcome ended mine.old.answered mine.old.dropped mine.new.answered mine.new.dropped) }
+            (λ settled. IsCounted outcome now settled mine.old mine.new) }
         ensures handed { IfErr result (λ e. e.0 ≡ outcome) }
         ensures unchanged { OnErr result
             ((mine.new.answered ≡ mine.old.answered) × (mine.new.dropped ≡ mine.old.dropped)) }
@@ -218,10 +212,10 @@ impl<D: Disk, N: Naming> Post<D, N> {
         outcome: Outcome,
         now: u64,
         mine: &mut FeederShare<N>,
-    ) -> Result<Ended, (Outcome, PostFault)>
+    ) -> Result<Settled, (Outcome, PostFault)>
         requires { peer < length self.now.names }
         ensures counted { IfOk result
-            (λ ended. IsCounted outcome ended mine.old.answered mine.old.dropped mine.new.answered mine.new.dropped) }
+            (λ settled. IsCounted outcome now settled mine.old mine.new) }
         ensures handed { IfErr result (λ e. e.0 ≡ outcome) }
         ensures unchanged { OnErr result
             ((mine.new.answered ≡ mine.old.answered) × (mine.new.dropped ≡ mine.old.dropped)) }
@@ -234,7 +228,7 @@ impl<D: Disk, N: Naming> Post<D, N> {
         }
     }
 
-    // Finishes what became of a debt at its peer's station, and counts it.
+    // Takes what a connection tells of a debt to its peer's station, and counts what became of it.
     fn finish_at<R: Wait>(
         &self,
         rt: &R,
@@ -244,18 +238,25 @@ impl<D: Disk, N: Naming> Post<D, N> {
         outcome: Outcome,
         now: u64,
         mine: &mut FeederShare<N>,
-    ) -> Result<Ended, (Outcome, PostFault)>
+    ) -> Result<Settled, (Outcome, PostFault)>
         requires { peer < length self.now.names }
         ensures counted { IfOk result
-            (λ ended. IsCounted outcome ended mine.old.answered mine.old.dropped mine.new.answered mine.new.dropped) }
+            (λ settled. IsCounted outcome now settled mine.old mine.new) }
         ensures handed { IfErr result (λ e. e.0 ≡ outcome) }
         ensures unchanged { OnErr result
             ((mine.new.answered ≡ mine.old.answered) × (mine.new.dropped ≡ mine.old.dropped)) }
     {
+        let mut tally = self.tally.lock(rt);
+        if !tally.has_room() {
+            return Err((outcome, PostFault::CountFull));
+        }
         let before = desk.pending();
-        let ended = self.end_at(rt, peer, desk, connection, outcome, now, mine);
+        let finished = desk.finish(&mut tally, mine, connection, outcome, now);
         self.note_half_full(peer, before, desk.pending());
-        ended
+        match finished {
+            Ok(settled) => Ok(settled),
+            Err((outcome, fault)) => Err((outcome, PostFault::Station { peer, fault })),
+        }
     }
 
     // Notes whether half of the notes that may pend have come to pend at a peer's station, with this many before and
@@ -265,88 +266,6 @@ impl<D: Disk, N: Naming> Post<D, N> {
     {
         if before < HALF && now >= HALF {
             self.peers[peer].half_full.store(true, Ordering::SeqCst);
-        }
-    }
-
-    // Ends a debt at its peer's station as its outcome says, and counts it.
-    fn end_at<R: Wait>(
-        &self,
-        rt: &R,
-        peer: usize,
-        desk: &mut Desk<D, N>,
-        connection: CxnId,
-        outcome: Outcome,
-        now: u64,
-        mine: &mut FeederShare<N>,
-    ) -> Result<Ended, (Outcome, PostFault)>
-        ensures counted { IfOk result
-            (λ ended. IsCounted outcome ended mine.old.answered mine.old.dropped mine.new.answered mine.new.dropped) }
-        ensures handed { IfErr result (λ e. e.0 ≡ outcome) }
-        ensures unchanged { OnErr result
-            ((mine.new.answered ≡ mine.old.answered) × (mine.new.dropped ≡ mine.old.dropped)) }
-    {
-        match outcome {
-            Outcome::Final(verdict) => {
-                let mut tally = self.tally.lock(rt);
-                if tally.answered.is_full() {
-                    return Err((Outcome::Final(verdict), PostFault::CountFull));
-                }
-                match desk.settle(&mut tally.answered, &mut mine.answered, connection, verdict) {
-                    Ok(()) => Ok(Ended::Answered),
-                    Err((verdict, fault)) => {
-                        Err((Outcome::Final(verdict), PostFault::Station { peer, fault }))
-                    }
-                }
-            }
-            Outcome::Deferred(deferral) => {
-                let mut tally = self.tally.lock(rt);
-                if tally.dropped.is_full() {
-                    return Err((Outcome::Deferred(deferral), PostFault::CountFull));
-                }
-                match desk.defer(
-                    &mut tally.dropped,
-                    &mut mine.dropped,
-                    connection,
-                    deferral,
-                    now,
-                ) {
-                    Ok(true) => Ok(Ended::Dropped),
-                    Ok(false) => Ok(Ended::Later),
-                    Err((deferral, fault)) => {
-                        Err((
-                            Outcome::Deferred(deferral),
-                            PostFault::Station { peer, fault },
-                        ))
-                    }
-                }
-            }
-            Outcome::Lost(debt, cause) => {
-                let mut tally = self.tally.lock(rt);
-                if tally.dropped.is_full() {
-                    return Err((Outcome::Lost(debt, cause), PostFault::CountFull));
-                }
-                match desk.lose(
-                    &mut tally.dropped,
-                    &mut mine.dropped,
-                    connection,
-                    debt,
-                    cause,
-                ) {
-                    Ok(()) => Ok(Ended::Dropped),
-                    Err((debt, fault)) => {
-                        Err((
-                            Outcome::Lost(debt, cause),
-                            PostFault::Station { peer, fault },
-                        ))
-                    }
-                }
-            }
-            Outcome::Back(debt) => match desk.back(connection, debt) {
-                Ok(()) => Ok(Ended::Ready),
-                Err((debt, fault)) => {
-                    Err((Outcome::Back(debt), PostFault::Station { peer, fault }))
-                }
-            },
         }
     }
 

@@ -1,25 +1,26 @@
 // What a station's lock keeps.
 ghost use Rattle.std.specs.Prelude.{◌≡◌, ◌+◌, ◌<◌, ◌≤◌, ◌^◌, IfOk, IfErr, OnOk, OnErr, true, false, if◌then◌else◌, max};
 ghost use Rattle.std.specs.Prelude.{length, nat_lt};
-ghost use Rattle.peer_queue.specs.Words.{IsSame, IsSameTape, Notes, code_of, ledger_of, limits_of, number_of};
+ghost use Rattle.peer_queue.specs.Settled.{Finishes};
+ghost use Rattle.peer_queue.specs.Words.{IsSame, IsSameTape, ledger_of};
 ghost use Rattle.peer_queue.specs.Words.{places_of, pending_of};
 ghost use Rattle.peer_queue.specs.Place.{least_candidate, held_count};
-ghost use Rattle.ledger_core.specs.declared.note.Note.{Note};
+ghost use Rattle.flusher.specs.Counted.{IsCounted};
 ghost use Rattle.flusher.specs.Kept.{IsKept};
 
 use crate::Naming;
 use crate::fault::TakeFault;
 use crate::naming::{
-    AnsweredAtStations, AnsweredByFeeders, DroppedAtStations, DroppedByFeeders, TakenAtStations,
-    TakenByIntake,
+    AnsweredAtStations, DroppedAtStations, DroppedByFeeders, TakenAtStations, TakenByIntake,
 };
 use crate::peer::{counted_at, noted_in};
-use crate::tally::Books;
-use conn_core::{CxnId, Deferral, Verdict};
+use crate::share::FeederShare;
+use crate::tally::{Books, Tally};
+use conn_core::{CxnId, Outcome};
 use disk_model::Disk;
 use funnel::FunnelLine;
-use ledger_core::{Cause, Debt};
-use peer_queue::{Owed, Shed, Station, StationFault};
+use ledger_core::Debt;
+use peer_queue::{Owed, Settled, Shed, Station, StationFault};
 use std::sync::ledger::Share;
 
 /// A station, and its shares of what the stations have counted.
@@ -71,103 +72,33 @@ impl<D: Disk, N: Naming> Desk<D, N> {
         }
     }
 
-    /// Settles a debt, and counts it.
-    pub fn settle(
+    /// Takes what a connection tells of a debt, and counts what became of it.
+    pub fn finish(
         &mut self,
-        books: &mut Books<AnsweredByFeeders<N>, AnsweredAtStations<N>>,
-        mine: &mut Share<AnsweredByFeeders<N>>,
+        tally: &mut Tally<N>,
+        mine: &mut FeederShare<N>,
         connection: CxnId,
-        verdict: Verdict,
-    ) -> Result<(), (Verdict, StationFault)>
-        requires part { mine.old.parts ≡ 1 }
-        requires room { books.old + 1 < 2 ^ 64 }
-        ensures noted { OnOk result
-            (Notes self.old.station self.new.station
-            (Note.Final (number_of verdict) (code_of verdict))) }
-        ensures counted { OnOk result (mine.new.amount ≡ mine.old.amount + 1) }
-        ensures handed { IfErr result (λ e. e.0 ≡ verdict) }
+        outcome: Outcome,
+        now: u64,
+    ) -> Result<Settled, (Outcome, StationFault)>
+        requires room { (tally.old.answered + 1 < 2 ^ 64) × (tally.old.dropped + 1 < 2 ^ 64) }
+        ensures ok { OnOk result
+            (Finishes connection.0 now outcome self.old.station self.new.station) }
+        ensures counted { IfOk result
+            (λ settled. IsCounted outcome now settled mine.old mine.new) }
+        ensures handed { IfErr result (λ e. e.0 ≡ outcome) }
         ensures unchanged { OnErr result
-            (IsSame self.old.station self.new.station × (mine.new.amount ≡ mine.old.amount)) }
-        ensures part { mine.new.parts ≡ 1 }
+            (IsSame self.old.station self.new.station × (mine.new ≡ mine.old)) }
     {
         let Desk {
             station,
             answered,
-            ..
-        } = self;
-        station.settle(connection, verdict)?;
-        books.count(mine, answered, 1);
-        Ok(())
-    }
-
-    /// Puts a debt off or drops it, and counts it where it drops it. True: it was dropped.
-    pub fn defer(
-        &mut self,
-        books: &mut Books<DroppedByFeeders<N>, DroppedAtStations<N>>,
-        mine: &mut Share<DroppedByFeeders<N>>,
-        connection: CxnId,
-        deferral: Deferral,
-        now: u64,
-    ) -> Result<bool, (Deferral, StationFault)>
-        requires part { mine.old.parts ≡ 1 }
-        requires room { books.old + 1 < 2 ^ 64 }
-        ensures drops { IfOk result (λ drops. drops ≡ (limits_of self.old.station).drop_deferred) }
-        ensures counted { IfOk result
-            (λ drops. mine.new.amount ≡ mine.old.amount + (if drops then 1 else 0)) }
-        ensures handed { IfErr result (λ e. e.0 ≡ deferral) }
-        ensures unchanged { OnErr result
-            (IsSame self.old.station self.new.station × (mine.new.amount ≡ mine.old.amount)) }
-        ensures part { mine.new.parts ≡ 1 }
-    {
-        let Desk {
-            station,
             dropped,
             ..
         } = self;
-        let drops = station.limits().drop_deferred;
-        station.defer(connection, deferral, now)?;
-        if drops {
-            books.count(mine, dropped, 1);
-        }
-        Ok(drops)
-    }
-
-    /// Drops a debt whose article cannot be sent, and counts it.
-    pub fn lose(
-        &mut self,
-        books: &mut Books<DroppedByFeeders<N>, DroppedAtStations<N>>,
-        mine: &mut Share<DroppedByFeeders<N>>,
-        connection: CxnId,
-        debt: Debt,
-        cause: Cause,
-    ) -> Result<(), (Debt, StationFault)>
-        requires part { mine.old.parts ≡ 1 }
-        requires room { books.old + 1 < 2 ^ 64 }
-        ensures noted { OnOk result
-            (Notes self.old.station self.new.station (Note.Drop debt.0 cause)) }
-        ensures counted { OnOk result (mine.new.amount ≡ mine.old.amount + 1) }
-        ensures handed { IfErr result (λ e. e.0 ≡ debt) }
-        ensures unchanged { OnErr result
-            (IsSame self.old.station self.new.station × (mine.new.amount ≡ mine.old.amount)) }
-        ensures part { mine.new.parts ≡ 1 }
-    {
-        let Desk {
-            station,
-            dropped,
-            ..
-        } = self;
-        station.lose(connection, debt, cause)?;
-        books.count(mine, dropped, 1);
-        Ok(())
-    }
-
-    /// Takes a debt back.
-    pub fn back(&mut self, connection: CxnId, debt: Debt) -> Result<(), (Debt, StationFault)>
-        ensures handed { IfErr result (λ e. e.0 ≡ debt) }
-        ensures ok { OnOk result (IsSameTape self.old.station self.new.station) }
-        ensures unchanged { OnErr result (IsSame self.old.station self.new.station) }
-    {
-        self.station.back(connection, debt)
+        let settled = station.finish(connection, outcome, now)?;
+        tally.count(mine, answered, dropped, settled);
+        Ok(settled)
     }
 
     /// Claims the least candidate.

@@ -17,7 +17,7 @@ mod signals;
 mod tally;
 mod threads;
 
-pub use calls::{Ended, Receipt};
+pub use calls::Receipt;
 pub use fault::PostFault;
 pub use flushes::Flusher;
 pub use naming::{Blanks, Naming};

@@ -1,11 +1,14 @@
 // The books of the counting ledgers.
 ghost use Rattle.std.specs.Prelude.{◌≡◌, ℕ, ◌+◌, ◌-◌, ◌^◌, ◌<◌, ◌≤◌, IsTrue, ◌↔◌};
+ghost use Rattle.flusher.specs.Counted.{Counts, answered_by, dropped_by};
 
 use crate::Naming;
 use crate::naming::{
     AnsweredAtStations, AnsweredByFeeders, AtStations, DroppedAtStations, DroppedByFeeders,
     TakenAtStations, TakenByIntake,
 };
+use crate::share::FeederShare;
+use peer_queue::Settled;
 use std::marker::Model;
 use std::sync::ledger::{Blank, Book, Ledger, Share};
 
@@ -67,6 +70,39 @@ pub struct Tally<N: Naming> {
     pub taken: Books<TakenByIntake<N>, TakenAtStations<N>>,
     pub answered: Books<AnsweredByFeeders<N>, AnsweredAtStations<N>>,
     pub dropped: Books<DroppedByFeeders<N>, DroppedAtStations<N>>,
+}
+
+impl<N: Naming> Tally<N> {
+    /// Whether there is room for whatever becomes of a debt.
+    pub fn has_room(&self) -> bool
+        ensures { IsTrue result
+            ↔ ((self.now.answered + 65537 < 2 ^ 64) × (self.now.dropped + 65537 < 2 ^ 64)) }
+    {
+        !self.answered.is_full() && !self.dropped.is_full()
+    }
+
+    /// Counts what became of a debt, told to a feeder, at its station.
+    pub fn count(
+        &mut self,
+        feeder: &mut FeederShare<N>,
+        answered: &mut Share<AnsweredAtStations<N>>,
+        dropped: &mut Share<DroppedAtStations<N>>,
+        settled: Settled,
+    )
+        requires parts { (answered.old.parts ≡ 1) × (dropped.old.parts ≡ 1) }
+        requires room { (self.old.answered + 1 < 2 ^ 64) × (self.old.dropped + 1 < 2 ^ 64) }
+        ensures feeder { Counts settled feeder.old feeder.new }
+        ensures answered { (answered.new.parts ≡ 1)
+            × (answered.new.amount ≡ answered.old.amount + answered_by settled) }
+        ensures dropped { (dropped.new.parts ≡ 1)
+            × (dropped.new.amount ≡ dropped.old.amount + dropped_by settled) }
+    {
+        match settled {
+            Settled::Answered(_) => self.answered.count(&mut feeder.answered, answered, 1),
+            Settled::Dropped(_) => self.dropped.count(&mut feeder.dropped, dropped, 1),
+            Settled::Later(_) | Settled::Ready => {}
+        }
+    }
 }
 
 /// A ledger beside the stations that is being cut.

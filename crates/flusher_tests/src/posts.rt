@@ -5,11 +5,9 @@ ghost use Rattle.flusher.specs.Post.{names_of};
 use crate::shared::{Ending, intake, outcome, peer};
 use conn_core::CxnId;
 use disk_model::{Disk, MemDisk};
-use flusher::{
-    Blanks, Closed, Ended, FeederShare, Free, IntakeShare, Naming, Peer, Post, PostFault,
-};
+use flusher::{Blanks, Closed, FeederShare, Free, IntakeShare, Naming, Peer, Post, PostFault};
 use ledger_core::Debt;
-use peer_queue::{Limits, StationFault};
+use peer_queue::{Limits, Settled, StationFault};
 use recovery::{Tape, TapeFault};
 use std::alloc::Global;
 use std::marker::Brand;
@@ -42,14 +40,14 @@ fn finish<D: Disk, N: Naming, R: Wait>(
     connection: CxnId,
     ending: Ending,
     share: &mut FeederShare<N>,
-) -> Result<(u64, Ended), Fail>
+) -> Result<(u64, Settled), Fail>
     requires { 0 < length post.now.names }
 {
     let debt = claim(rt, post, connection, 0)?;
     let number = debt.number();
     let outcome = outcome(alloc, connection, debt, ending)?;
     match post.finish(rt, 0, connection, outcome, 0, share) {
-        Ok(ended) => Ok((number, ended)),
+        Ok(settled) => Ok((number, settled)),
         Err((_, fault)) => Err(Fail::from(fault)),
     }
 }
@@ -58,10 +56,10 @@ fn finish<D: Disk, N: Naming, R: Wait>(
 #[derive(Debug, PartialEq, Eq, Drop)]
 struct Told {
     shed: Vec<u64>,
-    back: (u64, Ended),
+    back: (u64, Settled),
     claimed: u64,
     released: u64,
-    later: (u64, Ended),
+    later: (u64, Settled),
     at_59: u64,
     at_60: u64,
     dropped: u64,
@@ -130,10 +128,10 @@ fn what_is_not_sent_comes_again(rt: HostRuntime) -> Result<(), Fail> {
     let told = on_disks(&rt, alloc, peer(alloc, b"p", LIMITED)?, intake(alloc)?)?;
     let want = Told {
         shed: vec![in alloc; 1, 2]?,
-        back: (3, Ended::Ready),
+        back: (3, Settled::Ready),
         claimed: 3,
         released: 1,
-        later: (3, Ended::Later),
+        later: (3, Settled::Later(60)),
         at_59: 4,
         at_60: 3,
         dropped: 2,

@@ -7,11 +7,12 @@ use crate::shared::{Ending, intake, outcome, peer};
 use conn_core::{CxnId, Outcome};
 use disk_model::{Disk, MemDisk};
 use flusher::{
-    Blanks, Closed, Ended, FeederShare, Flusher, IntakeShare, Naming, NoThread, Pace, Peer, Place,
-    Post, PostFault, Signals, Sums, Who, Work, run_threads,
+    Blanks, Closed, FeederShare, Flusher, IntakeShare, Naming, NoThread, Pace, Peer, Place, Post,
+    PostFault, Signals, Sums, Who, Work, run_threads,
 };
+use ledger_core::FinalCode;
 use log::Log;
-use peer_queue::Limits;
+use peer_queue::{Limits, Settled};
 use recovery::Tape;
 use std::alloc::Global;
 use std::marker::Brand;
@@ -19,6 +20,9 @@ use std::rt::Clock;
 use std::sync::Wait;
 use std::test::*;
 use std::thread::Threads;
+
+// What becomes of a debt that its peer does not want.
+const NOT_WANTED: Settled = Settled::Answered(FinalCode::CheckNotWanted);
 
 const UNLIMITED: Limits = Limits {
     backlog_limit: 0,
@@ -39,7 +43,7 @@ enum Job {
     Flush,
 }
 
-// A worker that does one thing. What it is told is a number, 0 where there is none, and what a debt ended as.
+// A worker that does one thing. What it is told is a number, 0 where there is none, and what became of a debt.
 #[derive(Drop)]
 struct Hand<N: Naming> {
     who: Who,
@@ -51,7 +55,7 @@ struct Hand<N: Naming> {
     number: u64,
     // The first peer's station was in use.
     is_refused: bool,
-    ended: Option<Ended>,
+    settled: Option<Settled>,
 }
 
 impl<N: Naming> Hand<N> {
@@ -68,7 +72,7 @@ impl<N: Naming> Hand<N> {
             Job::Nothing => {}
             Job::Finish => {
                 let outcome = self.outcome.take()?;
-                let Ok(ended) = post.finish(
+                let Ok(settled) = post.finish(
                     rt,
                     self.peer,
                     self.connection,
@@ -78,7 +82,7 @@ impl<N: Naming> Hand<N> {
                 ) else {
                     return None;
                 };
-                self.ended = Some(ended);
+                self.settled = Some(settled);
             }
             Job::Claim => {
                 if self.peer > 0 {
@@ -195,8 +199,8 @@ impl<D: Disk, N: Naming> Work<D, N> for Third<N> {
 // What the workers of a row were told, and what it came to.
 #[derive(Clone, Copy, Debug, PartialEq, Eq)]
 struct Told {
-    first: Option<Ended>,
-    second: Option<Ended>,
+    first: Option<Settled>,
+    second: Option<Settled>,
     // The number of the debt that the second claimed, and whether it was refused one of the first peer's.
     claimed: u64,
     refused: bool,
@@ -249,7 +253,7 @@ fn hire<D: Disk, N: Naming, R: Wait>(
         share,
         number: 0,
         is_refused: false,
-        ended: None,
+        settled: None,
     })
 }
 
@@ -316,12 +320,12 @@ fn meet<
     };
     let Hand {
         share: one,
-        ended: first,
+        settled: first,
         ..
     } = first;
     let Hand {
         share: two,
-        ended: second,
+        settled: second,
         number: claimed,
         is_refused: refused,
         ..
@@ -374,8 +378,8 @@ const ROWS: [Row; 3] = [
             place: Place::BeforeSettle,
         },
         told: Told {
-            first: Some(Ended::Answered),
-            second: Some(Ended::Answered),
+            first: Some(NOT_WANTED),
+            second: Some(NOT_WANTED),
             claimed: 0,
             refused: false,
             receipt: 0,

@@ -4,3 +4,4 @@ pub mod Faults
 pub mod Shed
 pub mod Words
 pub mod Station
+pub mod Settled

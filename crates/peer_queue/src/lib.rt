@@ -10,11 +10,13 @@ mod fault;
 mod laws;
 mod limits;
 mod place_index;
+mod settled;
 mod station;
 
 pub use fault::StationFault;
 pub use laws::{each_number_has_one_place, reopened};
 pub use limits::{Limits, Owed, Shed};
-pub use station::{Station, deferred_until};
+pub use settled::{Settled, deferred_until, number_in};
+pub use station::Station;
 /// Memory was refused.
 pub use std::alloc::AllocError as NoMemory;

@@ -5,12 +5,13 @@ ghost use Rattle.std.specs.List.Sorted.{IsStrictlyIncreasing};
 ghost use Rattle.ledger_core.specs.State.{numbers};
 ghost use Rattle.recovery.specs.Words.{ledger_of as tape_ledger};
 ghost use Rattle.std.specs.Prelude.{IfOk, OnOk};
-ghost use Rattle.peer_queue.specs.Place.{all_ready, deferred_until, placed};
+ghost use Rattle.peer_queue.specs.Place.{all_ready, placed};
 
 use crate::fault::station_fault;
 use crate::place_index::{PlaceIndex, all_ready_of};
+use crate::settled::{Settled, number_in};
 use crate::{Limits, Owed, Shed, StationFault};
-use conn_core::{CxnId, Deferral, Verdict};
+use conn_core::{CxnId, Deferral, Outcome, Verdict};
 use disk_model::Disk;
 use funnel::{MsgId, Token};
 use ledger_core::{Cause, Debt, Note, Totals};
@@ -46,6 +47,7 @@ impl<D: Disk> Station<D> {
     ghost use Rattle.peer_queue.specs.Place.{AreRising, Held, IsHeldBy, IsLater, Later, Ready, all_gone, deferred_until, gone, held_count, least_candidate, moved, released, unheld};
     ghost use Rattle.peer_queue.specs.Index.{place_until};
     ghost use Rattle.peer_queue.specs.Shed.{IsShedSet, dropped};
+    ghost use Rattle.peer_queue.specs.Settled.{Finishes, IsEnded, Settles, number_in, settled_by};
     ghost use Rattle.peer_queue.specs.Station.{IsShed};
     ghost use Rattle.peer_queue.specs.Faults.{IsClaimFault, IsEndFault, IsFlushFault, IsOweFault, IsRotateFault};
     ghost use Rattle.peer_queue.specs.Words.{IsBroken, IsEnd, IsOpened, IsOweOf, IsSame, IsSameTape, MeetsFull, Notes, Refuses, StandsFor, Tells, code_of, deferred_number, disks_of, generation_of, told_of, AreHonest, Continues, ledger_of, limits_of, log_of, number_of, pending_of, places_of};
@@ -184,9 +186,8 @@ impl<D: Disk> Station<D> {
         ensures handed { IfErr result (λ e. e.0 ≡ verdict) }
         ensures unchanged { OnErr result (IsSame self.old self.new) }
     {
-        let number = verdict.debt().number();
-        let code = verdict.code();
-        match self.end(connection.0, number, Note::Final { number, code }) {
+        let settled = Settled::Answered(verdict.code());
+        match self.settle_as(connection.0, verdict.debt().number(), settled) {
             Ok(()) => Ok(()),
             Err(fault) => Err((verdict, fault)),
         }
@@ -212,14 +213,8 @@ impl<D: Disk> Station<D> {
         ensures handed { IfErr result (λ e. e.0 ≡ deferral) }
         ensures unchanged { OnErr result (IsSame self.old self.new) }
     {
-        let number = deferral.debt().number();
-        let cause = Cause::Deferred;
-        let done = if self.limits.drop_deferred {
-            self.end(connection.0, number, Note::Drop { number, cause })
-        } else {
-            self.give_up(connection.0, number, deferred_until(now))
-        };
-        match done {
+        let settled = Settled::deferred(self.limits, now);
+        match self.settle_as(connection.0, deferral.debt().number(), settled) {
             Ok(()) => Ok(()),
             Err(fault) => Err((deferral, fault)),
         }
@@ -243,8 +238,7 @@ impl<D: Disk> Station<D> {
         ensures handed { IfErr result (λ e. e.0 ≡ debt) }
         ensures unchanged { OnErr result (IsSame self.old self.new) }
     {
-        let number = debt.number();
-        match self.end(connection.0, number, Note::Drop { number, cause }) {
+        match self.settle_as(connection.0, debt.number(), Settled::Dropped(cause)) {
             Ok(()) => Ok(()),
             Err(fault) => Err((debt, fault)),
         }
@@ -261,9 +255,41 @@ impl<D: Disk> Station<D> {
         ensures handed { IfErr result (λ e. e.0 ≡ debt) }
         ensures unchanged { OnErr result (IsSame self.old self.new) }
     {
-        match self.give_up(connection.0, debt.number(), 0) {
+        match self.settle_as(connection.0, debt.number(), Settled::Ready) {
             Ok(()) => Ok(()),
             Err(fault) => Err((debt, fault)),
+        }
+    }
+
+    /// Takes what a connection tells of a debt that it held: an answer for good settles it, a deferral has it wait or drops
+    /// it, one whose article can't be sent is dropped, one that came back is ready.
+    ///
+    /// # Errors
+    /// The outcome is handed back. Tried in this order: `Broken`; `NotHeld`; where the debt ends `Tape(PendingFull)`,
+    /// `NoMemory`.
+    pub fn finish(
+        &mut self,
+        connection: CxnId,
+        outcome: Outcome,
+        now: u64,
+    ) -> Result<Settled, (Outcome, StationFault)>
+        ensures settled { IfOk result (λ settled.
+            settled ≡ settled_by (limits_of self.old) now outcome) }
+        ensures ok { OnOk result (Finishes connection.0 now outcome self.old self.new) }
+        ensures refused { Refuses self.old connection.0 (number_in outcome) result }
+        ensures pending_full { Tells result (StationFault.Tape TapeFault.PendingFull)
+            ↔ (IsEnded (settled_by (limits_of self.old) now outcome)
+            × MeetsFull self.old connection.0 (number_in outcome)) }
+        ensures no_memory { Tells result StationFault.NoMemory
+            → IsEnded (settled_by (limits_of self.old) now outcome) }
+        ensures kinds { IfErr result (λ e. IsEndFault e.1) }
+        ensures handed { IfErr result (λ e. e.0 ≡ outcome) }
+        ensures unchanged { OnErr result (IsSame self.old self.new) }
+    {
+        let settled = Settled::by(&outcome, self.limits, now);
+        match self.settle_as(connection.0, number_in(&outcome), settled) {
+            Ok(()) => Ok(settled),
+            Err(fault) => Err((outcome, fault)),
         }
     }
 
@@ -345,6 +371,32 @@ impl<D: Disk> Station<D> {
             Ok(Some(debt)) => Ok(debt),
             Ok(None) => unreachable!(),
             Err(fault) => Err(station_fault(fault)),
+        }
+    }
+
+    // Makes this of a debt that this connection holds.
+    fn settle_as(
+        &mut self,
+        connection: u64,
+        number: u64,
+        settled: Settled,
+    ) -> Result<(), StationFault>
+        requires { settled ≢ Settled.Later 0 }
+        ensures ok { OnOk result (Settles connection number settled self.old self.new) }
+        ensures broken { IsErrOf result StationFault.Broken ↔ IsBroken self.old }
+        ensures not_held { IsErrOf result StationFault.NotHeld
+            ↔ ((IsBroken self.old → ⊥) × (IsHeldBy (places_of self.old) connection number → ⊥)) }
+        ensures pending_full { IsErrOf result (StationFault.Tape TapeFault.PendingFull)
+            ↔ (IsEnded settled × MeetsFull self.old connection number) }
+        ensures no_memory { IsErrOf result StationFault.NoMemory → IsEnded settled }
+        ensures kinds { IfErr result IsEndFault }
+        ensures unchanged { OnErr result (IsSame self.old self.new) }
+    {
+        match settled {
+            Settled::Answered(code) => self.end(connection, number, Note::Final { number, code }),
+            Settled::Dropped(cause) => self.end(connection, number, Note::Drop { number, cause }),
+            Settled::Later(moment) => self.give_up(connection, number, moment),
+            Settled::Ready => self.give_up(connection, number, 0),
         }
     }
 
@@ -575,13 +627,6 @@ impl<D: Disk> Station<D> {
         let Station { tape, .. } = self;
         tape.into_disks()
     }
-}
-
-/// The moment until which a debt waits that is deferred at this one: 60 seconds on, or the last that there is.
-pub fn deferred_until(now: u64) -> u64
-    ensures { result ≡ deferred_until now }
-{
-    now.saturating_add(60)
 }
 
 // The index in which all that a tape owes is ready.

@@ -6,7 +6,7 @@ use conn_core::{Conn, CxnId, Outcome};
 use disk_model::{Disk, FuseDisk, MemDisk};
 use funnel::{MsgId, Token};
 use ledger_core::{Cause, Debt, Totals};
-use peer_queue::{Limits, Owed, Shed, Station, StationFault, reopened};
+use peer_queue::{Limits, Owed, Settled, Shed, Station, StationFault, number_in, reopened};
 use std::alloc::Global;
 use std::process::Abort;
 use std::test::Fail;
@@ -60,6 +60,11 @@ pub(crate) enum Step {
     Defer(CxnId, u64, u64, Result<(), StationFault>),
     Lose(CxnId, u64, Result<(), StationFault>),
     Back(CxnId, u64, Result<(), StationFault>),
+    // The article of this number, which is held, is not there.
+    Gone(u64),
+    // A connection tells at this moment what is held of this number, and this becomes of the debt. What is refused is
+    // handed back, and stays held.
+    Finish(CxnId, u64, u64, Result<Settled, StationFault>),
     // So many that a connection held are ready.
     Release(CxnId, u64),
     // These are shed, and whether more is to be.
@@ -256,6 +261,10 @@ fn take<A: Abort>(rt: &A, caller: &mut Caller, step: Step) -> Result<(), Fail> {
         }
         Step::Lose(connection, number, want) => lose(rt, caller, connection, number, want),
         Step::Back(connection, number, want) => back(rt, caller, connection, number, want),
+        Step::Gone(number) => lack(caller, number),
+        Step::Finish(connection, number, now, want) => {
+            finish(rt, caller, connection, number, now, want)
+        }
         Step::Shed(want, more) => assert_shed(rt, caller, want, more),
         Step::ShedRefused(want) => assert_shed_refused(rt, caller, want),
         Step::Debt(number, want) => assert_debt(rt, caller, number, want),
@@ -544,6 +553,35 @@ fn back<A: Abort>(
         Err((debt, fault)) => Some((Outcome::Back(debt), fault)),
     };
     assert_ended(rt, caller, number, refused, want)
+}
+
+// The article of this number is not there.
+fn lack(caller: &mut Caller, number: u64) -> Result<(), Fail> {
+    let debt = debt_given(caller, number)?;
+    hold(caller, Outcome::Lost(debt, Cause::Missing))
+}
+
+fn finish<A: Abort>(
+    rt: &A,
+    caller: &mut Caller,
+    connection: CxnId,
+    number: u64,
+    now: u64,
+    want: Result<Settled, StationFault>,
+) -> Result<(), Fail> {
+    let outcome = given(caller, number)?;
+    assert_same(rt, caller.place, &number_in(&outcome), &number);
+    let before = told(&outcome);
+    match caller.station.finish(connection, outcome, now) {
+        Ok(settled) => assert_same(rt, caller.place, &Ok(settled), &want),
+        Err((_, StationFault::NoMemory)) => return Err(Fail::from(StationFault::NoMemory)),
+        Err((held, fault)) => {
+            assert_same(rt, caller.place, &Err(fault), &want);
+            assert_same(rt, caller.place, &told(&held), &before);
+            hold(caller, held)?;
+        }
+    }
+    Ok(())
 }
 
 fn assert_numbers<A: Abort>(rt: &A, caller: &Caller, numbers: &[u64], want: &[u64]) {

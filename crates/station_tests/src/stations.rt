@@ -3,7 +3,8 @@ use crate::caller::{
     NOT_HELD, ONE, OTHER, SMALL, Script, Step, UNLIMITED, begin, play, play_script, play_scripts,
 };
 use conn_core::CxnId;
-use peer_queue::{Limits, Owed, StationFault, deferred_until};
+use ledger_core::{Cause, FinalCode};
+use peer_queue::{Limits, Owed, Settled, StationFault, deferred_until};
 use recovery::TapeFault;
 use std::alloc::Global;
 use std::process::Abort;
@@ -16,6 +17,9 @@ const MOST_PENDING: u64 = 65536;
 const NEARLY_FULL: u64 = 65534;
 
 const FULL: StationFault = StationFault::Tape(TapeFault::PendingFull);
+
+// What becomes of a debt that the peer does not want.
+const NOT_WANTED: Settled = Settled::Answered(FinalCode::CheckNotWanted);
 
 const DROPPING: Limits = Limits {
     backlog_limit: 0,
@@ -258,6 +262,98 @@ const DEFERRING: &[Script] = &[
     },
 ];
 
+const FINISHING: &[Script] = &[
+    Script {
+        name: "each outcome makes of its debt what it says",
+        owed: 4,
+        limits: UNLIMITED,
+        steps: &[
+            Step::Claim(ONE, 0, Ok(1)),
+            Step::Claim(ONE, 0, Ok(2)),
+            Step::Claim(ONE, 0, Ok(3)),
+            Step::Claim(ONE, 0, Ok(4)),
+            Step::NotWanted(1),
+            Step::WantedLater(2),
+            Step::Gone(3),
+            Step::Finish(ONE, 1, 100, Ok(NOT_WANTED)),
+            Step::Finish(ONE, 2, 100, Ok(Settled::Later(160))),
+            Step::Finish(ONE, 3, 100, Ok(Settled::Dropped(Cause::Missing))),
+            Step::Finish(ONE, 4, 100, Ok(Settled::Ready)),
+            Step::List(&[2, 4]),
+            Step::Totals(4, 1, 1, 2),
+            Step::Claim(OTHER, 159, Ok(4)),
+            Step::Claim(OTHER, 159, Ok(0)),
+            Step::Claim(OTHER, 160, Ok(2)),
+        ],
+        opened: &[],
+        tape: None,
+    },
+    Script {
+        name: "a deferral drops its debt where the limits say so",
+        owed: 2,
+        limits: DROPPING,
+        steps: &[
+            Step::Claim(ONE, 0, Ok(1)),
+            Step::Claim(ONE, 0, Ok(2)),
+            Step::WantedLater(1),
+            Step::Finish(ONE, 1, 100, Ok(Settled::Dropped(Cause::Deferred))),
+            Step::Finish(ONE, 2, 100, Ok(Settled::Ready)),
+            Step::List(&[2]),
+            Step::Totals(2, 0, 1, 1),
+        ],
+        opened: &[],
+        tape: None,
+    },
+    Script {
+        name: "an outcome that is refused comes back",
+        owed: 4,
+        limits: UNLIMITED,
+        steps: &[
+            Step::Claim(ONE, 0, Ok(1)),
+            Step::Claim(ONE, 0, Ok(2)),
+            Step::Claim(ONE, 0, Ok(3)),
+            Step::Claim(ONE, 0, Ok(4)),
+            Step::NotWanted(1),
+            Step::WantedLater(2),
+            Step::Gone(3),
+            Step::Finish(OTHER, 1, 0, Err(NOT_HELD)),
+            Step::Finish(OTHER, 2, 0, Err(NOT_HELD)),
+            Step::Finish(OTHER, 3, 0, Err(NOT_HELD)),
+            Step::Finish(OTHER, 4, 0, Err(NOT_HELD)),
+            Step::Totals(4, 0, 0, 4),
+            Step::Claim(OTHER, u64::MAX, Ok(0)),
+            Step::Finish(ONE, 1, 0, Ok(NOT_WANTED)),
+            Step::Finish(ONE, 4, 0, Ok(Settled::Ready)),
+        ],
+        opened: &[],
+        tape: None,
+    },
+];
+
+const FINISHED_WITHOUT_ROOM: Script = Script {
+    name: "only what ends a debt wants room",
+    owed: MOST_PENDING,
+    limits: UNLIMITED,
+    steps: &[
+        Step::Claim(ONE, 0, Ok(1)),
+        Step::Claim(ONE, 0, Ok(2)),
+        Step::Claim(ONE, 0, Ok(3)),
+        Step::Claim(ONE, 0, Ok(4)),
+        Step::NotWanted(1),
+        Step::WantedLater(2),
+        Step::Gone(3),
+        Step::Finish(ONE, 1, 0, Err(FULL)),
+        Step::Finish(ONE, 2, 0, Ok(Settled::Later(60))),
+        Step::Finish(ONE, 3, 0, Err(FULL)),
+        Step::Finish(ONE, 4, 0, Ok(Settled::Ready)),
+        Step::Flush(Ok(MOST_PENDING)),
+        Step::Finish(ONE, 1, 0, Ok(NOT_WANTED)),
+        Step::Finish(ONE, 3, 0, Ok(Settled::Dropped(Cause::Missing))),
+    ],
+    opened: &[],
+    tape: None,
+};
+
 const SHEDDING: &[Script] = &[
     Script {
         name: "nothing is shed without a limit",
@@ -362,6 +458,16 @@ fn a_debt_ends_once_and_by_who_holds_it(rt: HostRuntime) -> Result<(), Fail> {
 #[test]
 fn the_deferred_wait(rt: HostRuntime) -> Result<(), Fail> {
     play_scripts(&rt, rt.alloc(), DEFERRING)
+}
+
+#[test]
+fn each_outcome_makes_of_its_debt_what_it_says(rt: HostRuntime) -> Result<(), Fail> {
+    play_scripts(&rt, rt.alloc(), FINISHING)
+}
+
+#[test]
+fn only_what_ends_a_debt_wants_room(rt: HostRuntime) -> Result<(), Fail> {
+    play_script(&rt, rt.alloc(), FINISHED_WITHOUT_ROOM)
 }
 
 #[test]

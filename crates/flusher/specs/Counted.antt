@@ -1,0 +1,33 @@
+-- What finishing an outcome counts.
+use Rattle.std.specs.Prelude.{◌≡◌, ◌+◌, ℕ}
+use Rattle.conn_core.specs.declared.outcome.Outcome.{Outcome}
+use Rattle.peer_queue.specs.Settled.{settled_by}
+use Rattle.peer_queue.specs.declared.limits.Limits.{Limits}
+use Rattle.peer_queue.specs.declared.settled.Settled.{Settled}
+use Rattle.peer_queue.specs.declared.settled.Settled.TheVariants.{Answered, Dropped, Later, Ready}
+use Rattle.flusher.specs.Shares.{FeederCount}
+
+-- how many debts more are answered, where one became this
+abbrev pub answered_by : Settled → ℕ
+answered_by (Answered code) = 1
+answered_by (Dropped cause) = 0
+answered_by (Later moment) = 0
+answered_by Ready = 0
+
+-- how many more are dropped
+abbrev pub dropped_by : Settled → ℕ
+dropped_by (Answered code) = 0
+dropped_by (Dropped cause) = 1
+dropped_by (Later moment) = 0
+dropped_by Ready = 0
+
+-- a share counts that a debt became this
+pub record Counts (settled : Settled) (old new : FeederCount) : Type 0 where
+  pub answered : new.answered ≡ old.answered + answered_by settled
+  pub dropped : new.dropped ≡ old.dropped + dropped_by settled
+
+-- A debt became this by its outcome, told at this moment to a station of some limits, and a share counts it.
+pub record IsCounted (outcome : Outcome) (now : ℕ) (settled : Settled) (old new : FeederCount) : Type 0 where
+  pub limits : Limits
+  pub became : settled ≡ settled_by limits now outcome
+  pub counts : Counts settled old new

@@ -1,0 +1,65 @@
+// What becomes of a debt that a connection held.
+ghost use Rattle.std.specs.Prelude.{◌≡◌, ℕ};
+ghost use Rattle.peer_queue.specs.Place.{deferred_until};
+ghost use Rattle.peer_queue.specs.Settled.{deferred_as, number_in, settled_by};
+
+use crate::Limits;
+use conn_core::Outcome;
+use ledger_core::{Cause, FinalCode};
+
+/// What became of a debt by the outcome that its connection told.
+#[derive(Clone, Copy, Debug, PartialEq, Eq)]
+pub enum Settled {
+    /// The peer answered for good, and it is owed no more.
+    Answered(FinalCode),
+    /// It was dropped, and is owed no more.
+    Dropped(Cause),
+    /// It was deferred, and waits until this moment.
+    Later(u64),
+    /// It came back, and is ready.
+    Ready,
+}
+
+impl Settled {
+    // What becomes of a debt by its outcome, told at this moment to a station of these limits.
+    pub(crate) fn by(outcome: &Outcome, limits: Limits, now: u64) -> Self
+        ensures { result ≡ settled_by limits now outcome.now }
+    {
+        match outcome {
+            Outcome::Final(verdict) => Settled::Answered(verdict.code()),
+            Outcome::Deferred(_) => Settled::deferred(limits, now),
+            Outcome::Lost(_, cause) => Settled::Dropped(*cause),
+            Outcome::Back(_) => Settled::Ready,
+        }
+    }
+
+    // What becomes of a deferred debt: it is dropped where the limits say so, and waits else.
+    pub(crate) fn deferred(limits: Limits, now: u64) -> Self
+        ensures { result ≡ deferred_as limits.drop_deferred now }
+    {
+        if limits.drop_deferred {
+            Settled::Dropped(Cause::Deferred)
+        } else {
+            Settled::Later(deferred_until(now))
+        }
+    }
+}
+
+/// The number of the debt that an outcome is about.
+pub fn number_in(outcome: &Outcome) -> u64
+    ensures { result ≡ number_in outcome.now }
+{
+    match outcome {
+        Outcome::Final(verdict) => verdict.debt().number(),
+        Outcome::Deferred(deferral) => deferral.debt().number(),
+        Outcome::Lost(debt, _) => debt.number(),
+        Outcome::Back(debt) => debt.number(),
+    }
+}
+
+/// The moment until which a debt waits that is deferred at this one: 60 seconds on, or the last that there is.
+pub fn deferred_until(now: u64) -> u64
+    ensures { result ≡ deferred_until now }
+{
+    now.saturating_add(60)
+}
