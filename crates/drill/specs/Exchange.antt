@@ -29,7 +29,7 @@ abbrev pub limits_of : PeerConf → Limits
 limits_of conf = record { backlog_limit = conf.backlog_limit; backlog_high = conf.backlog_high; drop_deferred = conf.drop_deferred }
 
 module _ {D : Type 0} {g : Ghosts D} where
-  -- what an outcome of a connection, told at this moment, makes of its peer: of the station, while the settings stay
+  -- what an outcome, told at this moment, makes of a peer: of its station, while the settings stay
   abbrev pub Settles : CxnId → ℕ → Outcome → Peer D g → Peer D g → Type 0
   Settles id now outcome old new = Finishes id.0 now outcome old.station new.station × (new.conf ≡ old.conf)
 

@@ -1,9 +1,9 @@
 -- What the marks do at a line that is good, and at one that is not.
-use Rattle.std.proofs.Common.{◌≡◌, ◌≢◌, ◌↔◌, ℕ, List, Result, Ok, Err, OnOk, refl, subst}
+use Rattle.std.proofs.Common.{◌≢◌, ℕ, List, Result, Ok, Err, OnOk, refl, subst}
 use Rattle.funnel.specs.declared.line.LineFault.{LineFault}
 use Rattle.funnel.specs.declared.line.LineFault.TheVariants.{NoMemory}
 use Rattle.funnel.specs.Line.{IsFunnelLine, HasFault}
-use Rattle.funnel.specs.LineLaws.{IsFaultOf, line_once, good_faultless}
+use Rattle.funnel.specs.LineLaws.{line_once, good_faultless}
 use Rattle.flusher.specs.Marks.{IsRaised, IsRaisedBy}
 
 pub raised_good : (number : ℕ) (line token id : List ℕ) (named names : List (List ℕ)) (old new : List ℕ)

@@ -1,5 +1,4 @@
 -- What a station's lock keeps.
-use Rattle.std.specs.Prelude.{◌≡◌}
 use Rattle.disk_model.specs.declared.Disk.{Ghosts}
 use Rattle.peer_queue.specs.declared.station.Station.{Station}
 use Rattle.peer_queue.specs.Words.{AreHonest, StandsFor}

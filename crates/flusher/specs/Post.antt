@@ -1,5 +1,5 @@
 -- What is seen of a post.
-use Rattle.std.specs.Prelude.{◌≡◌, ℕ, List, map, sum_by, length}
+use Rattle.std.specs.Prelude.{ℕ, List, map, sum_by, length}
 use Rattle.disk_model.specs.declared.Disk.{Ghosts}
 use Rattle.ledger_core.specs.State.{State}
 use Rattle.peer_queue.specs.Words.{ledger_of}

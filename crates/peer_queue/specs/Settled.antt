@@ -7,7 +7,8 @@ use Rattle.ledger_core.specs.declared.note.Cause.TheVariants.{Deferred as PutOff
 use Rattle.conn_core.specs.Commands.{debt_in}
 use Rattle.conn_core.specs.declared.outcome.Outcome.{Outcome}
 use Rattle.conn_core.specs.declared.outcome.Outcome.TheVariants.{Final, Deferred, Lost, Back}
-use Rattle.peer_queue.specs.Place.{Place, Ready as ReadyPlace, Later as LaterPlace, IsHeldBy, deferred_until, gone, moved}
+use Rattle.peer_queue.specs.Place.{Place, Ready as ReadyPlace, Later as LaterPlace}
+use Rattle.peer_queue.specs.Place.{IsHeldBy, deferred_until, gone, moved}
 use Rattle.peer_queue.specs.Words.{IsSameTape, Notes, limits_of, places_of}
 use Rattle.peer_queue.specs.declared.limits.Limits.{Limits}
 use Rattle.peer_queue.specs.declared.settled.Settled.{Settled}

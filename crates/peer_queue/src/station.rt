@@ -261,8 +261,8 @@ impl<D: Disk> Station<D> {
         }
     }
 
-    /// Takes what a connection tells of a debt that it held: an answer for good settles it, a deferral has it wait or drops
-    /// it, one whose article can't be sent is dropped, one that came back is ready.
+    /// Takes what a connection tells of a debt that it held: a final answer settles it, a deferral has it wait or drops it,
+    /// where the article can't be sent it is dropped, and where it came back it is ready.
     ///
     /// # Errors
     /// The outcome is handed back. Tried in this order: `Broken`; `NotHeld`; where the debt ends `Tape(PendingFull)`,

@@ -20,7 +20,8 @@ pub loop-outcome-preserved : goal.loop-outcome-preserved
 loop-outcome-preserved g c = λ end all.
     let fewer : untold_at c.loop-outcome.self.conn ≡ c.in-Some.outcome ∷ untold_at c.outcome.new.self = c.in-Some.ensures.told in
     c.loop-outcome.invariant end
-    (subst (λ (os : List Outcome). AllSettle c.id-id.result c.args.now os c.loop-outcome.peer end) (sym fewer) (c.settle.new.peer, c.in_ok-settled.ensures.ok, all))
+    (subst (λ (os : List Outcome). AllSettle c.id-id.result c.args.now os c.loop-outcome.peer end) (sym fewer)
+    (c.settle.new.peer, c.in_ok-settled.ensures.ok, all))
 
 pub returns : goal.returns
 returns g c =

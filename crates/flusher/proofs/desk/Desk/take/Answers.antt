@@ -1,11 +1,8 @@
-use Rattle.std.proofs.Common.{◌≡◌, ◌+◌, Ok, ap, sym, ◌∙◌, subst, arith, rules}
-use Rattle.ledger_core.specs.declared.note.Cause.TheVariants.{Deferred}
-use Rattle.recovery.specs.Words.{ledger_of as tape_ledger}
-use Rattle.peer_queue.specs.declared.station.Station.{Station}
-use Rattle.peer_queue.specs.Words.{ledger_of, number_of, code_of, deferred_number}
+use Rattle.std.proofs.Common.{◌≡◌, Ok, ap, sym, ◌∙◌, subst}
+use Rattle.peer_queue.specs.Words.{ledger_of}
 use Rattle.flusher.specs.Kept.{IsKept}
-use Rattle.flusher.proofs.Keeps.{keeps_noted, keeps_same, keeps_tape, keeps_flushed, keeps_shed, counted_along}
-use Rattle.flusher.proofs.Keeps.{counted_owe, counted_final, counted_drop, counted_shed}
+use Rattle.flusher.proofs.Keeps.{keeps_noted, keeps_same, counted_along}
+use Rattle.flusher.proofs.Keeps.{counted_owe}
 use Rattle.flusher.proofs.desk.Desk.take.Goals as goal
 
 pub invariant_of-self-in-Ok-New : goal.invariant_of-self-in-Ok-New

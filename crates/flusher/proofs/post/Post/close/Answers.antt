@@ -1,5 +1,4 @@
-use Rattle.std.proofs.Common.{◌≡◌, ◌+◌, ◌≤◌, ◌++◌, [], ◌∷◌, map, length, ap, sym, ◌∙◌, subst, arith, rules}
-use Rattle.std.specs.Prelude.{sum_by}
+use Rattle.std.proofs.Common.{◌≡◌, ◌+◌, ◌++◌, [], map, length, ap, sym, ◌∙◌, arith, rules}
 use Rattle.flusher.specs.Post.{sums_in, total}
 use Rattle.flusher.specs.Shares.{IntakeCount}
 use Rattle.flusher.proofs.Lists.{nothing, all_moved}

@@ -1,6 +1,4 @@
-use Rattle.std.proofs.Common.{◌≡◌, ◌+◌, ◌≤◌, ◌++◌, [], ◌∷◌, map, length, ap, sym, ◌∙◌, subst, arith, rules}
-use Rattle.std.specs.Prelude.{sum_by}
-use Rattle.std.specs.Vec.{vec_capacity}
+use Rattle.std.proofs.Common.{◌≡◌, ◌+◌, ◌++◌, [], map, length, ap, sym, ◌∙◌, arith, rules}
 use Rattle.peer_queue.specs.Words.{ledger_of}
 use Rattle.flusher.specs.Post.{sums_at, total}
 use Rattle.flusher.proofs.Lists.{nothing, moved, moved_plain, sum_snoc, length_snoc, all_moved}

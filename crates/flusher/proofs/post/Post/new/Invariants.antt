@@ -1,4 +1,4 @@
-use Rattle.std.specs.Prelude.{◌≡◌, ◌+◌, ◌≤◌, ◌++◌, map, sum_by, length}
+use Rattle.std.specs.Prelude.{◌≡◌, ◌+◌, ◌≤◌, ◌++◌, map, length}
 use Rattle.std.specs.Vec.{vec_capacity}
 use Rattle.peer_queue.specs.Words.{ledger_of}
 use Rattle.flusher.specs.Post.{sums_at, total}

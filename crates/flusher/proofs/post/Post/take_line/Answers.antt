@@ -1,4 +1,4 @@
-use Rattle.std.proofs.Common.{◌≡◌, List, ℕ, ap, subst}
+use Rattle.std.proofs.Common.{List, ℕ, ap, subst}
 use Rattle.flusher.specs.Marks.{IsRaised}
 use Rattle.flusher.specs.Shares.{IntakeCount}
 use Rattle.flusher.proofs.post.Post.take_line.Goals as goal

@@ -1,4 +1,4 @@
-use Rattle.std.proofs.Common.{rules, ◌≡◌, ◌+◌, ◌<◌, ℕ, List, [], length, map, inl, sym, ap, ◌∙◌, subst, arith}
+use Rattle.std.proofs.Common.{rules, ◌≡◌, ◌+◌, ◌<◌, ℕ, List, [], length, inl, sym, ap, ◌∙◌, subst, arith}
 use Rattle.std.specs.Prelude.{nat_lt, max, if◌then◌else◌, slice_set, slice_index, slice_index_or, Contains}
 use Rattle.std.proofs.lemmas.List.{get_or-map, get_or_read, length-map}
 use Rattle.flusher.specs.Post.{View}

@@ -1,8 +1,7 @@
-use Rattle.std.proofs.Common.{◌≡◌, ℕ, sym, subst}
+use Rattle.std.proofs.Common.{ℕ, sym, subst}
 use Rattle.std.specs.Ordering.{nat_cmp}
 use Rattle.std.specs.BTreeMap.{get}
 use Rattle.deferral.specs.Due.{IsDue, IsLeastDue}
-use Rattle.peer_queue.specs.Place.{Places}
 use Rattle.peer_queue.specs.Index.{Holders}
 use Rattle.peer_queue.proofs.AllLater.{AreLater, are_later, none_due, none_held, none_in, told}
 use Rattle.peer_queue.proofs.place_index.PlaceIndex.all_later.Goals as goal
