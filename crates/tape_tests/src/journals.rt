@@ -500,3 +500,51 @@ fn a_fault_at_any_call_leaves_a_front(rt: HostRuntime) -> Result<(), Fail> {
     }
     Ok(())
 }
+
+// A segment of so many payloads, each of this length.
+fn segment_of(alloc: Global, count: u64, len: u32) -> Result<Vec<u8>, Fail> {
+    let mut segment = Vec::new(alloc);
+    for _ in 0..count {
+        segment.push(0xa5)?;
+        segment.extend_from_slice(&len.to_be_bytes())?;
+        segment.resize(segment.len().saturating_add(len as usize), 7)?;
+    }
+    segment.push(0)?;
+    Ok(segment)
+}
+
+// How many payloads a segment has, and how many calls of its disk their reading takes.
+fn reading_of(alloc: Global, segment: &[u8]) -> Result<(usize, u64), Fail> {
+    for calls in 0..10 {
+        match Journal::read(alloc, FuseDisk::new(disk_of(alloc, segment)?, calls)) {
+            Ok((_, payloads)) => return Ok((payloads.len(), calls)),
+            Err(refused) => {
+                if refused.fault != OpenFault::Disk {
+                    return Err(Fail::from(refused.fault));
+                }
+            }
+        }
+    }
+    Err(Fail::from("no end of calls"))
+}
+
+#[test]
+fn a_long_segment_is_read_in_pieces(rt: HostRuntime) -> Result<(), Fail> {
+    // How many payloads there are, the length of each, and how many reads they take. A piece has 65,536 octets. A
+    // payload that passes its end is read again with the next, and one that is as long is read by itself.
+    const ROWS: &[(usize, u32, u64)] = &[
+        (0, 0, 1),
+        (1_365, 43, 1),
+        (1_366, 43, 2),
+        (4_000, 49, 4),
+        (3, 40_000, 3),
+        (1, 65_535, 2),
+        (1, 65_536, 3),
+    ];
+    let alloc = rt.alloc();
+    for (at, (count, len, reads)) in ROWS.iter().enumerate() {
+        let segment = segment_of(alloc, *count as u64, *len)?;
+        assert_answer(&rt, at, &reading_of(alloc, &segment)?, &(*count, *reads));
+    }
+    Ok(())
+}
