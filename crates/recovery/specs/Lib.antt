@@ -6,3 +6,5 @@ pub mod Image
 pub mod Words
 pub mod Tape
 pub mod Laws
+pub mod Leaving
+pub mod LeavingLaws
