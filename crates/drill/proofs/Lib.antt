@@ -1,9 +1,5 @@
-pub mod Declared
-pub mod Digits
 pub mod Naming
 pub mod Owing
-pub mod Saying
 pub mod Stopping
 pub mod Trying
-pub mod Writing
 pub mod Zips

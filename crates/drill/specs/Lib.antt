@@ -1,13 +1,8 @@
-pub mod Action
-pub mod Arming
 pub mod Drill
 pub mod Exchange
 pub mod Fault
-pub mod Numbers
 pub mod Report
-pub mod Script
 pub mod Stage
-pub mod Step
 pub mod StopDisk
 pub mod Told
 pub mod Trigger

@@ -6,7 +6,7 @@ ghost use Rattle.peer_queue.specs.Settled.{settled_by};
 ghost use Rattle.peer_queue.specs.Words.{limits_of};
 ghost use Rattle.drill.specs.Exchange.{AllSettle, Settles, options_of, reason_text, reply_fault_text};
 
-use crate::action::Action;
+use script::Action;
 use crate::fault::Fault;
 use crate::lines::first_line;
 use crate::numbers::add_number;

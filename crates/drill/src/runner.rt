@@ -2,21 +2,18 @@
 ghost use Rattle.std.specs.Prelude.{OnOk};
 ghost use Rattle.drill.specs.Drill.{AllOwe};
 
-use crate::action::Action;
-use crate::arming::Arming;
 use crate::connection::add_connected;
 use crate::ending::Ending;
 use crate::fault::Fault;
 use crate::numbers::add_number;
 use crate::peer::{Peer, StoppedPeer};
 use crate::report::{add_bad, add_mark, print_stopped, write_totals};
-use crate::script::{Script, ScriptFault, read_script};
 use crate::stage::Stage;
-use crate::step::Step;
 use crate::stop::{Stop, Trigger};
 use disk_model::Disk;
 use feed_conf::PeerConf;
 use funnel::{FunnelLine, LineFault, PeerName, read_line};
+use script::{Action, Arming, Script, ScriptFault, Step, read_script};
 use std::alloc::Global;
 use std::cell::Cell;
 use std::io::{self, Read, Write};
@@ -53,7 +50,7 @@ pub fn run_script<R: Read, W: Write>(
     reader.read_to_end(&mut text)?;
     let exit = match read_script(alloc, &text) {
         Ok(script) => run(alloc, script, writer)?,
-        Err(ScriptFault::Broken { line }) => {
+        Err(ScriptFault::Broken { line, .. }) => {
             writeln!(writer, "script {line}")?;
             Ending::Refused
         }

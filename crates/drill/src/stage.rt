@@ -5,7 +5,7 @@ ghost use Rattle.std.specs.Str.{bytes_eq};
 ghost use Rattle.recovery.specs.Notes.{History};
 ghost use Rattle.drill.specs.Stage.{HasStopped, IsLeft, Opens, place_among, running_confs};
 
-use crate::action::Action;
+use script::Action;
 use crate::connection::Connection;
 use crate::fault::Fault;
 use crate::peer::{Peer, StoppedPeer};

@@ -1,0 +1,12 @@
+pub mod Cuts
+pub mod Digits
+pub mod Ends
+pub mod Forms
+pub mod Growing
+pub mod Names
+pub mod Once
+pub mod Peers
+pub mod Reading
+pub mod Rows
+pub mod Saying
+pub mod Writing

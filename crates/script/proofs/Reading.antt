@@ -1,0 +1,101 @@
+-- A whole script, up to where its reader came.
+use Rattle.std.proofs.Common.{◌≡◌, ◌≢◌, ◌+◌, ◌↔◌, ℕ, List, [], ◌∷◌, ◌++◌, length, Result, Ok, Err, refl, sym, subst}
+use Rattle.std.proofs.Common.{ap, ◌∙◌, arith, length-append}
+use Rattle.std.specs.Prelude.{IfErr, IfOk, IsErrAnd, IsOk}
+use Rattle.funnel.specs.Line.{without_cr}
+use Rattle.funnel.specs.Stream.{BeginsWithLine}
+use Rattle.script.specs.Draft.{Drafts, Gains, HasRead, IsRefusal}
+use Rattle.script.specs.Line.{SentenceView, Says}
+use Rattle.script.specs.Script.{BreaksAt, Holds, IsFirstBroken, IsScript, IsToldOf, KeepsRules, NamesLine, Reads}
+use Rattle.script.specs.declared.draft.Draft.{Draft}
+use Rattle.script.specs.declared.fault.Reason.{Reason}
+use Rattle.script.specs.declared.fault.Reason.TheVariants.{NoStep, NoPeer, PeerBehindStep, DeclaredTwice, Unended}
+use Rattle.script.specs.declared.fault.ScriptFault.{ScriptFault}
+use Rattle.script.specs.declared.fault.ScriptFault.TheVariants.{Broken, NoMemory}
+use Rattle.script.specs.declared.read.Script.{Script}
+use Rattle.script.proofs.Ends.{never, once}
+use Rattle.script.proofs.Growing.{reads_more}
+
+abbrev pub Answer : Type 0
+Answer = Result Script ScriptFault
+
+-- an answer is Ok exactly for a text that keeps the rules
+pub keeps_both : (text : List ℕ) (answer : Answer) → IfOk answer (IsScript text) → IfErr answer (IsToldOf text) →
+    answer ≢ Err NoMemory → IsOk answer ↔ KeepsRules text
+keeps_both text (Ok script) good told had = (λ ok. (good.0, good.1), λ keeps. refl)
+keeps_both text (Err (Broken place reason)) good told had =
+    (λ never_ok. cc, λ keeps. absurd (never text place keeps (reason, told)))
+keeps_both text (Err NoMemory) good told had = absurd (had refl)
+
+ok_names_none : (script : Script) (line : ℕ) → NamesLine (Ok script) line → ⊥
+ok_names_none script line named = let made : Answer = Ok script in let other : made ≡ Err (Broken line named.0) =
+    named.1 in cc
+
+same_place : (place line : ℕ) (reason other : Reason) →
+    (let one : Answer = Err (Broken place reason) in one ≡ Err (Broken line other)) → place ≡ line
+same_place place line reason other e = cc
+
+-- and it names exactly the first broken line
+pub first_both : (text : List ℕ) (answer : Answer) → IfOk answer (IsScript text) → IfErr answer (IsToldOf text) →
+    (line : ℕ) → answer ≢ Err NoMemory →
+    NamesLine answer line ↔ IsFirstBroken text line
+first_both text (Ok script) good told line had =
+    (λ named. absurd (ok_names_none script line named), λ broken. absurd (never text line (good.0, good.1) broken))
+first_both text (Err (Broken place reason)) good told line had = (
+  λ named. (reason, subst (λ (p : ℕ). BreaksAt text p reason) (same_place place line reason named.0 named.1) told),
+  λ broken. (reason, ap (λ (p : ℕ). Err (Broken p reason)) (once text place line (reason, told) broken)),
+)
+first_both text (Err NoMemory) good told line had = absurd (had refl)
+
+-- a refusal of the first line that is left is told of the text
+pub refusal_told : (text rest line more : List ℕ) (place : ℕ) (sentences : List SentenceView) →
+    Reads text sentences rest → place ≡ length sentences + 1 →
+    BeginsWithLine rest line more → (fault : ScriptFault) → IsRefusal place (without_cr line) sentences fault →
+    IsToldOf text fault
+refusal_told text rest line more place sentences reads at begins (Broken p NoStep) r =
+    record { sentences = sentences; left = rest; reads = reads; at = r.0 ∙ at; why = (line, more, begins, r.1) }
+refusal_told text rest line more place sentences reads at begins (Broken p NoPeer) r =
+    record { sentences = sentences; left = rest; reads = reads; at = r.0 ∙ at; why = (line, more, begins, r.1) }
+refusal_told text rest line more place sentences reads at begins (Broken p PeerBehindStep) r =
+    record { sentences = sentences; left = rest; reads = reads; at = r.0 ∙ at; why = (line, more, begins, r.1) }
+refusal_told text rest line more place sentences reads at begins (Broken p DeclaredTwice) r =
+    record { sentences = sentences; left = rest; reads = reads; at = r.0 ∙ at; why = (line, more, begins, r.1) }
+refusal_told text rest line more place sentences reads at begins (Broken p Unended) r = absurd r.1
+refusal_told text rest line more place sentences reads at begins NoMemory r = tt
+
+longer : (before : List SentenceView) (said : SentenceView) (place : ℕ) → place ≡ length before + 1 →
+    place + 1 ≡ length (before ++ said ∷ []) + 1
+longer before said place at = simp length-append (omega (arith, at))
+
+-- a line more is read
+pub has_more : (text rest line more : List ℕ) (place : ℕ) (old new : Draft) → BeginsWithLine rest line more →
+    HasRead text rest place old →
+    ((before : List SentenceView) → Drafts old before →
+    (said : SentenceView) × Says (without_cr line) said × Gains old new before said) →
+    HasRead text more (place + 1) new
+has_more text rest line more place old new begins has adds =
+    let said = adds has.sentences has.drafts in
+    record {
+      sentences = has.sentences ++ said.0 ∷ [];
+      reads = reads_more text rest line more has.sentences said.0 has.reads begins said.1 said.2.may;
+      at = longer has.sentences said.0 place has.at;
+      drafts = said.2.drafts;
+    }
+
+-- an answer that is this fault
+pub fault_told : (text : List ℕ) (answer : Answer) (fault : ScriptFault) → IsErrAnd answer (λ f. f ≡ fault) →
+    IsToldOf text fault → IfErr answer (IsToldOf text)
+fault_told text (Ok script) fault is told = tt
+fault_told text (Err f) fault is told = subst (IsToldOf text) (sym is) told
+
+pub fault_good : (text : List ℕ) (answer : Answer) (fault : ScriptFault) → IsErrAnd answer (λ f. f ≡ fault) →
+    IfOk answer (IsScript text)
+fault_good text (Ok script) fault is = absurd is
+fault_good text (Err f) fault is = tt
+
+-- nothing is left to read
+pub read_whole : (text rest : List ℕ) (place : ℕ) (draft : Draft) (script : Script) →
+    HasRead text rest place draft → length rest ≡ 0 →
+    ((sentences : List SentenceView) → Drafts draft sentences → Holds script sentences) → IsScript text script
+read_whole text [] place draft script has none holds = (has.sentences, has.reads, holds has.sentences has.drafts)
+read_whole text (octet ∷ rest) place draft script has none holds = absurd (omega arith)

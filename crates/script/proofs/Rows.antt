@@ -1,0 +1,72 @@
+-- What some lines say.
+use Rattle.std.proofs.Common.{◌≡◌, [], ◌∷◌, ◌++◌, None, Some, inl, inr, refl}
+use Rattle.std.specs.Prelude.{codes}
+use Rattle.article_store.specs.declared.store.Found.TheVariants.{Gone}
+use Rattle.script.specs.Action.{Hands, Receives, Supplies}
+use Rattle.script.specs.Arming.{arming_of}
+use Rattle.script.specs.Line.{Blank, Says, SaysStep, Takes}
+use Rattle.script.specs.Numbers.{u64_of}
+use Rattle.script.specs.Script.{KeepsOrder}
+use Rattle.script.specs.Step.{Lines, Flushes, Connects, Acts, Ticks, Stops, Arms, Restarts}
+
+blank_line : Says [] Blank
+blank_line = inl refl
+
+comment_line : Says (codes "# all") Blank
+comment_line = inr (codes " all", refl)
+
+lone_line : SaysStep (codes "line") (Lines [])
+lone_line = inl (refl, refl)
+
+line_of_a_feed : SaysStep (codes "line a/1 <x@y> p") (Lines (codes "a/1 <x@y> p"))
+line_of_a_feed = inr refl
+
+-- octets behind the one space belong to the text
+line_with_a_leading_space : SaysStep (codes "line  a") (Lines (codes " a"))
+line_with_a_leading_space = inr refl
+
+flush_line : SaysStep (codes "flush") Flushes
+flush_line = refl
+
+connect_line : SaysStep (codes "connect p") (Connects (codes "p"))
+connect_line = (refl, refl)
+
+hand_line : SaysStep (codes "hand 12") (Acts 12 Hands)
+hand_line = (codes "12", refl, refl)
+
+say_line : SaysStep (codes "say 1 200 hi") (Acts 1 (Receives (codes "200 hi" ++ 13 ∷ 10 ∷ [])))
+say_line = (codes "1", refl, inl (codes "200 hi", refl, refl))
+
+gone_line : SaysStep (codes "article 1 gone") (Acts 1 (Supplies Gone))
+gone_line = (codes "1", refl, refl)
+
+tick_line : SaysStep (codes "tick 007") (Ticks 7)
+tick_line = (codes "007", refl, refl)
+
+stop_line : SaysStep (codes "stop") Stops
+stop_line = refl
+
+armed_line : SaysStep (codes "stop p 3 5 165")
+    (Arms (record { name = codes "p"; call = 3; choice = record { happened = 5; fill = 165 } }))
+armed_line = (codes "p 3 5 165", refl, refl)
+
+-- the numbers of a script: digits alone, of 64 bits
+greatest_number : u64_of (codes "18446744073709551615") ≡ Some 18446744073709551615
+greatest_number = refl
+
+number_too_great : u64_of (codes "18446744073709551616") ≡ None
+number_too_great = refl
+
+signed_number : u64_of (codes "+1") ≡ None
+signed_number = refl
+
+-- a stop comes at a call from 1 on, and fills with an octet
+call_zero : arming_of (codes "p" ∷ codes "0" ∷ codes "1" ∷ []) ≡ None
+call_zero = refl
+
+fill_too_great : arming_of (codes "p" ∷ codes "1" ∷ codes "1" ∷ codes "256" ∷ []) ≡ None
+fill_too_great = refl
+
+-- steps may stand behind one another, and blank lines anywhere
+steps_in_order : KeepsOrder [] (Takes Stops ∷ Blank ∷ Takes Restarts ∷ [])
+steps_in_order = (tt, (tt, (tt, tt)))

@@ -1,0 +1,11 @@
+pub mod Action
+pub mod Arming
+pub mod Draft
+pub mod Line
+pub mod Numbers
+pub mod Parts
+pub mod Peer
+pub mod Script
+pub mod Sentence
+pub mod Step
+pub mod Words

@@ -1,0 +1,12 @@
+-- The words of a script's line, between which one space stands (profile).
+use Rattle.std.specs.Prelude.{◌≡◌, ◌≢◌, ℕ, List, ◌∷◌, ◌++◌, Option, None, Some}
+use Rattle.std.specs.List.{All}
+
+-- no space stands among the octets
+abbrev pub IsSolid : List ℕ → Type 0
+IsSolid octets = All (λ octet. octet ≢ 32) octets
+
+-- the octets are this word alone, or this word, one space and behind it this text
+abbrev pub IsCut : (octets word : List ℕ) → Option (List ℕ) → Type 0
+IsCut octets word None = octets ≡ word
+IsCut octets word (Some text) = octets ≡ word ++ 32 ∷ text

@@ -1,0 +1,27 @@
+//! The reading of drill scripts: which peers a script declares and which step each line says, or its first broken line.
+//!
+//! May touch nothing but memory; it stands on `feed_conf` and `funnel` for the peers and their names, on
+//! `article_store` and `disk_model` for what a step carries.
+//! The crates above use `read_script` (docs/FORMATS.md): what each line says stands form by form in
+//! `specs/Line.antt`, what a whole script is and which line is its first broken one in `specs/Script.antt`.
+#![tactic(auto)]
+
+mod action;
+mod arming;
+mod draft;
+mod fault;
+pub mod laws;
+mod lines;
+mod numbers;
+mod peer;
+mod read;
+mod sentence;
+mod step;
+
+pub use action::Action;
+pub use arming::Arming;
+pub use fault::{Reason, ScriptFault};
+pub use read::{Script, read_script};
+/// Memory was refused.
+pub use std::alloc::AllocError as NoMemory;
+pub use step::Step;

@@ -1,0 +1,53 @@
+// Drill scripts (docs/FORMATS.md).
+ghost use Rattle.std.specs.Prelude.{◌≡◌, ◌≢◌, ◌↔◌, ℕ, Err, IfErr, IfOk, IsOk};
+ghost use Rattle.script.specs.Script.{IsFirstBroken, IsScript, IsToldOf, KeepsRules, NamesLine};
+ghost use Rattle.script.specs.declared.fault.ScriptFault.TheVariants.{NoMemory};
+
+use crate::draft::Draft;
+use crate::fault::{Reason, ScriptFault};
+use crate::lines::first_line;
+use crate::step::Step;
+use feed_conf::PeerConf;
+use funnel::without_cr;
+use std::alloc::Global;
+
+/// A script that keeps its rules.
+#[derive(Drop)]
+pub struct Script<'a> {
+    /// What is declared of the peers, in byte order of their names.
+    pub peers: Vec<PeerConf>,
+    /// The steps, in order.
+    pub steps: Vec<Step<'a>>,
+}
+
+/// Reads a script. Each of its lines ends with LF, and one CR before that is dropped.
+///
+/// # Errors
+/// `Broken` at the first line that breaks the rules, the octets behind the last LF among the lines; `NoMemory`.
+pub fn read_script(alloc: Global, text: &[u8]) -> Result<Script<'_>, ScriptFault>
+    // What a script says.
+    ensures ok { IfOk result (IsScript text.now) }
+    // Which line a fault names, and why.
+    ensures broken { IfErr result (IsToldOf text.now) }
+    // Memory aside, each of the two comes exactly where it should.
+    ensures keeps { result ≢ Err NoMemory → IsOk result ↔ KeepsRules text.now }
+    ensures first { (line : ℕ) → result ≢ Err NoMemory
+        → NamesLine result line ↔ IsFirstBroken text.now line }
+{
+    let mut draft = Draft::new(alloc);
+    let mut rest = text;
+    let mut place = 1;
+    while let Some((line, more)) = first_line(rest) {
+        draft.add(alloc, place, without_cr(line))?;
+        rest = more;
+        place += 1;
+    }
+    if !rest.is_empty() {
+        return Err(ScriptFault::Broken {
+            line: place,
+            reason: Reason::Unended,
+        });
+    }
+    let script = draft.finish()?;
+    Ok(script)
+}

@@ -1,0 +1,44 @@
+// What one line of a script says (docs/FORMATS.md).
+ghost use Rattle.std.specs.Prelude.{IfOk, MatchOption};
+ghost use Rattle.script.specs.Line.{Says, SentenceView};
+ghost use Rattle.script.specs.Sentence.{sentence_view};
+
+use crate::peer::read_peer;
+use crate::step::Step;
+use feed_conf::PeerConf;
+use std::alloc::{AllocError, Global};
+
+/// What one line says.
+#[derive(Drop)]
+pub enum Sentence<'a> {
+    /// Nothing: it is empty or a comment.
+    Nothing,
+    /// A peer is declared.
+    Peer(PeerConf),
+    /// A step is taken.
+    Step(Step<'a>),
+}
+
+/// What a line says, without its LF and the CR before that; nothing at all where it says none of these.
+///
+/// # Errors
+/// Memory was refused.
+pub fn read_sentence(alloc: Global, line: &[u8]) -> Result<Option<Sentence<'_>>, AllocError>
+    ensures { IfOk result (λ sentence. MatchOption sentence
+        ((said : SentenceView) → Says line.now said → ⊥)
+        (λ made. Says line.now (sentence_view made))) }
+{
+    if line.is_empty() || line.starts_with(b"#") {
+        return Ok(Some(Sentence::Nothing));
+    }
+    if let Some(declaration) = line.strip_prefix(b"peer ") {
+        return match read_peer(alloc, declaration)? {
+            Some(conf) => Ok(Some(Sentence::Peer(conf))),
+            None => Ok(None),
+        };
+    }
+    match Step::read(alloc, line)? {
+        Some(step) => Ok(Some(Sentence::Step(step))),
+        None => Ok(None),
+    }
+}
