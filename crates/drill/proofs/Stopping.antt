@@ -34,7 +34,7 @@ module _ (choice : Choice) (olds news : List StoppedPeer) (all : AllZip (IsLeft 
       left_logs (x ∷ xs) [] each = absurd each
       left_logs (x ∷ xs) (y ∷ ys) each =
           ap (λ (log : Log). log ∷ stopped_logs ys) each.0.log ∙ ap
-              (λ (logs : List Log). left_by choice (stopped_log x) ∷ logs) (left_logs xs ys each.1)
+          (λ (logs : List Log). left_by choice (stopped_log x) ∷ logs) (left_logs xs ys each.1)
 
   pub leave_keeps : (hs : List History) → AllZip KeepsHistory hs olds → AllZip KeepsHistory hs news
   leave_keeps hs keep = zip_through KeepsHistory (IsLeft choice) KeepsHistory (λ h old new keeps is. is.keeps h keeps) hs olds news keep all
@@ -47,5 +47,5 @@ opened_stopped old between new opened stopped = record {
       let found = opened.recovers h keeps in
       let left = stopped.keeps (recovered h found.count) found.stands in
       λ one other is is'. Survives-recovered h found.count (one, other) found.enough found.within
-          (left one other is is');
+      (left one other is is');
 }

@@ -6,7 +6,6 @@ ghost use Rattle.peer_queue.specs.Settled.{settled_by};
 ghost use Rattle.peer_queue.specs.Words.{limits_of};
 ghost use Rattle.drill.specs.Exchange.{AllSettle, Settles, options_of, reason_text, reply_fault_text};
 
-use script::Action;
 use crate::fault::Fault;
 use crate::lines::first_line;
 use crate::numbers::add_number;
@@ -19,6 +18,7 @@ use feed_conf::PeerConf;
 use funnel::{PeerName, without_cr};
 use peer_queue::{Settled, Station, number_in};
 use reply_reader::ReplyFault;
+use script::Action;
 use std::alloc::{AllocError, Global};
 
 /// A connection of a drill.

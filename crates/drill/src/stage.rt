@@ -5,7 +5,6 @@ ghost use Rattle.std.specs.Str.{bytes_eq};
 ghost use Rattle.recovery.specs.Notes.{History};
 ghost use Rattle.drill.specs.Stage.{HasStopped, IsLeft, Opens, place_among, running_confs};
 
-use script::Action;
 use crate::connection::Connection;
 use crate::fault::Fault;
 use crate::peer::{Peer, StoppedPeer};
@@ -14,6 +13,7 @@ use crate::stop::{StopDisk, Trigger};
 use disk_model::Choice;
 use feed_conf::PeerConf;
 use funnel::PeerName;
+use script::Action;
 use std::alloc::{AllocError, Global};
 use std::cell::Cell;
 use std::collections::BTreeMap;

@@ -75,7 +75,7 @@ behind_once base behind one other (inr (inr (sound, (debts, has, live, (place, i
     let same : debts' ≡ debts = HasDebts-once base.mark behind debts' debts (live' ∙ sym live) has' has in
     let there = subst (λ ds. StopsFrom (based_on base ds) (drop (length ds) behind) place') same stop' in
     let here : place ≡ place' = stops_from_once (based_on base debts) (drop (length debts) behind) place place' stop
-        there in
+    there in
     omega (arith, is, is', here, ap length same)
 
 -- of a tape's payloads

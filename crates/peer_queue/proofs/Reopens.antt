@@ -12,8 +12,14 @@ use Rattle.recovery.specs.Words.{ledger_of}
 
 -- a tape of a front with every note, once all are acknowledged, is one with those that were before
 pub Survives-flushed : (h : History) (octets : Octets) → h.kept ≤ length h.notes → Survives (flushed h) octets → Survives h octets
-Survives-flushed h octets within is = record { count = is.count; enough = omega (arith, within, is.enough); within =
-    is.within; legal = is.legal; tape = is.tape }
+Survives-flushed h octets within is = record {
+  count = is.count;
+  enough = omega (arith, within, is.enough);
+  within =
+      is.within;
+  legal = is.legal;
+  tape = is.tape;
+}
 
 -- so it is now, where it was so at each moment
 pub survives_now : (h : History) (old new : Log) → h.kept ≤ length h.notes → TapeLeaves (Survives (flushed h)) old new → EachTape (Survives h) new

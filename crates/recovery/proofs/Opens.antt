@@ -50,7 +50,7 @@ kept_placed false live other c d a b = record { first = a; second = b }
 
 first_placed : (second : Bool) (live other live' other' : List Event) → FirstSync (AsContent (content live)) live live'
     → FirstSync (AsContent (content other)) other other' → TapeFirstSync (placed second live other)
-        (placed second live' other')
+    (placed second live' other')
 first_placed true live other live' other' a b = record { first = b; second = a }
 first_placed false live other live' other' a b = record { first = a; second = b }
 
@@ -73,7 +73,7 @@ other_synced other new result now rule =
 -- the one, and then the other
 pub kept_moments : (second : Bool) (live other live' other' : List Event) → Leaves (KeptFrom other) other other'
     → Leaves (KeptFrom live) live live' → TapeLeaves (KeptTape (placed second live other)) (placed second live other)
-        (placed second live' other')
+    (placed second live' other')
 kept_moments second live other live' other' synced repaired =
     let P = KeptTape (placed second live other) in
     let first = other_leaves P second other other' live
@@ -82,7 +82,7 @@ kept_moments second live other live' other' synced repaired =
     let then = live_leaves P second live live' other'
     (Leaves-weaker (KeptFrom live) (λ c. (d : List ℕ) → Image other' d → P (placed second c d))
     (λ c kept d is. kept_placed second live other c d kept (Leaves-now (KeptFrom other) other other' synced d is))
-        live live' repaired) in
+    live live' repaired) in
     pairs-then P (placed second live other) (placed second live other') (placed second live' other') first then
 
 -- what survived before survives at each moment
@@ -90,14 +90,14 @@ pub kept_survives : (h : History) (old new : Log) → Image old.0 (content old.0
     → EachTape (Survives h) old → TapeLeaves (KeptTape old) old new → TapeLeaves (Survives h) old new
 kept_survives h old new first second each moments =
     pairs-weaker (KeptTape old) (Survives h) (λ octets kept. Survives-kept h old octets first second each kept) old
-        new moments
+    new moments
 
 -- ---- what was opened
 
 -- beside the segment that lives the other does not
 stays : (second : Bool) (live other : List ℕ) (payloads : List (List ℕ)) (generation : ℕ) (state : State)
     → Lives (placed second live other) second → Reads live payloads → Restores payloads generation state → StaysBehind
-        second generation other
+    second generation other
 stays true live other payloads generation state lives reads restores =
     let same : generation ≡ lives.other = generation_once live generation lives.other
     (generation_of_payloads live payloads generation state reads restores) lives.second_has in
@@ -137,33 +137,36 @@ module _ {D : Type 0} {g : Ghosts D} (tape : Tape D g) (live other : List Event)
     reads = subst (λ (both : Octets). Reads (live_of tape.segments.second both) payloads)
         (sym (contents_placed tape.segments.second live other))
         (subst (λ (segment : List ℕ). Reads segment payloads) (sym
-            (placed_live tape.segments.second (content live) (content other))) o.opened.reads);
+        (placed_live tape.segments.second (content live) (content other))) o.opened.reads);
     restores = o.restores;
   }
 
   rests : Opens → EachImage (StaysBehind tape.segments.second (generation_of tape)) (other_log tape)
   rests o =
       let lives = subst (λ (both : Octets). Lives both tape.segments.second)
-          (contents_placed tape.segments.second live other) o.lives in
+      (contents_placed tape.segments.second live other) o.lives in
       let behind = stays tape.segments.second (content live) (content other) payloads (generation_of tape)
-          (ledger_of tape) lives o.opened.reads o.restores in
+      (ledger_of tape) lives o.opened.reads o.restores in
       λ d is. subst (StaysBehind tape.segments.second (generation_of tape))
-          (sym (subst (λ (log : List Event). Image log d) o.synced is)) behind
+      (sym (subst (λ (log : List Event). Image log d) o.synced is)) behind
 
   moments_of : Opens → TapeLeaves (KeptTape old) old (log_of tape)
   moments_of o =
       let synced : Leaves (KeptFrom other) other (other_log tape) =
       other_synced other (other_log tape) (Ok tt) o.now o.synced in
       kept_moments tape.segments.second live other (g.log (journal_disk (live_segment tape))) (other_log tape) synced
-          o.opened.moments
+      o.opened.moments
 
   pub opened_tape : Opens → IsOpenedTape old tape
   opened_tape o = record {
     state = ledger_of tape;
     was = was_tape o;
     stands = stands_whole tape (found (ledger_of tape)) (o.opened.holds.honest, o.honest)
-        (record { whole = restored-whole payloads (generation_of tape) (ledger_of tape) o.restores; notes_are = tt;
-            legal = tt })
+        (record {
+          whole = restored-whole payloads (generation_of tape) (ledger_of tape) o.restores;
+          notes_are = tt;
+          legal = tt;
+        })
         refl refl payloads o.opened.holds o.restores (rests o) o.none (omega (arith, o.zero)) (omega arith);
     calls = calls_placed tape.segments.second live other (g.log (journal_disk (live_segment tape))) (other_log tape)
         (length (records payloads)) o.opened.calls o.synced;
@@ -171,7 +174,7 @@ module _ {D : Type 0} {g : Ghosts D} (tape : Tape D g) (live other : List Event)
     first_sync = first_placed tape.segments.second live other (g.log (journal_disk (live_segment tape)))
         (other_log tape)
         (FirstSync-weaker (λ c. Reads c payloads) (AsContent (content live))
-            (λ c reads. inr (payloads, o.opened.reads, reads)) live
+        (λ c reads. inr (payloads, o.opened.reads, reads)) live
         (g.log (journal_disk (live_segment tape))) o.opened.first_sync)
         (FirstSync-sync (AsContent (content other)) other (other_log tape) (Ok tt) o.synced (inl refl));
   }
@@ -184,14 +187,14 @@ module _ {D : Type 0} {g : Ghosts D} (tape : Tape D g) (live other : List Event)
       let same : ledger_of tape ≡ after h.base (take here.count h.notes) =
       tape_once (contents_of old) (ledger_of tape) (after h.base (take here.count h.notes)) (was_tape o) here.tape in
       let short : length (take here.count h.notes) ≡ here.count = omega
-          (arith, length-take here.count h.notes, here.within) in
+      (arith, length-take here.count h.notes, here.within) in
       record {
         count = here.count;
         enough = here.enough;
         within = here.within;
         stands = stands_whole tape (recovered h here.count) (o.opened.holds.honest, o.honest) here.legal
             (sym short) same payloads o.opened.holds (subst (Restores payloads (generation_of tape)) same o.restores)
-                (rests o) o.none
+            (rests o) o.none
             (omega (arith, o.zero)) (omega arith);
         moments = kept_survives h old (log_of tape) first second each (moments_of o);
       }
@@ -219,7 +222,7 @@ still_survives h old new each same = subst (λ (log : Log). TapeLeaves (Survives
 pub not_repaired : {D : Type 0} {g : Ghosts D} (second : Bool) (live other live' other' : List Event)
     (refused : RefusedTape D g) (payloads : List (List ℕ))
     → g.honest refused.a → g.honest refused.b → refused_log refused ≡ placed second live' other' → Image other
-        (content other) → other' ≡ Synced ∷ other
+    (content other) → other' ≡ Synced ∷ other
     → Reads (content live) payloads → Leaves (KeptFrom live) live live' → FirstSync (λ c. Reads c payloads) live live'
     → IsRefusedTape (placed second live other) refused
 not_repaired second live other live' other' refused payloads one two same now synced reads moments first = record {
@@ -231,7 +234,7 @@ not_repaired second live other live' other' refused payloads one two same now sy
   first_sync = subst (λ (log : Log). TapeFirstSync (placed second live other) log) (sym same)
       (first_placed second live other live' other'
       (FirstSync-weaker (λ c. Reads c payloads) (AsContent (content live)) (λ c here. inr (payloads, reads, here))
-          live live' first)
+      live live' first)
       (FirstSync-sync (AsContent (content other)) other other' (Ok tt) synced (inl refl)));
 }
 
@@ -247,7 +250,7 @@ never_damaged h old segment at first second each none =
 pub nothing_placed : (second : Bool) (live other : List Event) (segment at : ℕ) → Lives
     (contents_of (placed second live other)) second
     → segment ≡ cond second 1 0 → LeavesNothingAt (content live) at → IsNoTapeAt
-        (contents_of (placed second live other)) segment at
+    (contents_of (placed second live other)) segment at
 nothing_placed true live other segment at lives which nothing = inr (inr (true, lives, which, nothing))
 nothing_placed false live other segment at lives which nothing = inr (inr (false, lives, which, nothing))
 
@@ -255,13 +258,16 @@ nothing_placed false live other segment at lives which nothing = inr (inr (false
 
 pub images_placed : (second : Bool) (live other : List Event) → Image live (content live) → Image other (content other)
     → Image (placed second live other).0 (content (placed second live other).0) × Image (placed second live other).1
-        (content (placed second live other).1)
+    (content (placed second live other).1)
 images_placed true live other a b = (b, a)
 images_placed false live other a b = (a, b)
 
 module _ {D : Type 0} (g : Ghosts D) where
-  logs_of_both : (second : Bool) (live other : D) → (g.log (placed second live other).0, g.log
-      (placed second live other).1) ≡ placed second (g.log live) (g.log other)
+  logs_of_both : (second : Bool) (live other : D) → (
+    g.log (placed second live other).0,
+    g.log
+        (placed second live other).1,
+  ) ≡ placed second (g.log live) (g.log other)
   logs_of_both true live other = refl
   logs_of_both false live other = refl
 

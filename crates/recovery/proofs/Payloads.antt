@@ -49,10 +49,24 @@ stops_within payloads index (inl (none, (inside, rest))) = omega (arith, inside)
 stops_within payloads index (inr (base, behind, begins, inl (unsound, first))) = omega (arith, first)
 stops_within payloads index (inr (base, behind, begins, inr (inl (sound, (debts, ends, few, is))))) =
     omega (arith, is, ap length begins.split, debts_within base.mark behind debts ends.has)
-stops_within payloads index (inr (base, behind, begins, inr (inr (sound,
-    (debts, has, live, (place, is, (inside, rest))))))) =
-    omega (arith, is, inside, ap length begins.split, length-drop (length debts) behind, debts_within base.mark behind
-        debts has)
+stops_within payloads index (inr (
+  base,
+  behind,
+  begins,
+  inr (inr (
+    sound,
+    (debts, has, live, (place, is, (inside, rest))),
+  )),
+)) =
+    omega (
+      arith,
+      is,
+      inside,
+      ap length begins.split,
+      length-drop (length debts) behind,
+      debts_within base.mark behind
+          debts has,
+    )
 
 -- ---- what a fault tells
 

@@ -34,15 +34,24 @@ use Rattle.recovery.proofs.Drops.{AllShort-notes}
 
 length-gate : (payload rest : List ℕ) (n m : ℕ) → length payload ≡ n → length rest ≡ m → length
     (gated open_gate payload ++ rest) ≡ 5 + n + m
-length-gate payload rest n m a b = omega (arith, length-append (gated open_gate payload) rest, length-sized payload,
-    a, b)
+length-gate payload rest n m a b = omega (
+  arith,
+  length-append (gated open_gate payload) rest,
+  length-sized payload,
+  a,
+  b,
+)
 
 length-base : (generation : ℕ) (state : State) → length (base_spelling (base_of generation state)) ≡ 49
 length-base generation state = refl
 
 length-owe : (debt : Owing) → length (spelling (owe debt)) ≡ 9 + line_octets debt.1.0 debt.1.1
-length-owe debt = omega (arith, length-append (sized_text debt.1.0) (sized_text debt.1.1), length-append
-    (head 1 debt.0) (sized_text debt.1.0 ++ sized_text debt.1.1))
+length-owe debt = omega (
+  arith,
+  length-append (sized_text debt.1.0) (sized_text debt.1.1),
+  length-append
+      (head 1 debt.0) (sized_text debt.1.0 ++ sized_text debt.1.1),
+)
 
 one_more : (l n o : ℕ) → 5 + (9 + l) + (14 * n + o) ≡ 14 * (1 + n) + (l + o)
 one_more l n o = omega arith
@@ -59,24 +68,27 @@ length-records-owes : (debts : List Owing) → length (records (spellings (owes 
 length-records-owes [] = omega arith
 length-records-owes (debt ∷ debts) =
     length-gate (spelling (owe debt)) (records (spellings (owes debts))) (9 + line_octets debt.1.0 debt.1.1)
-        (14 * length debts + octets_of_debts debts)
+    (14 * length debts + octets_of_debts debts)
     (length-owe debt) (length-records-owes debts)
     ∙ (one_more (line_octets debt.1.0 debt.1.1) (length debts) (octets_of_debts debts)
     ∙ (ap (λ (n : ℕ). 14 * (1 + length debts) + n) (sym (sum_by-cons (λ (d : Owing). line_octets d.1.0 d.1.1) debt
-        debts)) ∙ longer debt debts))
+    debts)) ∙ longer debt debts))
 
 pub length-written : (generation : ℕ) (state : State) → length (records (written generation state)) ≡ 54 + 14 * length
     state.debts + octets_of_debts state.debts
 length-written generation state =
     length-gate (base_spelling (base_of generation state)) (records (spellings (owes state.debts))) 49
-        (14 * length state.debts + octets_of_debts state.debts)
+    (14 * length state.debts + octets_of_debts state.debts)
     (length-base generation state) (length-records-owes state.debts)
     ∙ omega arith
 
 -- none of it is too long
 pub written-short : (generation : ℕ) (state : State) → AreNotes (owes state.debts) → AllShort (written generation state)
-written-short generation state are = (omega (arith, length-base generation state), AllShort-notes (owes state.debts)
-    are)
+written-short generation state are = (
+  omega (arith, length-base generation state),
+  AllShort-notes (owes state.debts)
+      are,
+)
 
 -- ---- faults
 
@@ -125,7 +137,7 @@ module _ {D : Type 0} {g : Ghosts D} (tape : Tape D g) (h : History) where
     other = generation_of tape;
     has = generation_of_payloads d w.payloads (generation_of tape) _
         (subst (λ (l : List ℕ). Reads l w.payloads) (sym (w.holds.rest.only.images d is))
-            (reads_rest w.payloads w.holds.rest.short)) w.restores;
+        (reads_rest w.payloads w.holds.rest.short)) w.restores;
     behind = turned_before tape.segments.second (generation_of tape);
   }
 
@@ -134,7 +146,7 @@ module _ {D : Type 0} {g : Ghosts D} (tape : Tape D g) (h : History) where
       (written (generation_of tape + 1) (ledger_of tape)) (generation_of tape + 1) (ledger_after h)
   written_whole stands number =
       let whole : IsWhole (ledger_of tape) = subst IsWhole (sym stands.ledger)
-          (whole_behind h.base h.notes stands.are_legal) in
+      (whole_behind h.base h.notes stands.are_legal) in
       subst (Restores (written (generation_of tape + 1) (ledger_of tape)) (generation_of tape + 1)) stands.ledger
       (written-restores (generation_of tape + 1) (ledger_of tape) (omega arith) number whole)
 
@@ -147,7 +159,7 @@ module _ {D : Type 0} {g : Ghosts D} (tape : Tape D g) (h : History) where
       (other_log tape) stands.images c d is was
   renewed stands w number now d (inr (inl none)) c is =
       let reads : Reads c w.payloads = subst (λ (l : List ℕ). Reads l w.payloads)
-          (sym (w.holds.rest.only.images c is)) (reads_rest w.payloads w.holds.rest.short) in
+      (sym (w.holds.rest.only.images c is)) (reads_rest w.payloads w.holds.rest.short) in
       let before = (w.other (content (other_log tape)) now).behind in
       record {
         count = h.kept;
@@ -157,13 +169,13 @@ module _ {D : Type 0} {g : Ghosts D} (tape : Tape D g) (h : History) where
         tape = tape_placed tape.segments.second c d w.payloads (generation_of tape) 0
             (after h.base (take h.kept h.notes)) reads w.restores (inl (none, refl))
             (none_before tape.segments.second (generation_of tape) (w.other (content (other_log tape)) now).other
-                before);
+            before);
       }
   renewed stands w number now d (inr (inr all)) c is =
       let behind = leaves_behind w c is in
       let whole : IsTape (placed (not tape.segments.second) d c) (ledger_after h) =
       tape_placed (not tape.segments.second) d c (written (generation_of tape + 1) (ledger_of tape))
-          (generation_of tape + 1) behind.other (ledger_after h) all
+      (generation_of tape + 1) behind.other (ledger_after h) all
       (written_whole stands number) behind.has behind.behind in
       Survives-whole h (placed tape.segments.second c d) stands.are_legal stands.kept_within
       (subst (λ octets. IsTape octets (ledger_after h)) (turned tape.segments.second d c) whole)

@@ -68,10 +68,10 @@ module _ {D : Type 0} {g : Ghosts D} (tape : Tape D g) (h : History) where
   pub stands_whole : AreHonest tape → AreLegal h.base h.notes → h.kept ≡ length h.notes → ledger_of tape ≡
       ledger_after h
       → (payloads : List (List ℕ)) → Holds (live_segment tape) payloads → Restores payloads (generation_of tape)
-          (ledger_after h)
+      (ledger_after h)
       → EachImage (StaysBehind tape.segments.second (generation_of tape)) (other_log tape)
       → tape.pending.items ≡ [] → tape.flushed ≡ min (h.kept - h.opened) (2 ^ 64 - 1) → h.opened ≤ h.kept → StandsFor
-          tape h
+      tape h
   stands_whole honest legal all ledger payloads holds restores other none count opened =
       let here : take h.kept h.notes ≡ h.notes = take_all h.kept h.notes (omega (arith, all)) in
       let rest : drop h.kept h.notes ≡ [] = drop_all h.kept h.notes (omega (arith, all)) in
@@ -86,7 +86,7 @@ module _ {D : Type 0} {g : Ghosts D} (tape : Tape D g) (h : History) where
             let behind = other d is' in
             Survives-whole h (placed tape.segments.second c d) legal (omega (arith, all))
             (tape_placed tape.segments.second c d payloads (generation_of tape) behind.other (ledger_after h) reads
-                restores
+            restores
             behind.has behind.behind));
         working = λ works. record {
           payloads = payloads;
@@ -114,11 +114,19 @@ module _ {D : Type 0} {g : Ghosts D} (tape : Tape D g) (h : History) where
       let behind = other d is in
       let plus : n ≡ length payloads + m = omega (arith, low) in
       let few : h.kept + m ≤ length h.notes =
-      omega (arith, high, length-append payloads (octets_of tape.pending.items), ap length pending, spellings-length
-          more, length-drop h.kept h.notes, stands.kept_within) in
+      omega (
+        arith,
+        high,
+        length-append payloads (octets_of tape.pending.items),
+        ap length pending,
+        spellings-length
+            more,
+        length-drop h.kept h.notes,
+        stands.kept_within,
+      ) in
       let front : take (h.kept + m) h.notes ≡ take h.kept h.notes ++ take m more = take-add h.kept m h.notes in
       let legal : AreLegal h.base (take (h.kept + m) h.notes) = AreLegal-take h.base h.notes (h.kept + m)
-          stands.are_legal in
+      stands.are_legal in
       let notes_are : AreNotes (take m more) =
       AreNotes-back (take h.kept h.notes) (take m more) (subst AreNotes front legal.notes_are) in
       let lawful : AllLegal state (take m more) =
@@ -136,16 +144,16 @@ module _ {D : Type 0} {g : Ghosts D} (tape : Tape D g) (h : History) where
         legal = legal;
         tape = subst (IsTape (placed tape.segments.second c d)) left
             (tape_placed tape.segments.second c d (payloads ++ spellings (take m more)) (generation_of tape)
-                behind.other
+            behind.other
             (after state (take m more)) (subst (Reads c) here reads)
             (restores-on payloads (generation_of tape) state (take m more) restores notes_are lawful) behind.has
-                behind.behind);
+            behind.behind);
       }
 
   -- at each moment of a flush of a tape that works
   pub flush_moments : (new : List Event) → StandsFor tape h → (IsBroken tape → ⊥)
       → ((all : List (List ℕ)) → Holds (live_segment tape) all → Leaves
-          (ReadsFrom (length all) (all ++ octets_of tape.pending.items)) (live_log tape) new)
+      (ReadsFrom (length all) (all ++ octets_of tape.pending.items)) (live_log tape) new)
       → TapeLeaves (Survives h) (log_of tape) (placed tape.segments.second new (other_log tape))
   flush_moments new stands works moments =
       let w = stands.working works in
@@ -159,8 +167,12 @@ module _ {D : Type 0} {g : Ghosts D} (tape : Tape D g) (h : History) where
   pub stands_idle : StandsFor tape h → (IsBroken tape → ⊥) → length tape.pending.items ≡ 0 → StandsFor tape (flushed h)
   stands_idle stands works none =
       let w = stands.working works in
-      let all : h.kept ≡ length h.notes = omega (arith, none, pending_count h.notes h.kept tape.pending.items
-          w.pending stands.kept_within) in
+      let all : h.kept ≡ length h.notes = omega (
+        arith,
+        none,
+        pending_count h.notes h.kept tape.pending.items
+            w.pending stands.kept_within,
+      ) in
       subst (λ (k : ℕ). StandsFor tape (record h { kept = k })) all stands
 
   pub idle_count : StandsFor tape h → (IsBroken tape → ⊥) → length tape.pending.items ≡ 0
@@ -174,13 +186,13 @@ pub stands_noted_all : {D : Type 0} {g : Ghosts D} (old new : Tape D g) (h : His
     (payloads : List (Vec ℕ Global)) → StandsFor old h → new.segments ≡ old.segments → AreNotes notes → AllLegal
     (ledger_of old) notes → ledger_of new ≡ after (ledger_of old) notes
     → new.pending.items ≡ old.pending.items ++ payloads → octets_of payloads ≡ spellings notes → new.flushed ≡
-        old.flushed → StandsFor new (noted_all h notes)
+    old.flushed → StandsFor new (noted_all h notes)
 stands_noted_all {D} {g} old new h notes payloads stands same are legal stepped pending spelled flushed =
     let here : AllLegal (ledger_after h) notes = subst (λ (s : State). AllLegal s notes) stands.ledger legal in
     let front : take h.kept (h.notes ++ notes) ≡ take h.kept h.notes = take-append-le h.kept h.notes notes
-        stands.kept_within in
+    stands.kept_within in
     let back : drop h.kept (h.notes ++ notes) ≡ drop h.kept h.notes ++ notes = drop-append-le h.kept h.notes notes
-        stands.kept_within in
+    stands.kept_within in
     record {
       honest = subst (λ (s : Segments D g). g.honest (journal_disk s.live) × g.honest s.other) (sym same) stands.honest;
       are_legal = AreLegal-append h.base h.notes notes stands.are_legal are here;
@@ -197,7 +209,7 @@ stands_noted_all {D} {g} old new h notes payloads stands same are legal stepped 
             restores = subst (λ (s : Segments D g). Restores w.payloads s.generation
                 (after h.base (take h.kept (h.notes ++ notes)))) (sym same)
                 (subst (λ (l : List Note). Restores w.payloads (generation_of old) (after h.base l)) (sym front)
-                    w.restores);
+                w.restores);
             other = subst (λ (s : Segments D g). EachImage (StaysBehind s.second s.generation) (g.log s.other))
                 (sym same) w.other;
             pending = ap octets_of pending ∙ (octets_of-append old.pending.items payloads ∙
@@ -214,7 +226,7 @@ pub stands_refused : {D : Type 0} {g : Ghosts D} (old new : Tape D g) (h : Histo
     → ledger_of new ≡ ledger_of old → octets_of new.pending.items ≡ octets_of old.pending.items → new.flushed ≡
     old.flushed
     → TapeLeaves (Survives h) (log_of old) (log_of new) → ((IsBroken new → ⊥) → new.segments ≡ old.segments) →
-        StandsFor new h
+    StandsFor new h
 stands_refused {D} {g} old new h stands honest ledger pending flushed moments same = record {
   honest = honest;
   are_legal = stands.are_legal;
@@ -245,4 +257,4 @@ same_tape {D} {g} tape segments same few short =
     ap (λ (s : Segments D g). record tape { segments = s; few = few; short = short }) same
     ∙ ap (λ (x : length tape.pending.items ≤ most_pending). record tape { few = x; short = short }) (le_prop few tape.few)
     ∙ ap (λ (x : AllShort (octets_of tape.pending.items)). record tape { short = x })
-        (AllShort-prop (octets_of tape.pending.items) short tape.short)
+    (AllShort-prop (octets_of tape.pending.items) short tape.short)

@@ -26,7 +26,7 @@ abbrev pub TellsGeneration : List ℕ → ℕ → Type 0
 TellsGeneration payload generation =
     (SpellsNoBase payload × (generation ≡ 0))
     ⊎ ((base : Base) × IsBase base × (payload ≡ base_spelling base) × (1 ≤ base.generation) ×
-        (generation ≡ base.generation))
+    (generation ≡ base.generation))
 
 -- The generation of a segment, which what stands first tells, whatever stands behind that.
 abbrev pub HasGeneration : List ℕ → ℕ → Type 0

@@ -88,7 +88,7 @@ generation_told segment generation (inl a) (inr (base, is, first, none)) = recor
 generation_told segment generation (inr (payload, first, tells)) (inl cut) = record_uncut segment payload first cut
 generation_told segment generation (inr (payload, first, tells)) (inr (base, is, first', none)) =
     no_base_of_none payload generation base (record_once segment payload (base_spelling base) first first') none tells
-        is
+    is
 
 same_truth : (one other : Bool) → (IsTrue one → IsTrue other) → (IsTrue other → IsTrue one) → one ≡ other
 same_truth true true to from = refl
@@ -160,7 +160,7 @@ left_nothing_once segment one other (inr (payloads, index, reads, stops, place))
     (inr (payloads', index', reads', stops', place')) =
     let same : payloads ≡ payloads' = reads_once segment payloads payloads' reads reads' in
     let here : index ≡ index' = restore_stops_once payloads' index index'
-        (subst (λ ps. RestoreStopsAt ps index) same stops) stops' in
+    (subst (λ ps. RestoreStopsAt ps index) same stops) stops' in
     place ∙ (ap (λ ps. length (records (take index ps))) same ∙ (ap (λ i. length (records (take i payloads'))) here
     ∙ sym place'))
 
@@ -346,8 +346,11 @@ pub logs_of_disks : {D : Type 0} {g : Ghosts D} (tape : Tape D g) (disks : D × 
     → (g.log disks.0, g.log disks.1) ≡ log_of tape
 logs_of_disks {D} {g} tape disks same = ap (λ (d : D × D). (g.log d.0, g.log d.1)) same ∙ by_place tape.segments.second
   where
-    by_place : (second : Bool) → (g.log (placed second tape.segments.live.disk tape.segments.other).0, g.log
-        (placed second tape.segments.live.disk tape.segments.other).1) ≡ placed second (g.log tape.segments.live.disk)
+    by_place : (second : Bool) → (
+      g.log (placed second tape.segments.live.disk tape.segments.other).0,
+      g.log
+          (placed second tape.segments.live.disk tape.segments.other).1,
+    ) ≡ placed second (g.log tape.segments.live.disk)
         (g.log tape.segments.other)
     by_place true = refl
     by_place false = refl

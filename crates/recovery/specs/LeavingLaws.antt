@@ -106,7 +106,7 @@ pub left_leaves : (P : Octets → Type 0) (choice : Choice) (log : Log) → Imag
 left_leaves P choice log first second each = λ one other is is'.
     subst (λ c. P (c, other)) (sym is)
     (subst (λ d. P (chosen_image choice log.0, d)) (sym is') (each (chosen_image choice log.0)
-        (chosen_image choice log.1) first second))
+    (chosen_image choice log.1) first second))
 
 -- ---- a front of legal notes is told by its ledger
 
@@ -136,7 +136,7 @@ longer base notes one more are within =
     let rises = after_weight (after base (take one notes)) (take more (drop one notes))
     (AllLegal-back base (take one notes) (take more (drop one notes)) legal) in
     let whole : after base (take (one + more) notes) ≡ after (after base (take one notes))
-        (take more (drop one notes)) =
+    (take more (drop one notes)) =
     ap (after base) front ∙ after-append base (take one notes) (take more (drop one notes)) in
     let many : length (take more (drop one notes)) ≡ more =
     length-take-le more (drop one notes) (omega (arith, within, length-drop one notes)) in
@@ -229,7 +229,7 @@ module _ {D : Type 0} {g : Ghosts D} (tape : Tape D g) (h : History) where
       let w = stands.working works in
       let reads : Reads (content (live_log tape)) w.payloads =
       subst (λ (l : List ℕ). Reads l w.payloads) (sym w.holds.rest.only.whole)
-          (reads_rest w.payloads w.holds.rest.short) in
+      (reads_rest w.payloads w.holds.rest.short) in
       let behind = w.other (content (other_log tape)) (lies tape.segments.other stands.honest.1) in
       subst (λ (size : ℕ). HasSegment (log_of tape) (generation_of tape) size) (sym w.holds.end)
       (segment_placed tape.segments.second (live_log tape) (other_log tape) w.payloads (generation_of tape) behind.other
@@ -239,8 +239,12 @@ module _ {D : Type 0} {g : Ghosts D} (tape : Tape D g) (h : History) where
   pub pends_by : StandsFor tape h → (IsBroken tape → ⊥) → pending_of tape ≡ length (pending_notes h)
   pends_by stands works =
       let w = stands.working works in
-      omega (arith, ap length w.pending, length-map tape.pending.items (λ (v : Vec ℕ Global). v.items),
-          length-spellings (pending_notes h))
+      omega (
+        arith,
+        ap length w.pending,
+        length-map tape.pending.items (λ (v : Vec ℕ Global). v.items),
+        length-spellings (pending_notes h),
+      )
     where
       length-spellings : (notes : List Note) → length (spellings notes) ≡ length notes
       length-spellings [] = refl
@@ -277,11 +281,11 @@ module _ {D : Type 0} {g : Ghosts D} (tape : Tape D g) (h : History) where
       from : IsFullBy (log_of tape) h → IsFull tape
       from (some, (generation, size, has, long)) =
           let same = segment_once (log_of tape) generation size (generation_of tape) (journal_end (live_segment tape))
-              has (segment_of lies stands works) in (
+          has (segment_of lies stands works) in (
             λ e. some (empty (pending_notes h) (omega (arith, count, ap length e))),
             subst (λ ps. longest_segment < journal_end (live_segment tape) + 1 + length (records ps)) (sym w.pending)
                 (subst (λ (n : ℕ). longest_segment < n + 1 + length (records (spellings (pending_notes h)))) same.1
-                    long),
+                long),
           )
 
   -- and so is what a rotation would write too long
@@ -305,8 +309,11 @@ module _ {D : Type 0} {g : Ghosts D} where
   told_of_disks : (tape : Tape D g) → (g.told (disks_of tape).0, g.told (disks_of tape).1) ≡ told_of tape
   told_of_disks tape = by_place tape.segments.second
     where
-      by_place : (second : Bool) → (g.told (placed second tape.segments.live.disk tape.segments.other).0, g.told
-          (placed second tape.segments.live.disk tape.segments.other).1) ≡ placed second
+      by_place : (second : Bool) → (
+        g.told (placed second tape.segments.live.disk tape.segments.other).0,
+        g.told
+            (placed second tape.segments.live.disk tape.segments.other).1,
+      ) ≡ placed second
           (g.told tape.segments.live.disk) (g.told tape.segments.other)
       by_place true = refl
       by_place false = refl

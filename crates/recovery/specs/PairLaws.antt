@@ -33,10 +33,10 @@ pub pairs-weaker : (P Q : Octets → Type 0) → ((octets : Octets) → P octets
 pairs-weaker P Q weaker old new (at_start here) = at_start (λ c d is is'. weaker (c, d) (here c d is is'))
 pairs-weaker P Q weaker old new (first_next one other event so_far here) =
     first_next one other event (pairs-weaker P Q weaker old (one, other) so_far)
-        (λ c d is is'. weaker (c, d) (here c d is is'))
+    (λ c d is is'. weaker (c, d) (here c d is is'))
 pairs-weaker P Q weaker old new (second_next one other event so_far here) =
     second_next one other event (pairs-weaker P Q weaker old (one, other) so_far)
-        (λ c d is is'. weaker (c, d) (here c d is is'))
+    (λ c d is is'. weaker (c, d) (here c d is is'))
 
 -- a run of calls on the first disk
 first_leaves : (P : Octets → Type 0) (old rest new : List Event)

@@ -60,7 +60,7 @@ contents_of log = (content log.0, content log.1)
 abbrev pub tape_opening : Bool → ℕ → Log → Log
 tape_opening second end old =
     placed second (opening (length (content (live_of second old))) end (live_of second old))
-        (Synced ∷ other_of second old)
+    (Synced ∷ other_of second old)
 
 -- A tape was opened on disks with this log: it stands for what they held, all acknowledged. Until a disk's
 -- first sync its

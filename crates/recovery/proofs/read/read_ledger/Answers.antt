@@ -9,8 +9,12 @@ pub gate_of-requires : goal.gate_of-requires
 gate_of-requires c =
     let index = c.in-Err-Refused.index in
     let stops = c.in-Err-Refused.ensures.refused index (ap Err c.in-Err-Refused.field-0-is) in
-    omega (arith, stops_within (octets_of c.args.payloads.now) index stops, length-map c.args.payloads.now
-        (λ v. v.items))
+    omega (
+      arith,
+      stops_within (octets_of c.args.payloads.now) index stops,
+      length-map c.args.payloads.now
+          (λ v. v.items),
+    )
 
 pub returns-in-Err-Refused-clause-all : goal.returns-in-Err-Refused-clause-all
 returns-in-Err-Refused-clause-all c = λ generation state whole.

@@ -12,17 +12,17 @@ returns-in-Err-clause-survives c = λ h each.
     let b = c.args.self.b in
     let first = subst (λ (d : MemDisk). EachTape (Survives h) (events d, events b)) (sym c.new-a.ensures) each in
     let given = subst (λ (d : MemDisk). EachTape (Survives h) (events c.new-a.result.disk, events d))
-        (sym c.new-b.ensures) first in
+    (sym c.new-b.ensures) first in
     let left = pairs-now (Survives h) _ _ (c.in-Err.ensures.survives h tt tt given) in
     let back = subst (λ (d : MemDisk). EachTape (Survives h) (events d, events c.in-Err.refused.b.disk))
-        (sym c.into_inner-a.ensures) left in
+    (sym c.into_inner-a.ensures) left in
     subst (λ (d : MemDisk). EachTape (Survives h) (events c.into_inner-a.result, events d))
-        (sym c.into_inner-b.ensures) back
+    (sym c.into_inner-b.ensures) back
 
 pub returns-in-Err-clause-undamaged : goal.returns-in-Err-clause-undamaged
 returns-in-Err-clause-undamaged c = λ h each.
     let b = c.args.self.b in
     let first = subst (λ (d : MemDisk). EachTape (Survives h) (events d, events b)) (sym c.new-a.ensures) each in
     let given = subst (λ (d : MemDisk). EachTape (Survives h) (events c.new-a.result.disk, events d))
-        (sym c.new-b.ensures) first in
+    (sym c.new-b.ensures) first in
     c.in-Err.ensures.undamaged h tt tt given

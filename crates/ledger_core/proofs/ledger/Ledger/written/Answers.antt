@@ -37,7 +37,7 @@ loop-number-preserved c =
       notes = subst AreNotes
           (sym (ap owes (map_push deref_pair loop.yielded item) ∙ map_push owe debts (deref_pair item)))
           (AreNotes-append (owes debts) (owe (deref_pair item) ∷ []) loop.invariant.notes
-              (c.in_ok-encode_owe.ensures.note, tt));
+          (c.in_ok-encode_owe.ensures.note, tt));
     }
 
 pub returns-clause-written : goal.returns-clause-written
@@ -45,14 +45,14 @@ returns-clause-written c =
     let loop = c.loop-number in
     let base = base_spelling (base_of c.args.generation (state_of c.args.self.now)) in
     let all = iter_end deref_pair c.args.self.now.debts.entries loop.yielded c.into_iter-number-iterator.result
-        loop.number-iterator c.next.new.self c.next.result (c.into_iter-number-iterator.ensures.into_iter_gives ∙
-        c.iter-number-items.ensures.rest) loop.yielded_by c.in-None.is c.next.ensures.steps in
+    loop.number-iterator c.next.new.self c.next.result (c.into_iter-number-iterator.ensures.into_iter_gives ∙
+    c.iter-number-items.ensures.rest) loop.yielded_by c.in-None.is c.next.ensures.steps in
     loop.invariant.spelled ∙ ap (λ (l : List Owing). base ∷ spellings (owes l)) all.0
 
 pub returns-clause-notes : goal.returns-clause-notes
 returns-clause-notes c =
     let loop = c.loop-number in
     let all = iter_end deref_pair c.args.self.now.debts.entries loop.yielded c.into_iter-number-iterator.result
-        loop.number-iterator c.next.new.self c.next.result (c.into_iter-number-iterator.ensures.into_iter_gives ∙
-        c.iter-number-items.ensures.rest) loop.yielded_by c.in-None.is c.next.ensures.steps in
+    loop.number-iterator c.next.new.self c.next.result (c.into_iter-number-iterator.ensures.into_iter_gives ∙
+    c.iter-number-items.ensures.rest) loop.yielded_by c.in-None.is c.next.ensures.steps in
     subst (λ (l : List Owing). AreNotes (owes l)) all.0 loop.invariant.notes

@@ -43,47 +43,53 @@ returns-in-Ok-clause-ok g c = λ h stands.
     let w = stands.working c.requires.works in
     let more = drop h.kept h.notes in
     let held : Holds c.append_all.new.self (w.payloads ++ octets_of tape.pending.items) = rw c.deref.ensures.value at
-        (c.in-Ok.ensures.ok w.payloads w.holds) in
+    (c.in-Ok.ensures.ok w.payloads w.holds) in
     let count = pending_count h.notes h.kept tape.pending.items w.pending stands.kept_within in
     let parts = take-append-drop h.kept h.notes in
     let are = subst (AreLegal h.base) (sym parts) stands.are_legal in
     let left : after (after h.base (take h.kept h.notes)) more ≡ after h.base h.notes = sym
-        (after-append h.base (take h.kept h.notes) more) ∙ ap (after h.base) parts in
+    (after-append h.base (take h.kept h.notes) more) ∙ ap (after h.base) parts in
     let restores = restores-on w.payloads tape.segments.generation (after h.base (take h.kept h.notes)) more w.restores
     (AreNotes-back (take h.kept h.notes) more are.notes_are) (AllLegal-back h.base (take h.kept h.notes) more
-        are.legal) in
+    are.legal) in
     stands_whole _ (flushed h) (c.append_all.ensures.honest.0 stands.honest.0, stands.honest.1) stands.are_legal refl
-        stands.ledger
+    stands.ledger
     (w.payloads ++ spellings more) (subst (λ (l : List (List ℕ)). Holds c.append_all.new.self (w.payloads ++ l))
-        w.pending held)
+    w.pending held)
     (subst (Restores (w.payloads ++ spellings more) tape.segments.generation) left restores) w.other
-        c.clear.ensures.items
+    c.clear.ensures.items
     (omega (arith, w.count, count, c.len.ensures, c.saturating_add-self.ensures, w.opened))
-        (omega (arith, w.opened, stands.kept_within))
+    (omega (arith, w.opened, stands.kept_within))
 
 pub returns-in-Ok-clause-count : goal.returns-in-Ok-clause-count
 returns-in-Ok-clause-count g c = λ h stands.
     let tape = c.args.self.now in
     let w = stands.working c.requires.works in
-    omega (arith, w.count, pending_count h.notes h.kept tape.pending.items w.pending stands.kept_within,
-        c.len.ensures, c.saturating_add-self.ensures, w.opened)
+    omega (
+      arith,
+      w.count,
+      pending_count h.notes h.kept tape.pending.items w.pending stands.kept_within,
+      c.len.ensures,
+      c.saturating_add-self.ensures,
+      w.opened,
+    )
 
 pub returns-in-Ok-clause-moments : goal.returns-in-Ok-clause-moments
 returns-in-Ok-clause-moments g c = λ h stands.
     flush_moments c.args.self.now h (g.D.Disk.log (journal_disk c.append_all.new.self)) stands c.requires.works
-        (rw c.deref.ensures.value at c.append_all.ensures.moments)
+    (rw c.deref.ensures.value at c.append_all.ensures.moments)
 
 pub returns-in-Err-clause-moments : goal.returns-in-Err-clause-moments
 returns-in-Err-clause-moments g c = λ h stands.
     flush_moments c.args.self.now h (g.D.Disk.log (journal_disk c.append_all.new.self)) stands c.requires.works
-        (rw c.deref.ensures.value at c.append_all.ensures.moments)
+    (rw c.deref.ensures.value at c.append_all.ensures.moments)
 
 pub returns-in-Err-clause-err : goal.returns-in-Err-clause-err
 returns-in-Err-clause-err g c = λ h stands.
     stands_refused c.args.self.now _ h stands (c.append_all.ensures.honest.0 stands.honest.0, stands.honest.1) refl
-        refl refl
+    refl refl
     (returns-in-Err-clause-moments g c h stands) (λ works. same_segments c.args.self.now.segments
-        c.append_all.new.self (c.in-Err.ensures.unchanged works))
+    c.append_all.new.self (c.in-Err.ensures.unchanged works))
 
 pub returns-in-Err-clause-refused : goal.returns-in-Err-clause-refused
 returns-in-Err-clause-refused g c = λ other.

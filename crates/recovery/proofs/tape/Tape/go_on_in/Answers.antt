@@ -36,13 +36,13 @@ returns-in-Ok-clause-ok g c = λ h stands.
     let left = c.in-Ok.ensures.exchanged in
     let count = pending_count h.notes h.kept tape.pending.items w.pending stands.kept_within in
     stands_whole _ (flushed h) (renewed.holds.honest, subst (λ d. g.D.Disk.honest d) (sym left) stands.honest.0)
-        stands.are_legal refl stands.ledger
+    stands.are_legal refl stands.ledger
     (written (generation_of tape + 1) (ledger_of tape)) (subst (Holds c.move_to.new.self) c.requires.written
-        renewed.holds) (written_whole tape h stands number)
+    renewed.holds) (written_whole tape h stands number)
     (subst (λ d. EachImage (StaysBehind (not tape.segments.second) (generation_of tape + 1)) (g.D.Disk.log d))
-        (sym left) (leaves_behind tape h w))
+    (sym left) (leaves_behind tape h w))
     c.clear.ensures.items (omega (arith, w.count, count, c.len.ensures, c.saturating_add-self.ensures, w.opened))
-        (omega (arith, w.opened, stands.kept_within))
+    (omega (arith, w.opened, stands.kept_within))
 
 pub returns-in-Ok-clause-moments : goal.returns-in-Ok-clause-moments
 returns-in-Ok-clause-moments g c = λ h stands.
@@ -51,13 +51,13 @@ returns-in-Ok-clause-moments g c = λ h stands.
     let number : IsNumber (generation_of tape + 1) = omega (arith, c.requires.room) in
     let renewed = c.in-Ok.ensures.ok stands.honest.1 in
     let written_so = subst (λ ps. Leaves (RenewedFrom (other_log tape) ps) (other_log tape) new) c.requires.written
-        renewed.moments in
+    renewed.moments in
     let run = rotate_moments tape h new stands c.requires.works number
-        (g.met.D.Disk.content_is_image tape.segments.other stands.honest.1) written_so in
+    (g.met.D.Disk.content_is_image tape.segments.other stands.honest.1) written_so in
     let place : placed tape.segments.second (live_log tape) new ≡ placed (not tape.segments.second) new
-        (g.D.Disk.log c.move_to.new.other) =
+    (g.D.Disk.log c.move_to.new.other) =
     sym (turned tape.segments.second new (live_log tape)) ∙ ap (λ d. placed (not tape.segments.second) new
-        (g.D.Disk.log d)) (sym c.in-Ok.ensures.exchanged) in
+    (g.D.Disk.log d)) (sym c.in-Ok.ensures.exchanged) in
     subst (λ (log : Log). TapeLeaves (Survives h) (log_of tape) log) place run
 
 pub returns-in-Err-clause-moments : goal.returns-in-Err-clause-moments
@@ -66,18 +66,20 @@ returns-in-Err-clause-moments g c = λ h stands.
     let new = g.D.Disk.log c.move_to.new.other in
     let number : IsNumber (generation_of tape + 1) = omega (arith, c.requires.room) in
     let written_so = subst (λ ps. Leaves (RenewedFrom (other_log tape) ps) (other_log tape) new) c.requires.written
-        (c.in-Err.ensures.err stands.honest.1) in
+    (c.in-Err.ensures.err stands.honest.1) in
     let run = rotate_moments tape h new stands c.requires.works number
-        (g.met.D.Disk.content_is_image tape.segments.other stands.honest.1) written_so in
+    (g.met.D.Disk.content_is_image tape.segments.other stands.honest.1) written_so in
     subst (λ d. TapeLeaves (Survives h) (log_of tape) (placed tape.segments.second (g.D.Disk.log d) new))
-        (sym c.in-Err.ensures.exchanged.0) run
+    (sym c.in-Err.ensures.exchanged.0) run
 
 pub returns-in-Err-clause-err : goal.returns-in-Err-clause-err
 returns-in-Err-clause-err g c = λ h stands.
     let tape = c.args.self.now in
-    stands_refused tape _ h stands
-    (subst (λ d. g.D.Disk.honest d) (sym c.in-Err.ensures.exchanged.0) stands.honest.0, c.in-Err.ensures.works.0.0
-        stands.honest.1)
+    stands_refused tape _ h stands (
+      subst (λ d. g.D.Disk.honest d) (sym c.in-Err.ensures.exchanged.0) stands.honest.0,
+      c.in-Err.ensures.works.0.0
+          stands.honest.1,
+    )
     refl refl refl (returns-in-Err-clause-moments g c h stands)
     (λ works.
     let same = c.in-Err.ensures.refused (λ disk. works (c.in-Err.ensures.breaks (ap Err disk))) in
@@ -100,10 +102,14 @@ pub returns-in-Err-clause-full : goal.returns-in-Err-clause-full
 returns-in-Err-clause-full g c = λ told.
     let tape = c.args.self.now in
     let short : AllShort (octets_of c.args.payloads.now) = subst AllShort (sym c.requires.written)
-        (written-short (generation_of tape + 1) (ledger_of tape) c.requires.notes) in
+    (written-short (generation_of tape + 1) (ledger_of tape) c.requires.notes) in
     renew_full c.in-Err.fault
-    (λ full. omega (arith, c.requires.fits, ap length (ap records c.requires.written),
-        (c.in-Err.ensures.full.0 (ap Err full)).1))
+    (λ full. omega (
+      arith,
+      c.requires.fits,
+      ap length (ap records c.requires.written),
+      (c.in-Err.ensures.full.0 (ap Err full)).1,
+    ))
     (λ long. c.in-Err.ensures.too_long.0 (ap Err long) short) (sym c.renew_fault.ensures ∙ cc told)
 
 pub returns-in-Err-clause-kinds : goal.returns-in-Err-clause-kinds

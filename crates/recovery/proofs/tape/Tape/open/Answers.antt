@@ -18,7 +18,7 @@ returns-in-Ok-true-clause-undamaged g c = λ h honest honest' each.
     let same = both _ _ _ _ logs.0 logs.1 in
     let kept = c.is_second_live.ensures.honest in
     c.open_live.ensures.undamaged h (kept.1.0 honest') (kept.0.0 honest)
-        (subst (λ (log : Log). EachTape (Survives h) log) (sym same) each)
+    (subst (λ (log : Log). EachTape (Survives h) log) (sym same) each)
 
 pub returns-in-Ok-true-clause-damaged : goal.returns-in-Ok-true-clause-damaged
 returns-in-Ok-true-clause-damaged g c = λ honest honest'.
@@ -26,7 +26,7 @@ returns-in-Ok-true-clause-damaged g c = λ honest honest'.
     let same = both _ _ _ _ logs.0 logs.1 in
     let kept = c.is_second_live.ensures.honest in
     subst (λ (log : Log). IfErr c.open_live.result (λ e. (segment at : ℕ) → e.fault ≡ Damaged segment at → IsNoTapeAt
-        (contents_of log) segment at)) same
+    (contents_of log) segment at)) same
     (c.open_live.ensures.damaged (kept.1.0 honest') (kept.0.0 honest))
 
 pub returns-in-Ok-false-clause-undamaged : goal.returns-in-Ok-false-clause-undamaged
@@ -35,7 +35,7 @@ returns-in-Ok-false-clause-undamaged g c = λ h honest honest' each.
     let same = both _ _ _ _ logs.0 logs.1 in
     let kept = c.is_second_live.ensures.honest in
     c.open_live-in-Ok-false.ensures.undamaged h (kept.0.0 honest) (kept.1.0 honest')
-        (subst (λ (log : Log). EachTape (Survives h) log) (sym same) each)
+    (subst (λ (log : Log). EachTape (Survives h) log) (sym same) each)
 
 pub returns-in-Ok-false-clause-damaged : goal.returns-in-Ok-false-clause-damaged
 returns-in-Ok-false-clause-damaged g c = λ honest honest'.
@@ -43,7 +43,7 @@ returns-in-Ok-false-clause-damaged g c = λ honest honest'.
     let same = both _ _ _ _ logs.0 logs.1 in
     let kept = c.is_second_live.ensures.honest in
     subst (λ (log : Log). IfErr c.open_live-in-Ok-false.result (λ e. (segment at : ℕ) → e.fault ≡ Damaged segment at →
-        IsNoTapeAt (contents_of log) segment at)) same
+    IsNoTapeAt (contents_of log) segment at)) same
     (c.open_live-in-Ok-false.ensures.damaged (kept.0.0 honest) (kept.1.0 honest'))
 
 pub returns-in-Err-clause-err : goal.returns-in-Err-clause-err
@@ -60,7 +60,7 @@ returns-in-Err-clause-survives g c = λ h honest honest' each.
 pub returns-in-Err-clause-undamaged : goal.returns-in-Err-clause-undamaged
 returns-in-Err-clause-undamaged g c = λ h honest honest' each segment at told.
     never_damaged h _ segment at (g.met.D.Disk.content_is_image c.args.a honest)
-        (g.met.D.Disk.content_is_image c.args.b honest') each
+    (g.met.D.Disk.content_is_image c.args.b honest') each
     (c.in-Err.ensures.damaged honest honest' segment at (ap Err told))
 
 pub returns-in-Err-clause-damaged : goal.returns-in-Err-clause-damaged

@@ -20,7 +20,7 @@ returns-in-Err-clause-err g c = λ honest honest'.
     let same = logs_refused c.args.second back c.args.other c.of.result c.of.ensures.disks
     ∙ ap (λ (l : List Event). placed c.args.second l (g.D.Disk.log c.args.other)) (c.in-Err.ensures.unchanged honest) in
     let both = honest_refused c.args.second back c.args.other c.of.result c.of.ensures.disks
-        (c.in-Err.ensures.honest.0 honest) honest' in
+    (c.in-Err.ensures.honest.0 honest) honest' in
     as_they_were old c.of.result both.0 both.1 same
 
 pub returns-in-Err-clause-survives : goal.returns-in-Err-clause-survives
@@ -36,7 +36,7 @@ returns-in-Err-clause-undamaged g c = λ h honest honest' each segment at told.
     let live = g.D.Disk.log c.args.live in
     let other = g.D.Disk.log c.args.other in
     let now = images_placed c.args.second live other (g.met.D.Disk.content_is_image c.args.live honest)
-        (g.met.D.Disk.content_is_image c.args.other honest') in
+    (g.met.D.Disk.content_is_image c.args.other honest') in
     let which : c.if-second.segment ≡ cond c.args.second 1 0 = elim c.if-second.branch [
       | then-second w ↦ w.segment-is ∙ sym (ap (λ (b : Bool). cond b 1 0) w.if-second.true)
       | else-second w ↦ w.segment-is ∙ sym (ap (λ (b : Bool). cond b 1 0) w.if-second.false)
@@ -54,9 +54,9 @@ returns-in-Err-read_ledger-clause-err g c = λ honest honest'.
     let of = c.of-in-Err-read_ledger in
     let same = logs_refused c.args.second back c.args.other of.result of.ensures.disks
     ∙ ap (λ (l : List Event). placed c.args.second l (g.D.Disk.log c.args.other))
-        (rw c.into_disk.ensures (c.in-Ok.ensures.unchanged honest)) in
+    (rw c.into_disk.ensures (c.in-Ok.ensures.unchanged honest)) in
     let both = honest_refused c.args.second back c.args.other of.result of.ensures.disks
-        (rw c.into_disk.ensures (c.in-Ok.ensures.honest.0 honest)) honest' in
+    (rw c.into_disk.ensures (c.in-Ok.ensures.honest.0 honest)) honest' in
     as_they_were old of.result both.0 both.1 same
 
 pub returns-in-Err-read_ledger-clause-survives : goal.returns-in-Err-read_ledger-clause-survives
@@ -66,7 +66,7 @@ returns-in-Err-read_ledger-clause-survives g c = λ h honest honest' each.
     let of = c.of-in-Err-read_ledger in
     let same = logs_refused c.args.second back c.args.other of.result of.ensures.disks
     ∙ ap (λ (l : List Event). placed c.args.second l (g.D.Disk.log c.args.other))
-        (rw c.into_disk.ensures (c.in-Ok.ensures.unchanged honest)) in
+    (rw c.into_disk.ensures (c.in-Ok.ensures.unchanged honest)) in
     still_survives h old _ each same
 
 pub returns-in-Err-read_ledger-clause-damaged : goal.returns-in-Err-read_ledger-clause-damaged
@@ -92,7 +92,7 @@ returns-in-Err-read_ledger-clause-undamaged g c = λ h honest honest' each segme
     let live = g.D.Disk.log c.args.live in
     let other = g.D.Disk.log c.args.other in
     let now = images_placed c.args.second live other (g.met.D.Disk.content_is_image c.args.live honest)
-        (g.met.D.Disk.content_is_image c.args.other honest') in
+    (g.met.D.Disk.content_is_image c.args.other honest') in
     never_damaged h (placed c.args.second live other) segment at now.0 now.1 each
     (returns-in-Err-read_ledger-clause-damaged g c honest honest' segment at told)
 
@@ -103,7 +103,7 @@ returns-in-Ok-repair-clause-ok g c = λ honest honest'.
     let payloads = octets_of c.in-Ok.read.1.items in
     let journal = c.in-Ok-repair.live in
     let opened = subst (λ (l : List Event). IsOpened l journal payloads) (c.in-Ok.ensures.unchanged honest)
-        (c.in-Ok-repair.ensures.ok payloads (c.in-Ok.ensures.ok honest)) in
+    (c.in-Ok-repair.ensures.ok payloads (c.in-Ok.ensures.ok honest)) in
     opened_tape _ live other payloads (record {
       lives = c.requires.lives honest honest';
       opened = opened;
@@ -120,11 +120,11 @@ returns-in-Ok-repair-clause-recovers g c = λ h honest honest' each.
     let live = g.D.Disk.log c.args.live in
     let other = g.D.Disk.log c.args.other in
     let now = images_placed c.args.second live other (g.met.D.Disk.content_is_image c.args.live honest)
-        (g.met.D.Disk.content_is_image c.args.other honest') in
+    (g.met.D.Disk.content_is_image c.args.other honest') in
     let payloads = octets_of c.in-Ok.read.1.items in
     let journal = c.in-Ok-repair.live in
     let opened = subst (λ (l : List Event). IsOpened l journal payloads) (c.in-Ok.ensures.unchanged honest)
-        (c.in-Ok-repair.ensures.ok payloads (c.in-Ok.ensures.ok honest)) in
+    (c.in-Ok-repair.ensures.ok payloads (c.in-Ok.ensures.ok honest)) in
     recovered_tape _ live other payloads h now.0 now.1 each (record {
       lives = c.requires.lives honest honest';
       opened = opened;
@@ -143,7 +143,7 @@ returns-in-Err-sync-clause-err g c = λ honest honest'.
     let of = c.of-in-Err-sync in
     let same = logs_refused c.args.second back c.sync.new.self of.result of.ensures.disks
     ∙ (ap (λ (l : List Event). placed c.args.second l (g.D.Disk.log c.sync.new.self))
-        (rw c.into_disk-in-Err-sync.ensures (c.in-Ok.ensures.unchanged honest))
+    (rw c.into_disk-in-Err-sync.ensures (c.in-Ok.ensures.unchanged honest))
     ∙ ap (λ (l : List Event). placed c.args.second (g.D.Disk.log c.args.live) l) (c.in-Err-sync.ensures.log honest')) in
     let both = honest_refused c.args.second back c.sync.new.self of.result of.ensures.disks
     (rw c.into_disk-in-Err-sync.ensures (c.in-Ok.ensures.honest.0 honest)) (c.sync.ensures.honest.0 honest') in
@@ -156,7 +156,7 @@ returns-in-Err-sync-clause-survives g c = λ h honest honest' each.
     let of = c.of-in-Err-sync in
     let same = logs_refused c.args.second back c.sync.new.self of.result of.ensures.disks
     ∙ (ap (λ (l : List Event). placed c.args.second l (g.D.Disk.log c.sync.new.self))
-        (rw c.into_disk-in-Err-sync.ensures (c.in-Ok.ensures.unchanged honest))
+    (rw c.into_disk-in-Err-sync.ensures (c.in-Ok.ensures.unchanged honest))
     ∙ ap (λ (l : List Event). placed c.args.second (g.D.Disk.log c.args.live) l) (c.in-Err-sync.ensures.log honest')) in
     still_survives h old _ each same
 
@@ -169,21 +169,21 @@ returns-clause-err g c = λ honest honest'.
     let of = c.of-in-Err-repair in
     let finds = c.in-Ok.ensures.ok honest in
     let reads = subst (λ (l : List Event). Reads (content l) payloads) (c.in-Ok.ensures.unchanged honest)
-        finds.has.reads in
+    finds.has.reads in
     let err = subst (λ (l : List Event). IsRefused l refused) (c.in-Ok.ensures.unchanged honest)
-        (c.in-Err-repair.ensures.err payloads finds) in
+    (c.in-Err-repair.ensures.err payloads finds) in
     let both = honest_refused c.args.second refused.disk c.sync.new.self of.result of.ensures.disks err.honest
-        (c.sync.ensures.honest.0 honest') in
+    (c.sync.ensures.honest.0 honest') in
     not_repaired c.args.second live other (g.D.Disk.log refused.disk) (g.D.Disk.log c.sync.new.self) of.result
-        payloads both.0 both.1
+    payloads both.0 both.1
     (logs_refused c.args.second refused.disk c.sync.new.self of.result of.ensures.disks)
     (g.met.D.Disk.content_is_image c.args.other honest') (c.in-Ok-sync.ensures.log honest') reads err.moments
-        (err.first_sync payloads reads)
+    (err.first_sync payloads reads)
 
 pub returns-clause-survives : goal.returns-clause-survives
 returns-clause-survives g c = λ h honest honest' each.
     let live = g.D.Disk.log c.args.live in
     let other = g.D.Disk.log c.args.other in
     let now = images_placed c.args.second live other (g.met.D.Disk.content_is_image c.args.live honest)
-        (g.met.D.Disk.content_is_image c.args.other honest') in
+    (g.met.D.Disk.content_is_image c.args.other honest') in
     kept_survives h (placed c.args.second live other) _ now.0 now.1 each (returns-clause-err g c honest honest').moments

@@ -16,6 +16,6 @@ pub returns-in-Ok-clause-ok : goal.returns-in-Ok-clause-ok
 returns-in-Ok-clause-ok g c = λ h stands.
     let payload = c.in_ok-payload.payload in
     stands_noted_all c.args.self.now _ h (c.args.note.now ∷ []) (payload ∷ []) stands refl
-        (c.in_ok-payload.ensures.note, tt)
+    (c.in_ok-payload.ensures.note, tt)
     (c.requires.legal, tt) c.in-Ok.ensures.ok.1 c.in_ok-push.ensures.items
     (ap (λ (p : List ℕ). p ∷ []) c.in_ok-payload.ensures.octets) refl

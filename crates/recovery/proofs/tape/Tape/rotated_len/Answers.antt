@@ -9,6 +9,13 @@ pub returns : goal.returns
 returns g c =
     let tape = c.args.self.now in
     let counts = c.totals-totals.ensures.counts in
-    omega (arith, length-written (generation_of tape + 1) (ledger_of tape), ap (λ (t : Totals). t.owed) counts, ap
-        (λ (t : Totals). t.owed_bytes) counts, c.saturating_mul-debts.ensures, c.saturating_add.ensures,
-        c.saturating_add-2.ensures)
+    omega (
+      arith,
+      length-written (generation_of tape + 1) (ledger_of tape),
+      ap (λ (t : Totals). t.owed) counts,
+      ap
+          (λ (t : Totals). t.owed_bytes) counts,
+      c.saturating_mul-debts.ensures,
+      c.saturating_add.ensures,
+      c.saturating_add-2.ensures,
+    )
