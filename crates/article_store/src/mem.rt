@@ -36,8 +36,11 @@ impl MemArticles {
     /// `NoMemory` where memory was refused; then each text stays as it was.
     pub fn insert(&mut self, token: &Token, text: Bytes) -> Result<(), AllocError>
         ensures stands { OnOk result (text_at self.new token.now ≡ Some text) }
-        ensures others { OnOk result ((other : List ℕ) → other ≢ token.now → text_at self.new other ≡ text_at self.old other) }
-        ensures err { OnErr result ((other : List ℕ) → text_at self.new other ≡ text_at self.old other) }
+        ensures others { OnOk result
+            ((other : List ℕ) → other ≢ token.now
+            → text_at self.new other ≡ text_at self.old other) }
+        ensures err { OnErr result
+            ((other : List ℕ) → text_at self.new other ≡ text_at self.old other) }
     {
         let key = Vec::from_slice(self.alloc, token.bytes())?;
         self.texts.insert(key, text)?;
@@ -48,7 +51,8 @@ impl MemArticles {
     pub fn remove(&mut self, token: &Token) -> bool
         ensures found { result ≡ is_some (text_at self.old token.now) }
         ensures gone { text_at self.new token.now ≡ None }
-        ensures others { (other : List ℕ) → other ≢ token.now → text_at self.new other ≡ text_at self.old other }
+        ensures others { (other : List ℕ) → other ≢ token.now
+            → text_at self.new other ≡ text_at self.old other }
     {
         self.texts.remove(token.bytes()).is_some()
     }
@@ -57,8 +61,8 @@ impl MemArticles {
 impl Articles for MemArticles {
     ghost says = { λ store token text. text_at store token ≡ text };
 
-    /// What stands under the token, which stays there: the text itself where it has a written form. It is shared and not
-    /// copied.
+    /// What stands under the token, which stays there: the text itself where it has a written form. It is shared and
+    /// not copied.
     ///
     /// # Errors
     /// [`StoreFault::NoMemory`] where a text with a written form stands there and memory was refused. Never
@@ -68,7 +72,8 @@ impl Articles for MemArticles {
         ensures said { IfOk result (IsSaidBy (λ text. text_at self.old token.now ≡ text)) }
         ensures unchanged { (other : List ℕ) → text_at self.new other ≡ text_at self.old other }
         ensures memory { IfErr result (λ fault. fault ≡ StoreFault.NoMemory) }
-        ensures there { OnErr result ((text : List ℕ) × (text_at self.old token.now ≡ Some text) × IsSendable text) }
+        ensures there { OnErr result
+            ((text : List ℕ) × (text_at self.old token.now ≡ Some text) × IsSendable text) }
     {
         match self.texts.get(token.bytes()) {
             None => Ok(Found::Gone),

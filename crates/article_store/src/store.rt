@@ -42,8 +42,8 @@ impl From<AllocError> for StoreFault {
 
 /// A store of article texts under their tokens.
 pub trait Articles {
-    /// What the store says of a token: that this text stands under it, or with `None` that none does. A store whose texts
-    /// lie outside the program says nothing, as the default does: then it holds of all texts.
+    /// What the store says of a token: that this text stands under it, or with `None` that none does. A store whose
+    /// texts lie outside the program says nothing, as the default does: then it holds of all texts.
     ghost says: { Self → List ℕ → Option (List ℕ) → Type 0 } = { λ _ _ _. Unit {0} };
 
     /// What the store has under the token. What it says of its tokens stays as it was.
@@ -54,5 +54,6 @@ pub trait Articles {
     fn fetch(&mut self, token: &Token) -> Result<Found, StoreFault>
         ensures sendable { IfOk result IsFound }
         ensures said { IfOk result (IsSaidBy (says self.old token.now)) }
-        ensures kept { (other : List ℕ) (text : Option (List ℕ)) → says self.old other text ↔ says self.new other text };
+        ensures kept { (other : List ℕ) (text : Option (List ℕ)) → says self.old other text
+            ↔ says self.new other text };
 }

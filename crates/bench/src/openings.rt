@@ -1,7 +1,8 @@
 // How the opening of a tape grows with its notes, and how many disk calls a flush makes.
 //
 // `open NOTES TIMES` opens a tape of so many notes so many times; the building of the tape is not in the time. `due
-// NOTES TIMES` asks of such a tape so many times whether a rotation is due; its building and opening is not in the time.
+// NOTES TIMES` asks of such a tape so many times whether a rotation is due; its building and opening is not in the
+// time.
 use crate::counted::CountedDisk;
 use crate::time::{number, tell};
 use anyhow::{Context, Result, bail};

@@ -1,5 +1,7 @@
-// The check switch: whether a CHECK goes before a TAKETHIS (innfeed.conf(5), no-check-high, no-check-low, no-check-filter).
-ghost use Rattle.std.specs.Prelude.{◌≡◌, ◌+◌, ◌*◌, ◌^◌, ◌≤◌, ◌<◌, ◌&&◌, ◌||◌, [], ◌∷◌, not, false, take, IfOk, nat_le, option_to_list};
+// The check switch: whether a CHECK goes before a TAKETHIS (innfeed.conf(5), no-check-high, no-check-low,
+// no-check-filter).
+ghost use Rattle.std.specs.Prelude.{◌≡◌, ◌+◌, ◌*◌, ◌^◌, ◌≤◌, ◌<◌, ◌&&◌, ◌||◌, [], ◌∷◌, not, false, take, IfOk, nat_le};
+ghost use Rattle.std.specs.Prelude.{option_to_list};
 ghost use Rattle.conn_core.specs.Checks.{taken_among};
 ghost use Rattle.conn_core.specs.Machine.{are_off_with};
 
@@ -54,7 +56,9 @@ impl CheckSwitch {
         requires { self.old.filter ≡ options.now.check_filter }
         ensures filter { self.new.filter ≡ self.old.filter }
         ensures recent { self.new.recent ≡ take options.now.check_filter (took ∷ self.old.recent) }
-        ensures off { self.new.off ≡ are_off_with options.now self.old.off (take options.now.check_filter (took ∷ self.old.recent)) }
+        ensures off { self.new.off
+            ≡ are_off_with options.now self.old.off
+            (take options.now.check_filter (took ∷ self.old.recent)) }
     {
         let gone = self.recent.push_front(took);
         let answers = self.recent.len() as u64;
@@ -66,7 +70,8 @@ impl CheckSwitch {
     }
 }
 
-// Whether checks are off, where so many answers have come: at the upper mark, or not below the lower one where they were off.
+// Whether checks are off, where so many answers have come: at the upper mark, or not below the lower one where they
+// were off.
 fn is_off(full: bool, high: bool, kept: bool, off: bool) -> bool
     ensures { result ≡ (full && (high || (kept && off))) }
 {

@@ -30,8 +30,8 @@ pub enum Meaning {
     Final(FinalCode),
 }
 
-// What a code says to a command; `None` where it does not belong to it (CHECK and TAKETHIS: RFC 4644, sections 2.4 and 2.5;
-// IHAVE and its block: RFC 3977, section 6.3.2).
+// What a code says to a command; `None` where it does not belong to it (CHECK and TAKETHIS: RFC 4644, sections 2.4 and
+// 2.5; IHAVE and its block: RFC 3977, section 6.3.2).
 pub(crate) fn meaning_of(verb: Verb, code: u16) -> Option<Meaning>
     ensures value { result ≡ meaning verb code }
     ensures wants { result ≡ Some Meaning.Wanted → code ≡ 238 }
@@ -89,7 +89,8 @@ pub(crate) fn stray(code: u16) -> Reason
     }
 }
 
-// Whether an answer of this code took the article; `None` where it does not count for the check switch (innfeed.conf(5)).
+// Whether an answer of this code took the article; `None` where it does not count for the check switch
+// (innfeed.conf(5)).
 pub(crate) fn counted(code: u16) -> Option<bool>
     ensures { option_to_list result ≡ counts code }
 {

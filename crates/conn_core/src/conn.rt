@@ -1,8 +1,10 @@
 // One connection, as the crates above see it: what each call promises is said of the whole transcript.
-ghost use Rattle.std.specs.Prelude.{◌≡◌, ◌↔◌, ◌≤◌, ◌<◌, ◌++◌, ℕ, List, [], ◌∷◌, Option, Some, None, length, is_some, option_to_list, true, IfNone, IfOk, IfErr, IsOk, OnOk, OnErr};
+ghost use Rattle.std.specs.Prelude.{◌≡◌, ◌↔◌, ◌≤◌, ◌<◌, ◌++◌, ℕ, List, [], ◌∷◌, Option, Some, None, length, is_some};
+ghost use Rattle.std.specs.Prelude.{option_to_list, true, IfNone, IfOk, IfErr, IsOk, OnOk, OnErr};
 ghost use Rattle.conn_core.specs.Commands.{Handing};
 ghost use Rattle.conn_core.specs.Left.{IsLeftOpen, IsReading, ReadsOne, size_of};
-ghost use Rattle.conn_core.specs.History.{Event, Offered, Handed, Sent, Tick, Broke, Leave, reason, checks, need, needed, output, after, outside, noted};
+ghost use Rattle.conn_core.specs.History.{Event, Offered, Handed, Sent, Tick, Broke, Leave, reason, checks, need};
+ghost use Rattle.conn_core.specs.History.{needed, output, after, outside, noted};
 ghost use Rattle.conn_core.specs.Mode.{mode};
 ghost use Rattle.conn_core.specs.Receipt.{IsHandedAs, IsSendableArticle, Receives, ReceivesSome};
 ghost use Rattle.conn_core.specs.Stands.{Refuses, RefusesArticle, Stands, Takes, left_behind, ready_of};
@@ -64,7 +66,8 @@ impl Conn {
 
     /// Whether a debt can be offered.
     pub fn ready(&self) -> Ready
-        ensures { (options : Options) (unread : List ℕ) (h : List Event) → Stands options self.now unread h → result ≡ ready_of options h }
+        ensures { (options : Options) (unread : List ℕ) (h : List Event)
+            → Stands options self.now unread h → result ≡ ready_of options h }
     {
         self.machine.ready()
     }
@@ -80,12 +83,17 @@ impl Conn {
     /// Takes a debt: a CHECK goes out, or its article is wanted.
     ///
     /// # Errors
-    /// The debt comes back, and nothing changes. `Closed` where it is closed or was asked to quit, else `Busy` where no mode
-    /// stands or as many are held as the mode allows, else `NoMemory` where memory was refused.
+    /// The debt comes back, and nothing changes. `Closed` where it is closed or was asked to quit, else `Busy` where no
+    /// mode stands or as many are held as the mode allows, else `NoMemory` where memory was refused.
     pub fn offer(&mut self, debt: Debt) -> Result<(), Back>
-        ensures accepted { OnOk result ((options : Options) (unread : List ℕ) (h : List Event) → Stands options self.old unread h
-            → (ready_of options h ≡ Ready.Yes) × Stands options self.new unread (after options h (Offered debt))) }
-        ensures refused { IfErr result (λ back. (options : Options) (unread : List ℕ) (h : List Event) → Stands options self.old unread h
+        ensures accepted { OnOk result
+            ((options : Options) (unread : List ℕ) (h : List Event)
+            → Stands options self.old unread h
+            → (ready_of options h ≡ Ready.Yes)
+            × Stands options self.new unread (after options h (Offered debt))) }
+        ensures refused { IfErr result
+            (λ back. (options : Options) (unread : List ℕ) (h : List Event)
+            → Stands options self.old unread h
             → Refuses back.fault (ready_of options h)) }
         ensures returned { IfErr result (λ back. back.debt ≡ debt) }
         ensures unchanged { OnErr result (self.new ≡ self.old) }
@@ -117,7 +125,8 @@ impl Conn {
 
     /// The number whose article came to be wanted first.
     pub fn need(&self) -> Option<u64>
-        ensures { (options : Options) (unread : List ℕ) (h : List Event) → Stands options self.now unread h → result ≡ need options h }
+        ensures { (options : Options) (unread : List ℕ) (h : List Event)
+            → Stands options self.now unread h → result ≡ need options h }
     {
         self.machine.need()
     }
@@ -128,10 +137,15 @@ impl Conn {
     /// What was found comes back, and nothing changes. `NotNeeded` where no article of that number is wanted, also once
     /// closed, else `NoMemory` where the text can be sent and memory was refused.
     pub fn article(&mut self, number: u64, found: Found) -> Result<(), (Found, ArticleFault)>
-        ensures taken { OnOk result ((options : Options) (unread : List ℕ) (h : List Event) → Stands options self.old unread h
+        ensures taken { OnOk result
+            ((options : Options) (unread : List ℕ) (h : List Event)
+            → Stands options self.old unread h
             → (is_some (needed options h number) ≡ true)
-            × ((handing : Handing) × IsHandedAs found handing × Stands options self.new unread (after options h (Handed number handing)))) }
-        ensures refused { IfErr result (λ e. (options : Options) (unread : List ℕ) (h : List Event) → Stands options self.old unread h
+            × ((handing : Handing) × IsHandedAs found handing
+            × Stands options self.new unread (after options h (Handed number handing)))) }
+        ensures refused { IfErr result
+            (λ e. (options : Options) (unread : List ℕ) (h : List Event)
+            → Stands options self.old unread h
             → RefusesArticle e.1 (needed options h number)) }
         ensures memory { IfErr result (λ e. e.1 ≡ ArticleFault.NoMemory → IsSendableArticle found) }
         ensures returned { IfErr result (λ e. e.0 ≡ found) }
@@ -147,18 +161,26 @@ impl Conn {
         Ok(())
     }
 
-    /// Takes octets from the server: each whole reply, in order, and what is left of one is held back. Behind a fault of the
-    /// reader, or once closed, the octets are dropped.
+    /// Takes octets from the server: each whole reply, in order, and what is left of one is held back. Behind a fault
+    /// of the reader, or once closed, the octets are dropped.
     ///
     /// # Errors
     /// `NoMemory` where memory was refused while it was open: some of the whole replies were taken, from the first on, and it
     /// is closed as by [`Conn::broken`].
     pub fn input(&mut self, octets: &[u8]) -> Result<(), AllocError>
-        ensures received { OnOk result ((options : Options) (unread : List ℕ) (h : List Event) → Stands options self.old unread h
-            → (later : List Event) × (left : List ℕ) × Receives options (unread ++ octets.now) h later left × Stands options self.new left later) }
-        ensures refused { OnErr result ((options : Options) (unread : List ℕ) (h : List Event) → Stands options self.old unread h
-            → (later : List Event) × ReceivesSome options (unread ++ octets.now) h later × Stands options self.new [] (after options later Broke)) }
-        ensures dropped { (options : Options) (unread : List ℕ) (h : List Event) → Stands options self.old unread h → is_some (reason options h) ≡ true
+        ensures received { OnOk result
+            ((options : Options) (unread : List ℕ) (h : List Event)
+            → Stands options self.old unread h
+            → (later : List Event) × (left : List ℕ)
+            × Receives options (unread ++ octets.now) h later left
+            × Stands options self.new left later) }
+        ensures refused { OnErr result
+            ((options : Options) (unread : List ℕ) (h : List Event)
+            → Stands options self.old unread h
+            → (later : List Event) × ReceivesSome options (unread ++ octets.now) h later
+            × Stands options self.new [] (after options later Broke)) }
+        ensures dropped { (options : Options) (unread : List ℕ) (h : List Event)
+            → Stands options self.old unread h → is_some (reason options h) ≡ true
             → IsOk result }
         ensures same_id { self.new.id ≡ self.old.id }
     {
@@ -176,10 +198,17 @@ impl Conn {
 
     // Takes each whole reply in, while it is open. Where memory was refused it still is.
     fn take_in(&mut self, octets: &[u8]) -> Result<(), AllocError>
-        ensures received { OnOk result ((options : Options) (unread : List ℕ) (h : List Event) → Stands options self.old unread h → reason options h ≡ None
-            → (later : List Event) × (left : List ℕ) × Receives options (unread ++ octets.now) h later left × Stands options self.new left later) }
-        ensures refused { OnErr result ((options : Options) (unread : List ℕ) (h : List Event) → Stands options self.old unread h → reason options h ≡ None
-            → (later : List Event) × ReceivesSome options (unread ++ octets.now) h later × IsLeftOpen options self.new later) }
+        ensures received { OnOk result
+            ((options : Options) (unread : List ℕ) (h : List Event)
+            → Stands options self.old unread h → reason options h ≡ None
+            → (later : List Event) × (left : List ℕ)
+            × Receives options (unread ++ octets.now) h later left
+            × Stands options self.new left later) }
+        ensures refused { OnErr result
+            ((options : Options) (unread : List ℕ) (h : List Event)
+            → Stands options self.old unread h → reason options h ≡ None
+            → (later : List Event) × ReceivesSome options (unread ++ octets.now) h later
+            × IsLeftOpen options self.new later) }
         ensures same_id { self.new.id ≡ self.old.id }
     {
         self.reader.feed(octets)?;
@@ -189,10 +218,15 @@ impl Conn {
 
     // Takes the first whole reply in, and tells whether there may be another.
     fn read_one(&mut self) -> Result<bool, AllocError>
-        ensures read { IfOk result (λ more. (options : Options) (waiting : List ℕ) (h : List Event) → IsReading options self.old waiting h
+        ensures read { IfOk result
+            (λ more. (options : Options) (waiting : List ℕ) (h : List Event)
+            → IsReading options self.old waiting h
             → ReadsOne options waiting h self.new more) }
-        ensures shorter { IfOk result (λ more. more ≡ true → size_of self.new.reader < size_of self.old.reader) }
-        ensures refused { OnErr result ((options : Options) (waiting : List ℕ) (h : List Event) → IsReading options self.old waiting h
+        ensures shorter { IfOk result
+            (λ more. more ≡ true → size_of self.new.reader < size_of self.old.reader) }
+        ensures refused { OnErr result
+            ((options : Options) (waiting : List ℕ) (h : List Event)
+            → IsReading options self.old waiting h
             → IsLeftOpen options self.new h) }
         ensures same_id { self.new.id ≡ self.old.id }
     {
@@ -214,8 +248,10 @@ impl Conn {
 
     /// The moment is this, in seconds. It closes where an answer is late.
     pub fn tick(&mut self, now: u64)
-        ensures stands { (options : Options) (unread : List ℕ) (h : List Event) → Stands options self.old unread h
-            → let later = outside options h (Tick now) in Stands options self.new (left_behind options unread later) later }
+        ensures stands { (options : Options) (unread : List ℕ) (h : List Event)
+            → Stands options self.old unread h
+            → let later = outside options h (Tick now) in Stands options self.new
+            (left_behind options unread later) later }
         ensures same_id { self.new.id ≡ self.old.id }
     {
         self.machine.tick(now)
@@ -223,7 +259,8 @@ impl Conn {
 
     /// The connection broke.
     pub fn broken(&mut self)
-        ensures stands { (options : Options) (unread : List ℕ) (h : List Event) → Stands options self.old unread h
+        ensures stands { (options : Options) (unread : List ℕ) (h : List Event)
+            → Stands options self.old unread h
             → Stands options self.new [] (outside options h Broke) }
         ensures same_id { self.new.id ≡ self.old.id }
     {
@@ -232,7 +269,8 @@ impl Conn {
 
     /// No debt is taken any more, and QUIT goes out once none is held and a mode stands.
     pub fn quit(&mut self)
-        ensures stands { (options : Options) (unread : List ℕ) (h : List Event) → Stands options self.old unread h
+        ensures stands { (options : Options) (unread : List ℕ) (h : List Event)
+            → Stands options self.old unread h
             → Stands options self.new unread (outside options h Leave) }
         ensures same_id { self.new.id ≡ self.old.id }
     {
@@ -241,14 +279,16 @@ impl Conn {
 
     /// Whether a CHECK goes before each TAKETHIS.
     pub fn checks(&self) -> bool
-        ensures { (options : Options) (unread : List ℕ) (h : List Event) → Stands options self.now unread h → result ≡ checks options h }
+        ensures { (options : Options) (unread : List ℕ) (h : List Event)
+            → Stands options self.now unread h → result ≡ checks options h }
     {
         self.machine.checks()
     }
 
     /// The octets that are still to be sent, in order: none, once closed.
     pub fn output(&self) -> &[u8]
-        ensures stands { (options : Options) (unread : List ℕ) (h : List Event) → Stands options self.now unread h → result.now ≡ output options h }
+        ensures stands { (options : Options) (unread : List ℕ) (h : List Event)
+            → Stands options self.now unread h → result.now ≡ output options h }
         ensures now { result.now ≡ output_at self.now }
     {
         self.machine.output()
@@ -257,7 +297,8 @@ impl Conn {
     /// So many octets at the front of the output count as sent.
     pub fn sent(&mut self, count: usize)
         requires { count ≤ length (output_at self.old) }
-        ensures stands { (options : Options) (unread : List ℕ) (h : List Event) → Stands options self.old unread h
+        ensures stands { (options : Options) (unread : List ℕ) (h : List Event)
+            → Stands options self.old unread h
             → Stands options self.new unread (noted options h (Sent count)) }
         ensures same_id { self.new.id ≡ self.old.id }
     {
@@ -266,7 +307,8 @@ impl Conn {
 
     /// The next outcome, oldest first.
     pub fn outcome(&mut self) -> Option<Outcome>
-        ensures stands { (options : Options) (unread : List ℕ) (h : List Event) → Stands options self.old unread h → Takes options unread h result self.new }
+        ensures stands { (options : Options) (unread : List ℕ) (h : List Event)
+            → Stands options self.old unread h → Takes options unread h result self.new }
         ensures told { untold_at self.old ≡ option_to_list result ++ untold_at self.new }
         ensures none_left { IfNone result (untold_at self.new ≡ []) }
         ensures same_id { self.new.id ≡ self.old.id }
@@ -276,7 +318,8 @@ impl Conn {
 
     /// Why it closed: `None` while it is open.
     pub fn closed(&self) -> Option<Reason>
-        ensures { (options : Options) (unread : List ℕ) (h : List Event) → Stands options self.now unread h → result ≡ reason options h }
+        ensures { (options : Options) (unread : List ℕ) (h : List Event)
+            → Stands options self.now unread h → result ≡ reason options h }
     {
         self.machine.closed()
     }

@@ -74,9 +74,11 @@ pub(crate) fn take_answered(
     streaming: bool,
 ) -> Option<AwaitedAsk>
     ensures found { result ≡ find (can_answer streaming (given_of reply.now)) window.old.items }
-    ensures rest { window.new.items ≡ remove_key (can_answer streaming (given_of reply.now)) window.old.items }
+    ensures rest { window.new.items
+        ≡ remove_key (can_answer streaming (given_of reply.now)) window.old.items }
     ensures unchanged { IfNone result (window.new ≡ window.old) }
-    ensures len { MatchOption result (deque_len window.new ≡ deque_len window.old) (λ _. deque_len window.new + 1 ≡ deque_len window.old) }
+    ensures len { MatchOption result (deque_len window.new ≡ deque_len window.old)
+        (λ _. deque_len window.new + 1 ≡ deque_len window.old) }
     ensures capacity { deque_capacity window.new ≡ deque_capacity window.old }
 {
     match first_answered(window, reply, streaming) {
@@ -100,7 +102,8 @@ pub(crate) fn take_at(held: &mut VecDeque<HeldDebt>, place: u64) -> Option<HeldD
     ensures found { result ≡ find (is_at place) held.old.items }
     ensures rest { held.new.items ≡ remove_key (is_at place) held.old.items }
     ensures unchanged { IfNone result (held.new ≡ held.old) }
-    ensures len { MatchOption result (deque_len held.new ≡ deque_len held.old) (λ _. deque_len held.new + 1 ≡ deque_len held.old) }
+    ensures len { MatchOption result (deque_len held.new ≡ deque_len held.old)
+        (λ _. deque_len held.new + 1 ≡ deque_len held.old) }
     ensures capacity { deque_capacity held.new ≡ deque_capacity held.old }
 {
     match first_at(held, place) {
@@ -125,7 +128,8 @@ pub(crate) fn debt_wanting<'a>(
     wanted: &VecDeque<WantedArticle>,
     number: u64,
 ) -> Option<&'a HeldDebt>
-    ensures { option_copied result ≡ held_for held.now.items (find (is_of number) wanted.now.items) }
+    ensures { option_copied result
+        ≡ held_for held.now.items (find (is_of number) wanted.now.items) }
 {
     match wanted_of(wanted, number) {
         Some(want) => debt_at(held, want.place()),

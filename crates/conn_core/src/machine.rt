@@ -1,8 +1,10 @@
 // What a connection holds, and one step of it for each event.
-ghost use Rattle.std.specs.Prelude.{◌≡◌, ◌≤◌, ◌<◌, ◌&&◌, ◌++◌, [], ◌∷◌, if◌then◌else◌, Option, None, not, length, option_map, slice_get, is_none, is_some, find, IfOk, IfErr, OnOk, OnErr};
+ghost use Rattle.std.specs.Prelude.{◌≡◌, ◌≤◌, ◌<◌, ◌&&◌, ◌++◌, [], ◌∷◌, if◌then◌else◌, Option, None, not, length};
+ghost use Rattle.std.specs.Prelude.{option_map, slice_get, is_none, is_some, find, IfOk, IfErr, OnOk, OnErr};
 ghost use Rattle.conn_core.specs.Commands.{Want, check_of, is_of, want_of};
 ghost use Rattle.conn_core.specs.History.{is_mode, is_streaming, room};
-ghost use Rattle.conn_core.specs.Machine.{TakesOne, asked, asked_to_quit, faulted, fresh, is_awaiting, leave, newly, offered, ready_at, sent_off, shut, ticked};
+ghost use Rattle.conn_core.specs.Machine.{TakesOne, asked, asked_to_quit, faulted, fresh, is_awaiting, leave, newly};
+ghost use Rattle.conn_core.specs.Machine.{offered, ready_at, sent_off, shut, ticked};
 ghost use Rattle.conn_core.specs.Kept.{with_newly};
 ghost use Rattle.conn_core.specs.Mode.{mode_at, mode_in};
 ghost use Rattle.conn_core.specs.State.{output_of};
@@ -192,7 +194,8 @@ impl Machine {
     // Takes a debt, and puts its CHECK out (RFC 4644, section 2.4).
     fn offer_asking(&mut self, debt: Debt) -> Result<(), Debt>
         requires { self.old.accepted < u64.MAX }
-        ensures ok { OnOk result (self.new ≡ asked (with_newly self.old debt) (check_of (newly self.old debt))) }
+        ensures ok { OnOk result
+            (self.new ≡ asked (with_newly self.old debt) (check_of (newly self.old debt))) }
         ensures err { OnErr result (self.new ≡ self.old) }
         ensures back { IfErr result (λ back. back ≡ debt) }
     {
@@ -221,7 +224,9 @@ impl Machine {
     // Takes a debt, and wants its article at once.
     fn offer_wanting(&mut self, debt: Debt) -> Result<(), Debt>
         requires { self.old.accepted < u64.MAX }
-        ensures ok { OnOk result (self.new ≡ record (with_newly self.old debt) { wanted = self.old.wanted ++ want_of (newly self.old debt) ∷ [] }) }
+        ensures ok { OnOk result
+            (self.new ≡ record (with_newly self.old debt)
+            { wanted = self.old.wanted ++ want_of (newly self.old debt) ∷ [] }) }
         ensures err { OnErr result (self.new ≡ self.old) }
         ensures back { IfErr result (λ back. back ≡ debt) }
     {
@@ -241,7 +246,9 @@ impl Machine {
 
     // The number of the first want: none, once closed.
     pub(crate) fn need(&self) -> Option<u64>
-        ensures { result ≡ (if is_some self.now.closed then None else option_map (λ (want : Want). want.number) (slice_get self.now.wanted 0)) }
+        ensures { result
+            ≡ (if is_some self.now.closed then None else option_map (λ (want : Want). want.number)
+            (slice_get self.now.wanted 0)) }
     {
         if self.closed.is_some() {
             return None;
@@ -254,7 +261,8 @@ impl Machine {
 
     // Whether it is open and an article of this number is wanted.
     pub(crate) fn needs(&self, number: u64) -> bool
-        ensures { result ≡ (is_none self.now.closed && is_some (find (is_of number) self.now.wanted)) }
+        ensures { result ≡ (is_none self.now.closed
+            && is_some (find (is_of number) self.now.wanted)) }
     {
         self.closed.is_none() && is_wanted(&self.wanted, number)
     }
@@ -317,7 +325,8 @@ impl Machine {
 
     // It is to quit: once closed nothing changes.
     pub(crate) fn quit(&mut self)
-        ensures { self.new ≡ (if is_some self.old.closed then self.old else asked_to_quit self.old) }
+        ensures { self.new
+            ≡ (if is_some self.old.closed then self.old else asked_to_quit self.old) }
     {
         if self.closed.is_some() {
             return;
@@ -346,7 +355,8 @@ impl Machine {
     // So many of them count as sent: once closed nothing changes.
     pub(crate) fn sent(&mut self, count: usize)
         requires { count ≤ length (output_of self.old) }
-        ensures { self.new ≡ (if is_some self.old.closed then self.old else sent_off self.old count) }
+        ensures { self.new
+            ≡ (if is_some self.old.closed then self.old else sent_off self.old count) }
     {
         if self.closed.is_some() {
             return;

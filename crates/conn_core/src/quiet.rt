@@ -23,8 +23,14 @@ impl Clock {
 
     // The moment is this, in seconds. The result is for how long nothing came, where an answer is awaited.
     pub(crate) fn tick(&mut self, awaiting: bool, now: u64) -> u64
-        ensures quiet { self.new ≡ record { stirred = false; quiet = Some (moment self.old.quiet (not self.old.stirred && awaiting) now) } }
-        ensures since { result ≡ now - moment self.old.quiet (not self.old.stirred && awaiting) now }
+        ensures quiet { self.new
+            ≡ record {
+              stirred = false;
+              quiet = Some
+                  (moment self.old.quiet (not self.old.stirred && awaiting) now);
+            } }
+        ensures since { result ≡ now
+            - moment self.old.quiet (not self.old.stirred && awaiting) now }
     {
         let quiet = match self.quiet {
             Some(quiet) if !self.stirred && awaiting => quiet,

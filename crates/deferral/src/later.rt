@@ -6,12 +6,12 @@ use crate::tree::{Entry, Tree};
 use std::alloc::{AllocError, Global};
 use std::marker::Model;
 
-/// Numbers that wait, each for a moment of its own, in seconds of the caller's clock, or for none: such a number is due at no
-/// moment and keeps its room, so that it takes no memory to give it a moment again.
+/// Numbers that wait, each for a moment of its own, in seconds of the caller's clock, or for none: such a number is due
+/// at no moment and keeps its room, so that it takes no memory to give it a moment again.
 ///
-/// Contracts see it as the list of its numbers, each with its moment or none, by strictly rising numbers.
-/// A call takes at most a constant times as many steps as a number has bits, whatever numbers wait, and memory is linear in
-/// how many wait.
+/// Contracts see it as the list of its numbers, each with its moment or none, by strictly rising numbers. A call takes
+/// at most a constant times as many steps as a number has bits, whatever numbers wait, and memory is linear in how many
+/// wait.
 #[derive(Drop)]
 pub struct Later {
     alloc: Global,
@@ -87,7 +87,8 @@ impl Later {
     /// The least of the numbers at or above the first whose moment is at or before this one.
     pub fn due_from(&self, first: u64, now: u64) -> Option<u64>
         ensures some { IfSome result (λ number. IsLeastDueFrom self.now first now number) }
-        ensures none { IfNone result ((number : ℕ) → first ≤ number → IsDue self.now now number → ⊥) }
+        ensures none { IfNone result
+            ((number : ℕ) → first ≤ number → IsDue self.now now number → ⊥) }
         ensures rising { IsRising self.now }
     {
         match &self.tree {
@@ -96,7 +97,8 @@ impl Later {
         }
     }
 
-    /// Has a number that waits wait for this moment from now on, or for none, and says whether it waits. Takes no memory.
+    /// Has a number that waits wait for this moment from now on, or for none, and says whether it waits. Takes no
+    /// memory.
     pub fn set(&mut self, number: u64, due: Option<u64>) -> bool
         ensures was { IsTrue result ↔ IsSome (due_of self.old number) }
         ensures new { self.new ≡ changed self.old number due }

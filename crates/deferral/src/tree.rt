@@ -1,6 +1,7 @@
 // A binary tree over the bits of the numbers, no deeper than a number has bits, in which a number is found by its value
 // and by its moment. The numbers stand in the leaves. Each fork is over the highest bit in which its numbers differ.
-ghost use Rattle.std.specs.Prelude.{◌≡◌, ℕ, [], ◌∷◌, ◌≤◌, ◌<◌, ◌↔◌, ◌++◌, ◌⊎◌, true, false, IsSome, IsTrue, IfNone, IfSome, OnErr, OnOk, Option};
+ghost use Rattle.std.specs.Prelude.{◌≡◌, ℕ, [], ◌∷◌, ◌≤◌, ◌<◌, ◌↔◌, ◌++◌, ◌⊎◌, true, false, IsSome, IsTrue, IfNone};
+ghost use Rattle.std.specs.Prelude.{IfSome, OnErr, OnOk, Option};
 ghost use Rattle.deferral.specs.Due.{AllNumbers, IsDue, IsLeastDueFrom, Waiting, added, changed, due_of, removed};
 ghost use Rattle.deferral.specs.Tree.{IsBy, earlier};
 
@@ -87,7 +88,8 @@ impl Bounds {
 
     /// Those of two trees together.
     fn joined(self, other: Self) -> Self
-        ensures { (left right : Waiting) → IsBoundsOf self left → IsBoundsOf other right → IsBoundsOf result (left ++ right) }
+        ensures { (left right : Waiting) → IsBoundsOf self left → IsBoundsOf other right
+            → IsBoundsOf result (left ++ right) }
     {
         Bounds {
             first: self.first.min(other.first),
@@ -156,7 +158,8 @@ impl Fork {
     #[cycle(due_from)]
     fn due_from(&self, first: u64, now: u64) -> Option<u64>
         ensures some { IfSome result (λ number. IsLeastDueFrom (both self.now) first now number) }
-        ensures none { IfNone result ((number : ℕ) → first ≤ number → IsDue (both self.now) now number → ⊥) }
+        ensures none { IfNone result
+            ((number : ℕ) → first ≤ number → IsDue (both self.now) now number → ⊥) }
     {
         if let Some(number) = self.left.due_from(first, now) {
             Some(number)
@@ -273,11 +276,13 @@ impl Tree {
     /// The least number at or above the first whose moment is at or before now.
     #[cycle(due_from)]
     pub fn due_from(&self, first: u64, now: u64) -> Option<u64>
-        ensures some { IfSome result (λ number. IsLeastDueFrom (waiting_in self.now) first now number) }
-        ensures none { IfNone result ((number : ℕ) → first ≤ number → IsDue (waiting_in self.now) now number → ⊥) }
+        ensures some { IfSome result
+            (λ number. IsLeastDueFrom (waiting_in self.now) first now number) }
+        ensures none { IfNone result
+            ((number : ℕ) → first ≤ number → IsDue (waiting_in self.now) now number → ⊥) }
     {
-        // A tree whose bounds rule it out is left at once. Any other has such a number, unless the first is within its bounds,
-        // and of those there is one at each depth at most.
+        // A tree whose bounds rule it out is left at once. Any other has such a number, unless the first is within its
+        // bounds, and of those there is one at each depth at most.
         let Bounds { last, least, .. } = self.bounds();
         if last < first || !is_by(least, now) {
             return None;
@@ -288,7 +293,8 @@ impl Tree {
         }
     }
 
-    /// The split of a fork over the tree and this number beside it; `None` where the number belongs below the tree's fork.
+    /// The split of a fork over the tree and this number beside it; `None` where the number belongs below the tree's
+    /// fork.
     fn split_beside(&self, number: u64) -> Option<u64>
         requires { due_of (waiting_in self.now) number ≡ None }
         ensures some { IfSome result (λ split. IsBeside split number (waiting_in self.now)) }
@@ -306,7 +312,8 @@ impl Tree {
     /// Puts a fork in its place, over the tree and a leaf beside it.
     fn grow(&mut self, alloc: Global, entry: Entry, split: u64) -> Result<(), AllocError>
         requires { IsBeside split entry.number (waiting_in self.old) }
-        ensures ok { OnOk result (waiting_in self.new ≡ added (waiting_in self.old) entry.number entry.due) }
+        ensures ok { OnOk result
+            (waiting_in self.new ≡ added (waiting_in self.old) entry.number entry.due) }
         ensures err { OnErr result (waiting_in self.new ≡ waiting_in self.old) }
     {
         let leaf = Tree::Leaf(entry);
@@ -334,7 +341,8 @@ impl Tree {
     #[cycle(put)]
     pub fn put(&mut self, alloc: Global, entry: Entry) -> Result<(), AllocError>
         requires { due_of (waiting_in self.old) entry.number ≡ None }
-        ensures ok { OnOk result (waiting_in self.new ≡ added (waiting_in self.old) entry.number entry.due) }
+        ensures ok { OnOk result
+            (waiting_in self.new ≡ added (waiting_in self.old) entry.number entry.due) }
         ensures err { OnErr result (waiting_in self.new ≡ waiting_in self.old) }
     {
         if let Some(split) = self.split_beside(entry.number) {

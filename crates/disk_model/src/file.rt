@@ -67,7 +67,8 @@ fn read_whole<F: RawFile>(file: &mut F, at: u64, into: &mut [u8]) -> Result<(), 
     requires { at + length into.old < 2 ^ 64 }
     ensures honest { F.honest file.old ↔ F.honest file.new }
     ensures read { F.honest file.old
-        → OnOk result (into.new ≡ slice_range (content (F.log file.old)) at (at + length into.old)) }
+        → OnOk result (into.new ≡ slice_range (content (F.log file.old)) at
+        (at + length into.old)) }
     ensures log { F.honest file.old → F.log file.new ≡ F.log file.old }
 {
     let turns = (into.len() as u64).saturating_add(MOST_INTERRUPTIONS);
@@ -160,7 +161,8 @@ impl<F: RawFile> Disk for FileDisk<F> {
         requires { at + length into.old ≤ length_kept self.old }
         ensures honest { F.honest (file_of self.old) ↔ F.honest (file_of self.new) }
         ensures read { F.honest (file_of self.old) → OnOk result
-            (into.new ≡ slice_range (content (F.log (file_of self.old))) at (at + length into.old)) }
+            (into.new ≡ slice_range (content (F.log (file_of self.old))) at
+            (at + length into.old)) }
         ensures log { F.honest (file_of self.old)
             → F.log (file_of self.new) ≡ F.log (file_of self.old) }
         ensures cause { CountsFaults (faults_of self.old) (faults_of self.new) result }

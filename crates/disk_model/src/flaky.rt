@@ -85,7 +85,8 @@ impl<D: Disk> Disk for FlakyDisk<D> {
         requires { at + length into.old ≤ D.size (inner self.old) }
         ensures honest { D.honest (inner self.old) ↔ D.honest (inner self.new) }
         ensures read { D.honest (inner self.old)
-            → OnOk result (into.new ≡ slice_range (content (D.log (inner self.old))) at (at + length into.old)) }
+            → OnOk result (into.new ≡ slice_range (content (D.log (inner self.old))) at
+            (at + length into.old)) }
         ensures log { D.honest (inner self.old) → D.log (inner self.new) ≡ D.log (inner self.old) }
         ensures cause { CountsFaults (all_faults D.told self.old)
             (all_faults D.told self.new) result }

@@ -43,8 +43,12 @@ impl<D: Disk> FuseDisk<D> {
     // Takes one of the calls that are left, or tells a fault.
     fn spend(&mut self) -> Result<(), DiskFault>
         ensures inner { inner self.new ≡ inner self.old }
-        ensures ok { OnOk result ((calls_left self.new + 1 ≡ calls_left self.old) × (own_faults self.new ≡ own_faults self.old)) }
-        ensures err { OnErr result ((calls_left self.old ≡ 0) × (calls_left self.new ≡ 0) × (own_faults self.new ≡ min (own_faults self.old + 1) (2 ^ 64 - 1))) }
+        ensures ok { OnOk result
+            ((calls_left self.new + 1 ≡ calls_left self.old)
+            × (own_faults self.new ≡ own_faults self.old)) }
+        ensures err { OnErr result
+            ((calls_left self.old ≡ 0) × (calls_left self.new ≡ 0)
+            × (own_faults self.new ≡ min (own_faults self.old + 1) (2 ^ 64 - 1))) }
     {
         if self.left == 0 {
             self.faults = self.faults.saturating_add(1);
@@ -76,7 +80,9 @@ impl<D: Disk> Disk for FuseDisk<D> {
     fn read_at(&mut self, at: u64, into: &mut [u8]) -> Result<(), DiskFault>
         requires { at + length into.old ≤ D.size (inner self.old) }
         ensures honest { D.honest (inner self.old) ↔ D.honest (inner self.new) }
-        ensures read { D.honest (inner self.old) → OnOk result (into.new ≡ slice_range (content (D.log (inner self.old))) at (at + length into.old)) }
+        ensures read { D.honest (inner self.old)
+            → OnOk result (into.new ≡ slice_range (content (D.log (inner self.old))) at
+            (at + length into.old)) }
         ensures log { D.honest (inner self.old) → D.log (inner self.new) ≡ D.log (inner self.old) }
         ensures cause { CountsFaults (all_faults self.old) (all_faults self.new) result }
         ensures quiet { OnOk result (all_faults self.new ≡ all_faults self.old) }
@@ -89,7 +95,8 @@ impl<D: Disk> Disk for FuseDisk<D> {
     fn write_at(&mut self, at: u64, from: &[u8]) -> Result<(), DiskFault>
         requires { at ≤ D.size (inner self.old) }
         ensures honest { D.honest (inner self.old) ↔ D.honest (inner self.new) }
-        ensures log { D.honest (inner self.old) → Writes at from.now (D.log (inner self.old)) result (D.log (inner self.new)) }
+        ensures log { D.honest (inner self.old)
+            → Writes at from.now (D.log (inner self.old)) result (D.log (inner self.new)) }
         ensures cause { CountsFaults (all_faults self.old) (all_faults self.new) result }
         ensures quiet { OnOk result (all_faults self.new ≡ all_faults self.old) }
         ensures fuse { Burns self.old self.new result }
@@ -101,7 +108,8 @@ impl<D: Disk> Disk for FuseDisk<D> {
     fn cut(&mut self, len: u64) -> Result<(), DiskFault>
         requires { len ≤ D.size (inner self.old) }
         ensures honest { D.honest (inner self.old) ↔ D.honest (inner self.new) }
-        ensures log { D.honest (inner self.old) → Cuts len (D.log (inner self.old)) result (D.log (inner self.new)) }
+        ensures log { D.honest (inner self.old)
+            → Cuts len (D.log (inner self.old)) result (D.log (inner self.new)) }
         ensures cause { CountsFaults (all_faults self.old) (all_faults self.new) result }
         ensures quiet { OnOk result (all_faults self.new ≡ all_faults self.old) }
         ensures fuse { Burns self.old self.new result }
@@ -112,7 +120,8 @@ impl<D: Disk> Disk for FuseDisk<D> {
 
     fn sync(&mut self) -> Result<(), DiskFault>
         ensures honest { D.honest (inner self.old) ↔ D.honest (inner self.new) }
-        ensures log { D.honest (inner self.old) → Syncs (D.log (inner self.old)) result (D.log (inner self.new)) }
+        ensures log { D.honest (inner self.old)
+            → Syncs (D.log (inner self.old)) result (D.log (inner self.new)) }
         ensures cause { CountsFaults (all_faults self.old) (all_faults self.new) result }
         ensures quiet { OnOk result (all_faults self.new ≡ all_faults self.old) }
         ensures fuse { Burns self.old self.new result }

@@ -1,5 +1,6 @@
 // A disk in memory. It keeps what happened to it, and so each moment that it had.
-ghost use Rattle.std.specs.Prelude.{◌≡◌, ◌+◌, ◌-◌, ◌^◌, ◌≤◌, ℕ, List, [], ◌∷◌, ◌++◌, length, min, false, take, vec_capacity, vec_len, IfOk, OnOk, OnErr};
+ghost use Rattle.std.specs.Prelude.{◌≡◌, ◌+◌, ◌-◌, ◌^◌, ◌≤◌, ℕ, List, [], ◌∷◌, ◌++◌, length, min, false, take};
+ghost use Rattle.std.specs.Prelude.{vec_capacity, vec_len, IfOk, OnOk, OnErr};
 ghost use Rattle.std.specs.List.{All, AllWithin};
 ghost use Rattle.disk_model.specs.Disk.{content, Image, Event};
 ghost use Rattle.disk_model.specs.Disk.Event.{Wrote, WasCut, Synced, Made};
@@ -25,7 +26,8 @@ pub struct MemDisk {
 // Adds a moment, or changes nothing.
 #[tactic(auto, using(crate::proofs::Kept::logged_push))]
 fn keep(moments: &mut Vec<Moment>, moment: Moment) -> Result<(), NoMemory>
-    ensures ok { OnOk result (log_of moments.new.items ≡ event_of moment ∷ log_of moments.old.items) }
+    ensures ok { OnOk result
+        (log_of moments.new.items ≡ event_of moment ∷ log_of moments.old.items) }
     ensures err { OnErr result (moments.new.items ≡ moments.old.items) }
     ensures full { OnErr result (vec_capacity moments.old ≤ vec_len moments.old) }
 {
@@ -37,7 +39,8 @@ fn keep(moments: &mut Vec<Moment>, moment: Moment) -> Result<(), NoMemory>
 fn settled_count(moments: &[Moment]) -> usize
     ensures within { result ≤ length moments.now }
     ensures settled { IsSettled (log_of (take result moments.now)) }
-    ensures rest { AllWithin (λ moment. is_settling moment ≡ false) moments.now result (length moments.now) }
+    ensures rest { AllWithin (λ moment. is_settling moment ≡ false) moments.now result
+        (length moments.now) }
 {
     let mut count = 0;
     for (i, moment) in moments.iter().enumerate() {
@@ -62,7 +65,9 @@ fn content_after(alloc: Global, moments: &[Moment]) -> Result<Vec<u8>, NoMemory>
 // Does to an image what the choice has for each of these operations, which are all since the last sync.
 fn leave_each(image: &mut Vec<u8>, waiting: &[Moment], choice: Choice) -> Result<(), NoMemory>
     requires { All (λ moment. is_settling moment ≡ false) waiting.now }
-    ensures { OnOk result ((log : List Event) → pending log ≡ 0 → image.old.items ≡ chosen_image choice log → image.new.items ≡ chosen_image choice (logged log waiting.now)) }
+    ensures { OnOk result ((log : List Event) → pending log ≡ 0
+        → image.old.items ≡ chosen_image choice log
+        → image.new.items ≡ chosen_image choice (logged log waiting.now)) }
 {
     for (number, moment) in waiting.iter().enumerate() {
         moment.leave(image, choice, number)?;
@@ -103,7 +108,8 @@ impl Disk for MemDisk {
     /// Never fails.
     fn read_at(&mut self, at: u64, into: &mut [u8]) -> Result<(), DiskFault>
         requires { at + length into.old ≤ length (held self.old) }
-        ensures read { OnOk result (into.new ≡ slice_range (content (events self.old)) at (at + length into.old)) }
+        ensures read { OnOk result
+            (into.new ≡ slice_range (content (events self.old)) at (at + length into.old)) }
         ensures log { events self.new ≡ events self.old }
         ensures cause { CountsFaults (faults_told self.old) (faults_told self.new) result }
         ensures quiet { OnOk result (faults_told self.new ≡ faults_told self.old) }
@@ -189,11 +195,15 @@ impl MemDisk {
 
     /// A disk that holds what a stop at this moment may leave, by this choice, and nothing besides. This one stays.
     ///
-    /// It costs as much as all that was ever written to this disk. `NoMemory` comes where memory for the new disk is refused.
+    /// It costs as much as all that was ever written to this disk. `NoMemory` comes where memory for the new disk is
+    /// refused.
     #[tactic(auto, using(crate::proofs::Chosen::chosen_is_image))]
     pub fn image(&self, choice: Choice) -> Result<MemDisk, NoMemory>
-        ensures chosen { IfOk result (λ left. ⟦<MemDisk as Disk>⟧.log left ≡ Made (chosen_image choice (⟦<MemDisk as Disk>⟧.log self.now)) ∷ []) }
-        ensures image { Image (⟦<MemDisk as Disk>⟧.log self.now) (chosen_image choice (⟦<MemDisk as Disk>⟧.log self.now)) }
+        ensures chosen { IfOk result
+            (λ left. ⟦<MemDisk as Disk>⟧.log left
+            ≡ Made (chosen_image choice (⟦<MemDisk as Disk>⟧.log self.now)) ∷ []) }
+        ensures image { Image (⟦<MemDisk as Disk>⟧.log self.now)
+            (chosen_image choice (⟦<MemDisk as Disk>⟧.log self.now)) }
         ensures told { IfOk result (λ left. ⟦<MemDisk as Disk>⟧.told left ≡ 0) }
     {
         let octets = image_after(self.alloc, &self.moments, choice)?;
@@ -213,7 +223,8 @@ impl MemDisk {
     // All that may be refused comes before the first change.
     fn try_write(&mut self, at: u64, from: &[u8]) -> Result<(), NoMemory>
         requires { at ≤ length self.old.octets.items }
-        ensures ok { OnOk result (log_of self.new.moments.items ≡ Wrote at from.now ∷ log_of self.old.moments.items) }
+        ensures ok { OnOk result
+            (log_of self.new.moments.items ≡ Wrote at from.now ∷ log_of self.old.moments.items) }
         ensures err { OnErr result (log_of self.new.moments.items ≡ log_of self.old.moments.items) }
         ensures faults { self.new.faults ≡ self.old.faults }
     {
@@ -226,7 +237,8 @@ impl MemDisk {
 
     fn try_cut(&mut self, len: u64) -> Result<(), NoMemory>
         requires { len ≤ length self.old.octets.items }
-        ensures ok { OnOk result (log_of self.new.moments.items ≡ WasCut len ∷ log_of self.old.moments.items) }
+        ensures ok { OnOk result
+            (log_of self.new.moments.items ≡ WasCut len ∷ log_of self.old.moments.items) }
         ensures err { OnErr result (log_of self.new.moments.items ≡ log_of self.old.moments.items) }
         ensures faults { self.new.faults ≡ self.old.faults }
     {

@@ -34,7 +34,8 @@ impl Moment {
 
     // Does to the content what it did.
     pub(crate) fn redo(&self, whole: &mut Vec<u8>) -> Result<(), NoMemory>
-        ensures { OnOk result ((log : List Event) → whole.old.items ≡ content log → whole.new.items ≡ content (event_of self.now ∷ log)) }
+        ensures { OnOk result ((log : List Event) → whole.old.items ≡ content log
+            → whole.new.items ≡ content (event_of self.now ∷ log)) }
     {
         match self {
             Moment::Began(first) => {
@@ -58,7 +59,9 @@ impl Moment {
         number: usize,
     ) -> Result<(), NoMemory>
         requires { is_settling self.now ≡ false }
-        ensures { OnOk result ((log : List Event) → number ≡ pending log → image.old.items ≡ chosen_image choice log → image.new.items ≡ chosen_image choice (event_of self.now ∷ log)) }
+        ensures { OnOk result ((log : List Event) → number ≡ pending log
+            → image.old.items ≡ chosen_image choice log
+            → image.new.items ≡ chosen_image choice (event_of self.now ∷ log)) }
     {
         match self {
             Moment::Write { at, octets } => {

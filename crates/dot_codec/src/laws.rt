@@ -8,25 +8,33 @@ ghost use Rattle.dot_codec.specs.declared.fault.BlockFault.{BlockFault};
 
 /// A text has one list of lines, and every list of lines is that of a text.
 pub fn lines_once()
-    ensures once { (text : List ℕ) (a b : List (List ℕ)) → HasLines text a → HasLines text b → a ≡ b }
-    ensures each { (text : List ℕ) (lines : List (List ℕ)) → HasLines text lines → AllByRecursion IsLine lines }
-    ensures text { (lines : List (List ℕ)) → AllByRecursion IsLine lines → HasLines (text_of lines) lines }
+    ensures once { (text : List ℕ) (a b : List (List ℕ)) → HasLines text a → HasLines text b
+        → a ≡ b }
+    ensures each { (text : List ℕ) (lines : List (List ℕ)) → HasLines text lines
+        → AllByRecursion IsLine lines }
+    ensures text { (lines : List (List ℕ)) → AllByRecursion IsLine lines
+        → HasLines (text_of lines) lines }
 {}
 
 /// No read form begins another one, so a stream of blocks is cut in one way.
 pub fn forms_do_not_begin_another()
-    ensures { (a b : List (List ℕ)) (x y p q : List ℕ) → IsReadForm a x → IsReadForm b y → x ++ p ≡ y ++ q → (a ≡ b) × (x ≡ y) × (p ≡ q) }
+    ensures { (a b : List (List ℕ)) (x y p q : List ℕ) → IsReadForm a x → IsReadForm b y
+        → x ++ p ≡ y ++ q → (a ≡ b) × (x ≡ y) × (p ≡ q) }
 {}
 
 /// The written form of lines is a read form of them. So what `to_block` made of a text, `from_block` reads as the lines
 /// of that text, whatever follows the block.
 pub fn written_is_read()
-    ensures lines { (lines : List (List ℕ)) → AllByRecursion IsLine lines → IsReadForm lines (written lines) }
-    ensures text { (text : List ℕ) (lines : List (List ℕ)) → HasLines text lines → IsReadForm lines (written lines) }
+    ensures lines { (lines : List (List ℕ)) → AllByRecursion IsLine lines
+        → IsReadForm lines (written lines) }
+    ensures text { (text : List ℕ) (lines : List (List ℕ)) → HasLines text lines
+        → IsReadForm lines (written lines) }
 {}
 
 /// Octets have one fault at most, and none where a read form begins them.
 pub fn faults_once()
-    ensures once { (octets : List ℕ) (a b : BlockFault) → HasBlockFault octets a → HasBlockFault octets b → a ≡ b }
-    ensures never { (lines : List (List ℕ)) (form rest : List ℕ) (fault : BlockFault) → IsReadForm lines form → HasBlockFault (form ++ rest) fault → ⊥ }
+    ensures once { (octets : List ℕ) (a b : BlockFault) → HasBlockFault octets a
+        → HasBlockFault octets b → a ≡ b }
+    ensures never { (lines : List (List ℕ)) (form rest : List ℕ) (fault : BlockFault)
+        → IsReadForm lines form → HasBlockFault (form ++ rest) fault → ⊥ }
 {}

@@ -1,7 +1,8 @@
-//! Article texts as multi-line blocks (RFC 3977, section 3.1.1), and back: lines, doubled dots, the dot that ends a block.
+//! Article texts as multi-line blocks (RFC 3977, section 3.1.1), and back: lines, doubled dots, the dot that ends a
+//! block.
 //!
-//! May touch nothing but memory; it stands on `bytes` for the block and on `memchr` for the search for line ends.
-//! The crates above use `to_block`, whose block is `written` of the text's lines, `is_sendable`, and `from_block`, which
+//! May touch nothing but memory; it stands on `bytes` for the block and on `memchr` for the search for line ends. The
+//! crates above use `to_block`, whose block is `written` of the text's lines, `is_sendable`, and `from_block`, which
 //! reads exactly the read forms of lines and else names the first fault (`specs/Lines.antt`, `specs/Block.antt`,
 //! `specs/Fault.antt`); the laws on these words are in `laws`.
 #![tactic(auto)]

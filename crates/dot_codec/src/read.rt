@@ -1,5 +1,6 @@
 // A block's lines, counted and then read.
-ghost use Rattle.std.specs.Prelude.{◌≡◌, ◌+◌, ◌<◌, ◌≤◌, ◌↔◌, ◌++◌, ◌∷◌, [], ℕ, List, length, take, IfOk, IfErr, IfSome, IfNone, IsErrOf, MatchOption, MatchResult};
+ghost use Rattle.std.specs.Prelude.{◌≡◌, ◌+◌, ◌<◌, ◌≤◌, ◌↔◌, ◌++◌, ◌∷◌, [], ℕ, List, length, take, IfOk, IfErr, IfSome};
+ghost use Rattle.std.specs.Prelude.{IfNone, IsErrOf, MatchOption, MatchResult};
 ghost use Rattle.dot_codec.specs.Lines.{IsLine, text_of};
 ghost use Rattle.dot_codec.specs.Block.{IsLineForm, IsReadForm, end_of_block};
 ghost use Rattle.dot_codec.specs.Fault.{HasBlockFault, IsFaultyLine};
@@ -18,13 +19,24 @@ use std::alloc::{AllocError, Global};
 /// [`BlockFault::BareCr`], [`BlockFault::BareLf`] or [`BlockFault::Nul`].
 /// [`BlockFault::NoMemory`] where a block does and memory was refused.
 pub fn from_block(alloc: Global, octets: &[u8]) -> Result<(Vec<u8>, usize), BlockFault>
-    ensures read { IfOk result (λ r. (r.1 ≤ length octets.now) × ((lines : List (List ℕ)) × IsReadForm lines (take r.1 octets.now) × (r.0.items ≡ text_of lines))) }
-    ensures all { (lines : List (List ℕ)) (form rest : List ℕ) → IsReadForm lines form → octets.now ≡ form ++ rest → MatchResult result (λ r. (r.0.items ≡ text_of lines) × (r.1 ≡ length form)) (λ e. e ≡ BlockFault.NoMemory) }
-    ensures unfinished { IsErrOf result BlockFault.Unfinished ↔ HasBlockFault octets.now BlockFault.Unfinished }
-    ensures bare_cr { IsErrOf result BlockFault.BareCr ↔ HasBlockFault octets.now BlockFault.BareCr }
-    ensures bare_lf { IsErrOf result BlockFault.BareLf ↔ HasBlockFault octets.now BlockFault.BareLf }
+    ensures read { IfOk result
+        (λ r. (r.1 ≤ length octets.now)
+        × ((lines : List (List ℕ)) × IsReadForm lines (take r.1 octets.now)
+        × (r.0.items ≡ text_of lines))) }
+    ensures all { (lines : List (List ℕ)) (form rest : List ℕ) → IsReadForm lines form
+        → octets.now ≡ form ++ rest
+        → MatchResult result (λ r. (r.0.items ≡ text_of lines) × (r.1 ≡ length form))
+        (λ e. e ≡ BlockFault.NoMemory) }
+    ensures unfinished { IsErrOf result BlockFault.Unfinished
+        ↔ HasBlockFault octets.now BlockFault.Unfinished }
+    ensures bare_cr { IsErrOf result BlockFault.BareCr
+        ↔ HasBlockFault octets.now BlockFault.BareCr }
+    ensures bare_lf { IsErrOf result BlockFault.BareLf
+        ↔ HasBlockFault octets.now BlockFault.BareLf }
     ensures nul { IsErrOf result BlockFault.Nul ↔ HasBlockFault octets.now BlockFault.Nul }
-    ensures memory { IsErrOf result BlockFault.NoMemory → (lines : List (List ℕ)) × (form rest : List ℕ) × IsReadForm lines form × (octets.now ≡ form ++ rest) }
+    ensures memory { IsErrOf result BlockFault.NoMemory
+        → (lines : List (List ℕ)) × (form rest : List ℕ) × IsReadForm lines form
+        × (octets.now ≡ form ++ rest) }
 {
     match block_size(octets) {
         Ok(size) => match lines_of(alloc, octets, size.text) {
@@ -44,7 +56,10 @@ struct BlockSize {
 
 // The size of the block that the octets begin with, or their fault.
 fn block_size(octets: &[u8]) -> Result<BlockSize, BlockFault>
-    ensures read { IfOk result (λ size. (lines : List (List ℕ)) × (form rest : List ℕ) × IsReadForm lines form × (octets.now ≡ form ++ rest) × (size.used ≡ length form) × (size.text ≡ length (text_of lines))) }
+    ensures read { IfOk result
+        (λ size. (lines : List (List ℕ)) × (form rest : List ℕ) × IsReadForm lines form
+        × (octets.now ≡ form ++ rest) × (size.used ≡ length form)
+        × (size.text ≡ length (text_of lines))) }
     ensures fault { IfErr result (λ fault. HasBlockFault octets.now fault) }
 {
     let mut text = 0;
@@ -59,7 +74,8 @@ fn block_size(octets: &[u8]) -> Result<BlockSize, BlockFault>
 
 // The lines of a block, each with LF, in one allocation of this length.
 fn lines_of(alloc: Global, octets: &[u8], len: usize) -> Result<Vec<u8>, AllocError>
-    ensures { IfOk result (λ text. (lines : List (List ℕ)) (form rest : List ℕ) → IsReadForm lines form → octets.now ≡ form ++ rest → text.items ≡ text_of lines) }
+    ensures { IfOk result (λ text. (lines : List (List ℕ)) (form rest : List ℕ)
+        → IsReadForm lines form → octets.now ≡ form ++ rest → text.items ≡ text_of lines) }
 {
     let mut text = Vec::with_capacity(alloc, len)?;
     let mut rest = octets;
@@ -73,8 +89,12 @@ fn lines_of(alloc: Global, octets: &[u8], len: usize) -> Result<Vec<u8>, AllocEr
 
 // The line that the octets begin with, or their fault; `None` at the end of the block.
 fn next_line(octets: &[u8]) -> Result<Option<Line<'_>>, BlockFault>
-    ensures line { IfOk result (λ next. IfSome next (λ line. (form : List ℕ) × (octets.now ≡ form ++ 13 ∷ 10 ∷ line.rest.now) × IsLine line.octets.now × IsLineForm line.octets.now form)) }
-    ensures end { IfOk result (λ next. IfNone next ((rest : List ℕ) × (octets.now ≡ end_of_block ++ rest))) }
+    ensures line { IfOk result
+        (λ next. IfSome next (λ line. (form : List ℕ)
+        × (octets.now ≡ form ++ 13 ∷ 10 ∷ line.rest.now) × IsLine line.octets.now
+        × IsLineForm line.octets.now form)) }
+    ensures end { IfOk result
+        (λ next. IfNone next ((rest : List ℕ) × (octets.now ≡ end_of_block ++ rest))) }
     ensures fault { IfErr result (λ fault. IsFaultyLine fault octets.now) }
 {
     let run = first_run(octets);

@@ -1,5 +1,6 @@
 // A text's lines, written as a block.
-ghost use Rattle.std.specs.Prelude.{◌≡◌, ◌<◌, ◌≤◌, ◌↔◌, ◌++◌, ◌∷◌, [], ℕ, List, length, drop, IfOk, IsOk, IsErrOf, OnOk, IsTrue};
+ghost use Rattle.std.specs.Prelude.{◌≡◌, ◌<◌, ◌≤◌, ◌↔◌, ◌++◌, ◌∷◌, [], ℕ, List, length, drop, IfOk, IsOk, IsErrOf};
+ghost use Rattle.std.specs.Prelude.{OnOk, IsTrue};
 ghost use Rattle.dot_codec.specs.Lines.{HasLines, IsSendable, longest_text};
 ghost use Rattle.dot_codec.specs.Block.{begins_with_dot, stuffed, written};
 ghost use Rattle.dot_codec.specs.Scan.{begins_with_crlf};
@@ -21,7 +22,8 @@ const LONGEST_TEXT: usize = 16_777_216;
 /// [`BlockRefusal::Unsendable`] exactly where the text is not sendable, as [`is_sendable`] tells it.
 /// [`BlockRefusal::NoMemory`] where it is and memory was refused.
 pub fn to_block(alloc: Global, text: &[u8]) -> Result<Bytes, BlockRefusal>
-    ensures block { IfOk result (λ b. (lines : List (List ℕ)) × HasLines text.now lines × (b ≡ written lines)) }
+    ensures block { IfOk result
+        (λ b. (lines : List (List ℕ)) × HasLines text.now lines × (b ≡ written lines)) }
     ensures unsendable { IsErrOf result BlockRefusal.Unsendable ↔ (IsSendable text.now → ⊥) }
     ensures sendable { IsErrOf result BlockRefusal.NoMemory → IsSendable text.now }
     ensures sent { IsOk result → IsSendable text.now }
@@ -59,7 +61,8 @@ fn has_crlf_at(text: &[u8], at: usize) -> bool
 // The block of a text that has lines.
 fn block_of(alloc: Global, text: &[u8]) -> Result<Bytes, AllocError>
     requires { length text.now ≤ longest_text }
-    ensures { IfOk result (λ b. (lines : List (List ℕ)) → HasLines text.now lines → b ≡ written lines) }
+    ensures { IfOk result (λ b. (lines : List (List ℕ)) → HasLines text.now lines
+        → b ≡ written lines) }
 {
     let mut block = Vec::with_capacity(alloc, likely_len(text))?;
     put_lines(&mut block, text)?;
@@ -79,7 +82,8 @@ fn likely_len(text: &[u8]) -> usize
 
 // Writes the lines of a text.
 fn put_lines(block: &mut Vec<u8>, text: &[u8]) -> Result<(), AllocError>
-    ensures { OnOk result ((lines : List (List ℕ)) → HasLines text.now lines → block.new.items ++ 46 ∷ 13 ∷ 10 ∷ [] ≡ block.old.items ++ written lines) }
+    ensures { OnOk result ((lines : List (List ℕ)) → HasLines text.now lines
+        → block.new.items ++ 46 ∷ 13 ∷ 10 ∷ [] ≡ block.old.items ++ written lines) }
 {
     let mut from = 0;
     for at in memchr_iter(b'\n', text) {
@@ -95,7 +99,8 @@ fn put_lines(block: &mut Vec<u8>, text: &[u8]) -> Result<(), AllocError>
 // Writes a line with CR LF, and one more dot before it where it begins with one.
 #[inline(always)]
 fn put_line(block: &mut Vec<u8>, line: &[u8]) -> Result<(), AllocError>
-    ensures { OnOk result (block.new.items ≡ block.old.items ++ (stuffed line.now ++ 13 ∷ 10 ∷ [])) }
+    ensures { OnOk result (block.new.items
+        ≡ block.old.items ++ (stuffed line.now ++ 13 ∷ 10 ∷ [])) }
 {
     if begins_with_dot(line) {
         block.push(b'.')?;

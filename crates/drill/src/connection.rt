@@ -42,7 +42,8 @@ impl Connection {
     ) -> Result<Connection, AllocError>
         ensures peer { IfOk result (λ connection. connection.peer ≡ peer) }
         ensures number { IfOk result (λ connection. connection.conn.id.0 ≡ number) }
-        ensures stands { IfOk result (λ connection. Stands (options_of conf.now) connection.conn [] []) }
+        ensures stands { IfOk result
+            (λ connection. Stands (options_of conf.now) connection.conn [] []) }
     {
         let conn = Conn::new(alloc, CxnId(number), options_of(conf))?;
         Ok(Connection { peer, conn })
@@ -121,8 +122,8 @@ impl Connection {
         }
     }
 
-    // What follows each step: the outcomes are taken to the station, the output is sent, the article that is wanted is named, and
-    // the reason where the step closed the connection.
+    // What follows each step: the outcomes are taken to the station, the output is sent, the article that is wanted is
+    // named, and the reason where the step closed the connection.
     fn tell<D: Disk>(
         &mut self,
         peer: &mut Peer<D>,
@@ -150,7 +151,8 @@ impl Connection {
         now: u64,
         out: &mut Vec<u8>,
     ) -> Result<(), Fault>
-        ensures { OnOk result (AllSettle self.old.conn.id now (untold_at self.old.conn) peer.old peer.new) }
+        ensures { OnOk result (AllSettle self.old.conn.id now
+            (untold_at self.old.conn) peer.old peer.new) }
     {
         let id = self.conn.id();
         while let Some(outcome) = self.conn.outcome() {

@@ -6,7 +6,8 @@ use memchr::memchr;
 
 /// The first line without its LF, and what stands behind that; nothing where no LF is left.
 pub fn first_line(text: &[u8]) -> Option<(&[u8], &[u8])>
-    ensures line { MatchOption result (IsUnended text.now) (λ parts. BeginsWithLine text.now parts.0.now parts.1.now) }
+    ensures line { MatchOption result (IsUnended text.now)
+        (λ parts. BeginsWithLine text.now parts.0.now parts.1.now) }
     ensures shorter { IfSome result (λ parts. length parts.1.now < length text.now) }
 {
     match memchr(b'\n', text) {

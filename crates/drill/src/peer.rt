@@ -37,8 +37,8 @@ pub struct StoppedPeer {
 impl<D: Disk> Peer<D> {
     ghost use Rattle.drill.specs.Drill.{Owes};
 
-    /// Owes a good line, where it names this peer: its debt is noted, and pends until the next flush. A number at or below the mark
-    /// is owed already, or was. Adds what is printed of it.
+    /// Owes a good line, where it names this peer: its debt is noted, and pends until the next flush. A number at or
+    /// below the mark is owed already, or was. Adds what is printed of it.
     ///
     /// # Errors
     /// The station's.
@@ -103,7 +103,8 @@ impl StoppedPeer {
     /// Memory was refused.
     pub fn leave(self, choice: Choice) -> Result<StoppedPeer, AllocError>
         ensures conf { IfOk result (λ left. left.conf ≡ self.conf) }
-        ensures chosen { IfOk result (λ left. stopped_log left ≡ left_by choice (stopped_log self)) }
+        ensures chosen { IfOk result
+            (λ left. stopped_log left ≡ left_by choice (stopped_log self)) }
         ensures survives { (h : History) → EachTape (Survives h) (stopped_log self)
             → IfOk result (λ left. EachTape (Survives h) (stopped_log left)) }
     {

@@ -42,7 +42,8 @@ pub fn add_mark<D: Disk>(
     name: &PeerName,
     station: &Station<D>,
 ) -> Result<(), AllocError>
-    ensures { OnOk result (out.new.items ≡ out.old.items ++ mark_text name.now (ledger_of station.now)) }
+    ensures { OnOk result (out.new.items
+        ≡ out.old.items ++ mark_text name.now (ledger_of station.now)) }
 {
     let numbers = station.list()?;
     out.extend_from_slice(name.bytes())?;

@@ -1,5 +1,6 @@
 // All peers of a drill, running or stopped.
-ghost use Rattle.std.specs.Prelude.{◌≡◌, ◌↔◌, ◌++◌, ◌∷◌, [], List, map, IfNone, IfOk, IfSome, IsErrOf, MatchOption, OnOk, OnSome};
+ghost use Rattle.std.specs.Prelude.{◌≡◌, ◌↔◌, ◌++◌, ◌∷◌, [], List, map, IfNone, IfOk, IfSome, IsErrOf, MatchOption};
+ghost use Rattle.std.specs.Prelude.{OnOk, OnSome};
 ghost use Rattle.std.specs.List.{AllZip};
 ghost use Rattle.std.specs.Str.{bytes_eq};
 ghost use Rattle.recovery.specs.Notes.{History};
@@ -139,7 +140,8 @@ struct Opening {
 }
 
 impl Stage {
-    ghost use Rattle.drill.specs.Stage.{HasLimits, IsRunning, IsStopped, RecoversEach, TellsEach, TellsNoDamage, confs_of, left_by, logs_of};
+    ghost use Rattle.drill.specs.Stage.{HasLimits, IsRunning, IsStopped, RecoversEach, TellsEach, TellsNoDamage};
+    ghost use Rattle.drill.specs.Stage.{confs_of, left_by, logs_of};
 
     /// The place of the first peer of this name.
     pub fn place_of(&self, name: &PeerName) -> Option<usize>
@@ -187,7 +189,8 @@ impl Stage {
         }
     }
 
-    /// Opens all peers' stations in order. Where a tape is refused all peers have stopped, and its fault is told beside them.
+    /// Opens all peers' stations in order. Where a tape is refused all peers have stopped, and its fault is told beside
+    /// them.
     ///
     /// # Errors
     /// `Running` where they run; `NoMemory`.
@@ -200,9 +203,12 @@ impl Stage {
         ensures running { IsErrOf result Fault.Running ↔ IsRunning self }
         ensures confs { IfOk result (λ r. confs_of r.0 ≡ confs_of self) }
         ensures limits { IfOk result (λ r. HasLimits r.0) }
-        ensures recovers { (hs : List History) → TellsEach hs self → IfOk result (λ r. IfNone r.1 (RecoversEach hs (logs_of self) r.0)) }
-        ensures tells { (hs : List History) → TellsEach hs self → IfOk result (λ r. OnSome r.1 (TellsEach hs r.0)) }
-        ensures undamaged { (hs : List History) → TellsEach hs self → IfOk result (λ r. IfSome r.1 TellsNoDamage) }
+        ensures recovers { (hs : List History) → TellsEach hs self
+            → IfOk result (λ r. IfNone r.1 (RecoversEach hs (logs_of self) r.0)) }
+        ensures tells { (hs : List History) → TellsEach hs self
+            → IfOk result (λ r. OnSome r.1 (TellsEach hs r.0)) }
+        ensures undamaged { (hs : List History) → TellsEach hs self
+            → IfOk result (λ r. IfSome r.1 TellsNoDamage) }
     {
         match self {
             Stage::Running(_) => Err(Fault::Running),
@@ -222,7 +228,8 @@ impl Opening {
         peer: StoppedPeer,
         triggers: (Rc<Cell<Trigger>>, Rc<Cell<Trigger>>),
     ) -> Result<(), AllocError>
-        ensures { (peers : List StoppedPeer) → HasTried peers self.old → OnOk result (HasTried (peers ++ peer ∷ []) self.new) }
+        ensures { (peers : List StoppedPeer) → HasTried peers self.old
+            → OnOk result (HasTried (peers ++ peer ∷ []) self.new) }
     {
         if self.refused.is_some() {
             self.stopped.push(peer)?;
@@ -244,7 +251,8 @@ impl Opening {
     // All peers run, or where one was refused all have stopped.
     fn end(self, alloc: Global) -> Result<(Stage, Option<Fault>), AllocError>
         ensures ends { IfOk result (λ r. MatchOption r.1 (IsRunning r.0) (λ _. IsStopped r.0)) }
-        ensures opens { (peers : List StoppedPeer) → HasTried peers self → IfOk result (λ r. Opens peers r.0 r.1) }
+        ensures opens { (peers : List StoppedPeer) → HasTried peers self
+            → IfOk result (λ r. Opens peers r.0 r.1) }
     {
         let Opening {
             running,

@@ -79,9 +79,9 @@ impl Trigger {
     }
 }
 
-/// A disk in memory whose calls of `write_at`, `cut` and `sync` are counted while a stop is armed at its peer. The call that is
-/// stopped does not complete: a write or a cut reaches the disk beneath, and no sync follows it; a sync does not reach it. That
-/// call and each later one, a read too, tells a fault.
+/// A disk in memory whose calls of `write_at`, `cut` and `sync` are counted while a stop is armed at its peer. The call
+/// that is stopped does not complete: a write or a cut reaches the disk beneath, and no sync follows it; a sync does
+/// not reach it. That call and each later one, a read too, tells a fault.
 #[derive(Drop)]
 pub struct StopDisk {
     disk: MemDisk,
@@ -152,7 +152,8 @@ impl StopDisk {
         ensures cause { CountsFaults (all_faults self.old) (all_faults self.new) result }
         ensures quiet { OnOk result (all_faults self.new ≡ all_faults self.old) }
         ensures completes { fate ≡ Fate.Completes → Passes self.old self.new result }
-        ensures stops { (choice : Choice) → fate ≡ Fate.Stops choice → Reaches (Wrote at from.now) self.old self.new result }
+        ensures stops { (choice : Choice) → fate ≡ Fate.Stops choice
+            → Reaches (Wrote at from.now) self.old self.new result }
         ensures fails { fate ≡ Fate.Fails → Refuses self.old self.new result }
     {
         match fate {
@@ -172,7 +173,8 @@ impl StopDisk {
         ensures cause { CountsFaults (all_faults self.old) (all_faults self.new) result }
         ensures quiet { OnOk result (all_faults self.new ≡ all_faults self.old) }
         ensures completes { fate ≡ Fate.Completes → Passes self.old self.new result }
-        ensures stops { (choice : Choice) → fate ≡ Fate.Stops choice → Reaches (WasCut len) self.old self.new result }
+        ensures stops { (choice : Choice) → fate ≡ Fate.Stops choice
+            → Reaches (WasCut len) self.old self.new result }
         ensures fails { fate ≡ Fate.Fails → Refuses self.old self.new result }
     {
         match fate {
@@ -191,7 +193,8 @@ impl StopDisk {
         ensures cause { CountsFaults (all_faults self.old) (all_faults self.new) result }
         ensures quiet { OnOk result (all_faults self.new ≡ all_faults self.old) }
         ensures completes { fate ≡ Fate.Completes → Passes self.old self.new result }
-        ensures stops { (choice : Choice) → fate ≡ Fate.Stops choice → Refuses self.old self.new result }
+        ensures stops { (choice : Choice) → fate ≡ Fate.Stops choice
+            → Refuses self.old self.new result }
         ensures fails { fate ≡ Fate.Fails → Refuses self.old self.new result }
     {
         match fate {

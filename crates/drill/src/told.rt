@@ -33,7 +33,8 @@ pub fn add_settled(out: &mut Vec<u8>, number: u64, settled: Settled) -> Result<(
 
 // A word, a number, and a space before what follows.
 fn add_pair(out: &mut Vec<u8>, word: &[u8], number: u64) -> Result<(), AllocError>
-    ensures { OnOk result (out.new.items ≡ out.old.items ++ (word.now ++ (decimal number ++ 32 ∷ []))) }
+    ensures { OnOk result (out.new.items
+        ≡ out.old.items ++ (word.now ++ (decimal number ++ 32 ∷ []))) }
 {
     out.extend_from_slice(word)?;
     add_number(out, number)?;

@@ -128,7 +128,8 @@ impl Link for MemLink {
 
     fn recv(&mut self, into: &mut [u8]) -> Moved
         ensures within { moved result ≤ length into.new }
-        ensures gave { Tells (Some self.old.gave) (take (moved result) into.new) (Some self.new.gave) }
+        ensures gave { Tells (Some self.old.gave) (take (moved result) into.new)
+            (Some self.new.gave) }
         ensures took { Some self.new.taken ≡ Some self.old.taken }
         ensures dry { result ≡ Moved.Later → self.new.waiting ≡ [] }
         ensures answer { result ≡ gives_now self.old (length into.old) }
@@ -150,7 +151,8 @@ impl Link for MemLink {
 
     fn send(&mut self, from: &[u8]) -> Moved
         ensures within { moved result ≤ length from.now }
-        ensures took { Tells (Some self.old.taken) (take (moved result) from.now) (Some self.new.taken) }
+        ensures took { Tells (Some self.old.taken) (take (moved result) from.now)
+            (Some self.new.taken) }
         ensures gave { Some self.new.gave ≡ Some self.old.gave }
         ensures full { result ≡ Moved.Later → ⊥ }
         ensures answer { (result ≡ takes_now self.old (length from.now)) ⊎ (result ≡ Moved.Fault) }

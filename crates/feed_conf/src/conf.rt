@@ -76,7 +76,8 @@ impl Conf {
 
     /// The values of the peer of this name, where it is declared.
     pub fn peer(&self, name: &PeerName) -> Option<&PeerConf>
-        ensures { option_map settings_view (option_copied result) ≡ find_settings name.now (conf_view self.now).peers }
+        ensures { option_map settings_view (option_copied result)
+            ≡ find_settings name.now (conf_view self.now).peers }
     {
         match self.names.get(text_of(name)) {
             None => None,

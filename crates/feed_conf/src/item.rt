@@ -1,7 +1,9 @@
 // What the lines of settings say.
-ghost use Rattle.std.specs.Prelude.{◌≡◌, ◌∷◌, ◌==◌, ◌<◌, [], List, ℕ, ◌≤◌, IfSome, MatchOption, codes, length, position};
+ghost use Rattle.std.specs.Prelude.{◌≡◌, ◌∷◌, ◌==◌, ◌<◌, [], List, ℕ, ◌≤◌, IfSome, MatchOption, codes, length};
+ghost use Rattle.std.specs.Prelude.{position};
 ghost use Rattle.std.specs.Str.{bytes_eq};
-ghost use Rattle.feed_conf.specs.Items.{sort_of, split_pair, word_items, items, items_of, PeerBegun, PeerNamed, GroupBegun, GroupNamed, KeyBegun};
+ghost use Rattle.feed_conf.specs.Items.{sort_of, split_pair, word_items, items, items_of, PeerBegun, PeerNamed};
+ghost use Rattle.feed_conf.specs.Items.{GroupBegun, GroupNamed, KeyBegun};
 ghost use Rattle.feed_conf.specs.Scan.{tokens_of};
 ghost use Rattle.feed_conf.specs.ItemView.{item_view, sort_view};
 
@@ -76,7 +78,8 @@ fn sort_word(word: &[u8]) -> Sort<'_>
 
 // What stands behind the name of a peer.
 fn peer_named<'t>(name: &'t [u8], line: &'t [u8]) -> (Item<'t>, &'t [u8])
-    ensures items { items (tokens_of line.now) (PeerNamed name.now) ≡ item_view result.0 ∷ items_of result.1.now }
+    ensures items { items (tokens_of line.now) (PeerNamed name.now)
+        ≡ item_view result.0 ∷ items_of result.1.now }
     ensures within { length result.1.now ≤ length line.now }
 {
     match next_token(line) {
@@ -87,7 +90,8 @@ fn peer_named<'t>(name: &'t [u8], line: &'t [u8]) -> (Item<'t>, &'t [u8])
 
 // What stands behind the word `peer`.
 fn peer_begun(line: &[u8]) -> (Item<'_>, &[u8])
-    ensures items { items (tokens_of line.now) PeerBegun ≡ item_view result.0 ∷ items_of result.1.now }
+    ensures items { items (tokens_of line.now) PeerBegun
+        ≡ item_view result.0 ∷ items_of result.1.now }
     ensures within { length result.1.now ≤ length line.now }
 {
     match next_token(line) {
@@ -99,7 +103,8 @@ fn peer_begun(line: &[u8]) -> (Item<'_>, &[u8])
 
 // What stands behind the name of a group.
 fn group_named(line: &[u8]) -> (Item<'_>, &[u8])
-    ensures items { items (tokens_of line.now) GroupNamed ≡ item_view result.0 ∷ items_of result.1.now }
+    ensures items { items (tokens_of line.now) GroupNamed
+        ≡ item_view result.0 ∷ items_of result.1.now }
     ensures within { length result.1.now ≤ length line.now }
 {
     match next_token(line) {
@@ -110,7 +115,8 @@ fn group_named(line: &[u8]) -> (Item<'_>, &[u8])
 
 // What stands behind the word `group`.
 fn group_begun(line: &[u8]) -> (Item<'_>, &[u8])
-    ensures items { items (tokens_of line.now) GroupBegun ≡ item_view result.0 ∷ items_of result.1.now }
+    ensures items { items (tokens_of line.now) GroupBegun
+        ≡ item_view result.0 ∷ items_of result.1.now }
     ensures within { length result.1.now ≤ length line.now }
 {
     match next_token(line) {
@@ -121,7 +127,8 @@ fn group_begun(line: &[u8]) -> (Item<'_>, &[u8])
 
 // What stands behind a key whose word ends at the colon.
 fn key_begun<'t>(key: &'t [u8], line: &'t [u8]) -> (Item<'t>, &'t [u8])
-    ensures items { items (tokens_of line.now) (KeyBegun key.now) ≡ item_view result.0 ∷ items_of result.1.now }
+    ensures items { items (tokens_of line.now) (KeyBegun key.now)
+        ≡ item_view result.0 ∷ items_of result.1.now }
     ensures within { length result.1.now ≤ length line.now }
 {
     match next_token(line) {
@@ -134,7 +141,8 @@ fn key_begun<'t>(key: &'t [u8], line: &'t [u8]) -> (Item<'t>, &'t [u8])
 
 // What a word begins that stands where a new item may.
 fn word_begun<'t>(word: &'t [u8], line: &'t [u8]) -> (Item<'t>, &'t [u8])
-    ensures items { word_items (sort_of word.now) (items (tokens_of line.now)) ≡ item_view result.0 ∷ items_of result.1.now }
+    ensures items { word_items (sort_of word.now) (items (tokens_of line.now))
+        ≡ item_view result.0 ∷ items_of result.1.now }
     ensures within { length result.1.now ≤ length line.now }
 {
     match sort_word(word) {
@@ -148,7 +156,8 @@ fn word_begun<'t>(word: &'t [u8], line: &'t [u8]) -> (Item<'t>, &'t [u8])
 
 /// The first thing that a line says and what stands behind it, or `None` where it says nothing more.
 pub(crate) fn next_item(line: &[u8]) -> Option<(Item<'_>, &[u8])>
-    ensures items { MatchOption result (items_of line.now ≡ []) (λ r. items_of line.now ≡ item_view r.0 ∷ items_of r.1.now) }
+    ensures items { MatchOption result (items_of line.now ≡ [])
+        (λ r. items_of line.now ≡ item_view r.0 ∷ items_of r.1.now) }
     ensures shorter { IfSome result (λ r. length r.1.now < length line.now) }
 {
     match next_token(line) {

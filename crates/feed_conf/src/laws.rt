@@ -9,5 +9,6 @@ pub fn tokens_exist()
 
 /// A line has one list of tokens.
 pub fn tokens_once()
-    ensures { (line : List ℕ) (one other : List Token) → HasTokens line one → HasTokens line other → one ≡ other }
+    ensures { (line : List ℕ) (one other : List Token) → HasTokens line one → HasTokens line other
+        → one ≡ other }
 {}

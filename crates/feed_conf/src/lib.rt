@@ -1,8 +1,8 @@
 //! The settings of the feed (innfeed.conf(5), this profile): reads a configuration and answers each peer's values.
 //!
-//! May touch nothing but memory; it stands on `funnel` for the names of peers.
-//! The crates above use `read_conf`, which gives what `specs/Settings.antt` has as the meaning of the text's tokens
-//! (`specs/Tokens.antt`, `specs/Items.antt`, `specs/Reading.antt`), or names its first fault, and what `Conf` answers of it.
+//! May touch nothing but memory; it stands on `funnel` for the names of peers. The crates above use `read_conf`, which
+//! gives what `specs/Settings.antt` has as the meaning of the text's tokens (`specs/Tokens.antt`, `specs/Items.antt`,
+//! `specs/Reading.antt`), or names its first fault, and what `Conf` answers of it.
 #![tactic(auto)]
 
 mod conf;

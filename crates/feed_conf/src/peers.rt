@@ -36,7 +36,8 @@ fn peer_conf(
 ) -> Result<PeerConf, ConfFaultKind>
     requires { HoldsBounded table.now }
     ensures value { (uses : List Use) → IsTableOf table.now uses
-        → IfOk result (λ conf. settings_view conf ≡ settings_of uses outer.now (declared_view peer.now)) }
+        → IfOk result (λ conf. settings_view conf
+        ≡ settings_of uses outer.now (declared_view peer.now)) }
     ensures fault { IfErr result (λ kind. kind ≡ NoMemory) }
 {
     let written = table.number(outer, peer, Key::BacklogLimitHighwater);
@@ -66,7 +67,8 @@ fn peer_conf(
 
 // The values of peers, and one's more.
 fn add_conf(mut confs: Vec<PeerConf>, conf: PeerConf) -> Result<Vec<PeerConf>, ConfFaultKind>
-    ensures { MatchResult result (λ more. more.items ≡ confs.items ++ conf ∷ []) (λ kind. kind ≡ NoMemory) }
+    ensures { MatchResult result (λ more. more.items ≡ confs.items ++ conf ∷ [])
+        (λ kind. kind ≡ NoMemory) }
 {
     confs.push(conf)?;
     Ok(confs)

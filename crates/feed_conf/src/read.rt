@@ -18,8 +18,10 @@ fn line_end(text: &[u8]) -> Option<usize>
 
 // The first line without its LF, and what stands behind that LF.
 fn first_line(text: &[u8]) -> (&[u8], Option<&[u8]>)
-    ensures lines { MatchOption result.1 (lines_of text.now ≡ result.0.now ∷ []) (λ behind. lines_of text.now ≡ result.0.now ∷ lines_of behind.now) }
-    ensures within { MatchOption result.1 (length result.0.now ≤ length text.now) (λ behind. length result.0.now + length behind.now + 1 ≡ length text.now) }
+    ensures lines { MatchOption result.1 (lines_of text.now ≡ result.0.now ∷ [])
+        (λ behind. lines_of text.now ≡ result.0.now ∷ lines_of behind.now) }
+    ensures within { MatchOption result.1 (length result.0.now ≤ length text.now)
+        (λ behind. length result.0.now + length behind.now + 1 ≡ length text.now) }
 {
     match line_end(text) {
         None => (text, None),
@@ -77,7 +79,8 @@ fn read_lines(alloc: Global, text: &[u8]) -> Result<Reader<'_>, ConfFault>
 // At the end no block may be open.
 fn finish(reader: Reader<'_>) -> Result<Reader<'_>, ConfFault>
     ensures state { Runs (finish (reader_view reader.entry)) result }
-    ensures kept { IfOk result (λ r. (r.names ≡ reader.entry.names) × (r.peers ≡ reader.entry.peers)) }
+    ensures kept { IfOk result
+        (λ r. (r.names ≡ reader.entry.names) × (r.peers ≡ reader.entry.peers)) }
 {
     match reader.innermost() {
         None => Ok(reader),
@@ -93,7 +96,8 @@ fn finish(reader: Reader<'_>) -> Result<Reader<'_>, ConfFault>
 /// # Errors
 /// The first fault in reading order.
 pub(crate) fn read_text(alloc: Global, text: &[u8]) -> Result<Reader<'_>, ConfFault>
-    ensures state { Runs (then_on (run_lines (map items_of (lines_of text.now)) start 1) finish) result }
+    ensures state { Runs (then_on (run_lines (map items_of (lines_of text.now)) start 1) finish)
+        result }
     ensures named { IfOk result (λ r. IsNamed r) }
 {
     match read_lines(alloc, text) {

@@ -5,7 +5,9 @@ ghost use Rattle.feed_conf.specs.declared.fault.ConfFaultKind.TheVariants.{NoMem
 ghost use Rattle.feed_conf.specs.Items.{Group};
 ghost use Rattle.feed_conf.specs.ItemView.{item_view};
 ghost use Rattle.feed_conf.specs.Keys.{key_of};
-ghost use Rattle.feed_conf.specs.Reading.{block_at, close_block, declare, declare_peer, innermost, is_declared, is_in_block, is_in_peer, number_in, open_block, report, start, step, use_key, use_taken, use_value};
+ghost use Rattle.feed_conf.specs.Reading.{block_at, close_block, declare, declare_peer, innermost, is_declared};
+ghost use Rattle.feed_conf.specs.Reading.{is_in_block, is_in_peer, number_in, open_block, report, start, step, use_key};
+ghost use Rattle.feed_conf.specs.Reading.{use_taken, use_value};
 ghost use Rattle.feed_conf.specs.ReaderView.{IsNamed, Steps, reader_view};
 ghost use Rattle.feed_conf.specs.ValueView.{taken_view};
 
@@ -130,8 +132,11 @@ impl<'t> Reader<'t> {
     // A block is opened.
     fn open(mut self, line: u64, is_peer: bool) -> Result<Self, ConfFaultKind>
         requires { self.opened < 2 ^ 63 }
-        ensures state { MatchResult result (λ r. reader_view r ≡ open_block (reader_view self.entry) (block_at (reader_view self.entry) line is_peer)) (λ kind. kind ≡ NoMemory) }
-        ensures kept { IfOk result (λ r. (r.names ≡ self.entry.names) × (r.peers ≡ self.entry.peers)) }
+        ensures state { MatchResult result
+            (λ r. reader_view r ≡ open_block (reader_view self.entry)
+            (block_at (reader_view self.entry) line is_peer)) (λ kind. kind ≡ NoMemory) }
+        ensures kept { IfOk result
+            (λ r. (r.names ≡ self.entry.names) × (r.peers ≡ self.entry.peers)) }
     {
         let outer = self.number();
         self.outer.push(outer)?;
@@ -149,7 +154,8 @@ impl<'t> Reader<'t> {
     fn open_group(self, line: u64) -> Result<Self, ConfFaultKind>
         requires { self.opened < 2 ^ 63 }
         ensures state { Steps (step (reader_view self.entry) line Group) result }
-        ensures kept { IfOk result (λ r. (r.names ≡ self.entry.names) × (r.peers ≡ self.entry.peers)) }
+        ensures kept { IfOk result
+            (λ r. (r.names ≡ self.entry.names) × (r.peers ≡ self.entry.peers)) }
         ensures opened { IfOk result (λ r. r.opened ≤ self.entry.opened + 1) }
     {
         if self.is_in_peer() {
@@ -160,8 +166,10 @@ impl<'t> Reader<'t> {
 
     // The innermost block is closed.
     fn close(mut self) -> Result<Self, ConfFaultKind>
-        ensures state { Steps (close_block (innermost self.entry.around.items) (reader_view self.entry)) result }
-        ensures kept { IfOk result (λ r. (r.names ≡ self.entry.names) × (r.peers ≡ self.entry.peers)) }
+        ensures state { Steps (close_block (innermost self.entry.around.items) (reader_view self.entry))
+            result }
+        ensures kept { IfOk result
+            (λ r. (r.names ≡ self.entry.names) × (r.peers ≡ self.entry.peers)) }
         ensures opened { IfOk result (λ r. r.opened ≡ self.entry.opened) }
     {
         match self.innermost() {
@@ -176,8 +184,11 @@ impl<'t> Reader<'t> {
 
     // A use is reported.
     fn report(mut self, line: u64, key: &[u8], limited: bool) -> Result<Self, ConfFaultKind>
-        ensures state { MatchResult result (λ r. reader_view r ≡ report (reader_view self.entry) line key.now limited) (λ kind. kind ≡ NoMemory) }
-        ensures kept { IfOk result (λ r. (r.names ≡ self.entry.names) × (r.peers ≡ self.entry.peers)) }
+        ensures state { MatchResult result
+            (λ r. reader_view r ≡ report (reader_view self.entry) line key.now limited)
+            (λ kind. kind ≡ NoMemory) }
+        ensures kept { IfOk result
+            (λ r. (r.names ≡ self.entry.names) × (r.peers ≡ self.entry.peers)) }
         ensures opened { IfOk result (λ r. r.opened ≡ self.entry.opened) }
     {
         let key = Vec::from_slice(self.alloc, key)?;
@@ -190,7 +201,9 @@ impl<'t> Reader<'t> {
         requires room { self.opened < 2 ^ 63 }
         requires named { IsNamed self }
         requires fresh { is_declared name (reader_view self).peers ≡ false }
-        ensures state { MatchResult result (λ r. reader_view r ≡ declare (reader_view self.entry) line name) (λ kind. kind ≡ NoMemory) }
+        ensures state { MatchResult result
+            (λ r. reader_view r ≡ declare (reader_view self.entry) line name)
+            (λ kind. kind ≡ NoMemory) }
         ensures named { IfOk result (λ r. IsNamed r) }
     {
         let alloc = self.alloc;
@@ -236,8 +249,10 @@ impl<'t> Reader<'t> {
         key: Key,
         taken: Taken<'t>,
     ) -> Result<Self, ConfFaultKind>
-        ensures state { Steps (use_taken (reader_view self.entry) line name.now key (Ok (taken_view taken.entry))) result }
-        ensures kept { IfOk result (λ r. (r.names ≡ self.entry.names) × (r.peers ≡ self.entry.peers)) }
+        ensures state { Steps (use_taken (reader_view self.entry) line name.now key
+            (Ok (taken_view taken.entry))) result }
+        ensures kept { IfOk result
+            (λ r. (r.names ≡ self.entry.names) × (r.peers ≡ self.entry.peers)) }
         ensures opened { IfOk result (λ r. r.opened ≡ self.entry.opened) }
     {
         let block = self.number();
@@ -261,8 +276,10 @@ impl<'t> Reader<'t> {
         key: Key,
         value: Option<&'t [u8]>,
     ) -> Result<Self, ConfFaultKind>
-        ensures state { Steps (use_value (reader_view self.entry) line name.now key (option_map (λ v. v.now) value.entry)) result }
-        ensures kept { IfOk result (λ r. (r.names ≡ self.entry.names) × (r.peers ≡ self.entry.peers)) }
+        ensures state { Steps (use_value (reader_view self.entry) line name.now key
+            (option_map (λ v. v.now) value.entry)) result }
+        ensures kept { IfOk result
+            (λ r. (r.names ≡ self.entry.names) × (r.peers ≡ self.entry.peers)) }
         ensures opened { IfOk result (λ r. r.opened ≡ self.entry.opened) }
     {
         match value {
@@ -281,8 +298,10 @@ impl<'t> Reader<'t> {
         name: &'t [u8],
         value: Option<&'t [u8]>,
     ) -> Result<Self, ConfFaultKind>
-        ensures state { Steps (use_key (reader_view self.entry) line name.now (option_map (λ v. v.now) value.entry) (key_of name.now)) result }
-        ensures kept { IfOk result (λ r. (r.names ≡ self.entry.names) × (r.peers ≡ self.entry.peers)) }
+        ensures state { Steps (use_key (reader_view self.entry) line name.now
+            (option_map (λ v. v.now) value.entry) (key_of name.now)) result }
+        ensures kept { IfOk result
+            (λ r. (r.names ≡ self.entry.names) × (r.peers ≡ self.entry.peers)) }
         ensures opened { IfOk result (λ r. r.opened ≡ self.entry.opened) }
     {
         match find_key(name) {

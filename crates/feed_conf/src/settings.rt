@@ -50,10 +50,11 @@ fn make_conf(alloc: Global, reader: Reader<'_>) -> Result<Conf, ConfFault>
 /// Reads settings (innfeed.conf(5), this profile).
 ///
 /// # Errors
-/// The first fault in reading order; a peer whose shares are crossed is one only where the whole text has no other, at the line of
-/// its word, the first such peer. `NoMemory` where memory was refused.
+/// The first fault in reading order; a peer whose shares are crossed is one only where the whole text has no other, at
+/// the line of its word, the first such peer. `NoMemory` where memory was refused.
 pub fn read_conf(alloc: Global, text: &[u8]) -> Result<Conf, ConfFault>
-    ensures meaning { (lines : List (List Token)) → HaveTokens (lines_of text.now) lines → Makes (meaning lines) result }
+    ensures meaning { (lines : List (List Token)) → HaveTokens (lines_of text.now) lines
+        → Makes (meaning lines) result }
     ensures tokens { (lines : List (List Token)) × HaveTokens (lines_of text.now) lines }
 {
     match read_text(alloc, text) {

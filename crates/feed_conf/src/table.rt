@@ -4,7 +4,8 @@ ghost use Rattle.std.specs.Option.{option_map};
 ghost use Rattle.feed_conf.specs.Keys.{row_of};
 ghost use Rattle.feed_conf.specs.Reading.{Use as Noted};
 ghost use Rattle.feed_conf.specs.ReaderView.{declared_view};
-ghost use Rattle.feed_conf.specs.Settings.{block_around, last_value, number, path_of, switch, text, value_along, value_in_file, value_of};
+ghost use Rattle.feed_conf.specs.Settings.{block_around, last_value, number, path_of, switch, text, value_along};
+ghost use Rattle.feed_conf.specs.Settings.{value_in_file, value_of};
 ghost use Rattle.feed_conf.specs.TableView.{IsTableOf, uses_view};
 ghost use Rattle.feed_conf.specs.ValueView.{value_view};
 
@@ -49,7 +50,8 @@ fn block_around(outer: &[usize], block: usize) -> usize
 impl<'t> Table<'t> {
     // The value of a key's last use in a block.
     fn last_value(&self, block: usize, key: Key) -> Option<Value<'t>>
-        ensures { (uses : List Noted) → IsTableOf self.now uses → option_map value_view result ≡ last_value block (row_of key).place uses }
+        ensures { (uses : List Noted) → IsTableOf self.now uses
+            → option_map value_view result ≡ last_value block (row_of key).place uses }
     {
         self.values.get(&(block, key.place())).copied()
     }
@@ -57,7 +59,8 @@ impl<'t> Table<'t> {
     // The value of a key in a block, else in those that it stands in, from the inside out.
     fn value_along(&self, outer: &[usize], block: usize, key: Key) -> Option<Value<'t>>
         ensures { (uses : List Noted) → IsTableOf self.now uses
-            → option_map value_view result ≡ value_along (row_of key).place uses (path_of outer.now block) }
+            → option_map value_view result
+            ≡ value_along (row_of key).place uses (path_of outer.now block) }
     {
         let mut at = block;
         for step in 0..block {
@@ -74,7 +77,8 @@ impl<'t> Table<'t> {
 
     // The number that a key has at a peer.
     pub(crate) fn number(&self, outer: &[usize], peer: &Declared, key: Key) -> u64
-        ensures { (uses : List Noted) → IsTableOf self.now uses → result ≡ number (value_of uses outer.now (declared_view peer.now) key) }
+        ensures { (uses : List Noted) → IsTableOf self.now uses
+            → result ≡ number (value_of uses outer.now (declared_view peer.now) key) }
     {
         let value = self.value_along(outer, peer.block, key);
         match value.unwrap_or(key.default_value(peer.name.bytes())) {
@@ -86,7 +90,8 @@ impl<'t> Table<'t> {
 
     // The boolean that a key has at a peer.
     pub(crate) fn switch(&self, outer: &[usize], peer: &Declared, key: Key) -> bool
-        ensures { (uses : List Noted) → IsTableOf self.now uses → result ≡ switch (value_of uses outer.now (declared_view peer.now) key) }
+        ensures { (uses : List Noted) → IsTableOf self.now uses
+            → result ≡ switch (value_of uses outer.now (declared_view peer.now) key) }
     {
         let value = self.value_along(outer, peer.block, key);
         match value.unwrap_or(key.default_value(peer.name.bytes())) {
@@ -104,7 +109,9 @@ impl<'t> Table<'t> {
         peer: &Declared,
         key: Key,
     ) -> Result<Vec<u8>, AllocError>
-        ensures { (uses : List Noted) → IsTableOf self.now uses → IfOk result (λ v. v.items ≡ text (value_of uses outer.now (declared_view peer.now) key)) }
+        ensures { (uses : List Noted) → IsTableOf self.now uses
+            → IfOk result (λ v. v.items
+            ≡ text (value_of uses outer.now (declared_view peer.now) key)) }
     {
         let value = self.value_along(outer, peer.block, key);
         match value.unwrap_or(key.default_value(peer.name.bytes())) {
@@ -116,7 +123,8 @@ impl<'t> Table<'t> {
 
     // The text that a key has in the scope of the file.
     pub(crate) fn file_text(&self, alloc: Global, key: Key) -> Result<Vec<u8>, AllocError>
-        ensures { (uses : List Noted) → IsTableOf self.now uses → IfOk result (λ v. v.items ≡ text (value_in_file uses key)) }
+        ensures { (uses : List Noted) → IsTableOf self.now uses
+            → IfOk result (λ v. v.items ≡ text (value_in_file uses key)) }
     {
         let value = self.last_value(0, key);
         match value.unwrap_or(key.default_value(&[])) {

@@ -97,7 +97,8 @@ fn quoted(behind: &[u8]) -> (Token<'_>, &[u8])
 
 /// The first token of a line and what stands behind it, or `None` where blanks and a comment alone are left.
 pub(crate) fn next_token(line: &[u8]) -> Option<(Token<'_>, &[u8])>
-    ensures tokens { MatchOption result (tokens_of line.now ≡ []) (λ r. tokens_of line.now ≡ token_of r.0 ∷ tokens_of r.1.now) }
+    ensures tokens { MatchOption result (tokens_of line.now ≡ [])
+        (λ r. tokens_of line.now ≡ token_of r.0 ∷ tokens_of r.1.now) }
     ensures shorter { IfSome result (λ r. length r.1.now < length line.now) }
 {
     let line = skip_blanks(line);

@@ -1,8 +1,11 @@
 // The values of keys, as they are written.
-ghost use Rattle.std.specs.Prelude.{◌≡◌, ◌==◌, ◌<◌, ◌+◌, ◌*◌, ℕ, None, Some, true, MatchOption, MatchResult, Ok, Err, codes, length, position};
+ghost use Rattle.std.specs.Prelude.{◌≡◌, ◌==◌, ◌<◌, ◌+◌, ◌*◌, ℕ, None, Some, true, MatchOption, MatchResult, Ok, Err};
+ghost use Rattle.std.specs.Prelude.{codes, length, position};
 ghost use Rattle.std.specs.Option.{option_map};
 ghost use Rattle.std.specs.List.{list_all};
-ghost use Rattle.feed_conf.specs.Values.{NumberOf, bounded, capped, connections, decimal, fraction_of, hundredths, hundredths_of, is_digit, is_number, number_of, parts_at, spells, spells_false, spells_true, switch_of, taken_of, whole_of};
+ghost use Rattle.feed_conf.specs.Values.{NumberOf, bounded, capped, connections, decimal, fraction_of, hundredths};
+ghost use Rattle.feed_conf.specs.Values.{hundredths_of, is_digit, is_number, number_of, parts_at, spells, spells_false};
+ghost use Rattle.feed_conf.specs.Values.{spells_true, switch_of, taken_of, whole_of};
 ghost use Rattle.feed_conf.specs.ValueView.{taken_view, HasSmallBounds};
 
 use crate::fault::ConfFaultKind;
@@ -77,10 +80,12 @@ fn point(octets: &[u8]) -> Option<usize>
     octets.iter().position(|octet| *octet == b'.')
 }
 
-// The whole part of a fraction, or the greatest u64 where that is passed, and its decimals, where its point stands there.
+// The whole part of a fraction, or the greatest u64 where that is passed, and its decimals, where its point stands
+// there.
 fn fraction_at(octets: &[u8], point: usize) -> Option<(u64, &[u8])>
     requires { point < length octets.now }
-    ensures { MatchOption result (parts_at (Some point) octets.now ≡ None) (λ r. (w : ℕ) × (parts_at (Some point) octets.now ≡ Some (w, r.1.now)) × (r.0 ≡ capped w)) }
+    ensures { MatchOption result (parts_at (Some point) octets.now ≡ None)
+        (λ r. (w : ℕ) × (parts_at (Some point) octets.now ≡ Some (w, r.1.now)) × (r.0 ≡ capped w)) }
 {
     let whole = octets.split_at(point).0;
     let decimals = octets.split_at(point + 1).1;
@@ -94,7 +99,8 @@ fn fraction_at(octets: &[u8], point: usize) -> Option<(u64, &[u8])>
 
 // The whole part of a fraction, or the greatest u64 where that is passed, and its decimals.
 fn fraction(octets: &[u8]) -> Option<(u64, &[u8])>
-    ensures { MatchOption result (fraction_of octets.now ≡ None) (λ r. (w : ℕ) × (fraction_of octets.now ≡ Some (w, r.1.now)) × (r.0 ≡ capped w)) }
+    ensures { MatchOption result (fraction_of octets.now ≡ None)
+        (λ r. (w : ℕ) × (fraction_of octets.now ≡ Some (w, r.1.now)) × (r.0 ≡ capped w)) }
 {
     match point(octets) {
         None => match number(octets) {
@@ -186,7 +192,8 @@ fn limited<'t>(greatest: u64) -> Taken<'t>
 
 // A number in its bounds.
 fn bounded<'t>(least: u64, greatest: u64, number: Option<u64>) -> Result<Taken<'t>, ConfFaultKind>
-    ensures { MatchResult result (λ t. bounded least greatest number ≡ Ok (taken_view t)) (λ e. bounded least greatest number ≡ Err e) }
+    ensures { MatchResult result (λ t. bounded least greatest number ≡ Ok (taken_view t))
+        (λ e. bounded least greatest number ≡ Err e) }
 {
     match number {
         None => Err(ConfFaultKind::BadNumber),
@@ -207,7 +214,8 @@ fn bounded<'t>(least: u64, greatest: u64, number: Option<u64>) -> Result<Taken<'
 
 // A number of connections, where none stand for the most.
 fn connections<'t>(number: Option<u64>) -> Result<Taken<'t>, ConfFaultKind>
-    ensures { MatchResult result (λ t. connections number ≡ Ok (taken_view t)) (λ e. connections number ≡ Err e) }
+    ensures { MatchResult result (λ t. connections number ≡ Ok (taken_view t))
+        (λ e. connections number ≡ Err e) }
 {
     match number {
         None => Err(ConfFaultKind::BadNumber),
@@ -222,7 +230,8 @@ fn connections<'t>(number: Option<u64>) -> Result<Taken<'t>, ConfFaultKind>
 /// `BadNumber` and `BadBoolean` where it is not written as its kind is, `Range` where it is below the least value.
 pub(crate) fn take_value(kind: Kind, octets: &[u8]) -> Result<Taken<'_>, ConfFaultKind>
     requires { HasSmallBounds kind }
-    ensures { MatchResult result (λ t. taken_of kind octets.now ≡ Ok (taken_view t)) (λ e. taken_of kind octets.now ≡ Err e) }
+    ensures { MatchResult result (λ t. taken_of kind octets.now ≡ Ok (taken_view t))
+        (λ e. taken_of kind octets.now ≡ Err e) }
 {
     match kind {
         Kind::AnyText => Ok(Taken {

@@ -336,7 +336,8 @@ impl<D: Disk, N: Naming> Post<D, N> {
         requires part { taken.old.parts ≡ 1 }
         ensures marks { length marks.new.items ≡ length marks.old.items }
         ensures raised { OnOk result
-            (IsRaisedBy number line.now.peers.items self.now.names marks.old.items marks.new.items) }
+            (IsRaisedBy number line.now.peers.items self.now.names marks.old.items
+            marks.new.items) }
         ensures counted { taken.new.amount ≡ taken.old.amount
             + rises marks.old.items marks.new.items }
         ensures part { taken.new.parts ≡ 1 }

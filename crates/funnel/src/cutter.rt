@@ -1,5 +1,6 @@
 // Lines from pieces of any size.
-ghost use Rattle.std.specs.Prelude.{◌≡◌, ◌<◌, ℕ, List, [], ◌∷◌, ◌++◌, length, IfOk, IfSome, IfNone, MatchOption, OnOk, OnErr};
+ghost use Rattle.std.specs.Prelude.{◌≡◌, ◌<◌, ℕ, List, [], ◌∷◌, ◌++◌, length, IfOk, IfSome, IfNone, MatchOption, OnOk};
+ghost use Rattle.std.specs.Prelude.{OnErr};
 ghost use Rattle.funnel.specs.Stream.{BeginsWithLine, IsUnended, Splits, StandsFor, clipped};
 
 use crate::NoMemory;
@@ -15,8 +16,8 @@ const MOST_KEPT: usize = 8193;
 /// A cutter of a stream of octets into lines, fed in pieces of any size.
 ///
 /// Of a line of over 8,192 octets before its LF, a CR among them, it keeps the first 8,193 octets, so that
-/// [`crate::read_line`] still tells [`crate::LineFault::TooLong`]; of the octets behind the last LF it keeps no more either.
-/// Each octet is searched once for an LF and copied once.
+/// [`crate::read_line`] still tells [`crate::LineFault::TooLong`]; of the octets behind the last LF it keeps no more
+/// either. Each octet is searched once for an LF and copied once.
 #[derive(Debug, Drop)]
 pub struct LineCutter {
     /// The whole lines, the oldest first.
@@ -51,7 +52,9 @@ impl LineCutter {
     /// # Errors
     /// `NoMemory` where memory was refused: the cutter is unchanged, and none of the octets is taken in.
     pub fn feed(&mut self, piece: &[u8]) -> Result<(), NoMemory>
-        ensures fed { OnOk result ((fed : List ℕ) (given : List (List ℕ)) → StandsFor self.old fed given → StandsFor self.new (fed ++ piece.now) given) }
+        ensures fed { OnOk result
+            ((fed : List ℕ) (given : List (List ℕ)) → StandsFor self.old fed given
+            → StandsFor self.new (fed ++ piece.now) given) }
         ensures refused { OnErr result (self.new ≡ self.old) }
     {
         match first_line(piece) {
@@ -63,8 +66,13 @@ impl LineCutter {
     /// Gives the next whole line without its LF, or of a longer line its first 8,193 octets; `None` where no whole line
     /// is left. Takes no memory.
     pub fn next(&mut self) -> Option<Vec<u8>>
-        ensures line { IfSome result (λ octets. (fed : List ℕ) (given : List (List ℕ)) → StandsFor self.old fed given → (line : List ℕ) × (octets.items ≡ clipped line) × StandsFor self.new fed (given ++ line ∷ [])) }
-        ensures none { IfNone result ((fed : List ℕ) (given : List (List ℕ)) → StandsFor self.old fed given → (rest : List ℕ) × Splits fed given rest) }
+        ensures line { IfSome result
+            (λ octets. (fed : List ℕ) (given : List (List ℕ)) → StandsFor self.old fed given
+            → (line : List ℕ) × (octets.items ≡ clipped line)
+            × StandsFor self.new fed (given ++ line ∷ [])) }
+        ensures none { IfNone result
+            ((fed : List ℕ) (given : List (List ℕ)) → StandsFor self.old fed given
+            → (rest : List ℕ) × Splits fed given rest) }
         ensures same { IfNone result (self.new ≡ self.old) }
     {
         self.lines.pop_front()
@@ -73,7 +81,9 @@ impl LineCutter {
     // Takes in the end of the line that is held, its LF, and the octets behind it. All that may be refused comes first.
     fn feed_lines(&mut self, end: &[u8], behind: &[u8]) -> Result<(), NoMemory>
         requires { IsUnended end.now }
-        ensures fed { OnOk result ((fed : List ℕ) (given : List (List ℕ)) → StandsFor self.old fed given → StandsFor self.new (fed ++ (end.now ++ 10 ∷ behind.now)) given) }
+        ensures fed { OnOk result
+            ((fed : List ℕ) (given : List (List ℕ)) → StandsFor self.old fed given
+            → StandsFor self.new (fed ++ (end.now ++ 10 ∷ behind.now)) given) }
         ensures refused { OnErr result (self.new ≡ self.old) }
     {
         let alloc = *self.rest.allocator();
@@ -101,12 +111,14 @@ impl LineCutter {
 
 /// Octets have one list of lines and one rest. So the same octets give the same lines, in whatever pieces they are fed.
 pub fn splits_once()
-    ensures { (fed : List ℕ) (a b : List (List ℕ)) (r s : List ℕ) → Splits fed a r → Splits fed b s → (a ≡ b) × (r ≡ s) }
+    ensures { (fed : List ℕ) (a b : List (List ℕ)) (r s : List ℕ) → Splits fed a r → Splits fed b s
+        → (a ≡ b) × (r ≡ s) }
 {}
 
 // The first line without its LF, and what stands behind that; `None` where there is no LF.
 fn first_line(octets: &[u8]) -> Option<(&[u8], &[u8])>
-    ensures line { MatchOption result (IsUnended octets.now) (λ p. BeginsWithLine octets.now p.0.now p.1.now) }
+    ensures line { MatchOption result (IsUnended octets.now)
+        (λ p. BeginsWithLine octets.now p.0.now p.1.now) }
     ensures shorter { IfSome result (λ p. length p.1.now < length octets.now) }
 {
     match memchr(b'\n', octets) {
@@ -124,7 +136,9 @@ fn clip(alloc: Global, line: &[u8]) -> Result<Vec<u8>, NoMemory>
 
 // Puts more octets behind the first ones of a line, of which it holds what is kept.
 fn extend_clipped(kept: &mut Vec<u8>, octets: &[u8]) -> Result<(), NoMemory>
-    ensures fed { OnOk result ((line : List ℕ) → kept.old.items ≡ clipped line → kept.new.items ≡ clipped (line ++ octets.now)) }
+    ensures fed { OnOk result
+        ((line : List ℕ) → kept.old.items ≡ clipped line
+        → kept.new.items ≡ clipped (line ++ octets.now)) }
     ensures refused { OnErr result (kept.new.items ≡ kept.old.items) }
 {
     let room = MOST_KEPT.saturating_sub(kept.len());

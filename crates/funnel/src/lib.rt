@@ -1,10 +1,10 @@
 //! The names and the lines of a news server's outgoing feed: message-ids, tokens, names of peers, funnel lines.
 //!
-//! May touch nothing but memory; it stands on `memchr` for the search for line ends.
-//! The crates above use the three names as lists of octets that keep their form (`specs/Names.antt`), `read_line`, which
-//! reads a line exactly where `specs/Line.antt` has it and else names the first fault, `LineCutter`, which gives the
-//! lines of what it was fed however that was cut (`specs/Stream.antt`), and `next_word`, which takes the words of any text
-//! one by one (`specs/Words.antt`).
+//! May touch nothing but memory; it stands on `memchr` for the search for line ends. The crates above use the three
+//! names as lists of octets that keep their form (`specs/Names.antt`), `read_line`, which reads a line exactly where
+//! `specs/Line.antt` has it and else names the first fault, `LineCutter`, which gives the lines of what it was fed
+//! however that was cut (`specs/Stream.antt`), and `next_word`, which takes the words of any text one by one
+//! (`specs/Words.antt`).
 #![tactic(auto)]
 
 mod cutter;

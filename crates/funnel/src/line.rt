@@ -70,7 +70,8 @@ pub fn read_line(alloc: Global, line: &[u8]) -> Result<FunnelLine, LineFault>
     ensures no_token { IsErrOf result LineFault.NoToken ↔ HasFault line.now LineFault.NoToken }
     ensures bad_token { IsErrOf result LineFault.BadToken ↔ HasFault line.now LineFault.BadToken }
     ensures bad_id { IsErrOf result LineFault.BadId ↔ HasFault line.now LineFault.BadId }
-    ensures no_memory { IsErrOf result LineFault.NoMemory → (token id : List ℕ) × (peers : List (List ℕ)) × IsFunnelLine line.now token id peers }
+    ensures no_memory { IsErrOf result LineFault.NoMemory
+        → (token id : List ℕ) × (peers : List (List ℕ)) × IsFunnelLine line.now token id peers }
 {
     let parts = Parts::cut(line)?;
     let line = parts.keep(alloc)?;
@@ -79,7 +80,8 @@ pub fn read_line(alloc: Global, line: &[u8]) -> Result<FunnelLine, LineFault>
 
 /// A line has one reading: one token, one message-id, one list of peers.
 pub fn reads_once()
-    ensures { (line token id token' id' : List ℕ) (peers peers' : List (List ℕ)) → IsFunnelLine line token id peers → IsFunnelLine line token' id' peers'
+    ensures { (line token id token' id' : List ℕ) (peers peers' : List (List ℕ))
+        → IsFunnelLine line token id peers → IsFunnelLine line token' id' peers'
         → (token ≡ token') × (id ≡ id') × (peers ≡ peers') }
 {}
 
@@ -97,7 +99,8 @@ struct Parts<'a> {
 impl<'a> Parts<'a> {
     // Cuts a line, or tells its first fault. Allocates nothing.
     fn cut(line: &'a [u8]) -> Result<Self, LineFault>
-        ensures { MatchResult result (λ p. HasParts line.now p.token.now p.id.now p.others.now) (λ fault. IsFaultOf line.now fault) }
+        ensures { MatchResult result (λ p. HasParts line.now p.token.now p.id.now p.others.now)
+            (λ fault. IsFaultOf line.now fault) }
     {
         if line.len() > LONGEST_LINE {
             return Err(LineFault::TooLong);

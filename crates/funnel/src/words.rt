@@ -6,8 +6,8 @@ ghost use Rattle.funnel.specs.WordLaws.{is_solid};
 
 /// The first word of a text, and all that stands behind it; `None` where the text has no word.
 ///
-/// A word is a longest run of octets other than space (32) and tab (9). What stands behind the word begins with a blank or
-/// is empty, so asking again of it gives the next word. Nothing is copied, and no memory is taken.
+/// A word is a longest run of octets other than space (32) and tab (9). What stands behind the word begins with a blank
+/// or is empty, so asking again of it gives the next word. Nothing is copied, and no memory is taken.
 pub fn next_word(text: &[u8]) -> Option<(&[u8], &[u8])>
     ensures word { MatchOption result (IsGap text.now) (λ p. IsFirstWord text.now p.0.now p.1.now) }
     ensures shorter { IfSome result (λ p. length p.1.now < length text.now) }

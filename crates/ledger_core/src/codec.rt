@@ -28,7 +28,8 @@ pub fn encode(alloc: Global, note: &Note) -> Result<Vec<u8>, AllocError>
 /// # Errors
 /// `NoMemory` where the octets spell an Owe and memory was refused.
 pub fn decode(alloc: Global, octets: &[u8]) -> Result<Option<Note>, AllocError>
-    ensures some { IfOk result (λ o. IfSome o (λ note. IsNote note × (octets.now ≡ spelling note))) }
+    ensures some { IfOk result
+        (λ o. IfSome o (λ note. IsNote note × (octets.now ≡ spelling note))) }
     ensures none { IfOk result (λ o. IfNone o (SpellsNothing octets.now)) }
 {
     let Some((tag, number, rest)) = head_at(octets) else {
@@ -45,7 +46,8 @@ pub fn decode(alloc: Global, octets: &[u8]) -> Result<Option<Note>, AllocError>
 
 /// A note has one spelling, and no other note has it.
 pub fn one_spelling()
-    ensures { (one other : Note) → IsNote one → IsNote other → spelling one ≡ spelling other → one ≡ other }
+    ensures { (one other : Note) → IsNote one → IsNote other → spelling one ≡ spelling other
+        → one ≡ other }
 {}
 
 /// The spelling of the note that owes a debt, in one allocation of its size.

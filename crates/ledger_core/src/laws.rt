@@ -11,20 +11,26 @@ ghost use Rattle.ledger_core.specs.Written.{IsWhole, written};
 
 /// A list of notes leaves what its second part leaves behind its first, and is legal where both parts are.
 pub fn after_in_parts()
-    ensures state { (state : State) (one other : List Note) → after state (one ++ other) ≡ after (after state one) other }
-    ensures legal { (state : State) (one other : List Note) → AllLegal state (one ++ other) ↔ (AllLegal state one × AllLegal (after state one) other) }
+    ensures state { (state : State) (one other : List Note)
+        → after state (one ++ other) ≡ after (after state one) other }
+    ensures legal { (state : State) (one other : List Note) → AllLegal state (one ++ other)
+        ↔ (AllLegal state one × AllLegal (after state one) other) }
 {}
 
 /// Each debt that was taken is answered, dropped or owed, and no two of these.
 pub fn counts_add_up()
     ensures { (notes : List Note) → AllLegal start notes
-        → (after start notes).taken ≡ (after start notes).answered + (after start notes).dropped + length (after start notes).debts }
+        → (after start notes).taken
+        ≡ (after start notes).answered + (after start notes).dropped
+        + length (after start notes).debts }
 {}
 
 /// The numbers that are owed rise, and none is above the mark.
 pub fn numbers_rise()
-    ensures rising { (notes : List Note) → AllLegal start notes → IsStrictlyIncreasing (numbers (after start notes)) }
-    ensures marked { (notes : List Note) → AllLegal start notes → All (λ number. number ≤ (after start notes).mark) (numbers (after start notes)) }
+    ensures rising { (notes : List Note) → AllLegal start notes
+        → IsStrictlyIncreasing (numbers (after start notes)) }
+    ensures marked { (notes : List Note) → AllLegal start notes
+        → All (λ number. number ≤ (after start notes).mark) (numbers (after start notes)) }
 {}
 
 /// What a ledger writes of itself, a Base and its debts, restores it. Each ledger that was restored

@@ -112,7 +112,8 @@ impl Ledger {
     ghost use Rattle.ledger_core.specs.Replay.{Leaves, LeavesFrom, SpellsNoLegal, StopsAt};
     ghost use Rattle.ledger_core.specs.Replay.{StopsFrom};
     ghost use Rattle.ledger_core.specs.Spelling.{spelling};
-    ghost use Rattle.ledger_core.specs.State.{State, IsLegal, IsOld, IsOwed, LacksDebt, Overflows, Owing, numbers, start, step};
+    ghost use Rattle.ledger_core.specs.State.{State, IsLegal, IsOld, IsOwed, LacksDebt, Overflows, Owing, numbers};
+    ghost use Rattle.ledger_core.specs.State.{start, step};
     ghost use Rattle.ledger_core.specs.Words.{octets_of};
     ghost use Rattle.ledger_core.specs.Ledger.{IsApplied, IsJudged, state_of, totals_of};
 
@@ -160,7 +161,8 @@ impl Ledger {
 
     /// The token and the message-id of the debt of this number, where it is owed.
     pub fn debt(&self, number: u64) -> Option<(&Token, &MsgId)>
-        ensures debt { option_map (λ texts. (number, (texts.0.now, texts.1.now))) result ≡ find (λ (owing : Owing). owing.0 == number) (state_of self.now).debts }
+        ensures debt { option_map (λ texts. (number, (texts.0.now, texts.1.now))) result
+            ≡ find (λ (owing : Owing). owing.0 == number) (state_of self.now).debts }
         ensures owed { IsSome result ↔ IsOwed (state_of self.now) number }
     {
         let (token, id) = self.debts.get(&number)?;
@@ -174,7 +176,8 @@ impl Ledger {
     pub fn numbers(&self, alloc: Global) -> Result<Vec<u64>, AllocError>
         ensures items { IfOk result (λ v. v.items ≡ numbers (state_of self.now)) }
         ensures rising { IfOk result (λ v. IsStrictlyIncreasing v.items) }
-        ensures marked { IfOk result (λ v. All (λ number. number ≤ (state_of self.now).mark) v.items) }
+        ensures marked { IfOk result
+            (λ v. All (λ number. number ≤ (state_of self.now).mark) v.items) }
     {
         self.debts.keys().copied().collect(alloc)
     }
@@ -188,11 +191,17 @@ impl Ledger {
     /// - `CountFull` where a count, or the octets that are owed, would pass the greatest u64.
     /// - `NoMemory` for an Owe where memory was refused. Final, Drop and Seen take none.
     pub fn apply(&mut self, note: &Note) -> Result<(), LedgerFault>
-        ensures ok { OnOk result (IsLegal (state_of self.old) note.now × (state_of self.new ≡ step (state_of self.old) note.now)) }
-        ensures old_number { IsErrOf result LedgerFault.OldNumber ↔ IsOld (state_of self.old) note.now }
-        ensures not_owed { IsErrOf result LedgerFault.NotOwed ↔ LacksDebt (state_of self.old) note.now }
-        ensures count_full { IsErrOf result LedgerFault.CountFull ↔ Overflows (state_of self.old) note.now }
-        ensures no_memory { IsErrOf result LedgerFault.NoMemory → IsOwe note.now × IsLegal (state_of self.old) note.now }
+        ensures ok { OnOk result
+            (IsLegal (state_of self.old) note.now
+            × (state_of self.new ≡ step (state_of self.old) note.now)) }
+        ensures old_number { IsErrOf result LedgerFault.OldNumber
+            ↔ IsOld (state_of self.old) note.now }
+        ensures not_owed { IsErrOf result LedgerFault.NotOwed
+            ↔ LacksDebt (state_of self.old) note.now }
+        ensures count_full { IsErrOf result LedgerFault.CountFull
+            ↔ Overflows (state_of self.old) note.now }
+        ensures no_memory { IsErrOf result LedgerFault.NoMemory
+            → IsOwe note.now × IsLegal (state_of self.old) note.now }
         ensures unchanged { OnErr result (state_of self.new ≡ state_of self.old) }
     {
         match note {
@@ -209,9 +218,12 @@ impl Ledger {
     /// As `apply` would refuse it: `OldNumber`, `NotOwed` or `CountFull`, never `NoMemory`.
     pub fn check(&self, note: &Note) -> Result<(), LedgerFault>
         ensures ok { IsOk result ↔ IsLegal (state_of self.now) note.now }
-        ensures old_number { IsErrOf result LedgerFault.OldNumber ↔ IsOld (state_of self.now) note.now }
-        ensures not_owed { IsErrOf result LedgerFault.NotOwed ↔ LacksDebt (state_of self.now) note.now }
-        ensures count_full { IsErrOf result LedgerFault.CountFull ↔ Overflows (state_of self.now) note.now }
+        ensures old_number { IsErrOf result LedgerFault.OldNumber
+            ↔ IsOld (state_of self.now) note.now }
+        ensures not_owed { IsErrOf result LedgerFault.NotOwed
+            ↔ LacksDebt (state_of self.now) note.now }
+        ensures count_full { IsErrOf result LedgerFault.CountFull
+            ↔ Overflows (state_of self.now) note.now }
         ensures memory { IsErrOf result LedgerFault.NoMemory → ⊥ }
     {
         match note {
@@ -225,16 +237,19 @@ impl Ledger {
     /// The ledger that these payloads leave, each the spelling of a note that is legal in its turn.
     ///
     /// # Errors
-    /// - `Refused` with the index of the first payload that is no note, or whose note is not legal behind those before it.
+    /// - `Refused` with the index of the first payload that is no note, or whose note is not legal behind those before
+    ///   it.
     /// - `NoMemory` where memory was refused.
     pub fn replay(alloc: Global, payloads: &[Vec<u8>]) -> Result<Ledger, ReplayFault>
         // What is read is a list of legal notes, and the ledger is its fold.
         ensures fold { IfOk result (λ ledger. Leaves (octets_of payloads.now) (state_of ledger)) }
         // Each list of legal notes is read, unless memory is refused.
         ensures all { (state : State) → Leaves (octets_of payloads.now) state
-            → MatchResult result (λ ledger. state_of ledger ≡ state) (λ fault. fault ≡ ReplayFault.NoMemory) }
+            → MatchResult result (λ ledger. state_of ledger ≡ state)
+            (λ fault. fault ≡ ReplayFault.NoMemory) }
         // The first payload that is no legal note.
-        ensures refused { (index : ℕ) → IsErrOf result (ReplayFault.Refused index) → StopsAt (octets_of payloads.now) index }
+        ensures refused { (index : ℕ) → IsErrOf result (ReplayFault.Refused index)
+            → StopsAt (octets_of payloads.now) index }
     {
         let mut ledger = Ledger::new(alloc);
         ledger.apply_payloads(alloc, 0, payloads)?;
@@ -252,7 +267,8 @@ impl Ledger {
         ensures fold { OnOk result
             (LeavesFrom (state_of self.old) (octets_of payloads.now) (state_of self.new)) }
         ensures all { (state : State)
-            → LeavesFrom (state_of self.old) (octets_of payloads.now) state → MatchResult result (λ _. state_of self.new ≡ state)
+            → LeavesFrom (state_of self.old) (octets_of payloads.now) state
+            → MatchResult result (λ _. state_of self.new ≡ state)
             (λ fault. fault ≡ ReplayFault.NoMemory) }
         ensures refused { (place : ℕ) → IsErrOf result (ReplayFault.Refused place)
             → (index : ℕ) × (place ≡ first + index)
@@ -271,8 +287,12 @@ impl Ledger {
         index: usize,
         payload: &[u8],
     ) -> Result<(), ReplayFault>
-        ensures ok { OnOk result ((note : Note) × IsNote note × (payload.now ≡ spelling note) × IsLegal (state_of self.old) note × (state_of self.new ≡ step (state_of self.old) note)) }
-        ensures refused { (place : ℕ) → IsErrOf result (ReplayFault.Refused place) → (place ≡ index) × SpellsNoLegal (state_of self.old) payload.now }
+        ensures ok { OnOk result
+            ((note : Note) × IsNote note × (payload.now ≡ spelling note)
+            × IsLegal (state_of self.old) note
+            × (state_of self.new ≡ step (state_of self.old) note)) }
+        ensures refused { (place : ℕ) → IsErrOf result (ReplayFault.Refused place)
+            → (place ≡ index) × SpellsNoLegal (state_of self.old) payload.now }
     {
         let Some(note) = decode(alloc, payload)? else {
             return Err(ReplayFault::Refused { index });
@@ -309,10 +329,13 @@ impl Ledger {
         }
     }
 
-    // A debt that is owed was taken, and the count of those fits. So does the count of those that have ended, with this one.
+    // A debt that is owed was taken, and the count of those fits. So does the count of those that have ended, with this
+    // one.
     fn check_owed(&self, number: u64) -> Result<(), LedgerFault>
-        ensures answered { (code : FinalCode) → IsJudged result (state_of self.now) (Note.Final number code) }
-        ensures dropped { (cause : Cause) → IsJudged result (state_of self.now) (Note.Drop number cause) }
+        ensures answered { (code : FinalCode)
+            → IsJudged result (state_of self.now) (Note.Final number code) }
+        ensures dropped { (cause : Cause)
+            → IsJudged result (state_of self.now) (Note.Drop number cause) }
     {
         let _taken = self.taken;
         if self.owes(number) {
@@ -332,7 +355,8 @@ impl Ledger {
     }
 
     fn owe(&mut self, number: u64, token: &Token, id: &MsgId) -> Result<(), LedgerFault>
-        ensures { IsApplied result (state_of self.old) (state_of self.new) (Note.Owe number token.now id.now) }
+        ensures { IsApplied result (state_of self.old) (state_of self.new)
+            (Note.Owe number token.now id.now) }
     {
         if number <= self.mark {
             return Err(LedgerFault::OldNumber);
@@ -352,7 +376,8 @@ impl Ledger {
     }
 
     fn answer(&mut self, number: u64) -> Result<(), LedgerFault>
-        ensures { (code : FinalCode) → IsApplied result (state_of self.old) (state_of self.new) (Note.Final number code) }
+        ensures { (code : FinalCode)
+            → IsApplied result (state_of self.old) (state_of self.new) (Note.Final number code) }
     {
         let Some(octets) = remove_debt(&mut self.debts, number) else {
             return Err(LedgerFault::NotOwed);
@@ -363,7 +388,8 @@ impl Ledger {
     }
 
     fn discard(&mut self, number: u64) -> Result<(), LedgerFault>
-        ensures { (cause : Cause) → IsApplied result (state_of self.old) (state_of self.new) (Note.Drop number cause) }
+        ensures { (cause : Cause)
+            → IsApplied result (state_of self.old) (state_of self.new) (Note.Drop number cause) }
     {
         let Some(octets) = remove_debt(&mut self.debts, number) else {
             return Err(LedgerFault::NotOwed);
@@ -393,11 +419,15 @@ fn line_octets(token: &Token, id: &MsgId) -> u64
 
 // Takes out the debt of this number, and gives its octets.
 fn remove_debt(debts: &mut BTreeMap<u64, (Token, MsgId)>, number: u64) -> Option<u64>
-    ensures none { IfNone result ((Contains (numbers_of debts.old.entries) number → ⊥) × (debts.new.entries ≡ debts.old.entries)) }
+    ensures none { IfNone result
+        ((Contains (numbers_of debts.old.entries) number → ⊥)
+        × (debts.new.entries ≡ debts.old.entries)) }
     ensures owed { IfSome result (λ octets. Contains (numbers_of debts.old.entries) number) }
     ensures left { IfSome result (λ octets. debts.new.entries ≡ without number debts.old.entries) }
-    ensures octets { IfSome result (λ octets. octets_of_debts debts.new.entries + octets ≡ octets_of_debts debts.old.entries) }
-    ensures count { IfSome result (λ octets. length debts.new.entries + 1 ≡ length debts.old.entries) }
+    ensures octets { IfSome result
+        (λ octets. octets_of_debts debts.new.entries + octets ≡ octets_of_debts debts.old.entries) }
+    ensures count { IfSome result
+        (λ octets. length debts.new.entries + 1 ≡ length debts.old.entries) }
 {
     let (token, id) = debts.remove(&number)?;
     Some(line_octets(&token, &id))

@@ -1,9 +1,9 @@
 //! Debts, the notes that change them, how a note is spelled on a tape, and the ledger that notes leave.
 //!
-//! May touch nothing but memory; it stands on `funnel`.
-//! The crates above use `Ledger` as the fold of its notes (`specs/State.antt`: `step`, `after`, `IsLegal`), and `encode`
-//! and `decode`, which give each note one spelling (`specs/Spelling.antt`).
-//! A `Base` stands first on a tape in place of notes, and `Ledger::restore` reads both (`specs/Base.antt`).
+//! May touch nothing but memory; it stands on `funnel`. The crates above use `Ledger` as the fold of its notes
+//! (`specs/State.antt`: `step`, `after`, `IsLegal`), and `encode` and `decode`, which give each note one spelling
+//! (`specs/Spelling.antt`). A `Base` stands first on a tape in place of notes, and `Ledger::restore` reads both
+//! (`specs/Base.antt`).
 #![tactic(auto)]
 
 mod base;

@@ -43,7 +43,8 @@ pub fn reopened<D: Disk>(
     ensures survives { (h : History) → StandsFor station h → IfErr result (λ e. D.honest e.0.0
         × D.honest e.0.1 × EachTape (Survives h) (D.log e.0.0, D.log e.0.1)) }
     ensures undamaged { (h : History) → StandsFor station h
-        → IfErr result (λ e. (segment at : ℕ) → e.1 ≢ StationFault.Tape (TapeFault.Damaged segment at)) }
+        → IfErr result (λ e. (segment at : ℕ)
+        → e.1 ≢ StationFault.Tape (TapeFault.Damaged segment at)) }
     ensures cause { (h : History) → StandsFor station h → IfErr result (λ e.
         e.1 ≡ StationFault.Tape TapeFault.Disk
         → OneHasRisen (told_of station) (D.told e.0.0, D.told e.0.1)) }

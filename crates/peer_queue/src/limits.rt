@@ -1,7 +1,7 @@
 // The limits of a peer's backlog.
 
-/// The limits of a peer's backlog (innfeed.conf(5): backlog-limit, backlog-limit-highwater, drop-deferred). Octets count as in
-/// [`ledger_core::Totals::owed_bytes`].
+/// The limits of a peer's backlog (innfeed.conf(5): backlog-limit, backlog-limit-highwater, drop-deferred). Octets
+/// count as in [`ledger_core::Totals::owed_bytes`].
 #[derive(Clone, Copy, Debug, PartialEq, Eq)]
 pub struct Limits {
     /// The octets that may stay owed once the backlog has been shed; 0: there is no limit.

@@ -1,8 +1,11 @@
 // Where each debt is.
-ghost use Rattle.std.specs.Prelude.{◌≡◌, ◌↔◌, ◌++◌, [], ◌∷◌, ℕ, IfNone, IfOk, IfSome, IsTrue, OnErr, OnOk, ◌<◌, ◌^◌, nat_le, find, length};
+ghost use Rattle.std.specs.Prelude.{◌≡◌, ◌↔◌, ◌++◌, [], ◌∷◌, ℕ, IfNone, IfOk, IfSome, IsTrue, OnErr, OnOk, ◌<◌, ◌^◌};
+ghost use Rattle.std.specs.Prelude.{nat_le, find, length};
 ghost use Rattle.std.specs.List.{All};
 ghost use Rattle.std.specs.List.Sorted.{IsStrictlyIncreasing};
-ghost use Rattle.peer_queue.specs.Place.{AreBelow, AreRising, AreUnheld, Held, IsHeldBy, IsLater, IsUnheld, Ready, all_gone, all_ready, gone, held_count, least_candidate, moved, released, unheld};
+ghost use Rattle.peer_queue.specs.Place.{AreBelow, AreRising, AreUnheld, Held, IsHeldBy, IsLater, IsUnheld, Ready};
+ghost use Rattle.peer_queue.specs.Place.{all_gone, all_ready, gone, held_count, least_candidate, moved, released};
+ghost use Rattle.peer_queue.specs.Place.{unheld};
 ghost use Rattle.peer_queue.specs.Index.{place_until};
 
 use deferral::{Later, after_put, after_remove, after_set};
@@ -151,7 +154,8 @@ impl PlaceIndex {
         }
     }
 
-    /// Makes all that this connection holds ready, and counts it. Takes no memory. Logarithmic for each number that it holds.
+    /// Makes all that this connection holds ready, and counts it. Takes no memory. Logarithmic for each number that it
+    /// holds.
     pub fn release(&mut self, connection: u64) -> u64
         requires { length self.old < 2 ^ 64 }
         ensures count { result ≡ held_count connection self.old }

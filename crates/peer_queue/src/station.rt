@@ -20,7 +20,8 @@ use std::alloc::{AllocError, Global};
 
 /// All that one peer is owed.
 ///
-/// Each call is logarithmic in what is owed; `release` and `shed` also in what they move, `flush` linear in what pends, `open` and
+/// Each call is logarithmic in what is owed; `release` and `shed` also in what they move, `flush` linear in what pends,
+/// `open` and
 /// `list` linear.
 #[derive(Drop)]
 pub struct Station<D: Disk> {
@@ -34,7 +35,9 @@ pub struct Station<D: Disk> {
 }
 
 impl<D: Disk> Station<D> {
-    ghost use Rattle.std.specs.Prelude.{◌⊎◌, ◌↔◌, ◌==◌, ◌++◌, [], ◌∷◌, true, false, min, nat_lt, find, MatchResult, IfErr, IfNone, IfSome, OnErr, IsErr, IsErrOf, IsOk, IsSome, IsTrue, Ok, None, Some};
+    ghost use Rattle.std.specs.Prelude.{◌⊎◌, ◌↔◌, ◌==◌, ◌++◌, [], ◌∷◌, true, false, min, nat_lt, find, MatchResult};
+    ghost use Rattle.std.specs.Prelude.{IfErr, IfNone, IfSome, OnErr, IsErr, IsErrOf, IsOk, IsSome, IsTrue, Ok, None};
+    ghost use Rattle.std.specs.Prelude.{Some};
     ghost use Rattle.std.specs.List.{Contains};
     ghost use Rattle.ledger_core.specs.Ledger.{totals_of};
     ghost use Rattle.ledger_core.specs.declared.ledger.LedgerFault.{LedgerFault};
@@ -44,21 +47,27 @@ impl<D: Disk> Station<D> {
     ghost use Rattle.recovery.specs.Notes.{History, flushed, most_pending, noted_all};
     ghost use Rattle.recovery.specs.Tape.{IsRefusedTape, Recovers, contents_of};
     ghost use Rattle.recovery.specs.Words.{IsDue, IsFull, IsOpenFault, OneHasRisen, refused_log, RotatesTooLong};
-    ghost use Rattle.peer_queue.specs.Place.{AreRising, Held, IsHeldBy, IsLater, Later, Ready, all_gone, deferred_until, gone, held_count, least_candidate, moved, released, unheld};
+    ghost use Rattle.peer_queue.specs.Place.{AreRising, Held, IsHeldBy, IsLater, Later, Ready, all_gone};
+    ghost use Rattle.peer_queue.specs.Place.{deferred_until, gone, held_count, least_candidate, moved, released};
+    ghost use Rattle.peer_queue.specs.Place.{unheld};
     ghost use Rattle.peer_queue.specs.Index.{place_until};
     ghost use Rattle.peer_queue.specs.Shed.{IsShedSet, dropped};
     ghost use Rattle.peer_queue.specs.Settled.{Finishes, IsEnded, Settles, number_in, settled_by};
     ghost use Rattle.peer_queue.specs.Station.{IsShed};
     ghost use Rattle.peer_queue.specs.Faults.{IsClaimFault, IsEndFault, IsFlushFault, IsOweFault, IsRotateFault};
-    ghost use Rattle.peer_queue.specs.Words.{IsBroken, IsEnd, IsOpened, IsOweOf, IsSame, IsSameTape, MeetsFull, Notes, Refuses, StandsFor, Tells, code_of, deferred_number, disks_of, generation_of, told_of, AreHonest, Continues, ledger_of, limits_of, log_of, number_of, pending_of, places_of};
+    ghost use Rattle.peer_queue.specs.Words.{IsBroken, IsEnd, IsOpened, IsOweOf, IsSame, IsSameTape, MeetsFull, Notes};
+    ghost use Rattle.peer_queue.specs.Words.{Refuses, StandsFor, Tells, code_of, deferred_number, disks_of};
+    ghost use Rattle.peer_queue.specs.Words.{generation_of, told_of, AreHonest, Continues, ledger_of, limits_of};
+    ghost use Rattle.peer_queue.specs.Words.{log_of, number_of, pending_of, places_of};
 
     /// Opens the station of two disks, empty ones among them: all that its tape owes is ready.
     ///
     /// # Errors
-    /// The tape's: `Damaged`, `Disk`, `NoMemory`; then `NoMemory` of the station. The disks are handed back: as they were
-    /// where they are `Damaged`, and with the tape's end repaired where the station was refused memory.
+    /// The tape's: `Damaged`, `Disk`, `NoMemory`; then `NoMemory` of the station. The disks are handed back: as they
+    /// were where they are `Damaged`, and with the tape's end repaired where the station was refused memory.
     pub fn open(alloc: Global, a: D, b: D, limits: Limits) -> Result<Station<D>, RefusedTape<D>>
-        // Whatever a stop left of a history is opened to the ledger after a front of it that holds every acknowledged note.
+        // Whatever a stop left of a history is opened to the ledger after a front of it that holds every acknowledged
+        // note.
         ensures recovers { (h : History) → D.honest a → D.honest b
             → EachTape (Survives h) (D.log a, D.log b)
             → IfOk result (λ station. Recovers h (D.log a, D.log b) station.tape) }
@@ -84,8 +93,11 @@ impl<D: Disk> Station<D> {
         ensures cause { D.honest a → D.honest b → IfErr result (λ e. e.fault ≡ TapeFault.Disk
             → OneHasRisen (D.told a, D.told b) (D.told e.a, D.told e.b)) }
         ensures kinds { IfErr result (λ e. IsOpenFault e.fault) }
-        ensures ready { IfOk result (λ station. places_of station ≡ all_ready (numbers (ledger_of station))) }
-        ensures fresh { IfOk result (λ station. (IsBroken station → ⊥) × (pending_of station ≡ 0) × (limits_of station ≡ limits)) }
+        ensures ready { IfOk result
+            (λ station. places_of station ≡ all_ready (numbers (ledger_of station))) }
+        ensures fresh { IfOk result
+            (λ station. (IsBroken station → ⊥) × (pending_of station ≡ 0)
+            × (limits_of station ≡ limits)) }
         ensures honest { MatchResult result
             (λ station. (D.honest a × D.honest b) ↔ AreHonest station)
             (λ e. (D.honest a × D.honest b) ↔ (D.honest e.a × D.honest e.b)) }
@@ -114,20 +126,28 @@ impl<D: Disk> Station<D> {
     /// Owes the article of this number: it is ready from now on.
     ///
     /// # Errors
-    /// Tried in this order: `Broken`; `NoMemory` of the station; `Tape(Note(CountFull))`; `Tape(PendingFull)`; `NoMemory`.
+    /// Tried in this order: `Broken`; `NoMemory` of the station; `Tape(Note(CountFull))`; `Tape(PendingFull)`;
+    /// `NoMemory`.
     pub fn owe(&mut self, number: u64, token: &Token, id: &MsgId) -> Result<Owed, StationFault>
-        ensures already { (result ≡ Ok Owed.Already) ↔ ((IsBroken self.old → ⊥) × (number ≤ (ledger_of self.old).mark)) }
+        ensures already { (result ≡ Ok Owed.Already)
+            ↔ ((IsBroken self.old → ⊥) × (number ≤ (ledger_of self.old).mark)) }
         ensures same { result ≡ Ok Owed.Already → self.new ≡ self.old }
-        ensures new { result ≡ Ok Owed.New → Notes self.old self.new (Note.Owe number token.now id.now) }
-        ensures places { result ≡ Ok Owed.New → places_of self.new ≡ places_of self.old ++ (number, Ready) ∷ [] }
+        ensures new { result ≡ Ok Owed.New
+            → Notes self.old self.new (Note.Owe number token.now id.now) }
+        ensures places { result ≡ Ok Owed.New
+            → places_of self.new ≡ places_of self.old ++ (number, Ready) ∷ [] }
         ensures broken { IsErrOf result StationFault.Broken ↔ IsBroken self.old }
-        ensures count_full { IsErrOf result (StationFault.Tape (TapeFault.Note LedgerFault.CountFull)) → Overflows (ledger_of self.old) (Note.Owe number token.now id.now) }
+        ensures count_full { IsErrOf result
+            (StationFault.Tape (TapeFault.Note LedgerFault.CountFull))
+            → Overflows (ledger_of self.old) (Note.Owe number token.now id.now) }
         ensures pending_full { IsErrOf result (StationFault.Tape TapeFault.PendingFull)
             → ((ledger_of self.old).mark < number) × (pending_of self.old ≡ most_pending)
             × (Overflows (ledger_of self.old) (Note.Owe number token.now id.now) → ⊥) }
         ensures no_memory { IsErrOf result StationFault.NoMemory
             → (IsBroken self.old → ⊥) × ((ledger_of self.old).mark < number) }
-        ensures never { Overflows (ledger_of self.old) (Note.Owe number token.now id.now) ⊎ ((ledger_of self.old).mark < number) × (pending_of self.old ≡ most_pending) → IsErr result }
+        ensures never { Overflows (ledger_of self.old) (Note.Owe number token.now id.now)
+            ⊎ ((ledger_of self.old).mark < number) × (pending_of self.old ≡ most_pending)
+            → IsErr result }
         ensures kinds { IfErr result IsOweFault }
         ensures unchanged { OnErr result (IsSame self.old self.new) }
     {
@@ -145,16 +165,23 @@ impl<D: Disk> Station<D> {
         self.owe_new(number, note)
     }
 
-    /// Claims the least number that is ready, or later until a moment at or before `now`: from now on this connection holds it.
+    /// Claims the least number that is ready, or later until a moment at or before `now`: from now on this connection
+    /// holds it.
     ///
     /// # Errors
     /// Tried in this order: `Broken`; `NoMemory`.
     pub fn claim(&mut self, connection: CxnId, now: u64) -> Result<Option<Debt>, StationFault>
-        ensures none { IfOk result (λ debt. IfNone debt ((least_candidate now (places_of self.old) ≡ None) × (places_of self.new ≡ places_of self.old))) }
-        ensures some { IfOk result (λ debt. IfSome debt (λ d. (least_candidate now (places_of self.old) ≡ Some d.0) × Contains (ledger_of self.old).debts d × (places_of self.new ≡ moved (places_of self.old) d.0 (Held connection.0)))) }
+        ensures none { IfOk result
+            (λ debt. IfNone debt ((least_candidate now (places_of self.old) ≡ None)
+            × (places_of self.new ≡ places_of self.old))) }
+        ensures some { IfOk result
+            (λ debt. IfSome debt (λ d. (least_candidate now (places_of self.old) ≡ Some d.0)
+            × Contains (ledger_of self.old).debts d
+            × (places_of self.new ≡ moved (places_of self.old) d.0 (Held connection.0)))) }
         ensures tape { IsSameTape self.old self.new }
         ensures broken { IsErrOf result StationFault.Broken ↔ IsBroken self.old }
-        ensures no_memory { IsErrOf result StationFault.NoMemory → IsSome (least_candidate now (places_of self.old)) }
+        ensures no_memory { IsErrOf result StationFault.NoMemory
+            → IsSome (least_candidate now (places_of self.old)) }
         ensures kinds { IfErr result IsClaimFault }
         ensures unchanged { OnErr result (IsSame self.old self.new) }
     {
@@ -178,10 +205,14 @@ impl<D: Disk> Station<D> {
         connection: CxnId,
         verdict: Verdict,
     ) -> Result<(), (Verdict, StationFault)>
-        ensures ok { OnOk result (Notes self.old self.new (Note.Final (number_of verdict) (code_of verdict))) }
-        ensures places { OnOk result (IsHeldBy (places_of self.old) connection.0 (number_of verdict) × (places_of self.new ≡ gone (places_of self.old) (number_of verdict))) }
+        ensures ok { OnOk result
+            (Notes self.old self.new (Note.Final (number_of verdict) (code_of verdict))) }
+        ensures places { OnOk result
+            (IsHeldBy (places_of self.old) connection.0 (number_of verdict)
+            × (places_of self.new ≡ gone (places_of self.old) (number_of verdict))) }
         ensures refused { Refuses self.old connection.0 (number_of verdict) result }
-        ensures pending_full { Tells result (StationFault.Tape TapeFault.PendingFull) ↔ MeetsFull self.old connection.0 (number_of verdict) }
+        ensures pending_full { Tells result (StationFault.Tape TapeFault.PendingFull)
+            ↔ MeetsFull self.old connection.0 (number_of verdict) }
         ensures kinds { IfErr result (λ e. IsEndFault e.1) }
         ensures handed { IfErr result (λ e. e.0 ≡ verdict) }
         ensures unchanged { OnErr result (IsSame self.old self.new) }
@@ -196,19 +227,31 @@ impl<D: Disk> Station<D> {
     /// Has a deferred debt wait until 60 seconds after `now`, or drops it where the limits say so.
     ///
     /// # Errors
-    /// The deferral is handed back. Tried in this order: `Broken`; `NotHeld`; where it is dropped `Tape(PendingFull)`, `NoMemory`.
+    /// The deferral is handed back. Tried in this order: `Broken`; `NotHeld`; where it is dropped `Tape(PendingFull)`,
+    /// `NoMemory`.
     pub fn defer(
         &mut self,
         connection: CxnId,
         deferral: Deferral,
         now: u64,
     ) -> Result<(), (Deferral, StationFault)>
-        ensures later { OnOk result ((limits_of self.old).drop_deferred ≡ false → IsSameTape self.old self.new × (places_of self.new ≡ moved (places_of self.old) (deferred_number deferral) (Later (deferred_until now)))) }
-        ensures dropped { OnOk result ((limits_of self.old).drop_deferred ≡ true → Notes self.old self.new (Note.Drop (deferred_number deferral) Cause.Deferred) × (places_of self.new ≡ gone (places_of self.old) (deferred_number deferral))) }
-        ensures held { OnOk result (IsHeldBy (places_of self.old) connection.0 (deferred_number deferral)) }
+        ensures later { OnOk result
+            ((limits_of self.old).drop_deferred ≡ false
+            → IsSameTape self.old self.new
+            × (places_of self.new ≡ moved (places_of self.old) (deferred_number deferral)
+            (Later (deferred_until now)))) }
+        ensures dropped { OnOk result
+            ((limits_of self.old).drop_deferred ≡ true
+            → Notes self.old self.new (Note.Drop (deferred_number deferral) Cause.Deferred)
+            × (places_of self.new ≡ gone (places_of self.old) (deferred_number deferral))) }
+        ensures held { OnOk result
+            (IsHeldBy (places_of self.old) connection.0 (deferred_number deferral)) }
         ensures refused { Refuses self.old connection.0 (deferred_number deferral) result }
-        ensures pending_full { Tells result (StationFault.Tape TapeFault.PendingFull) ↔ (((limits_of self.old).drop_deferred ≡ true) × MeetsFull self.old connection.0 (deferred_number deferral)) }
-        ensures no_memory { Tells result StationFault.NoMemory → (limits_of self.old).drop_deferred ≡ true }
+        ensures pending_full { Tells result (StationFault.Tape TapeFault.PendingFull)
+            ↔ (((limits_of self.old).drop_deferred ≡ true)
+            × MeetsFull self.old connection.0 (deferred_number deferral)) }
+        ensures no_memory { Tells result StationFault.NoMemory
+            → (limits_of self.old).drop_deferred ≡ true }
         ensures kinds { IfErr result (λ e. IsEndFault e.1) }
         ensures handed { IfErr result (λ e. e.0 ≡ deferral) }
         ensures unchanged { OnErr result (IsSame self.old self.new) }
@@ -231,9 +274,12 @@ impl<D: Disk> Station<D> {
         cause: Cause,
     ) -> Result<(), (Debt, StationFault)>
         ensures ok { OnOk result (Notes self.old self.new (Note.Drop debt.0 cause)) }
-        ensures places { OnOk result (IsHeldBy (places_of self.old) connection.0 debt.0 × (places_of self.new ≡ gone (places_of self.old) debt.0)) }
+        ensures places { OnOk result
+            (IsHeldBy (places_of self.old) connection.0 debt.0
+            × (places_of self.new ≡ gone (places_of self.old) debt.0)) }
         ensures refused { Refuses self.old connection.0 debt.0 result }
-        ensures pending_full { Tells result (StationFault.Tape TapeFault.PendingFull) ↔ MeetsFull self.old connection.0 debt.0 }
+        ensures pending_full { Tells result (StationFault.Tape TapeFault.PendingFull)
+            ↔ MeetsFull self.old connection.0 debt.0 }
         ensures kinds { IfErr result (λ e. IsEndFault e.1) }
         ensures handed { IfErr result (λ e. e.0 ≡ debt) }
         ensures unchanged { OnErr result (IsSame self.old self.new) }
@@ -249,9 +295,12 @@ impl<D: Disk> Station<D> {
     /// # Errors
     /// The debt is handed back. Tried in this order: `Broken`; `NotHeld`.
     pub fn back(&mut self, connection: CxnId, debt: Debt) -> Result<(), (Debt, StationFault)>
-        ensures ok { OnOk result (IsSameTape self.old self.new × IsHeldBy (places_of self.old) connection.0 debt.0 × (places_of self.new ≡ moved (places_of self.old) debt.0 Ready)) }
+        ensures ok { OnOk result
+            (IsSameTape self.old self.new × IsHeldBy (places_of self.old) connection.0 debt.0
+            × (places_of self.new ≡ moved (places_of self.old) debt.0 Ready)) }
         ensures refused { Refuses self.old connection.0 debt.0 result }
-        ensures kinds { IfErr result (λ e. (e.1 ≡ StationFault.Broken) ⊎ (e.1 ≡ StationFault.NotHeld)) }
+        ensures kinds { IfErr result
+            (λ e. (e.1 ≡ StationFault.Broken) ⊎ (e.1 ≡ StationFault.NotHeld)) }
         ensures handed { IfErr result (λ e. e.0 ≡ debt) }
         ensures unchanged { OnErr result (IsSame self.old self.new) }
     {
@@ -261,8 +310,8 @@ impl<D: Disk> Station<D> {
         }
     }
 
-    /// Takes what a connection tells of a debt that it held: a final answer settles it, a deferral has it wait or drops it,
-    /// where the article can't be sent it is dropped, and where it came back it is ready.
+    /// Takes what a connection tells of a debt that it held: a final answer settles it, a deferral has it wait or drops
+    /// it, where the article can't be sent it is dropped, and where it came back it is ready.
     ///
     /// # Errors
     /// The outcome is handed back. Tried in this order: `Broken`; `NotHeld`; where the debt ends `Tape(PendingFull)`,
@@ -304,22 +353,30 @@ impl<D: Disk> Station<D> {
         self.index.release(connection.0)
     }
 
-    /// Drops, oldest first, what exceeds the backlog's limit, as far as there is room among the notes that pend. All of it is dropped, or
-    /// on a refusal nothing.
+    /// Drops, oldest first, what exceeds the backlog's limit, as far as there is room among the notes that pend. All of
+    /// it is dropped, or on a refusal nothing.
     ///
     /// # Errors
     /// Tried in this order: `Broken`; `NoMemory`.
     pub fn shed(&mut self) -> Result<Shed, StationFault>
-        ensures set { IfOk result (λ shed. IsShed (limits_of self.old) (ledger_of self.old) (places_of self.old) (pending_of self.old) shed) }
-        ensures notes { IfOk result (λ shed. (h : History) → StandsFor self.old h → StandsFor self.new (noted_all h (dropped shed.numbers.items))) }
-        ensures ledger { IfOk result (λ shed. ledger_of self.new ≡ after (ledger_of self.old) (dropped shed.numbers.items)) }
-        ensures places { IfOk result (λ shed. places_of self.new ≡ all_gone (places_of self.old) shed.numbers.items) }
-        ensures pends { IfOk result (λ shed. pending_of self.new ≡ pending_of self.old + length shed.numbers.items) }
+        ensures set { IfOk result
+            (λ shed. IsShed (limits_of self.old) (ledger_of self.old) (places_of self.old)
+            (pending_of self.old) shed) }
+        ensures notes { IfOk result
+            (λ shed. (h : History) → StandsFor self.old h
+            → StandsFor self.new (noted_all h (dropped shed.numbers.items))) }
+        ensures ledger { IfOk result
+            (λ shed. ledger_of self.new ≡ after (ledger_of self.old) (dropped shed.numbers.items)) }
+        ensures places { IfOk result
+            (λ shed. places_of self.new ≡ all_gone (places_of self.old) shed.numbers.items) }
+        ensures pends { IfOk result
+            (λ shed. pending_of self.new ≡ pending_of self.old + length shed.numbers.items) }
         ensures disks { disks_of self.new ≡ disks_of self.old }
         ensures works { IsBroken self.old ↔ IsBroken self.new }
         ensures limits { limits_of self.new ≡ limits_of self.old }
         ensures broken { IsErrOf result StationFault.Broken ↔ IsBroken self.old }
-        ensures kinds { IfErr result (λ e. (e ≡ StationFault.Broken) ⊎ (e ≡ StationFault.NoMemory)) }
+        ensures kinds { IfErr result
+            (λ e. (e ≡ StationFault.Broken) ⊎ (e ≡ StationFault.NoMemory)) }
         ensures unchanged { OnErr result (IsSame self.old self.new) }
     {
         if self.tape.is_broken() {
@@ -343,12 +400,16 @@ impl<D: Disk> Station<D> {
         requires owes { IsOweOf note number }
         ensures new { OnOk result (Notes self.old self.new note) }
         ensures is_new { IfOk result (λ owed. owed ≡ Owed.New) }
-        ensures places { OnOk result (places_of self.new ≡ places_of self.old ++ (number, Ready) ∷ []) }
+        ensures places { OnOk result
+            (places_of self.new ≡ places_of self.old ++ (number, Ready) ∷ []) }
         ensures broken { IsErrOf result StationFault.Broken → ⊥ }
-        ensures count_full { IsErrOf result (StationFault.Tape (TapeFault.Note LedgerFault.CountFull)) → Overflows (ledger_of self.old) note }
+        ensures count_full { IsErrOf result
+            (StationFault.Tape (TapeFault.Note LedgerFault.CountFull))
+            → Overflows (ledger_of self.old) note }
         ensures pending_full { IsErrOf result (StationFault.Tape TapeFault.PendingFull)
             → (pending_of self.old ≡ most_pending) × (Overflows (ledger_of self.old) note → ⊥) }
-        ensures never { Overflows (ledger_of self.old) note ⊎ (pending_of self.old ≡ most_pending) → IsErr result }
+        ensures never { Overflows (ledger_of self.old) note ⊎ (pending_of self.old ≡ most_pending)
+            → IsErr result }
         ensures kinds { IfErr result IsOweFault }
         ensures unchanged { OnErr result (IsSame self.old self.new) }
     {
@@ -364,7 +425,8 @@ impl<D: Disk> Station<D> {
     fn owed_debt(&self, number: u64) -> Result<Debt, StationFault>
         requires works { IsBroken self.now → ⊥ }
         requires owed { IsOwed (ledger_of self.now) number }
-        ensures debt { IfOk result (λ debt. (debt.0 ≡ number) × Contains (ledger_of self.now).debts debt) }
+        ensures debt { IfOk result
+            (λ debt. (debt.0 ≡ number) × Contains (ledger_of self.now).debts debt) }
         ensures memory { IfErr result (λ fault. fault ≡ StationFault.NoMemory) }
     {
         match self.tape.debt(number) {
@@ -404,10 +466,14 @@ impl<D: Disk> Station<D> {
     fn end(&mut self, connection: u64, number: u64, note: Note) -> Result<(), StationFault>
         requires { IsEnd note number }
         ensures ok { OnOk result (Notes self.old self.new note) }
-        ensures places { OnOk result (IsHeldBy (places_of self.old) connection number × (places_of self.new ≡ gone (places_of self.old) number)) }
+        ensures places { OnOk result
+            (IsHeldBy (places_of self.old) connection number
+            × (places_of self.new ≡ gone (places_of self.old) number)) }
         ensures broken { IsErrOf result StationFault.Broken ↔ IsBroken self.old }
-        ensures not_held { IsErrOf result StationFault.NotHeld ↔ ((IsBroken self.old → ⊥) × (IsHeldBy (places_of self.old) connection number → ⊥)) }
-        ensures pending_full { IsErrOf result (StationFault.Tape TapeFault.PendingFull) ↔ MeetsFull self.old connection number }
+        ensures not_held { IsErrOf result StationFault.NotHeld
+            ↔ ((IsBroken self.old → ⊥) × (IsHeldBy (places_of self.old) connection number → ⊥)) }
+        ensures pending_full { IsErrOf result (StationFault.Tape TapeFault.PendingFull)
+            ↔ MeetsFull self.old connection number }
         ensures kinds { IfErr result IsEndFault }
         ensures unchanged { OnErr result (IsSame self.old self.new) }
     {
@@ -428,9 +494,12 @@ impl<D: Disk> Station<D> {
 
     // Has a debt that this connection holds wait for this moment; at 0 it is ready.
     fn give_up(&mut self, connection: u64, number: u64, moment: u64) -> Result<(), StationFault>
-        ensures ok { OnOk result (IsSameTape self.old self.new × IsHeldBy (places_of self.old) connection number × (places_of self.new ≡ moved (places_of self.old) number (place_until moment))) }
+        ensures ok { OnOk result
+            (IsSameTape self.old self.new × IsHeldBy (places_of self.old) connection number
+            × (places_of self.new ≡ moved (places_of self.old) number (place_until moment))) }
         ensures broken { IsErrOf result StationFault.Broken ↔ IsBroken self.old }
-        ensures not_held { IsErrOf result StationFault.NotHeld ↔ ((IsBroken self.old → ⊥) × (IsHeldBy (places_of self.old) connection number → ⊥)) }
+        ensures not_held { IsErrOf result StationFault.NotHeld
+            ↔ ((IsBroken self.old → ⊥) × (IsHeldBy (places_of self.old) connection number → ⊥)) }
         ensures kinds { IfErr result (λ e. (e ≡ StationFault.Broken) ⊎ (e ≡ StationFault.NotHeld)) }
         ensures unchanged { OnErr result (self.new ≡ self.old) }
     {
@@ -458,7 +527,9 @@ impl<D: Disk> Station<D> {
 
     // The numbers to shed, oldest first.
     fn shed_set(&self) -> Result<Vec<u64>, AllocError>
-        ensures set { IfOk result (λ set. IsShedSet (limits_of self.now) (ledger_of self.now) (places_of self.now) set.items) }
+        ensures set { IfOk result
+            (λ set. IsShedSet (limits_of self.now) (ledger_of self.now)
+            (places_of self.now) set.items) }
         ensures rising { OnOk result (AreRising (places_of self.now)) }
     {
         let limit = self.limits.backlog_limit;
@@ -478,18 +549,21 @@ impl<D: Disk> Station<D> {
         Ok(set)
     }
 
-    /// Puts the notes that pend on the disk: from `Ok` on all notes are acknowledged. Answers how many notes of this opening are
-    /// acknowledged now, or the greatest u64 where that is less. Linear in what pends.
+    /// Puts the notes that pend on the disk: from `Ok` on all notes are acknowledged. Answers how many notes of this
+    /// opening are acknowledged now, or the greatest u64 where that is less. Linear in what pends.
     ///
     /// # Errors
-    /// Tried in this order: `Broken`; `Tape(TapeFull)`; `NoMemory`; these change nothing. `Tape(Disk)`: the station is broken from now on.
+    /// Tried in this order: `Broken`; `Tape(TapeFull)`; `NoMemory`; these change nothing. `Tape(Disk)`: the station is
+    /// broken from now on.
     pub fn flush(&mut self) -> Result<u64, StationFault>
-        ensures ok { (h : History) → StandsFor self.old h → OnOk result (StandsFor self.new (flushed h)) }
+        ensures ok { (h : History) → StandsFor self.old h
+            → OnOk result (StandsFor self.new (flushed h)) }
         ensures err { (h : History) → StandsFor self.old h → OnErr result (StandsFor self.new h) }
         ensures count { (h : History) → StandsFor self.old h
             → IfOk result (λ n. n ≡ min (length h.notes - h.opened) (2 ^ 64 - 1)) }
         // A stop at any moment of the call leaves a tape of the first of the notes, with every acknowledged one.
-        ensures moments { (h : History) → StandsFor self.old h → TapeLeaves (Survives h) (log_of self.old) (log_of self.new) }
+        ensures moments { (h : History) → StandsFor self.old h
+            → TapeLeaves (Survives h) (log_of self.old) (log_of self.new) }
         ensures none_pends { OnOk result (pending_of self.new ≡ 0) }
         ensures empty { pending_of self.old ≡ 0 → self.new ≡ self.old }
         ensures empty_ok { pending_of self.old ≡ 0 → (IsBroken self.old → ⊥) → IsOk result }
@@ -497,12 +571,15 @@ impl<D: Disk> Station<D> {
         ensures ledger { ledger_of self.new ≡ ledger_of self.old }
         ensures limits { limits_of self.new ≡ limits_of self.old }
         ensures broken { IsErrOf result StationFault.Broken ↔ IsBroken self.old }
-        ensures full { IsErrOf result (StationFault.Tape TapeFault.TapeFull) ↔ ((IsBroken self.old → ⊥) × IsFull self.old.tape) }
-        ensures refused { IfErr result (λ e. e ≢ StationFault.Tape TapeFault.Disk → IsSame self.old self.new) }
+        ensures full { IsErrOf result (StationFault.Tape TapeFault.TapeFull)
+            ↔ ((IsBroken self.old → ⊥) × IsFull self.old.tape) }
+        ensures refused { IfErr result
+            (λ e. e ≢ StationFault.Tape TapeFault.Disk → IsSame self.old self.new) }
         ensures breaks { IsErrOf result (StationFault.Tape TapeFault.Disk) → IsBroken self.new }
         ensures works { OnOk result (IsBroken self.new → ⊥) }
         ensures cause { (h : History) → StandsFor self.old h
-            → IsErrOf result (StationFault.Tape TapeFault.Disk) → OneHasRisen (told_of self.old) (told_of self.new) }
+            → IsErrOf result (StationFault.Tape TapeFault.Disk)
+            → OneHasRisen (told_of self.old) (told_of self.new) }
         ensures continues { Continues self.old self.new }
         ensures quiet { OnOk result (told_of self.new ≡ told_of self.old) }
         ensures kinds { IfErr result IsFlushFault }
@@ -513,26 +590,28 @@ impl<D: Disk> Station<D> {
         }
     }
 
-    /// Whether a rotation is due: the segment of its tape that lives is longer than 65,536 octets, and than four times what a
-    /// rotation would write. In constant time; a broken station answers too.
+    /// Whether a rotation is due: the segment of its tape that lives is longer than 65,536 octets, and than four times
+    /// what a rotation would write. In constant time; a broken station answers too.
     pub fn rotate_due(&self) -> bool
         ensures { IsTrue result ↔ IsDue self.now.tape }
     {
         self.tape.rotate_due()
     }
 
-    /// Writes what is owed into the segment of its tape that doesn't live, which lives from then on: from `Ok` on all notes are
-    /// acknowledged, and none pends. Answers the new generation. Linear in what is owed.
+    /// Writes what is owed into the segment of its tape that doesn't live, which lives from then on: from `Ok` on all
+    /// notes are acknowledged, and none pends. Answers the new generation. Linear in what is owed.
     ///
     /// # Errors
-    /// Tried in this order: `Broken`; `Tape(GenerationFull)`; `Tape(TapeFull)`; `NoMemory`; these change nothing. `Tape(Disk)`: the
-    /// station is broken from now on.
+    /// Tried in this order: `Broken`; `Tape(GenerationFull)`; `Tape(TapeFull)`; `NoMemory`; these change nothing.
+    /// `Tape(Disk)`: the station is broken from now on.
     pub fn rotate(&mut self) -> Result<u64, StationFault>
-        ensures ok { (h : History) → StandsFor self.old h → OnOk result (StandsFor self.new (flushed h)) }
+        ensures ok { (h : History) → StandsFor self.old h
+            → OnOk result (StandsFor self.new (flushed h)) }
         ensures err { (h : History) → StandsFor self.old h → OnErr result (StandsFor self.new h) }
         ensures generation { IfOk result (λ n. (n ≡ generation_of self.old + 1)
             × (generation_of self.new ≡ n)) }
-        // A stop at any moment of the call leaves a tape of the ledger after the first of the notes, with every acknowledged one.
+        // A stop at any moment of the call leaves a tape of the ledger after the first of the notes, with every
+        // acknowledged one.
         ensures moments { (h : History) → StandsFor self.old h
             → TapeLeaves (Survives h) (log_of self.old) (log_of self.new) }
         ensures none_pends { OnOk result (pending_of self.new ≡ 0) }
@@ -542,13 +621,16 @@ impl<D: Disk> Station<D> {
         ensures broken { IsErrOf result StationFault.Broken ↔ IsBroken self.old }
         ensures generation_full { IsErrOf result (StationFault.Tape TapeFault.GenerationFull)
             ↔ ((IsBroken self.old → ⊥) × (generation_of self.old ≡ 2 ^ 64 - 1)) }
-        ensures full { IsErrOf result (StationFault.Tape TapeFault.TapeFull) ↔ ((IsBroken self.old → ⊥)
+        ensures full { IsErrOf result (StationFault.Tape TapeFault.TapeFull)
+            ↔ ((IsBroken self.old → ⊥)
             × (generation_of self.old ≢ 2 ^ 64 - 1) × RotatesTooLong self.old.tape) }
-        ensures refused { IfErr result (λ e. e ≢ StationFault.Tape TapeFault.Disk → IsSame self.old self.new) }
+        ensures refused { IfErr result
+            (λ e. e ≢ StationFault.Tape TapeFault.Disk → IsSame self.old self.new) }
         ensures breaks { IsErrOf result (StationFault.Tape TapeFault.Disk) → IsBroken self.new }
         ensures works { OnOk result (IsBroken self.new → ⊥) }
         ensures cause { (h : History) → StandsFor self.old h
-            → IsErrOf result (StationFault.Tape TapeFault.Disk) → OneHasRisen (told_of self.old) (told_of self.new) }
+            → IsErrOf result (StationFault.Tape TapeFault.Disk)
+            → OneHasRisen (told_of self.old) (told_of self.new) }
         ensures continues { Continues self.old self.new }
         ensures quiet { OnOk result (told_of self.new ≡ told_of self.old) }
         ensures kinds { IfErr result IsRotateFault }
@@ -564,10 +646,14 @@ impl<D: Disk> Station<D> {
     /// # Errors
     /// Tried in this order: `Broken`; `NoMemory`.
     pub fn debt(&self, number: u64) -> Result<Option<Debt>, StationFault>
-        ensures debt { IfOk result (λ debt. debt ≡ find (λ (owing : Owing). owing.0 == number) (ledger_of self.now).debts) }
+        ensures debt { IfOk result
+            (λ debt. debt ≡ find (λ (owing : Owing). owing.0 == number)
+            (ledger_of self.now).debts) }
         ensures broken { IsErrOf result StationFault.Broken ↔ IsBroken self.now }
-        ensures no_memory { IsErrOf result StationFault.NoMemory → IsOwed (ledger_of self.now) number }
-        ensures kinds { IfErr result (λ e. (e ≡ StationFault.Broken) ⊎ (e ≡ StationFault.NoMemory)) }
+        ensures no_memory { IsErrOf result StationFault.NoMemory
+            → IsOwed (ledger_of self.now) number }
+        ensures kinds { IfErr result
+            (λ e. (e ≡ StationFault.Broken) ⊎ (e ≡ StationFault.NoMemory)) }
     {
         match self.tape.debt(number) {
             Ok(debt) => Ok(debt),
@@ -582,12 +668,14 @@ impl<D: Disk> Station<D> {
     pub fn list(&self) -> Result<Vec<u64>, AllocError>
         ensures items { IfOk result (λ v. v.items ≡ numbers (ledger_of self.now)) }
         ensures rising { IfOk result (λ v. IsStrictlyIncreasing v.items) }
-        ensures marked { IfOk result (λ v. All (λ number. number ≤ (ledger_of self.now).mark) v.items) }
+        ensures marked { IfOk result
+            (λ v. All (λ number. number ≤ (ledger_of self.now).mark) v.items) }
     {
         self.tape.numbers()
     }
 
-    /// What was taken, answered and dropped, and what is owed: taken = owed + answered + dropped. A broken station answers too.
+    /// What was taken, answered and dropped, and what is owed: taken = owed + answered + dropped. A broken station
+    /// answers too.
     pub fn totals(&self) -> Totals
         ensures counts { result ≡ totals_of (ledger_of self.now) }
         ensures sum { result.taken ≡ result.owed + result.answered + result.dropped }
@@ -632,7 +720,8 @@ impl<D: Disk> Station<D> {
 // The index in which all that a tape owes is ready.
 fn index_of<D: Disk>(alloc: Global, tape: &Tape<D>) -> Result<PlaceIndex, AllocError>
     ensures places { IfOk result (λ index. index ≡ all_ready (numbers (tape_ledger tape.now))) }
-    ensures marked { OnOk result (All (λ number. number ≤ (tape_ledger tape.now).mark) (numbers (tape_ledger tape.now))) }
+    ensures marked { OnOk result
+        (All (λ number. number ≤ (tape_ledger tape.now).mark) (numbers (tape_ledger tape.now))) }
 {
     let numbers = tape.numbers()?;
     all_ready_of(alloc, &numbers)

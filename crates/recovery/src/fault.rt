@@ -11,8 +11,8 @@ use thiserror::Error;
 /// Why a tape refuses a call. Each call tells which of these come, and in which order they are tried.
 #[derive(Clone, Copy, Debug, PartialEq, Eq, Error)]
 pub enum TapeFault {
-    /// What lies on the disk is no tape: at this offset of this segment, in octets, a record is cut short, the end behind
-    /// a record is missing, or a record is no note that its ledger takes. Nothing was written.
+    /// What lies on the disk is no tape: at this offset of this segment, in octets, a record is cut short, the end
+    /// behind a record is missing, or a record is no note that its ledger takes. Nothing was written.
     #[error("Damaged")]
     Damaged { segment: u8, at: u64 },
     /// A call of the disk failed. After `flush` or `rotate` the tape is broken, and is to be opened again

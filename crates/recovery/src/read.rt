@@ -1,5 +1,6 @@
 // Reading the payloads of a tape.
-ghost use Rattle.std.specs.Prelude.{◌≡◌, ◌-◌, ◌^◌, ◌<◌, ◌≤◌, ℕ, List, length, min, take, IfErr, IfOk, IsErrOf, MatchResult};
+ghost use Rattle.std.specs.Prelude.{◌≡◌, ◌-◌, ◌^◌, ◌<◌, ◌≤◌, ℕ, List, length, min, take, IfErr, IfOk, IsErrOf};
+ghost use Rattle.std.specs.Prelude.{MatchResult};
 ghost use Rattle.tape_journal.specs.Segment.{records};
 ghost use Rattle.tape_journal.specs.Words.{octets_of};
 ghost use Rattle.ledger_core.specs.Ledger.{state_of};

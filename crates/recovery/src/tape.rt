@@ -136,15 +136,19 @@ impl<D: Disk> Tape<D> {
         // Whatever a stop left of a history is opened to the ledger after a front of it that holds every acknowledged
         // note, and is never damaged.
         ensures recovers { (h : History) → D.honest a → D.honest b
-            → EachTape (Survives h) (D.log a, D.log b) → IfOk result (Recovers h (D.log a, D.log b)) }
+            → EachTape (Survives h) (D.log a, D.log b)
+            → IfOk result (Recovers h (D.log a, D.log b)) }
         ensures survives { (h : History) → D.honest a → D.honest b
-            → EachTape (Survives h) (D.log a, D.log b) → IfErr result (λ e. TapeLeaves (Survives h) (D.log a, D.log b) (refused_log e)) }
+            → EachTape (Survives h) (D.log a, D.log b)
+            → IfErr result (λ e. TapeLeaves (Survives h) (D.log a, D.log b) (refused_log e)) }
         ensures undamaged { (h : History) → D.honest a → D.honest b
-            → EachTape (Survives h) (D.log a, D.log b) → IfErr result (λ e. (segment at : ℕ) → e.fault ≢ TapeFault.Damaged segment at) }
+            → EachTape (Survives h) (D.log a, D.log b)
+            → IfErr result (λ e. (segment at : ℕ) → e.fault ≢ TapeFault.Damaged segment at) }
 
         // Each fault has its cause.
         ensures damaged { D.honest a → D.honest b → IfErr result (λ e. (segment at : ℕ)
-            → e.fault ≡ TapeFault.Damaged segment at → IsNoTapeAt (contents_of (D.log a, D.log b)) segment at) }
+            → e.fault ≡ TapeFault.Damaged segment at
+            → IsNoTapeAt (contents_of (D.log a, D.log b)) segment at) }
         // Refused disks are as they were, but for a `Disk` of the repair; and only a tape is repaired.
         ensures untouched { D.honest a → D.honest b → IfErr result
             (λ e. e.fault ≢ TapeFault.Disk → refused_log e ≡ (D.log a, D.log b)) }
@@ -186,7 +190,8 @@ impl<D: Disk> Tape<D> {
             → IfOk result (Recovers h (placed second (D.log live) (D.log other))) }
         ensures survives { (h : History) → D.honest live → D.honest other
             → EachTape (Survives h) (placed second (D.log live) (D.log other))
-            → IfErr result (λ e. TapeLeaves (Survives h) (placed second (D.log live) (D.log other)) (refused_log e)) }
+            → IfErr result (λ e. TapeLeaves (Survives h) (placed second (D.log live) (D.log other))
+            (refused_log e)) }
         ensures undamaged { (h : History) → D.honest live → D.honest other
             → EachTape (Survives h) (placed second (D.log live) (D.log other))
             → IfErr result (λ e. (segment at : ℕ) → e.fault ≢ TapeFault.Damaged segment at) }
@@ -194,17 +199,21 @@ impl<D: Disk> Tape<D> {
             → e.fault ≡ TapeFault.Damaged segment at
             → IsNoTapeAt (contents_of (placed second (D.log live) (D.log other))) segment at) }
         ensures untouched { D.honest live → D.honest other → IfErr result
-            (λ e. e.fault ≢ TapeFault.Disk → refused_log e ≡ (placed second (D.log live) (D.log other))) }
+            (λ e. e.fault ≢ TapeFault.Disk
+            → refused_log e ≡ (placed second (D.log live) (D.log other))) }
         ensures judged { D.honest live → D.honest other → IfErr result
-            (λ e. e.fault ≡ TapeFault.Disk → (refused_log e ≡ (placed second (D.log live) (D.log other)))
+            (λ e. e.fault ≡ TapeFault.Disk
+            → (refused_log e ≡ (placed second (D.log live) (D.log other)))
             ⊎ IsSomeTape (contents_of (placed second (D.log live) (D.log other)))) }
         ensures cause { D.honest live → D.honest other → IfErr result (λ e. e.fault ≡ TapeFault.Disk
             → OneHasRisen (placed second (D.told live) (D.told other)) (D.told e.a, D.told e.b)) }
         ensures kinds { IfErr result (λ e. IsOpenFault e.fault) }
         ensures works { IfOk result (λ tape. (IsBroken tape → ⊥) × (pending_of tape ≡ 0)) }
-        ensures honest { MatchResult result (λ tape. (D.honest live × D.honest other) ↔ AreHonest tape)
+        ensures honest { MatchResult result
+            (λ tape. (D.honest live × D.honest other) ↔ AreHonest tape)
             (λ e. (D.honest live × D.honest other) ↔ (D.honest e.a × D.honest e.b)) }
-        ensures quiet { MatchResult result (λ tape. told_of tape ≡ (placed second (D.told live) (D.told other)))
+        ensures quiet { MatchResult result
+            (λ tape. told_of tape ≡ (placed second (D.told live) (D.told other)))
             (λ e. ((placed second (D.told live) (D.told other)).0 ≤ D.told e.a)
             × ((placed second (D.told live) (D.told other)).1 ≤ D.told e.b)) }
     {
@@ -250,17 +259,25 @@ impl<D: Disk> Tape<D> {
     /// The note is handed back, and nothing changes. Tried in this order: `Broken`; `Note`, why the ledger refuses it;
     /// `PendingFull` with 65,536 notes pending; `NoMemory`.
     pub fn note(&mut self, note: Note) -> Result<(), (Note, TapeFault)>
-        ensures ok { (h : History) → StandsFor self.old h → OnOk result (StandsFor self.new (noted h note)) }
-        ensures ledger { OnOk result (IsLegal (ledger_of self.old) note × (ledger_of self.new ≡ step (ledger_of self.old) note)) }
+        ensures ok { (h : History) → StandsFor self.old h
+            → OnOk result (StandsFor self.new (noted h note)) }
+        ensures ledger { OnOk result
+            (IsLegal (ledger_of self.old) note
+            × (ledger_of self.new ≡ step (ledger_of self.old) note)) }
         ensures pends { OnOk result (pending_of self.new ≡ pending_of self.old + 1) }
         ensures err { (h : History) → StandsFor self.old h → OnErr result (StandsFor self.new h) }
         ensures unchanged { OnErr result (IsSame self.old self.new) }
         ensures handed { IfErr result (λ e. e.0 ≡ note) }
 
         ensures broken { Tells result TapeFault.Broken ↔ IsBroken self.old }
-        ensures refused { (fault : LedgerFault) → Tells result (TapeFault.Note fault) ↔ ((IsBroken self.old → ⊥) × RefusesNote (ledger_of self.old) note fault) }
-        ensures pending_full { Tells result TapeFault.PendingFull ↔ ((IsBroken self.old → ⊥) × IsLegal (ledger_of self.old) note × (pending_of self.old ≡ most_pending)) }
-        ensures no_memory { Tells result TapeFault.NoMemory → (IsBroken self.old → ⊥) × IsLegal (ledger_of self.old) note × (pending_of self.old < most_pending) }
+        ensures refused { (fault : LedgerFault) → Tells result (TapeFault.Note fault)
+            ↔ ((IsBroken self.old → ⊥) × RefusesNote (ledger_of self.old) note fault) }
+        ensures pending_full { Tells result TapeFault.PendingFull
+            ↔ ((IsBroken self.old → ⊥) × IsLegal (ledger_of self.old) note
+            × (pending_of self.old ≡ most_pending)) }
+        ensures no_memory { Tells result TapeFault.NoMemory
+            → (IsBroken self.old → ⊥) × IsLegal (ledger_of self.old) note
+            × (pending_of self.old < most_pending) }
         ensures kinds { IfErr result (λ e. IsNoteFault e.1) }
 
         ensures disks { disks_of self.new ≡ disks_of self.old }
@@ -274,16 +291,24 @@ impl<D: Disk> Tape<D> {
 
     // Takes a note, or changes nothing.
     fn try_note(&mut self, note: &Note) -> Result<(), TapeFault>
-        ensures ok { (h : History) → StandsFor self.old h → OnOk result (StandsFor self.new (noted h note.now)) }
-        ensures ledger { OnOk result (IsLegal (ledger_of self.old) note.now × (ledger_of self.new ≡ step (ledger_of self.old) note.now)) }
+        ensures ok { (h : History) → StandsFor self.old h
+            → OnOk result (StandsFor self.new (noted h note.now)) }
+        ensures ledger { OnOk result
+            (IsLegal (ledger_of self.old) note.now
+            × (ledger_of self.new ≡ step (ledger_of self.old) note.now)) }
         ensures pends { OnOk result (pending_of self.new ≡ pending_of self.old + 1) }
         ensures err { (h : History) → StandsFor self.old h → OnErr result (StandsFor self.new h) }
         ensures unchanged { OnErr result (IsSame self.old self.new) }
 
         ensures broken { IsErrOf result TapeFault.Broken ↔ IsBroken self.old }
-        ensures refused { (fault : LedgerFault) → IsErrOf result (TapeFault.Note fault) ↔ ((IsBroken self.old → ⊥) × RefusesNote (ledger_of self.old) note.now fault) }
-        ensures pending_full { IsErrOf result TapeFault.PendingFull ↔ ((IsBroken self.old → ⊥) × IsLegal (ledger_of self.old) note.now × (pending_of self.old ≡ most_pending)) }
-        ensures no_memory { IsErrOf result TapeFault.NoMemory → (IsBroken self.old → ⊥) × IsLegal (ledger_of self.old) note.now × (pending_of self.old < most_pending) }
+        ensures refused { (fault : LedgerFault) → IsErrOf result (TapeFault.Note fault)
+            ↔ ((IsBroken self.old → ⊥) × RefusesNote (ledger_of self.old) note.now fault) }
+        ensures pending_full { IsErrOf result TapeFault.PendingFull
+            ↔ ((IsBroken self.old → ⊥) × IsLegal (ledger_of self.old) note.now
+            × (pending_of self.old ≡ most_pending)) }
+        ensures no_memory { IsErrOf result TapeFault.NoMemory
+            → (IsBroken self.old → ⊥) × IsLegal (ledger_of self.old) note.now
+            × (pending_of self.old < most_pending) }
         ensures kinds { IfErr result IsNoteFault }
 
         ensures disks { disks_of self.new ≡ disks_of self.old }
@@ -305,7 +330,8 @@ impl<D: Disk> Tape<D> {
     fn pend(&mut self, note: &Note) -> Result<(), TapeFault>
         requires legal { IsLegal (ledger_of self.old) note.now }
         requires room { pending_of self.old < most_pending }
-        ensures ok { (h : History) → StandsFor self.old h → OnOk result (StandsFor self.new (noted h note.now)) }
+        ensures ok { (h : History) → StandsFor self.old h
+            → OnOk result (StandsFor self.new (noted h note.now)) }
         ensures ledger { OnOk result (ledger_of self.new ≡ step (ledger_of self.old) note.now) }
         ensures pends { OnOk result (pending_of self.new ≡ pending_of self.old + 1) }
         ensures unchanged { OnErr result (IsSame self.old self.new) }
@@ -330,16 +356,22 @@ impl<D: Disk> Tape<D> {
     /// Nothing changes. Tried in this order: `Broken`; `Note(NotOwed)` where one of them is not owed, or is named
     /// twice; `PendingFull` where more than 65,536 notes would pend; `NoMemory`.
     pub fn drop_all(&mut self, numbers: &[u64], cause: Cause) -> Result<(), TapeFault>
-        ensures ok { (h : History) → StandsFor self.old h → OnOk result (StandsFor self.new (noted_all h (drops cause numbers.now))) }
+        ensures ok { (h : History) → StandsFor self.old h
+            → OnOk result (StandsFor self.new (noted_all h (drops cause numbers.now))) }
         ensures legal { OnOk result (AllLegal (ledger_of self.old) (drops cause numbers.now)) }
-        ensures ledger { OnOk result (ledger_of self.new ≡ after (ledger_of self.old) (drops cause numbers.now)) }
-        ensures pends { OnOk result (pending_of self.new ≡ pending_of self.old + length numbers.now) }
+        ensures ledger { OnOk result
+            (ledger_of self.new ≡ after (ledger_of self.old) (drops cause numbers.now)) }
+        ensures pends { OnOk result
+            (pending_of self.new ≡ pending_of self.old + length numbers.now) }
         ensures err { (h : History) → StandsFor self.old h → OnErr result (StandsFor self.new h) }
         ensures unchanged { OnErr result (IsSame self.old self.new) }
 
         ensures broken { IsErrOf result TapeFault.Broken ↔ IsBroken self.old }
-        ensures not_owed { IsErrOf result (TapeFault.Note LedgerFault.NotOwed) ↔ ((IsBroken self.old → ⊥) × (AreOwed (ledger_of self.old) [] numbers.now → ⊥)) }
-        ensures pending_full { IsErrOf result TapeFault.PendingFull ↔ ((IsBroken self.old → ⊥) × AreOwed (ledger_of self.old) [] numbers.now × (most_pending < pending_of self.old + length numbers.now)) }
+        ensures not_owed { IsErrOf result (TapeFault.Note LedgerFault.NotOwed)
+            ↔ ((IsBroken self.old → ⊥) × (AreOwed (ledger_of self.old) [] numbers.now → ⊥)) }
+        ensures pending_full { IsErrOf result TapeFault.PendingFull
+            ↔ ((IsBroken self.old → ⊥) × AreOwed (ledger_of self.old) [] numbers.now
+            × (most_pending < pending_of self.old + length numbers.now)) }
         ensures kinds { IfErr result IsDropFault }
 
         ensures disks { disks_of self.new ≡ disks_of self.old }
@@ -376,10 +408,13 @@ impl<D: Disk> Tape<D> {
     fn pend_drops(&mut self, numbers: &[u64], cause: Cause) -> Result<(), TapeFault>
         requires owed { AreOwed (ledger_of self.old) [] numbers.now }
         requires room { pending_of self.old + length numbers.now ≤ most_pending }
-        ensures ok { (h : History) → StandsFor self.old h → OnOk result (StandsFor self.new (noted_all h (drops cause numbers.now))) }
+        ensures ok { (h : History) → StandsFor self.old h
+            → OnOk result (StandsFor self.new (noted_all h (drops cause numbers.now))) }
         ensures legal { OnOk result (AllLegal (ledger_of self.old) (drops cause numbers.now)) }
-        ensures ledger { OnOk result (ledger_of self.new ≡ after (ledger_of self.old) (drops cause numbers.now)) }
-        ensures pends { OnOk result (pending_of self.new ≡ pending_of self.old + length numbers.now) }
+        ensures ledger { OnOk result
+            (ledger_of self.new ≡ after (ledger_of self.old) (drops cause numbers.now)) }
+        ensures pends { OnOk result
+            (pending_of self.new ≡ pending_of self.old + length numbers.now) }
         ensures unchanged { OnErr result (IsSame self.old self.new) }
         ensures memory { IfErr result (λ fault. fault ≡ TapeFault.NoMemory) }
         ensures segments { self.new.segments ≡ self.old.segments }
@@ -400,13 +435,15 @@ impl<D: Disk> Tape<D> {
     /// Tried in this order: `Broken`; `TapeFull`; `NoMemory`; these change nothing. `Disk`: the tape is broken from now
     /// on.
     pub fn flush(&mut self) -> Result<u64, TapeFault>
-        ensures ok { (h : History) → StandsFor self.old h → OnOk result (StandsFor self.new (flushed h)) }
+        ensures ok { (h : History) → StandsFor self.old h
+            → OnOk result (StandsFor self.new (flushed h)) }
         ensures err { (h : History) → StandsFor self.old h → OnErr result (StandsFor self.new h) }
         ensures count { (h : History) → StandsFor self.old h
             → IfOk result (λ n. n ≡ min (length h.notes - h.opened) (2 ^ 64 - 1)) }
 
         // A stop at any moment of the call leaves a tape of the first of the notes, with every acknowledged one.
-        ensures moments { (h : History) → StandsFor self.old h → TapeLeaves (Survives h) (log_of self.old) (log_of self.new) }
+        ensures moments { (h : History) → StandsFor self.old h
+            → TapeLeaves (Survives h) (log_of self.old) (log_of self.new) }
 
         // The calls that it makes.
         ensures calls { (h : History) → StandsFor self.old h → pending_of self.old ≢ 0 → OnOk result
@@ -416,7 +453,8 @@ impl<D: Disk> Tape<D> {
         ensures none_pends { OnOk result (pending_of self.new ≡ 0) }
 
         ensures broken { IsErrOf result TapeFault.Broken ↔ IsBroken self.old }
-        ensures full { IsErrOf result TapeFault.TapeFull ↔ ((IsBroken self.old → ⊥) × IsFull self.old) }
+        ensures full { IsErrOf result TapeFault.TapeFull
+            ↔ ((IsBroken self.old → ⊥) × IsFull self.old) }
         ensures refused { IfErr result (λ e. e ≢ TapeFault.Disk → self.new ≡ self.old) }
         ensures breaks { IsErrOf result TapeFault.Disk → IsBroken self.new }
         ensures works { OnOk result (IsBroken self.new → ⊥) }
@@ -447,11 +485,13 @@ impl<D: Disk> Tape<D> {
     fn flush_pending(&mut self) -> Result<u64, TapeFault>
         requires works { IsBroken self.old → ⊥ }
         requires pends { pending_of self.old ≢ 0 }
-        ensures ok { (h : History) → StandsFor self.old h → OnOk result (StandsFor self.new (flushed h)) }
+        ensures ok { (h : History) → StandsFor self.old h
+            → OnOk result (StandsFor self.new (flushed h)) }
         ensures err { (h : History) → StandsFor self.old h → OnErr result (StandsFor self.new h) }
         ensures count { (h : History) → StandsFor self.old h
             → IfOk result (λ n. n ≡ min (length h.notes - h.opened) (2 ^ 64 - 1)) }
-        ensures moments { (h : History) → StandsFor self.old h → TapeLeaves (Survives h) (log_of self.old) (log_of self.new) }
+        ensures moments { (h : History) → StandsFor self.old h
+            → TapeLeaves (Survives h) (log_of self.old) (log_of self.new) }
         ensures calls { (h : History) → StandsFor self.old h → OnOk result
             (log_of self.new ≡ flushing (spellings (drop h.kept h.notes)) self.old) }
         ensures none_pends { OnOk result (pending_of self.new ≡ 0) }
@@ -505,7 +545,8 @@ impl<D: Disk> Tape<D> {
     /// Tried in this order: `Broken`; `GenerationFull`; `TapeFull`; `NoMemory`; these change nothing. `Disk`: the tape
     /// is broken from now on.
     pub fn rotate(&mut self) -> Result<u64, TapeFault>
-        ensures ok { (h : History) → StandsFor self.old h → OnOk result (StandsFor self.new (flushed h)) }
+        ensures ok { (h : History) → StandsFor self.old h
+            → OnOk result (StandsFor self.new (flushed h)) }
         ensures err { (h : History) → StandsFor self.old h → OnErr result (StandsFor self.new h) }
         ensures generation { IfOk result (λ n. (n ≡ generation_of self.old + 1)
             × (generation_of self.new ≡ n)) }
@@ -556,9 +597,11 @@ impl<D: Disk> Tape<D> {
         requires works { IsBroken self.old → ⊥ }
         requires room { generation_of self.old < 2 ^ 64 - 1 }
         requires fits { rotated_length self.old ≤ longest_segment }
-        requires written { octets_of payloads.now ≡ written (generation_of self.old + 1) (ledger_of self.old) }
+        requires written { octets_of payloads.now
+            ≡ written (generation_of self.old + 1) (ledger_of self.old) }
         requires notes { AreNotes (owes (ledger_of self.old).debts) }
-        ensures ok { (h : History) → StandsFor self.old h → OnOk result (StandsFor self.new (flushed h)) }
+        ensures ok { (h : History) → StandsFor self.old h
+            → OnOk result (StandsFor self.new (flushed h)) }
         ensures err { (h : History) → StandsFor self.old h → OnErr result (StandsFor self.new h) }
         ensures generation { IfOk result (λ n. (n ≡ generation_of self.old + 1)
             × (generation_of self.new ≡ n)) }
@@ -601,7 +644,9 @@ impl<D: Disk> Tape<D> {
     /// # Errors
     /// Tried in this order: `Broken`; `NoMemory`.
     pub fn debt(&self, number: u64) -> Result<Option<Debt>, TapeFault>
-        ensures debt { IfOk result (λ debt. debt ≡ find (λ (owing : Owing). owing.0 == number) (ledger_of self.now).debts) }
+        ensures debt { IfOk result
+            (λ debt. debt ≡ find (λ (owing : Owing). owing.0 == number)
+            (ledger_of self.now).debts) }
         ensures broken { IsErrOf result TapeFault.Broken ↔ IsBroken self.now }
         ensures no_memory { IsErrOf result TapeFault.NoMemory → IsOwed (ledger_of self.now) number }
         ensures kinds { IfErr result IsDebtFault }
@@ -620,7 +665,8 @@ impl<D: Disk> Tape<D> {
     /// What the debt of this number counts in owed bytes, where it is owed: the octets of token and message-id, and 2.
     /// Takes no memory, and a broken tape answers too. Logarithmic in what is owed.
     pub fn octets(&self, number: u64) -> Option<u64>
-        ensures octets { result ≡ option_map (λ (owing : Owing). line_octets owing.1.0 owing.1.1) (find (λ (owing : Owing). owing.0 == number) (ledger_of self.now).debts) }
+        ensures octets { result ≡ option_map (λ (owing : Owing). line_octets owing.1.0 owing.1.1)
+            (find (λ (owing : Owing). owing.0 == number) (ledger_of self.now).debts) }
         ensures owed { IsSome result ↔ IsOwed (ledger_of self.now) number }
     {
         let (token, id) = self.ledger.debt(number)?;
@@ -648,7 +694,8 @@ impl<D: Disk> Tape<D> {
     pub fn numbers(&self) -> Result<Vec<u64>, AllocError>
         ensures items { IfOk result (λ v. v.items ≡ numbers (ledger_of self.now)) }
         ensures rising { IfOk result (λ v. IsStrictlyIncreasing v.items) }
-        ensures marked { IfOk result (λ v. All (λ number. number ≤ (ledger_of self.now).mark) v.items) }
+        ensures marked { IfOk result
+            (λ v. All (λ number. number ≤ (ledger_of self.now).mark) v.items) }
     {
         self.ledger.numbers(self.alloc)
     }
@@ -721,7 +768,8 @@ fn apply_drops(ledger: &mut Ledger, numbers: &[u64], cause: Cause)
 
 // How many debts were taken: as many as were answered, dropped and are owed.
 fn taken_of(ledger: &Ledger) -> u64
-    ensures { result ≡ (state_of ledger.now).answered + (state_of ledger.now).dropped + length (state_of ledger.now).debts }
+    ensures { result ≡ (state_of ledger.now).answered + (state_of ledger.now).dropped
+        + length (state_of ledger.now).debts }
 {
     let totals = ledger.totals();
     totals.taken

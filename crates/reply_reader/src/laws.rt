@@ -5,15 +5,21 @@ ghost use Rattle.reply_reader.specs.Stream.{Given, IsShort, Reads};
 
 /// A line has one code, one message-id or none, and one text; and each line either has them or begins with no code.
 pub fn line_reads_once()
-    ensures once { (line : List ℕ) (code code' : ℕ) (id id' : Option (List ℕ)) (text text' : List ℕ) → IsReplyLine line code id text → IsReplyLine line code' id' text'
+    ensures once { (line : List ℕ) (code code' : ℕ) (id id' : Option (List ℕ)) (text text' : List ℕ)
+        → IsReplyLine line code id text → IsReplyLine line code' id' text'
         → (code ≡ code') × (id ≡ id') × (text ≡ text') }
-    ensures either { (line : List ℕ) → IsNoReply line ⊎ ((code : ℕ) × (id : Option (List ℕ)) × (text : List ℕ) × IsReplyLine line code id text) }
-    ensures apart { (line : List ℕ) (code : ℕ) (id : Option (List ℕ)) (text : List ℕ) → IsReplyLine line code id text → IsNoReply line → ⊥ }
+    ensures either { (line : List ℕ)
+        → IsNoReply line
+        ⊎ ((code : ℕ) × (id : Option (List ℕ)) × (text : List ℕ) × IsReplyLine line code id text) }
+    ensures apart { (line : List ℕ) (code : ℕ) (id : Option (List ℕ)) (text : List ℕ)
+        → IsReplyLine line code id text → IsNoReply line → ⊥ }
 {}
 
-/// The same octets give the same replies, in whatever pieces they are fed: of two readings, the replies of one begin the
-/// replies of the other, and where no whole line is left in either, they are the same.
+/// The same octets give the same replies, in whatever pieces they are fed: of two readings, the replies of one begin
+/// the replies of the other, and where no whole line is left in either, they are the same.
 pub fn cut_anyhow()
-    ensures begins { (fed : List ℕ) (a b : List Given) (u v : List ℕ) → Reads fed a u → Reads fed b v → (a ≡ take (length a) b) ⊎ (b ≡ take (length b) a) }
-    ensures same { (fed : List ℕ) (a b : List Given) (u v : List ℕ) → Reads fed a u → Reads fed b v → IsShort u → IsShort v → (a ≡ b) × (u ≡ v) }
+    ensures begins { (fed : List ℕ) (a b : List Given) (u v : List ℕ) → Reads fed a u
+        → Reads fed b v → (a ≡ take (length a) b) ⊎ (b ≡ take (length b) a) }
+    ensures same { (fed : List ℕ) (a b : List Given) (u v : List ℕ) → Reads fed a u → Reads fed b v
+        → IsShort u → IsShort v → (a ≡ b) × (u ≡ v) }
 {}

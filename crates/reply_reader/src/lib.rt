@@ -2,7 +2,8 @@
 //!
 //! May touch nothing but memory; it stands on `funnel` for message-ids and on `memchr` for the search for line ends.
 //! The crates above use `ReplyReader`: whatever octets it was fed and replies it gave, each call leaves it standing for
-//! those and the call's own (`specs/Stream.antt`, over the reply lines of `specs/Reply.antt`); `laws` has the laws on these words.
+//! those and the call's own (`specs/Stream.antt`, over the reply lines of `specs/Reply.antt`); `laws` has the laws on
+//! these words.
 #![tactic(auto)]
 
 mod fault;

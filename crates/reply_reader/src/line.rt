@@ -19,9 +19,14 @@ pub struct Reply {
 
 // Reads a reply line, without its LF.
 pub(crate) fn read_reply(alloc: Global, line: &[u8]) -> Result<Reply, ReplyFault>
-    ensures reply { IfOk result (λ reply. IsReplyLine line.now reply.code reply.id reply.text.items) }
+    ensures reply { IfOk result
+        (λ reply. IsReplyLine line.now reply.code reply.id reply.text.items) }
     ensures no_code { IsErrOf result ReplyFault.NoCode ↔ IsNoReply line.now }
-    ensures no_memory { IfErr result (λ fault. (fault ≡ ReplyFault.NoCode) ⊎ ((fault ≡ ReplyFault.NoMemory) × ((code : ℕ) × (id : Option (List ℕ)) × (text : List ℕ) × IsReplyLine line.now code id text))) }
+    ensures no_memory { IfErr result
+        (λ fault. (fault ≡ ReplyFault.NoCode)
+        ⊎ ((fault ≡ ReplyFault.NoMemory)
+        × ((code : ℕ) × (id : Option (List ℕ)) × (text : List ℕ)
+        × IsReplyLine line.now code id text))) }
 {
     let Some(coded) = read_code(without_cr(line)) else {
         return Err(ReplyFault::NoCode);
@@ -55,7 +60,8 @@ struct Coded<'a> {
 // The code that the octets begin with; `None` where they do not begin with three digits.
 fn read_code(octets: &[u8]) -> Option<Coded<'_>>
     ensures some { IfSome result (λ coded. BeginsWithCode octets.now coded.code coded.rest.now) }
-    ensures none { IfNone result ((code : ℕ) (rest : List ℕ) → BeginsWithCode octets.now code rest → ⊥) }
+    ensures none { IfNone result
+        ((code : ℕ) (rest : List ℕ) → BeginsWithCode octets.now code rest → ⊥) }
 {
     match octets {
         [

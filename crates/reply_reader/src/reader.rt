@@ -1,6 +1,8 @@
 // Replies from pieces of any size.
-ghost use Rattle.std.specs.Prelude.{◌≡◌, ◌≢◌, ◌≤◌, ◌↔◌, ◌++◌, [], ℕ, List, IfOk, IfSome, IsOk, IsErrOf, IsTrue, OnOk, OnErr};
-ghost use Rattle.reply_reader.specs.Stream.{AtWork, BeginsWithNoReply, BeginsWithReply, Broken, Given, IsShort, IsTooLong, StandsFailed, StandsFor, Working, after_feed, longest_reply};
+ghost use Rattle.std.specs.Prelude.{◌≡◌, ◌≢◌, ◌≤◌, ◌↔◌, ◌++◌, [], ℕ, List, IfOk, IfSome, IsOk, IsErrOf, IsTrue, OnOk};
+ghost use Rattle.std.specs.Prelude.{OnErr};
+ghost use Rattle.reply_reader.specs.Stream.{AtWork, BeginsWithNoReply, BeginsWithReply, Broken, Given, IsShort};
+ghost use Rattle.reply_reader.specs.Stream.{IsTooLong, StandsFailed, StandsFor, Working, after_feed, longest_reply};
 ghost use Rattle.reply_reader.specs.Told.{NextIs, given_of, told};
 
 use crate::NoMemory;
@@ -53,7 +55,9 @@ impl ReplyReader {
     /// `NoMemory` where memory was refused: the reader is unchanged, and the octets are not taken in.
     pub fn feed(&mut self, piece: &[u8]) -> Result<(), NoMemory>
         ensures fed { OnOk result (self.new ≡ after_feed self.old piece.now) }
-        ensures stands { OnOk result ((fed : List ℕ) (given : List Given) → StandsFor self.old fed given → StandsFor self.new (fed ++ piece.now) given) }
+        ensures stands { OnOk result
+            ((fed : List ℕ) (given : List Given) → StandsFor self.old fed given
+            → StandsFor self.new (fed ++ piece.now) given) }
         ensures refused { OnErr result (self.new ≡ self.old) }
         ensures broken { self.old ≡ Broken → IsOk result }
     {
@@ -68,20 +72,29 @@ impl ReplyReader {
     /// # Errors
     /// [`ReplyFault::TooLong`] where 2,048 octets without an LF stand unread first, whole line or not, and else
     /// [`ReplyFault::NoCode`] where the first unread line is whole and does not begin with three digits; after either
-    /// each call gives [`ReplyFault::Failed`]. [`ReplyFault::NoMemory`] where it is a reply line and memory was refused:
-    /// the reader is unchanged.
+    /// each call gives [`ReplyFault::Failed`]. [`ReplyFault::NoMemory`] where it is a reply line and memory was
+    /// refused: the reader is unchanged.
     pub fn next(&mut self) -> Result<Option<Reply>, ReplyFault>
-        ensures stands { (fed : List ℕ) (given : List Given) → StandsFor self.old fed given → StandsFor self.new fed (given ++ told result) }
-        ensures reply { IfOk result (λ next. IfSome next (λ reply. AtWork self.old (λ unread. (rest : List ℕ) × BeginsWithReply unread (given_of reply) rest × (self.new ≡ Working rest)))) }
+        ensures stands { (fed : List ℕ) (given : List Given) → StandsFor self.old fed given
+            → StandsFor self.new fed (given ++ told result) }
+        ensures reply { IfOk result
+            (λ next. IfSome next (λ reply.
+            AtWork self.old (λ unread. (rest : List ℕ)
+            × BeginsWithReply unread (given_of reply) rest × (self.new ≡ Working rest)))) }
         ensures none { (result ≡ Ok None) ↔ AtWork self.old IsShort }
         ensures too_long { IsErrOf result ReplyFault.TooLong ↔ AtWork self.old IsTooLong }
         ensures no_code { IsErrOf result ReplyFault.NoCode ↔ AtWork self.old BeginsWithNoReply }
-        ensures no_memory { IsErrOf result ReplyFault.NoMemory → AtWork self.old (λ unread. (given : Given) × (rest : List ℕ) × BeginsWithReply unread given rest) }
+        ensures no_memory { IsErrOf result ReplyFault.NoMemory
+            → AtWork self.old (λ unread. (given : Given) × (rest : List ℕ)
+            × BeginsWithReply unread given rest) }
         ensures failed { IsErrOf result ReplyFault.Failed ↔ (self.old ≡ Broken) }
         ensures waits { result ≡ Ok None → self.new ≡ self.old }
         ensures refused { IsErrOf result ReplyFault.NoMemory → self.new ≡ self.old }
-        ensures told_fault { (fault : ReplyFault) (fed : List ℕ) (given : List Given) → IsErrOf result fault → fault ≢ ReplyFault.NoMemory → StandsFor self.old fed given → StandsFailed self.new fed given }
-        ensures breaks { (fault : ReplyFault) → IsErrOf result fault → fault ≢ ReplyFault.NoMemory → self.new ≡ Broken }
+        ensures told_fault { (fault : ReplyFault) (fed : List ℕ) (given : List Given)
+            → IsErrOf result fault → fault ≢ ReplyFault.NoMemory → StandsFor self.old fed given
+            → StandsFailed self.new fed given }
+        ensures breaks { (fault : ReplyFault) → IsErrOf result fault → fault ≢ ReplyFault.NoMemory
+            → self.new ≡ Broken }
     {
         match &mut self.stage {
             Stage::Working(unread) => match next_reply(unread) {

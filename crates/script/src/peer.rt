@@ -61,7 +61,8 @@ fn write_peer(alloc: Global, name: &[u8], items: &[u8]) -> Result<Vec<u8>, Alloc
 fn only_peer(mut peers: Vec<PeerConf>, name: &[u8]) -> Option<PeerConf>
     ensures { MatchOption result
         ((conf : PeerConf) → peers.items ≡ conf ∷ [] → conf.name ≢ name.now)
-        (λ conf. (peers.items ≡ conf ∷ []) × (conf.name ≡ name.now) × IsTrue (is_peer_name name.now)) }
+        (λ conf. (peers.items ≡ conf ∷ []) × (conf.name ≡ name.now)
+        × IsTrue (is_peer_name name.now)) }
 {
     let conf = peers.pop()?;
     if peers.is_empty() && conf.name.bytes() == name {

@@ -54,11 +54,20 @@ pub(crate) fn length_of(payloads: &[Vec<u8>]) -> u64
 fn open_gates<D: Disk>(disk: &mut D, first: u64, payloads: &[Vec<u8>]) -> Result<(), DiskFault>
     requires { first + length (records (octets_of payloads.now)) < 2 ^ 64 }
     ensures honest { D.honest disk.old ↔ D.honest disk.new }
-    ensures moments { D.honest disk.old → (front : List (List ℕ)) → HasStaged (D.log disk.old) front (octets_of payloads.now) first → Leaves (Staged front (octets_of payloads.now)) (D.log disk.old) (D.log disk.new) }
-    ensures done { D.honest disk.old → (front : List (List ℕ)) → HasStaged (D.log disk.old) front (octets_of payloads.now) first → OnOk result (content (D.log disk.new) ≡ at_rest (front ++ octets_of payloads.now)) }
-    ensures calls { D.honest disk.old → (front : List (List ℕ)) → HasStaged (D.log disk.old) front (octets_of payloads.now) first → OnOk result (D.log disk.new ≡ gates_opened first (octets_of payloads.now) (D.log disk.old)) }
+    ensures moments { D.honest disk.old → (front : List (List ℕ))
+        → HasStaged (D.log disk.old) front (octets_of payloads.now) first
+        → Leaves (Staged front (octets_of payloads.now)) (D.log disk.old) (D.log disk.new) }
+    ensures done { D.honest disk.old → (front : List (List ℕ))
+        → HasStaged (D.log disk.old) front (octets_of payloads.now) first
+        → OnOk result (content (D.log disk.new) ≡ at_rest (front ++ octets_of payloads.now)) }
+    ensures calls { D.honest disk.old → (front : List (List ℕ))
+        → HasStaged (D.log disk.old) front (octets_of payloads.now) first
+        → OnOk result (D.log disk.new
+        ≡ gates_opened first (octets_of payloads.now) (D.log disk.old)) }
     ensures later { D.told disk.old ≤ D.told disk.new }
-    ensures cause { D.honest disk.old → (front : List (List ℕ)) → HasStaged (D.log disk.old) front (octets_of payloads.now) first → CountsFaults (D.told disk.old) (D.told disk.new) result }
+    ensures cause { D.honest disk.old → (front : List (List ℕ))
+        → HasStaged (D.log disk.old) front (octets_of payloads.now) first
+        → CountsFaults (D.told disk.old) (D.told disk.new) result }
     ensures quiet { OnOk result (D.told disk.new ≡ D.told disk.old) }
 {
     let mut at = first;
@@ -80,12 +89,22 @@ pub(crate) fn add_records<D: Disk>(
     requires staged { staged.now ≡ staging (octets_of payloads.now) }
     requires short { AllShort (octets_of payloads.now) }
     ensures honest { D.honest disk.old ↔ D.honest disk.new }
-    ensures moments { D.honest disk.old → (all : List (List ℕ)) → AtRest (D.log disk.old) all → end ≡ length (records all) → Leaves (ReadsFrom (length all) (all ++ octets_of payloads.now)) (D.log disk.old) (D.log disk.new) }
-    ensures gates { D.honest disk.old → (all : List (List ℕ)) → AtRest (D.log disk.old) all → end ≡ length (records all) → AfterSync (Staged all (octets_of payloads.now)) (D.log disk.old) (D.log disk.new) }
-    ensures done { D.honest disk.old → (all : List (List ℕ)) → AtRest (D.log disk.old) all → end ≡ length (records all) → OnOk result (AtRest (D.log disk.new) (all ++ octets_of payloads.now)) }
-    ensures calls { D.honest disk.old → (all : List (List ℕ)) → AtRest (D.log disk.old) all → end ≡ length (records all) → OnOk result (D.log disk.new ≡ appending end (octets_of payloads.now) (D.log disk.old)) }
+    ensures moments { D.honest disk.old → (all : List (List ℕ)) → AtRest (D.log disk.old) all
+        → end ≡ length (records all)
+        → Leaves (ReadsFrom (length all) (all ++ octets_of payloads.now)) (D.log disk.old)
+        (D.log disk.new) }
+    ensures gates { D.honest disk.old → (all : List (List ℕ)) → AtRest (D.log disk.old) all
+        → end ≡ length (records all)
+        → AfterSync (Staged all (octets_of payloads.now)) (D.log disk.old) (D.log disk.new) }
+    ensures done { D.honest disk.old → (all : List (List ℕ)) → AtRest (D.log disk.old) all
+        → end ≡ length (records all)
+        → OnOk result (AtRest (D.log disk.new) (all ++ octets_of payloads.now)) }
+    ensures calls { D.honest disk.old → (all : List (List ℕ)) → AtRest (D.log disk.old) all
+        → end ≡ length (records all)
+        → OnOk result (D.log disk.new ≡ appending end (octets_of payloads.now) (D.log disk.old)) }
     ensures later { D.told disk.old ≤ D.told disk.new }
-    ensures cause { D.honest disk.old → (all : List (List ℕ)) → AtRest (D.log disk.old) all → end ≡ length (records all) → CountsFaults (D.told disk.old) (D.told disk.new) result }
+    ensures cause { D.honest disk.old → (all : List (List ℕ)) → AtRest (D.log disk.old) all
+        → end ≡ length (records all) → CountsFaults (D.told disk.old) (D.told disk.new) result }
     ensures quiet { OnOk result (D.told disk.new ≡ D.told disk.old) }
 {
     put_synced(disk, end + 1, staged)?;

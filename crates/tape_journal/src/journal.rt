@@ -47,7 +47,8 @@ fn read_fault_of(fault: OpenFault) -> ReadFault
 }
 
 impl<D: Disk> Journal<D> {
-    ghost use Rattle.std.specs.Prelude.{◌≢◌, ◌↔◌, [], ◌∷◌, ◌++◌, length, min, drop, MatchResult, IfOk, IfErr, OnOk, OnErr, IsOk, IsErrOf, IsTrue};
+    ghost use Rattle.std.specs.Prelude.{◌≢◌, ◌↔◌, [], ◌∷◌, ◌++◌, length, min, drop, MatchResult, IfOk, IfErr, OnOk};
+    ghost use Rattle.std.specs.Prelude.{OnErr, IsOk, IsErrOf, IsTrue};
     ghost use Rattle.disk_model.specs.Disk.{Leaves, AfterSync};
     ghost use Rattle.tape_journal.specs.Words.{octets_of};
     ghost use Rattle.tape_journal.specs.Segment.{ReadsFrom, AllShort, IsRecord, records, longest_segment};
@@ -92,17 +93,25 @@ impl<D: Disk> Journal<D> {
     /// then `Disk` of the repair. The disk is handed back.
     #[tactic(auto, using(crate::proofs::Ending::as_it_was))]
     pub fn open(alloc: Global, disk: D) -> Result<(Journal<D>, Vec<Vec<u8>>), Refused<D>>
-        ensures ok { D.honest disk → IfOk result (λ r. IsOpened (D.log disk) r.0 (octets_of r.1.items)) }
+        ensures ok { D.honest disk
+            → IfOk result (λ r. IsOpened (D.log disk) r.0 (octets_of r.1.items)) }
         ensures err { D.honest disk → IfErr result (λ e. IsRefused (D.log disk) e) }
 
         // It doesn't give up by itself: each fault has its cause.
-        ensures damaged { D.honest disk → IfErr result (λ e. (at : ℕ) → e.fault ≡ OpenFault.Damaged at → IsDamagedAt (content (D.log disk)) at × (D.log e.disk ≡ D.log disk)) }
-        ensures memory { D.honest disk → IfErr result (λ e. e.fault ≡ OpenFault.NoMemory → D.log e.disk ≡ D.log disk) }
-        ensures cause { D.honest disk → IfErr result (λ e. e.fault ≡ OpenFault.Disk → min (D.told disk + 1) (2 ^ 64 - 1) ≤ D.told e.disk) }
+        ensures damaged { D.honest disk
+            → IfErr result (λ e. (at : ℕ) → e.fault ≡ OpenFault.Damaged at
+            → IsDamagedAt (content (D.log disk)) at × (D.log e.disk ≡ D.log disk)) }
+        ensures memory { D.honest disk
+            → IfErr result (λ e. e.fault ≡ OpenFault.NoMemory → D.log e.disk ≡ D.log disk) }
+        ensures cause { D.honest disk
+            → IfErr result (λ e. e.fault ≡ OpenFault.Disk
+            → min (D.told disk + 1) (2 ^ 64 - 1) ≤ D.told e.disk) }
 
         ensures works { IfOk result (λ r. IsBroken r.0 → ⊥) }
-        ensures honest { MatchResult result (λ r. D.honest disk ↔ D.honest (disk_of r.0)) (λ e. D.honest disk ↔ D.honest e.disk) }
-        ensures later { MatchResult result (λ r. D.told disk ≤ D.told (disk_of r.0)) (λ e. D.told disk ≤ D.told e.disk) }
+        ensures honest { MatchResult result (λ r. D.honest disk ↔ D.honest (disk_of r.0))
+            (λ e. D.honest disk ↔ D.honest e.disk) }
+        ensures later { MatchResult result (λ r. D.told disk ≤ D.told (disk_of r.0))
+            (λ e. D.told disk ≤ D.told e.disk) }
         ensures quiet { IfOk result (λ r. D.told (disk_of r.0) ≡ D.told disk) }
     {
         let (unrepaired, payloads) = Journal::read(alloc, disk)?;
@@ -113,11 +122,17 @@ impl<D: Disk> Journal<D> {
     // The length of the records to add, where they are not refused at once.
     fn room_for(&self, payloads: &[Vec<u8>]) -> Result<u64, AppendFault>
         ensures broken { IsErrOf result AppendFault.Broken ↔ IsBroken self.now }
-        ensures too_long { IsErrOf result AppendFault.PayloadTooLong ↔ ((IsBroken self.now → ⊥) × (AllShort (octets_of payloads.now) → ⊥)) }
-        ensures full { IsErrOf result AppendFault.TapeFull ↔ ((IsBroken self.now → ⊥) × AllShort (octets_of payloads.now) × (payloads.now ≢ []) × (longest_segment < end_of self.now + 1 + length (records (octets_of payloads.now)))) }
+        ensures too_long { IsErrOf result AppendFault.PayloadTooLong
+            ↔ ((IsBroken self.now → ⊥) × (AllShort (octets_of payloads.now) → ⊥)) }
+        ensures full { IsErrOf result AppendFault.TapeFull
+            ↔ ((IsBroken self.now → ⊥) × AllShort (octets_of payloads.now) × (payloads.now ≢ [])
+            × (longest_segment < end_of self.now + 1 + length (records (octets_of payloads.now)))) }
         ensures empty_ok { payloads.now ≡ [] → (IsBroken self.now → ⊥) → IsOk result }
         ensures others { IfErr result (λ e. (e ≢ AppendFault.Disk) × (e ≢ AppendFault.NoMemory)) }
-        ensures ok { IfOk result (λ added. (IsBroken self.now → ⊥) × AllShort (octets_of payloads.now) × (added ≡ length (records (octets_of payloads.now))) × (payloads.now ≢ [] → end_of self.now + 1 + added ≤ longest_segment)) }
+        ensures ok { IfOk result
+            (λ added. (IsBroken self.now → ⊥) × AllShort (octets_of payloads.now)
+            × (added ≡ length (records (octets_of payloads.now)))
+            × (payloads.now ≢ [] → end_of self.now + 1 + added ≤ longest_segment)) }
     {
         if self.broken {
             return Err(AppendFault::Broken);
@@ -143,28 +158,41 @@ impl<D: Disk> Journal<D> {
     /// with the end gate would pass 4,294,967,296; `NoMemory`; these change nothing. `Disk`: a call failed, the journal
     /// is broken from then on, and its disk is to be opened again.
     pub fn append_all(&mut self, payloads: &[Vec<u8>]) -> Result<(), AppendFault>
-        ensures ok { (all : List (List ℕ)) → Holds self.old all → OnOk result (Holds self.new (all ++ octets_of payloads.now)) }
+        ensures ok { (all : List (List ℕ)) → Holds self.old all
+            → OnOk result (Holds self.new (all ++ octets_of payloads.now)) }
 
         // The calls that it makes.
-        ensures calls { (all : List (List ℕ)) → Holds self.old all → payloads.now ≢ [] → OnOk result (D.log (disk_of self.new) ≡ appending (end_of self.old) (octets_of payloads.now) (D.log (disk_of self.old))) }
+        ensures calls { (all : List (List ℕ)) → Holds self.old all → payloads.now ≢ []
+            → OnOk result (D.log (disk_of self.new)
+            ≡ appending (end_of self.old) (octets_of payloads.now) (D.log (disk_of self.old))) }
         ensures empty { payloads.now ≡ [] → self.new ≡ self.old }
         ensures empty_ok { payloads.now ≡ [] → (IsBroken self.old → ⊥) → IsOk result }
 
         // A stop at any moment of the call leaves the first of the payloads, with all from before the call.
-        ensures moments { (all : List (List ℕ)) → Holds self.old all → Leaves (ReadsFrom (length all) (all ++ octets_of payloads.now)) (D.log (disk_of self.old)) (D.log (disk_of self.new)) }
+        ensures moments { (all : List (List ℕ)) → Holds self.old all
+            → Leaves (ReadsFrom (length all) (all ++ octets_of payloads.now))
+            (D.log (disk_of self.old)) (D.log (disk_of self.new)) }
 
         // After its first sync that succeeded the images differ in the new gates alone.
-        ensures gates { (all : List (List ℕ)) → Holds self.old all → AfterSync (Staged all (octets_of payloads.now)) (D.log (disk_of self.old)) (D.log (disk_of self.new)) }
+        ensures gates { (all : List (List ℕ)) → Holds self.old all
+            → AfterSync (Staged all (octets_of payloads.now)) (D.log (disk_of self.old))
+            (D.log (disk_of self.new)) }
 
         ensures broken { IsErrOf result AppendFault.Broken ↔ IsBroken self.old }
-        ensures too_long { IsErrOf result AppendFault.PayloadTooLong ↔ ((IsBroken self.old → ⊥) × (AllShort (octets_of payloads.now) → ⊥)) }
-        ensures full { IsErrOf result AppendFault.TapeFull ↔ ((IsBroken self.old → ⊥) × AllShort (octets_of payloads.now) × (payloads.now ≢ []) × (longest_segment < end_of self.old + 1 + length (records (octets_of payloads.now)))) }
+        ensures too_long { IsErrOf result AppendFault.PayloadTooLong
+            ↔ ((IsBroken self.old → ⊥) × (AllShort (octets_of payloads.now) → ⊥)) }
+        ensures full { IsErrOf result AppendFault.TapeFull
+            ↔ ((IsBroken self.old → ⊥) × AllShort (octets_of payloads.now) × (payloads.now ≢ [])
+            × (longest_segment < end_of self.old + 1 + length (records (octets_of payloads.now)))) }
         ensures refused { IfErr result (λ e. e ≢ AppendFault.Disk → self.new ≡ self.old) }
         ensures unchanged { OnErr result ((IsBroken self.new → ⊥) → self.new ≡ self.old) }
         ensures failed { IsErrOf result AppendFault.Disk → IsBroken self.new }
         ensures works { OnOk result (IsBroken self.new → ⊥) }
-        ensures cause { (all : List (List ℕ)) → Holds self.old all → IsErrOf result AppendFault.Disk → min (D.told (disk_of self.old) + 1) (2 ^ 64 - 1) ≤ D.told (disk_of self.new) }
-        ensures end { MatchResult result (λ _. end_of self.new ≡ end_of self.old + length (records (octets_of payloads.now))) (λ _. end_of self.new ≡ end_of self.old) }
+        ensures cause { (all : List (List ℕ)) → Holds self.old all → IsErrOf result AppendFault.Disk
+            → min (D.told (disk_of self.old) + 1) (2 ^ 64 - 1) ≤ D.told (disk_of self.new) }
+        ensures end { MatchResult result
+            (λ _. end_of self.new ≡ end_of self.old + length (records (octets_of payloads.now)))
+            (λ _. end_of self.new ≡ end_of self.old) }
         ensures honest { D.honest (disk_of self.old) ↔ D.honest (disk_of self.new) }
         ensures quiet { OnOk result (D.told (disk_of self.new) ≡ D.told (disk_of self.old)) }
         ensures later { D.told (disk_of self.old) ≤ D.told (disk_of self.new) }
@@ -192,15 +220,23 @@ impl<D: Disk> Journal<D> {
     /// `Broken` after a `Disk` of `append_all`; `NoMemory`; `Disk` where a read failed, or where no open record stands
     /// there, which an honest disk never gives at the offset of a payload's gate. None of them breaks the journal.
     pub fn payload_at(&mut self, offset: u64) -> Result<Vec<u8>, ReadFault>
-        ensures payload { (front more : List (List ℕ)) (payload : List ℕ) → Holds self.old (front ++ payload ∷ more) → offset ≡ length (records front) → IfOk result (λ v. v.items ≡ payload) }
-        ensures cause { (front more : List (List ℕ)) (payload : List ℕ) → Holds self.old (front ++ payload ∷ more) → offset ≡ length (records front) → IsErrOf result ReadFault.Disk → min (D.told (disk_of self.old) + 1) (2 ^ 64 - 1) ≤ D.told (disk_of self.new) }
+        ensures payload { (front more : List (List ℕ)) (payload : List ℕ)
+            → Holds self.old (front ++ payload ∷ more) → offset ≡ length (records front)
+            → IfOk result (λ v. v.items ≡ payload) }
+        ensures cause { (front more : List (List ℕ)) (payload : List ℕ)
+            → Holds self.old (front ++ payload ∷ more) → offset ≡ length (records front)
+            → IsErrOf result ReadFault.Disk
+            → min (D.told (disk_of self.old) + 1) (2 ^ 64 - 1) ≤ D.told (disk_of self.new) }
 
         // At any offset an honest disk gives the payload of a whole open record, or none.
-        ensures record { D.honest (disk_of self.old) → IfOk result (λ v. IsRecord v.items (drop offset (content (D.log (disk_of self.old))))) }
+        ensures record { D.honest (disk_of self.old)
+            → IfOk result (λ v. IsRecord v.items
+            (drop offset (content (D.log (disk_of self.old))))) }
 
         ensures broken { IsErrOf result ReadFault.Broken ↔ IsBroken self.old }
         ensures stays { (all : List (List ℕ)) → Holds self.old all → Holds self.new all }
-        ensures log { D.honest (disk_of self.old) → D.log (disk_of self.new) ≡ D.log (disk_of self.old) }
+        ensures log { D.honest (disk_of self.old)
+            → D.log (disk_of self.new) ≡ D.log (disk_of self.old) }
         ensures end { end_of self.new ≡ end_of self.old }
         ensures works { IsBroken self.old ↔ IsBroken self.new }
         ensures honest { D.honest (disk_of self.old) ↔ D.honest (disk_of self.new) }

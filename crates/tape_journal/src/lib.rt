@@ -1,8 +1,8 @@
 //! A journal of payloads on a disk, in records that count once their gate is open.
 //!
-//! May touch the disk that it is given and nothing else; it stands on `disk_model`.
-//! The crates above use `Journal`: a list of payloads (`specs/Journal.antt`, `Holds`), and at each moment of each call a
-//! stop leaves a segment that has the first of them, all acknowledged ones among those (`specs/Segment.antt`, `Reads`).
+//! May touch the disk that it is given and nothing else; it stands on `disk_model`. The crates above use `Journal`: a
+//! list of payloads (`specs/Journal.antt`, `Holds`), and at each moment of each call a stop leaves a segment that has
+//! the first of them, all acknowledged ones among those (`specs/Segment.antt`, `Reads`).
 #![tactic(auto)]
 
 mod append;

@@ -1,5 +1,6 @@
 // Reading a segment, front to back.
-ghost use Rattle.std.specs.Prelude.{◌≡◌, ◌+◌, ◌-◌, ◌^◌, ◌<◌, ◌≤◌, ◌↔◌, ℕ, List, length, min, take, drop, IfOk, OnOk, IsErrOf, MatchOption, IfSome};
+ghost use Rattle.std.specs.Prelude.{◌≡◌, ◌+◌, ◌-◌, ◌^◌, ◌<◌, ◌≤◌, ◌↔◌, ℕ, List, length, min, take, drop, IfOk, OnOk};
+ghost use Rattle.std.specs.Prelude.{IsErrOf, MatchOption, IfSome};
 ghost use Rattle.std.specs.Int.{to_be_bytes, from_be_bytes, w32};
 ghost use Rattle.disk_model.specs.Disk.{content};
 ghost use Rattle.tape_journal.specs.Head.{IsHead, FitsHead};
@@ -40,11 +41,13 @@ fn octets_at<D: Disk>(
     ensures shows { D.honest disk.old → Shows window.new (content (D.log disk.old)) }
     ensures honest { D.honest disk.old ↔ D.honest disk.new }
     ensures log { D.honest disk.old → D.log disk.new ≡ D.log disk.old }
-    ensures octets { D.honest disk.old → IfOk result (λ v. v.items ≡ take count (drop at (content (D.log disk.old)))) }
+    ensures octets { D.honest disk.old
+        → IfOk result (λ v. v.items ≡ take count (drop at (content (D.log disk.old)))) }
     ensures length { IfOk result (λ v. length v.items ≡ count) }
     ensures later { D.told disk.old ≤ D.told disk.new }
     ensures damaged { (e : ℕ) → IsErrOf result (OpenFault.Damaged e) → ⊥ }
-    ensures cause { D.honest disk.old → at + count ≤ length (content (D.log disk.old)) → IsErrOf result OpenFault.Disk → min (D.told disk.old + 1) (2 ^ 64 - 1) ≤ D.told disk.new }
+    ensures cause { D.honest disk.old → at + count ≤ length (content (D.log disk.old))
+        → IsErrOf result OpenFault.Disk → min (D.told disk.old + 1) (2 ^ 64 - 1) ≤ D.told disk.new }
     ensures quiet { OnOk result (D.told disk.new ≡ D.told disk.old) }
 {
     let mut octets = vec![in alloc; 0u8; count]?;
@@ -65,7 +68,8 @@ fn number_of(octets: &[u8]) -> u32
 fn head_of(octets: &[u8], left: u64) -> Head
     requires some { 0 < left }
     requires first { length octets.now ≡ min left 5 }
-    ensures is { (rest : List ℕ) → length rest ≡ left → octets.now ≡ take 5 rest → IsHead result rest }
+    ensures is { (rest : List ℕ) → length rest ≡ left → octets.now ≡ take 5 rest
+        → IsHead result rest }
     ensures fits { FitsHead result left }
 {
     if octets[0] != OPEN || left == 1 {
@@ -95,10 +99,15 @@ pub(crate) fn record_at<D: Disk>(
     ensures honest { D.honest disk.old ↔ D.honest disk.new }
     ensures log { D.honest disk.old → D.log disk.new ≡ D.log disk.old }
     ensures within { IfOk result (λ o. IfSome o (λ p. at + 5 + length p.items ≤ len)) }
-    ensures reads { D.honest disk.old → len ≡ length (content (D.log disk.old)) → IfOk result (λ o. MatchOption o (Ends (drop at (content (D.log disk.old)))) (λ p. IsRecord p.items (drop at (content (D.log disk.old))))) }
-    ensures damaged { D.honest disk.old → len ≡ length (content (D.log disk.old)) → (e : ℕ) → IsErrOf result (OpenFault.Damaged e) → (e ≡ at) × IsCutShort (drop at (content (D.log disk.old))) }
+    ensures reads { D.honest disk.old → len ≡ length (content (D.log disk.old))
+        → IfOk result (λ o. MatchOption o (Ends (drop at (content (D.log disk.old))))
+        (λ p. IsRecord p.items (drop at (content (D.log disk.old))))) }
+    ensures damaged { D.honest disk.old → len ≡ length (content (D.log disk.old)) → (e : ℕ)
+        → IsErrOf result (OpenFault.Damaged e)
+        → (e ≡ at) × IsCutShort (drop at (content (D.log disk.old))) }
     ensures later { D.told disk.old ≤ D.told disk.new }
-    ensures cause { D.honest disk.old → len ≡ length (content (D.log disk.old)) → IsErrOf result OpenFault.Disk → min (D.told disk.old + 1) (2 ^ 64 - 1) ≤ D.told disk.new }
+    ensures cause { D.honest disk.old → len ≡ length (content (D.log disk.old))
+        → IsErrOf result OpenFault.Disk → min (D.told disk.old + 1) (2 ^ 64 - 1) ≤ D.told disk.new }
     ensures quiet { OnOk result (D.told disk.new ≡ D.told disk.old) }
 {
     let left = len - at;
@@ -122,11 +131,14 @@ pub(crate) fn payloads_of<D: Disk>(
 ) -> Result<(Vec<Vec<u8>>, u64), OpenFault>
     ensures honest { D.honest disk.old ↔ D.honest disk.new }
     ensures log { D.honest disk.old → D.log disk.new ≡ D.log disk.old }
-    ensures reads { D.honest disk.old → IfOk result (λ r. HasPayloads (content (D.log disk.old)) (octets_of r.0.items) r.1) }
+    ensures reads { D.honest disk.old
+        → IfOk result (λ r. HasPayloads (content (D.log disk.old)) (octets_of r.0.items) r.1) }
     ensures end { IfOk result (λ r. r.1 < 2 ^ 64 - 1) }
-    ensures damaged { D.honest disk.old → (e : ℕ) → IsErrOf result (OpenFault.Damaged e) → IsDamagedAt (content (D.log disk.old)) e }
+    ensures damaged { D.honest disk.old → (e : ℕ) → IsErrOf result (OpenFault.Damaged e)
+        → IsDamagedAt (content (D.log disk.old)) e }
     ensures later { D.told disk.old ≤ D.told disk.new }
-    ensures cause { D.honest disk.old → IsErrOf result OpenFault.Disk → min (D.told disk.old + 1) (2 ^ 64 - 1) ≤ D.told disk.new }
+    ensures cause { D.honest disk.old → IsErrOf result OpenFault.Disk
+        → min (D.told disk.old + 1) (2 ^ 64 - 1) ≤ D.told disk.new }
     ensures quiet { OnOk result (D.told disk.new ≡ D.told disk.old) }
 {
     let len = disk.len();

@@ -132,7 +132,8 @@ fn renew_on<D: Disk>(alloc: Global, disk: &mut D, payloads: &[Vec<u8>]) -> Resul
     ensures calls { D.honest disk.old
         → OnOk result (D.log disk.new ≡ renewing (octets_of payloads.now) (D.log disk.old)) }
     ensures moments { D.honest disk.old
-        → Leaves (RenewedFrom (D.log disk.old) (octets_of payloads.now)) (D.log disk.old) (D.log disk.new) }
+        → Leaves (RenewedFrom (D.log disk.old) (octets_of payloads.now)) (D.log disk.old)
+        (D.log disk.new) }
     ensures too_long { IsErrOf result RenewFault.PayloadTooLong
         ↔ (AllShort (octets_of payloads.now) → ⊥) }
     ensures full { IsErrOf result RenewFault.TapeFull ↔ (AllShort (octets_of payloads.now)
@@ -211,7 +212,8 @@ impl<D: Disk> Journal<D> {
         ensures ok { D.honest other.old → OnOk result
             (IsRenewed (D.log other.old) self.new (octets_of payloads.now)) }
         ensures err { D.honest other.old → OnErr result
-            (Leaves (RenewedFrom (D.log other.old) (octets_of payloads.now)) (D.log other.old) (D.log other.new)) }
+            (Leaves (RenewedFrom (D.log other.old) (octets_of payloads.now)) (D.log other.old)
+            (D.log other.new)) }
         ensures exchanged { MatchResult result (λ _. other.new ≡ disk_of self.old)
             (λ _. (disk_of self.new ≡ disk_of self.old) × (end_of self.new ≡ end_of self.old)) }
 
@@ -226,7 +228,8 @@ impl<D: Disk> Journal<D> {
             → min (D.told other.old + 1) (2 ^ 64 - 1) ≤ D.told other.new }
 
         ensures works { MatchResult result (λ _. Works other.old self.new)
-            (λ _. (D.honest other.old ↔ D.honest other.new) × (D.told other.old ≤ D.told other.new)) }
+            (λ _. (D.honest other.old ↔ D.honest other.new)
+            × (D.told other.old ≤ D.told other.new)) }
     {
         match renew_on(self.alloc, other, payloads) {
             Ok(end) => {

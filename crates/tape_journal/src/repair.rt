@@ -13,9 +13,15 @@ use disk_model::{Disk, DiskFault};
 fn trim<D: Disk>(disk: &mut D, end: u64) -> Result<(), DiskFault>
     requires { end < 2 ^ 64 - 1 }
     ensures honest { D.honest disk.old ↔ D.honest disk.new }
-    ensures first_sync { D.honest disk.old → (payloads : List (List ℕ)) → HasPayloads (content (D.log disk.old)) payloads end → FirstSync (λ c. Reads c payloads) (D.log disk.old) (D.log disk.new) }
-    ensures done { D.honest disk.old → OnOk result (IsOnly (D.log disk.new) (take (end + 1) (content (D.log disk.old)))) }
-    ensures calls { D.honest disk.old → OnOk result (D.log disk.new ≡ Synced ∷ WasCut (min (length (content (D.log disk.old))) (end + 1)) ∷ Synced ∷ D.log disk.old) }
+    ensures first_sync { D.honest disk.old → (payloads : List (List ℕ))
+        → HasPayloads (content (D.log disk.old)) payloads end
+        → FirstSync (λ c. Reads c payloads) (D.log disk.old) (D.log disk.new) }
+    ensures done { D.honest disk.old
+        → OnOk result (IsOnly (D.log disk.new) (take (end + 1) (content (D.log disk.old)))) }
+    ensures calls { D.honest disk.old
+        → OnOk result (D.log disk.new
+        ≡ Synced ∷ WasCut (min (length (content (D.log disk.old))) (end + 1)) ∷ Synced
+        ∷ D.log disk.old) }
     ensures cause { CountsFaults (D.told disk.old) (D.told disk.new) result }
     ensures quiet { OnOk result (D.told disk.new ≡ D.told disk.old) }
 {
@@ -29,11 +35,20 @@ fn trim<D: Disk>(disk: &mut D, end: u64) -> Result<(), DiskFault>
 pub(crate) fn repair<D: Disk>(disk: &mut D, end: u64) -> Result<(), DiskFault>
     requires { end < 2 ^ 64 - 1 }
     ensures honest { D.honest disk.old ↔ D.honest disk.new }
-    ensures first_sync { D.honest disk.old → (payloads : List (List ℕ)) → HasPayloads (content (D.log disk.old)) payloads end → FirstSync (λ c. Reads c payloads) (D.log disk.old) (D.log disk.new) }
-    ensures done { D.honest disk.old → (payloads : List (List ℕ)) → HasPayloads (content (D.log disk.old)) payloads end → OnOk result (AtRest (D.log disk.new) payloads) }
-    ensures calls { D.honest disk.old → (payloads : List (List ℕ)) → HasPayloads (content (D.log disk.old)) payloads end → OnOk result (D.log disk.new ≡ opening (length (content (D.log disk.old))) end (D.log disk.old)) }
+    ensures first_sync { D.honest disk.old → (payloads : List (List ℕ))
+        → HasPayloads (content (D.log disk.old)) payloads end
+        → FirstSync (λ c. Reads c payloads) (D.log disk.old) (D.log disk.new) }
+    ensures done { D.honest disk.old → (payloads : List (List ℕ))
+        → HasPayloads (content (D.log disk.old)) payloads end
+        → OnOk result (AtRest (D.log disk.new) payloads) }
+    ensures calls { D.honest disk.old → (payloads : List (List ℕ))
+        → HasPayloads (content (D.log disk.old)) payloads end
+        → OnOk result (D.log disk.new
+        ≡ opening (length (content (D.log disk.old))) end (D.log disk.old)) }
     ensures later { D.told disk.old ≤ D.told disk.new }
-    ensures cause { D.honest disk.old → (payloads : List (List ℕ)) → HasPayloads (content (D.log disk.old)) payloads end → CountsFaults (D.told disk.old) (D.told disk.new) result }
+    ensures cause { D.honest disk.old → (payloads : List (List ℕ))
+        → HasPayloads (content (D.log disk.old)) payloads end
+        → CountsFaults (D.told disk.old) (D.told disk.new) result }
     ensures quiet { OnOk result (D.told disk.new ≡ D.told disk.old) }
 {
     trim(disk, end)?;

@@ -107,7 +107,8 @@ impl Window {
         ensures log { D.honest disk.old → D.log disk.new ≡ D.log disk.old }
         ensures shows { D.honest disk.old → Shows self.new (content (D.log disk.old)) }
         ensures piece { D.honest disk.old → OnOk result ((start_of self.new ≡ at)
-            × (held_by self.new ≡ min (length (content (D.log disk.old)) - at) (room_of self.old))) }
+            × (held_by self.new ≡ min (length (content (D.log disk.old)) - at)
+            (room_of self.old))) }
         ensures later { D.told disk.old ≤ D.told disk.new }
         ensures cause { D.honest disk.old → at ≤ length (content (D.log disk.old))
             → CountsFaults (D.told disk.old) (D.told disk.new) result }

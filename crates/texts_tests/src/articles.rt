@@ -33,7 +33,8 @@ impl Articles for BrokenDisk {
 // The text under a token where it is handed out, by what any store promises.
 fn handed_out<A: Articles>(store: &mut A, token: &Token) -> Result<Option<Bytes>, StoreFault>
     ensures sendable { IfOk result (λ found. IfSome found IsSendable) }
-    ensures said { IfOk result (λ found. IfSome found (λ text. A.says store.old token.now (Some text))) }
+    ensures said { IfOk result
+        (λ found. IfSome found (λ text. A.says store.old token.now (Some text))) }
 {
     match store.fetch(token)? {
         Found::Article(text) => Ok(Some(text)),

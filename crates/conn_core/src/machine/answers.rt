@@ -90,7 +90,8 @@ impl Machine {
 
     // A reply in a mode. An `Err` changes nothing.
     fn answered(&mut self, reply: &Reply, streaming: bool) -> Result<(), AllocError>
-        ensures ok { OnOk result (self.new ≡ answered_with self.old streaming (given_of reply.now)) }
+        ensures ok { OnOk result
+            (self.new ≡ answered_with self.old streaming (given_of reply.now)) }
         ensures err { OnErr result (self.new ≡ self.old) }
     {
         match reply.code {
@@ -106,7 +107,8 @@ impl Machine {
     // 238: the article of a CHECK is wanted (RFC 4644, section 2.4). An `Err` changes nothing.
     fn wants(&mut self, reply: &Reply, streaming: bool) -> Result<(), AllocError>
         requires { reply.now.code ≡ 238 }
-        ensures ok { OnOk result (self.new ≡ answered_with self.old streaming (given_of reply.now)) }
+        ensures ok { OnOk result
+            (self.new ≡ answered_with self.old streaming (given_of reply.now)) }
         ensures err { OnErr result (self.new ≡ self.old) }
     {
         self.wanted.reserve(1)?;
@@ -127,7 +129,8 @@ impl Machine {
     // 335: the block of an IHAVE goes out (RFC 3977, section 6.3.2). An `Err` changes nothing.
     fn sends_block(&mut self, reply: &Reply, streaming: bool) -> Result<(), AllocError>
         requires { reply.now.code ≡ 335 }
-        ensures ok { OnOk result (self.new ≡ answered_with self.old streaming (given_of reply.now)) }
+        ensures ok { OnOk result
+            (self.new ≡ answered_with self.old streaming (given_of reply.now)) }
         ensures err { OnErr result (self.new ≡ self.old) }
     {
         self.window.reserve(1)?;
@@ -191,7 +194,8 @@ impl Machine {
 
     // The debt at that place may be offered later.
     fn put_off(&mut self, place: u64)
-        ensures { self.new ≡ parted_by self.old place Meaning.Later (find (is_at place) self.old.held) }
+        ensures { self.new ≡ parted_by self.old place Meaning.Later
+            (find (is_at place) self.old.held) }
     {
         match take_at(&mut self.held, place) {
             Some(x) => {
@@ -204,7 +208,8 @@ impl Machine {
 
     // The debt at that place is answered for good.
     fn end(&mut self, place: u64, code: FinalCode)
-        ensures { self.new ≡ parted_by self.old place (Meaning.Final code) (find (is_at place) self.old.held) }
+        ensures { self.new ≡ parted_by self.old place (Meaning.Final code)
+            (find (is_at place) self.old.held) }
     {
         match take_at(&mut self.held, place) {
             Some(x) => {

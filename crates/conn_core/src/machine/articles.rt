@@ -42,7 +42,9 @@ fn lost(debt: Debt, loss: Loss) -> Outcome
 impl Machine {
     // Takes what was found for the first want of that number. An `Err` changes nothing.
     pub(crate) fn hand(&mut self, number: u64, found: &Found) -> Result<(), AllocError>
-        ensures ok { OnOk result ((handing : Handing) × IsHandedAs found.now handing × (self.new ≡ handed self.old number handing)) }
+        ensures ok { OnOk result
+            ((handing : Handing) × IsHandedAs found.now handing
+            × (self.new ≡ handed self.old number handing)) }
         ensures err { OnErr result (self.new ≡ self.old) }
         ensures memory { OnErr result (IsSendableArticle found.now) }
     {
@@ -61,7 +63,9 @@ impl Machine {
 
     // Takes the text of the article. An `Err` changes nothing.
     fn hand_text(&mut self, number: u64, text: &[u8]) -> Result<(), AllocError>
-        ensures ok { OnOk result ((handing : Handing) × IsTextAs text.now handing × (self.new ≡ handed self.old number handing)) }
+        ensures ok { OnOk result
+            ((handing : Handing) × IsTextAs text.now handing
+            × (self.new ≡ handed self.old number handing)) }
         ensures err { OnErr result (self.new ≡ self.old) }
         ensures memory { OnErr result (IsSendable text.now) }
     {
@@ -85,7 +89,8 @@ impl Machine {
 
     // The first want of that number goes, and the debt that it is about is lost.
     fn lose_wanted(&mut self, number: u64, loss: Loss)
-        ensures { self.new ≡ handed_for (without_want self.old number) (handing_of loss) (held_for self.old.held (find (is_of number) self.old.wanted)) }
+        ensures { self.new ≡ handed_for (without_want self.old number) (handing_of loss)
+            (held_for self.old.held (find (is_of number) self.old.wanted)) }
     {
         match take_wanted(&mut self.wanted, number) {
             Some(want) => self.lose_at(want.place(), loss),
@@ -95,7 +100,8 @@ impl Machine {
 
     // The debt at that place is lost.
     fn lose_at(&mut self, place: u64, loss: Loss)
-        ensures { self.new ≡ handed_for self.old (handing_of loss) (find (is_at place) self.old.held) }
+        ensures { self.new ≡ handed_for self.old (handing_of loss)
+            (find (is_at place) self.old.held) }
     {
         match take_at(&mut self.held, place) {
             Some(x) => self.found.push_back_reserved(lost(x.into_debt(), loss)),
@@ -136,7 +142,9 @@ impl Machine {
         id: MsgId,
         block: Bytes,
     ) -> Result<(), AllocError>
-        ensures ok { OnOk result (self.new ≡ leave (asked (without_want self.old number) (record { verb = Verb.Takethis; place = place; id = id; block = block }))) }
+        ensures ok { OnOk result
+            (self.new ≡ leave (asked (without_want self.old number)
+            (record { verb = Verb.Takethis; place = place; id = id; block = block }))) }
         ensures err { OnErr result (self.new ≡ self.old) }
     {
         self.output
@@ -159,7 +167,9 @@ impl Machine {
         id: MsgId,
         block: Bytes,
     ) -> Result<(), AllocError>
-        ensures ok { OnOk result (self.new ≡ leave (asked (without_want self.old number) (record { verb = Verb.Ihave; place = place; id = id; block = block }))) }
+        ensures ok { OnOk result
+            (self.new ≡ leave (asked (without_want self.old number)
+            (record { verb = Verb.Ihave; place = place; id = id; block = block }))) }
         ensures err { OnErr result (self.new ≡ self.old) }
     {
         self.output.reserve(id_len(&id) + (LONGEST_VERB + QUIT))?;
