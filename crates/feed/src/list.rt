@@ -23,8 +23,8 @@ pub(crate) fn list_owed<F: AllocGlobal + Files<File = File>, W: Write>(
     let alloc = files.alloc();
     let directory = Vec::from_slice(alloc, conf.backlog_directory())?;
     let peers = by_name(conf);
-    let tapes: Tapes<Tape<FileDisk<File>>> = open_tapes(files, &directory, &peers)?;
-    for (peer, tape) in peers.iter().zip(&tapes.peers) {
+    let mut tapes: Tapes<Tape<FileDisk<File>>> = open_tapes(files, &directory, &peers)?;
+    for (peer, tape) in peers.iter().zip(&mut tapes.peers) {
         list_peer(alloc, peer, tape, out)?;
     }
     match out.flush() {
@@ -36,7 +36,7 @@ pub(crate) fn list_owed<F: AllocGlobal + Files<File = File>, W: Write>(
 fn list_peer<W: Write>(
     alloc: Global,
     peer: &PeerConf,
-    tape: &Tape<FileDisk<File>>,
+    tape: &mut Tape<FileDisk<File>>,
     out: &mut W,
 ) -> Result<(), Trouble> {
     let numbers = tape.numbers()?;
@@ -55,7 +55,7 @@ fn list_peer<W: Write>(
 fn add_debt(
     line: &mut Vec<u8>,
     peer: &PeerConf,
-    tape: &Tape<FileDisk<File>>,
+    tape: &mut Tape<FileDisk<File>>,
     number: u64,
 ) -> Result<(), Trouble> {
     let debt = match tape.debt(number) {

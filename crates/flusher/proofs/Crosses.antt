@@ -5,9 +5,12 @@ use Rattle.std.proofs.Crossing.{crosses}
 use Rattle.std.proofs.MapsCrossing as maps
 use Rattle.std.proofs.MapsCrossingOver as sets
 use Rattle.std.proofs.sync.ledger.Share.TheSendSync as share
-use Rattle.recovery.proofs.tape.Tape.TheSendSync as tape
+use Rattle.ledger_core.proofs.spot.Spot.TheSendSync as spot
+use Rattle.ledger_core.specs.contracts.ledger.Ledger as Ledger
+use Rattle.recovery.proofs.segments.Segments.TheSendSync as segments
+use Rattle.recovery.specs.contracts.tape.Tape as Tape
 use Rattle.flusher.proofs.tally.Tally.TheSendSync as tally
-use Rattle.flusher.proofs.post.Intake.TheSendSync as intake
+use Rattle.flusher.specs.contracts.post.Intake as Intake
 use Rattle.disk_model.specs.declared.Disk as disk
 use Rattle.flusher.specs.declared.naming.Naming as naming
 use Rattle.deferral.specs.contracts.later.Later as Later
@@ -24,12 +27,21 @@ use Rattle.flusher.proofs.signals.Latest.TheSendSync as latest
 Later-send : IsSend Later.the_field.row
 Later-send = search (knot.crosses, entry.the_field_send, bounds.the_field_send, sendable, crosses) depth 20
 
+Ledger-send : IsSend Ledger.the_field.row
+Ledger-send = search (spot.the_field_send, sendable, crosses, maps.crosses) depth 20
+
 pub Signals-sync : IsSync Signals.the_field.row
 Signals-sync = search (latest.the_field_send, sendable, crosses) depth 20
 
 module _ (D : RattleType) (g : disk.Ghosts D.Denot) where
+  Tape-send : IsSend D → IsSend (Tape.the_field D g).row
+  Tape-send s = search (Ledger-send, segments.the_field_send, sendable, crosses, maps.crosses, sets.crosses) depth 20
+
+  Intake-send : IsSend D → IsSend (Intake.the_field D g).row
+  Intake-send s = let a = Tape-send s in search (sendable, crosses, maps.crosses, sets.crosses) depth 20
+
   Station-send : IsSend D → IsSend (Station.the_field D g).row
-  Station-send s = search (Later-send, tape.the_field_send, sendable, crosses, maps.crosses, sets.crosses) depth 20
+  Station-send s = let a = Tape-send s in search (Later-send, sendable, crosses, maps.crosses, sets.crosses) depth 20
 
 module _ (D N : RattleType) (g : disk.Ghosts D.Denot) (n : naming.Ghosts N.Denot) where
   Desk-send : IsSend D → IsSend N → IsSync N → IsSend (Desk.the_field D N g n).row
@@ -40,4 +52,5 @@ module _ (D N : RattleType) (g : disk.Ghosts D.Denot) (n : naming.Ghosts N.Denot
 
   pub Post-sync : IsSend D → IsSend N → IsSync N → IsSync (Post.the_field D N g n).row
   Post-sync s t y =
-      let a = PeerDesk-sync s t y in search (tally.the_field_send, intake.the_field_send, sendable, crosses) depth 20
+      let a = PeerDesk-sync s t y in let b = Intake-send D g s in search (tally.the_field_send, sendable, crosses)
+      depth 20

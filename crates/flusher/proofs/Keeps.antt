@@ -16,7 +16,7 @@ use Rattle.recovery.specs.Words.{AreHonest as AreTapeHonest, disks_of as tape_di
 use Rattle.recovery.specs.Tape.{StandsFor as TapeStandsFor}
 use Rattle.recovery.specs.declared.tape.Tape.{Tape}
 use Rattle.peer_queue.specs.declared.station.Station.{Station}
-use Rattle.peer_queue.specs.Words.{AreHonest, IsSame, IsSameTape, Notes, StandsFor, disks_of, ledger_of}
+use Rattle.peer_queue.specs.Words.{AreHonest, IsRead, IsSame, IsSameTape, Notes, StandsFor, disks_of, ledger_of}
 use Rattle.peer_queue.specs.Settled.{Settles}
 use Rattle.peer_queue.specs.declared.settled.Settled.{Settled}
 use Rattle.peer_queue.specs.declared.settled.Settled.TheVariants.{Answered, Dropped, Later, Ready}
@@ -56,6 +56,13 @@ module _ {D : Type 0} {g : Ghosts D} where
   tape_kept old new same kept =
       let P : Tape D g → Type 0 = λ tape. AreTapeHonest tape → (h : History) × TapeStandsFor tape h in
       subst P (sym same.tape) kept
+
+  read_kept : (old new : Station D g) → IsRead old new → IsKept old → IsKept new
+  read_kept old new read kept honest = let k = kept (read.tape.continues.honest.1 honest) in
+      (k.0, read.tape.stands k.0 k.1)
+
+  pub keeps_read : (old new : Station D g) → IsRead old new → ∥ IsKept old ∥₁ → ∥ IsKept new ∥₁
+  keeps_read old new read kept = ∥∥₁_map kept (read_kept old new read)
 
   pub keeps_noted : (old new : Station D g) (note : Note) → Notes old new note → ∥ IsKept old ∥₁ → ∥ IsKept new ∥₁
   keeps_noted old new note took kept = ∥∥₁_map kept (noted_kept old new note took)

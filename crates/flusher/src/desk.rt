@@ -2,7 +2,7 @@
 ghost use Rattle.std.specs.Prelude.{◌≡◌, ◌+◌, ◌<◌, ◌≤◌, ◌^◌, IfOk, IfErr, OnOk, OnErr, true, false, if◌then◌else◌, max};
 ghost use Rattle.std.specs.Prelude.{length, nat_lt};
 ghost use Rattle.peer_queue.specs.Settled.{Finishes};
-ghost use Rattle.peer_queue.specs.Words.{IsSame, IsSameTape, ledger_of};
+ghost use Rattle.peer_queue.specs.Words.{IsRead, IsSame, IsSameTape, ledger_of};
 ghost use Rattle.peer_queue.specs.Words.{places_of, pending_of};
 ghost use Rattle.peer_queue.specs.Place.{least_candidate, held_count};
 ghost use Rattle.flusher.specs.Counted.{IsCounted};
@@ -103,7 +103,7 @@ impl<D: Disk, N: Naming> Desk<D, N> {
 
     /// Claims the least candidate.
     pub fn claim(&mut self, connection: CxnId, now: u64) -> Result<Option<Debt>, StationFault>
-        ensures tape { IsSameTape self.old.station self.new.station }
+        ensures reads { IsRead self.old.station self.new.station }
     {
         self.station.claim(connection, now)
     }

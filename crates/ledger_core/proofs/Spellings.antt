@@ -7,7 +7,7 @@ use Rattle.std.proofs.lemmas.Bool.{false≢true}
 use Rattle.funnel.specs.Names.{is_msg_id, is_token}
 use Rattle.ledger_core.specs.declared.note.Note.TheVariants.{Owe, Final, Drop, Seen}
 use Rattle.ledger_core.specs.SpellingLaws.{head-apart, sized-apart}
-use Rattle.ledger_core.specs.Spelling.{SpellsNothing, head, sized_text}
+use Rattle.ledger_core.specs.Spelling.{SpellsNothing, SpellsOwe, head, sized_text}
 
 -- an Owe is spelled by nothing else than its texts
 pub owe-none : (number : ℕ) (octets : List ℕ) → number < 2 ^ 64
@@ -58,3 +58,14 @@ not-some o e h = false≢true (sym (ap is_some e) ∙ h)
 pub code-read : (octets : List ℕ) (number : ℕ) → length octets ≡ 2 → ((i : ℕ) → get_or octets i 0 < 256)
     → number ≡ get_or octets 0 0 * 256 + get_or octets 1 0 → octets ≡ to_be_bytes w16 number
 code-read octets number l fits e = sym (be_bytes_2 octets number l fits e)
+
+-- an Owe that is spelled so begins with its tag and its number, and its texts are behind them
+pub owe-apart : (octets rest : List ℕ) (tag read number token_len id_len : ℕ) → read < 2 ^ 64 → number < 2 ^ 64
+    → octets ≡ head tag read ++ rest → (is : SpellsOwe octets number token_len id_len)
+    → (tag ≡ 1) × (read ≡ number) × (rest ≡ sized_text is.token ++ sized_text is.id)
+owe-apart octets rest tag read number token_len id_len fits fits' split is =
+    let whole : head tag read ++ rest ≡ head 1 number ++ (sized_text is.token ++ sized_text is.id) = sym split ∙
+    is.spelled in
+    let parts = head-apart tag 1 read number rest (sized_text is.token ++ sized_text is.id) fits fits' whole in
+    let first : tag ≡ 1 = cc whole in
+    (first, parts.0, parts.1)

@@ -6,12 +6,20 @@ use Rattle.ledger_core.specs.declared.ledger.LedgerFault.TheVariants.{OldNumber,
 use Rattle.ledger_core.specs.declared.ledger.Totals.{Totals}
 use Rattle.ledger_core.specs.declared.note.Note.{Note}
 use Rattle.ledger_core.specs.Note.{IsOwe}
+use Rattle.ledger_core.specs.Spots.{debts_of}
 use Rattle.ledger_core.specs.State.{State, IsLegal, IsOld, LacksDebt, Overflows, owed_bytes, step}
 
 -- what a ledger stands for
 abbrev pub state_of : Ledger → State
 state_of ledger =
-    record { mark = ledger.mark; debts = ledger.debts.entries; taken = ledger.taken; answered = ledger.answered; dropped = ledger.dropped }
+    record {
+      mark = ledger.mark;
+      debts = debts_of ledger.debts.entries;
+      taken = ledger.taken;
+      answered =
+          ledger.answered;
+      dropped = ledger.dropped;
+    }
 
 -- what a ledger counts
 abbrev pub totals_of : State → Totals

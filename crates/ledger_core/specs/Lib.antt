@@ -3,6 +3,8 @@ pub mod BaseLaws
 pub mod StopLaws
 pub mod Codes
 pub mod Laws
+pub mod Index
+pub mod IndexLaws
 pub mod Ledger
 pub mod Note
 pub mod Owing
@@ -11,6 +13,7 @@ pub mod Replay
 pub mod ReplayLaws
 pub mod Spelling
 pub mod SpellingLaws
+pub mod Spots
 pub mod State
 pub mod Words
 pub mod Written

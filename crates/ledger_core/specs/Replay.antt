@@ -19,9 +19,8 @@ Leaves payloads state = LeavesFrom start payloads state
 abbrev pub SpellsNoLegal : State → List ℕ → Type 0
 SpellsNoLegal state octets = (note : Note) → IsNote note → spelling note ≡ octets → IsLegal state note → ⊥
 
--- Behind this state the payloads before this index are a list of legal notes, and the one at it is
--- no note that is legal
--- behind them.
+-- Behind this state the payloads before this index are a list of legal notes, and the one at it is no note that is
+-- legal behind them.
 abbrev pub StopsFrom : State → List (List ℕ) → ℕ → Type 0
 StopsFrom first payloads index =
     (index < length payloads)

@@ -1,9 +1,9 @@
 // How a note is spelled on a tape, and how it is read from there.
-ghost use Rattle.std.specs.Prelude.{◌≡◌, ◌<◌, ◌≤◌, ◌++◌, List, ℕ, IfNone, IfOk, IfSome, OnOk, length};
+ghost use Rattle.std.specs.Prelude.{◌≡◌, ◌↔◌, ◌<◌, ◌≤◌, ◌++◌, List, ℕ, IfNone, IfOk, IfSome, IsTrue, OnOk, length};
 ghost use Rattle.std.specs.Int.{to_be_bytes, w64};
 ghost use Rattle.ledger_core.specs.declared.note.Note.{Note};
 ghost use Rattle.ledger_core.specs.Note.{IsNote};
-ghost use Rattle.ledger_core.specs.Spelling.{SpellsNothing, head, sized_text, spelling};
+ghost use Rattle.ledger_core.specs.Spelling.{SpellsNothing, SpellsOwe, head, sized_text, spelling};
 ghost use Rattle.ledger_core.specs.Reading.{Reads};
 
 use crate::note::{Cause, FinalCode, Note};
@@ -42,6 +42,34 @@ pub fn decode(alloc: Global, octets: &[u8]) -> Result<Option<Note>, AllocError>
         5 => Ok(seen_of(number, rest)),
         _ => Ok(None),
     }
+}
+
+/// Whether these octets spell a note that owes a debt of this number, of texts of these lengths.
+pub fn spells_owe(octets: &[u8], number: u64, token_len: u8, id_len: u8) -> bool
+    ensures { IsTrue result ↔ SpellsOwe octets.now number token_len id_len }
+{
+    let Some((tag, read, rest)) = head_at(octets) else {
+        return false;
+    };
+    if tag != 1 {
+        return false;
+    }
+    if read != number {
+        return false;
+    }
+    let Some((token, rest)) = sized_at(rest) else {
+        return false;
+    };
+    if token.len() != usize::from(token_len) {
+        return false;
+    }
+    let Some((id, rest)) = sized_at(rest) else {
+        return false;
+    };
+    if id.len() != usize::from(id_len) {
+        return false;
+    }
+    rest.is_empty()
 }
 
 /// A note has one spelling, and no other note has it.

@@ -1,17 +1,22 @@
 // Ledgers.
 ghost use Rattle.std.specs.Prelude.{◌≡◌, ◌==◌, ◌+◌, ◌<◌, ◌≤◌, ◌^◌, ℕ, IfNone, IfOk, IfSome};
 ghost use Rattle.std.specs.Prelude.{IsErrOf, IsOk, IsSome, IsTrue, MatchResult, OnErr, OnOk, ◌↔◌};
-ghost use Rattle.std.specs.Prelude.{find, length, option_map};
+ghost use Rattle.std.specs.Prelude.{◌-◌, length, min};
 ghost use Rattle.std.specs.List.{All, Contains};
 ghost use Rattle.std.specs.List.Sorted.{IsStrictlyIncreasing};
-ghost use Rattle.ledger_core.specs.State.{line_octets, numbers_of, octets_of_debts, without};
+ghost use Rattle.ledger_core.specs.Spots.{debts_of, lacking};
+ghost use Rattle.ledger_core.specs.State.{line_octets, numbers_of, octets_of_debts};
 
 use crate::codec::decode;
 use crate::note::Note;
+use crate::spot::{Entry, Spot};
 use funnel::{MsgId, Token};
 use std::alloc::{AllocError, AllocFailed, Global};
 use std::collections::BTreeMap;
 use thiserror::Error;
+
+// How many octets a record has on a tape before its payload: a gate, and the payload's length.
+const RECORD_HEAD: u64 = 5;
 
 /// Why a note is refused. The ledger stays as it was.
 #[derive(Clone, Copy, Debug, PartialEq, Eq, Error)]
@@ -90,18 +95,21 @@ pub struct Totals {
 }
 
 /// What one peer is owed, and how many debts were taken, answered and dropped.
+///
+/// Of a debt it keeps how long its texts are and where the note stands that owes it, and no text: that is read there
+/// (`specs/Index.antt`, `Indexes`). Clauses see the texts too.
 /// The cost of a call is logarithmic in what is owed, memory is linear in it.
 #[derive(Drop)]
 pub struct Ledger {
-    pub(crate) debts: BTreeMap<u64, (Token, MsgId)>,
+    pub(crate) debts: BTreeMap<u64, Entry>,
     pub(crate) mark: u64,
     pub(crate) taken: u64,
     pub(crate) answered: u64,
     pub(crate) dropped: u64,
     pub(crate) owed_bytes: u64,
     ghost counted: { taken ≡ answered + dropped + length debts.entries },
-    ghost summed: { owed_bytes ≡ octets_of_debts debts.entries },
-    ghost marked: { All (λ number. number ≤ mark) (numbers_of debts.entries) },
+    ghost summed: { owed_bytes ≡ octets_of_debts (debts_of debts.entries) },
+    ghost marked: { All (λ number. number ≤ mark) (numbers_of (debts_of debts.entries)) },
 }
 
 impl Ledger {
@@ -115,11 +123,15 @@ impl Ledger {
     ghost use Rattle.ledger_core.specs.State.{State, IsLegal, IsOld, IsOwed, LacksDebt, Overflows, Owing, numbers};
     ghost use Rattle.ledger_core.specs.State.{start, step};
     ghost use Rattle.ledger_core.specs.Words.{octets_of};
+    ghost use Rattle.ledger_core.specs.Index.{Indexes, IsSpotOf, debt_at};
     ghost use Rattle.ledger_core.specs.Ledger.{IsApplied, IsJudged, state_of, totals_of};
+    ghost use Rattle.ledger_core.specs.Spots.{Follows, IsPlaced, StandsAt};
+    ghost use Rattle.std.specs.Prelude.{◌++◌, List, None};
 
     /// The ledger of no note.
     pub fn new(alloc: Global) -> Self
-        ensures { state_of result ≡ start }
+        ensures start { state_of result ≡ start }
+        ensures indexes { (kept : ℕ) (payloads : List (List ℕ)) → Indexes kept payloads result }
     {
         Ledger {
             debts: BTreeMap::new(alloc),
@@ -159,14 +171,14 @@ impl Ledger {
         self.debts.contains_key(&number)
     }
 
-    /// The token and the message-id of the debt of this number, where it is owed.
-    pub fn debt(&self, number: u64) -> Option<(&Token, &MsgId)>
-        ensures debt { option_map (λ texts. (number, (texts.0.now, texts.1.now))) result
-            ≡ find (λ (owing : Owing). owing.0 == number) (state_of self.now).debts }
+    /// Where the debt of this number stands, where it is owed.
+    pub fn spot(&self, number: u64) -> Option<Spot>
+        ensures spot { IfSome result (IsSpotOf self.now number) }
         ensures owed { IsSome result ↔ IsOwed (state_of self.now) number }
+        ensures none { IfNone result (debt_at (state_of self.now) number ≡ None) }
     {
-        let (token, id) = self.debts.get(&number)?;
-        Some((token, id))
+        let entry = self.debts.get(&number)?;
+        Some(entry.spot)
     }
 
     /// The numbers that are owed, rising.
@@ -182,7 +194,7 @@ impl Ledger {
         self.debts.keys().copied().collect(alloc)
     }
 
-    /// Takes a note.
+    /// Takes a note that stands nowhere.
     ///
     /// # Errors
     /// Tried in this order; the ledger stays as it was after each.
@@ -204,8 +216,33 @@ impl Ledger {
             → IsOwe note.now × IsLegal (state_of self.old) note.now }
         ensures unchanged { OnErr result (state_of self.new ≡ state_of self.old) }
     {
+        self.apply_at(note, 0, 0)
+    }
+
+    /// Takes a note whose record is at this offset, or pends in this slot: each debt stays told of where it stands.
+    ///
+    /// # Errors
+    /// Those of `apply`.
+    pub fn apply_at(&mut self, note: &Note, at: u64, slot: u32) -> Result<(), LedgerFault>
+        ensures ok { OnOk result
+            (IsLegal (state_of self.old) note.now
+            × (state_of self.new ≡ step (state_of self.old) note.now)) }
+        ensures old_number { IsErrOf result LedgerFault.OldNumber
+            ↔ IsOld (state_of self.old) note.now }
+        ensures not_owed { IsErrOf result LedgerFault.NotOwed
+            ↔ LacksDebt (state_of self.old) note.now }
+        ensures count_full { IsErrOf result LedgerFault.CountFull
+            ↔ Overflows (state_of self.old) note.now }
+        ensures no_memory { IsErrOf result LedgerFault.NoMemory
+            → IsOwe note.now × IsLegal (state_of self.old) note.now }
+        ensures unchanged { OnErr result (state_of self.new ≡ state_of self.old) }
+        ensures indexes { (kept : ℕ) (payloads : List (List ℕ)) → Indexes kept payloads self.old
+            → IsPlaced kept payloads at slot note.now → Indexes kept payloads self.new }
+        ensures stays { (kept : ℕ) (payloads : List (List ℕ)) → Indexes kept payloads self.old
+            → OnErr result (Indexes kept payloads self.new) }
+    {
         match note {
-            Note::Owe { number, token, id } => self.owe(*number, token, id),
+            Note::Owe { number, token, id } => self.owe(*number, token, id, at, slot),
             Note::Final { number, .. } => self.answer(*number),
             Note::Drop { number, .. } => self.discard(*number),
             Note::Seen { number } => self.see(*number),
@@ -250,17 +287,20 @@ impl Ledger {
         // The first payload that is no legal note.
         ensures refused { (index : ℕ) → IsErrOf result (ReplayFault.Refused index)
             → StopsAt (octets_of payloads.now) index }
+        // Each of its debts is told of where it stands among them.
+        ensures indexes { IfOk result (Indexes (length payloads.now) (octets_of payloads.now)) }
     {
         let mut ledger = Ledger::new(alloc);
-        ledger.apply_payloads(alloc, 0, payloads)?;
+        ledger.apply_payloads(alloc, 0, 0, payloads)?;
         Ok(ledger)
     }
 
-    // Takes the notes that these payloads spell, of which the first has this index.
+    // Takes the notes that these payloads spell, of which the first has this index, and its record this offset.
     pub(crate) fn apply_payloads(
         &mut self,
         alloc: Global,
         first: usize,
+        offset: u64,
         payloads: &[Vec<u8>],
     ) -> Result<(), ReplayFault>
         requires { first + length payloads.now < 2 ^ 64 }
@@ -273,18 +313,25 @@ impl Ledger {
         ensures refused { (place : ℕ) → IsErrOf result (ReplayFault.Refused place)
             → (index : ℕ) × (place ≡ first + index)
             × StopsFrom (state_of self.old) (octets_of payloads.now) index }
+        ensures indexes { (kept : ℕ) (front : List (List ℕ))
+            → Follows kept front (octets_of payloads.now) offset
+            → Indexes kept (front ++ octets_of payloads.now) self.old
+            → OnOk result (Indexes kept (front ++ octets_of payloads.now) self.new) }
     {
+        let mut at = offset;
         for (index, payload) in payloads.iter().enumerate() {
-            self.apply_payload(alloc, first + index, payload)?;
+            self.apply_payload(alloc, first + index, at, payload)?;
+            at = offset_behind(at, payload);
         }
         Ok(())
     }
 
-    // Takes the note that the payload at this index spells.
+    // Takes the note that the payload at this index spells, whose record is at this offset.
     fn apply_payload(
         &mut self,
         alloc: Global,
         index: usize,
+        at: u64,
         payload: &[u8],
     ) -> Result<(), ReplayFault>
         ensures ok { OnOk result
@@ -293,21 +340,31 @@ impl Ledger {
             × (state_of self.new ≡ step (state_of self.old) note)) }
         ensures refused { (place : ℕ) → IsErrOf result (ReplayFault.Refused place)
             → (place ≡ index) × SpellsNoLegal (state_of self.old) payload.now }
+        ensures indexes { (kept : ℕ) (payloads : List (List ℕ)) → Indexes kept payloads self.old
+            → StandsAt kept payloads at 0 payload.now
+            → OnOk result (Indexes kept payloads self.new) }
     {
         let Some(note) = decode(alloc, payload)? else {
             return Err(ReplayFault::Refused { index });
         };
-        self.apply_note(index, &note)
+        self.apply_note(index, at, &note)
     }
 
-    // Takes the note of the payload at this index.
-    pub(crate) fn apply_note(&mut self, index: usize, note: &Note) -> Result<(), ReplayFault>
+    // Takes the note of the payload at this index, whose record is at this offset.
+    pub(crate) fn apply_note(
+        &mut self,
+        index: usize,
+        at: u64,
+        note: &Note,
+    ) -> Result<(), ReplayFault>
         ensures ok { OnOk result (IsLegal (state_of self.old) note.now
             × (state_of self.new ≡ step (state_of self.old) note.now)) }
         ensures refused { (place : ℕ) → IsErrOf result (ReplayFault.Refused place)
             → (place ≡ index) × (IsLegal (state_of self.old) note.now → ⊥) }
+        ensures indexes { (kept : ℕ) (payloads : List (List ℕ)) → Indexes kept payloads self.old
+            → IsPlaced kept payloads at 0 note.now → OnOk result (Indexes kept payloads self.new) }
     {
-        match self.apply(note) {
+        match self.apply_at(note, at, 0) {
             Ok(()) => Ok(()),
             Err(LedgerFault::NoMemory) => Err(ReplayFault::NoMemory),
             Err(_) => Err(ReplayFault::Refused { index }),
@@ -354,9 +411,21 @@ impl Ledger {
         Ok(())
     }
 
-    fn owe(&mut self, number: u64, token: &Token, id: &MsgId) -> Result<(), LedgerFault>
-        ensures { IsApplied result (state_of self.old) (state_of self.new)
+    fn owe(
+        &mut self,
+        number: u64,
+        token: &Token,
+        id: &MsgId,
+        at: u64,
+        slot: u32,
+    ) -> Result<(), LedgerFault>
+        ensures applied { IsApplied result (state_of self.old) (state_of self.new)
             (Note.Owe number token.now id.now) }
+        ensures indexes { (kept : ℕ) (payloads : List (List ℕ)) → Indexes kept payloads self.old
+            → IsPlaced kept payloads at slot (Note.Owe number token.now id.now)
+            → Indexes kept payloads self.new }
+        ensures stays { (kept : ℕ) (payloads : List (List ℕ)) → Indexes kept payloads self.old
+            → OnErr result (Indexes kept payloads self.new) }
     {
         if number <= self.mark {
             return Err(LedgerFault::OldNumber);
@@ -367,8 +436,7 @@ impl Ledger {
         let Some(owed_bytes) = self.owed_bytes.checked_add(line_octets(token, id)) else {
             return Err(LedgerFault::CountFull);
         };
-        let debt = (token.clone()?, id.clone()?);
-        self.debts.insert(number, debt)?;
+        self.debts.insert(number, Entry::of(at, slot, token, id))?;
         self.mark = number;
         self.taken = taken;
         self.owed_bytes = owed_bytes;
@@ -376,8 +444,10 @@ impl Ledger {
     }
 
     fn answer(&mut self, number: u64) -> Result<(), LedgerFault>
-        ensures { (code : FinalCode)
+        ensures applied { (code : FinalCode)
             → IsApplied result (state_of self.old) (state_of self.new) (Note.Final number code) }
+        ensures indexes { (kept : ℕ) (payloads : List (List ℕ)) → Indexes kept payloads self.old
+            → Indexes kept payloads self.new }
     {
         let Some(octets) = remove_debt(&mut self.debts, number) else {
             return Err(LedgerFault::NotOwed);
@@ -388,8 +458,10 @@ impl Ledger {
     }
 
     fn discard(&mut self, number: u64) -> Result<(), LedgerFault>
-        ensures { (cause : Cause)
+        ensures applied { (cause : Cause)
             → IsApplied result (state_of self.old) (state_of self.new) (Note.Drop number cause) }
+        ensures indexes { (kept : ℕ) (payloads : List (List ℕ)) → Indexes kept payloads self.old
+            → Indexes kept payloads self.new }
     {
         let Some(octets) = remove_debt(&mut self.debts, number) else {
             return Err(LedgerFault::NotOwed);
@@ -400,7 +472,10 @@ impl Ledger {
     }
 
     fn see(&mut self, last: u64) -> Result<(), LedgerFault>
-        ensures { IsApplied result (state_of self.old) (state_of self.new) (Note.Seen last) }
+        ensures applied { IsApplied result (state_of self.old) (state_of self.new)
+            (Note.Seen last) }
+        ensures indexes { (kept : ℕ) (payloads : List (List ℕ)) → Indexes kept payloads self.old
+            → Indexes kept payloads self.new }
     {
         if last <= self.mark {
             return Err(LedgerFault::OldNumber);
@@ -417,18 +492,40 @@ fn line_octets(token: &Token, id: &MsgId) -> u64
     token.bytes().len() as u64 + id.bytes().len() as u64 + 2
 }
 
+// Where the record behind one of this payload stands, or the greatest u64.
+pub(crate) fn offset_behind(at: u64, payload: &[u8]) -> u64
+    ensures { result ≡ min (at + (5 + length payload.now)) (2 ^ 64 - 1) }
+{
+    at.saturating_add(RECORD_HEAD)
+        .saturating_add(payload.len() as u64)
+}
+
 // Takes out the debt of this number, and gives its octets.
-fn remove_debt(debts: &mut BTreeMap<u64, (Token, MsgId)>, number: u64) -> Option<u64>
+fn remove_debt(debts: &mut BTreeMap<u64, Entry>, number: u64) -> Option<u64>
     ensures none { IfNone result
-        ((Contains (numbers_of debts.old.entries) number → ⊥)
+        ((Contains (numbers_of (debts_of debts.old.entries)) number → ⊥)
         × (debts.new.entries ≡ debts.old.entries)) }
-    ensures owed { IfSome result (λ octets. Contains (numbers_of debts.old.entries) number) }
-    ensures left { IfSome result (λ octets. debts.new.entries ≡ without number debts.old.entries) }
+    ensures owed { IfSome result
+        (λ octets. Contains (numbers_of (debts_of debts.old.entries)) number) }
+    ensures left { IfSome result (λ octets. debts.new.entries ≡ lacking number debts.old.entries) }
     ensures octets { IfSome result
-        (λ octets. octets_of_debts debts.new.entries + octets ≡ octets_of_debts debts.old.entries) }
+        (λ octets. octets_of_debts (debts_of debts.new.entries) + octets
+        ≡ octets_of_debts (debts_of debts.old.entries)) }
     ensures count { IfSome result
         (λ octets. length debts.new.entries + 1 ≡ length debts.old.entries) }
 {
-    let (token, id) = debts.remove(&number)?;
-    Some(line_octets(&token, &id))
+    let entry = debts.remove(&number)?;
+    Some(octets_of(&entry))
+}
+
+// The octets of a line that names the article of this debt alone.
+fn octets_of(entry: &Entry) -> u64
+    ensures { result ≡ line_octets entry.now.token.value entry.now.id.value }
+{
+    let Spot {
+        token_len,
+        id_len,
+        ..
+    } = entry.spot;
+    u64::from(token_len) + u64::from(id_len) + 2
 }

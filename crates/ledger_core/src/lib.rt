@@ -10,14 +10,16 @@ mod base;
 mod codec;
 mod laws;
 mod ledger;
+mod moved;
 mod note;
 mod restore;
-mod written;
+mod spot;
 
 pub use base::{Base, decode_base, encode_base, one_base_spelling};
-pub use codec::{decode, encode, one_spelling};
+pub use codec::{decode, encode, one_spelling, spells_owe};
 pub use laws::{after_in_parts, counts_add_up, numbers_rise, restores_itself};
 pub use ledger::{Ledger, LedgerFault, ReplayFault, Totals};
 pub use note::{Cause, Debt, FinalCode, Note};
 pub use restore::Restored;
+pub use spot::Spot;
 pub use std::alloc::AllocError as NoMemory;

@@ -7,10 +7,14 @@ ghost use Rattle.ledger_core.specs.Words.{octets_of};
 
 use crate::base::{Base, decode_base};
 use crate::codec::decode;
+use crate::ledger::offset_behind;
 use crate::note::Note;
 use crate::{Ledger, ReplayFault};
 use std::alloc::Global;
 use std::collections::BTreeMap;
+
+// How many octets the record of a Base has on a tape.
+pub(crate) const BASE_RECORD_LEN: u64 = 54;
 
 /// What a tape's payloads leave.
 #[derive(Drop)]
@@ -43,7 +47,11 @@ fn base_of(payloads: &[Vec<u8>]) -> Option<Base>
 
 impl Ledger {
     ghost use Rattle.ledger_core.specs.State.{State};
+    ghost use Rattle.std.specs.Prelude.{◌-◌, ◌∷◌, List, min};
+    ghost use Rattle.ledger_core.specs.Base.{base_spelling};
+    ghost use Rattle.ledger_core.specs.Index.{Indexes};
     ghost use Rattle.ledger_core.specs.Ledger.{state_of};
+    ghost use Rattle.ledger_core.specs.Spots.{StandsAt, records_length};
     ghost use Rattle.ledger_core.specs.Owing.{OwesAll, OwesSome, SpellsNoNext, TakesDebt};
 
     /// The ledger that a tape's payloads leave: each the spelling of a note that is legal in its
@@ -65,6 +73,9 @@ impl Ledger {
             (λ fault. fault ≡ ReplayFault.NoMemory) }
         ensures refused { (index : ℕ) → IsErrOf result (ReplayFault.Refused index)
             → RestoreStopsAt (octets_of payloads.now) index }
+        // Each of its debts is told of where it stands among them.
+        ensures indexes { IfOk result
+            (λ r. Indexes (length payloads.now) (octets_of payloads.now) r.ledger) }
     {
         let Some(base) = base_of(payloads) else {
             let ledger = Ledger::replay(alloc, payloads)?;
@@ -87,25 +98,36 @@ impl Ledger {
             (λ ledger. LeavesBehind base.now (octets_of behind.now) (state_of ledger)) }
         ensures refused { (index : ℕ) → IsErrOf result (ReplayFault.Refused index)
             → StopsBehind base.now (octets_of behind.now) index }
+        ensures indexes { IfOk result (Indexes (1 + length behind.now)
+            (base_spelling base.now ∷ octets_of behind.now)) }
     {
         if !is_sound(base) {
             return Err(ReplayFault::Refused { index: 0 });
         }
         let count = behind.len().min(base.live as usize);
-        let mut ledger = Ledger::of_debts(alloc, base, &behind[..count])?;
+        let (mut ledger, offset) = Ledger::of_debts(alloc, base, &behind[..count])?;
         if (count as u64) < base.live {
             return Err(ReplayFault::Refused { index: 1 + count });
         }
         ledger.mark = base.mark;
-        ledger.apply_payloads(alloc, 1 + count, &behind[count..])?;
+        ledger.apply_payloads(alloc, 1 + count, offset, &behind[count..])?;
         Ok(ledger)
     }
 
-    // The ledger of what a Base has answered and dropped, and of these debts behind it.
-    fn of_debts(alloc: Global, base: &Base, payloads: &[Vec<u8>]) -> Result<Ledger, ReplayFault>
+    // The ledger of what a Base has answered and dropped, and of these debts behind it; and where their records end.
+    fn of_debts(
+        alloc: Global,
+        base: &Base,
+        payloads: &[Vec<u8>],
+    ) -> Result<(Ledger, u64), ReplayFault>
         requires { base.now.answered + base.now.dropped + length payloads.now < 2 ^ 64 }
         ensures ok { IfOk result
-            (λ ledger. OwesAll base.now (octets_of payloads.now) (state_of ledger)) }
+            (λ r. OwesAll base.now (octets_of payloads.now) (state_of r.0)) }
+        ensures indexes { IfOk result (λ r.
+            (r.1 ≡ min (records_length (base_spelling base.now ∷ octets_of payloads.now))
+            (2 ^ 64 - 1))
+            × ((kept : ℕ) → 1 + length payloads.now ≤ kept
+            → Indexes kept (base_spelling base.now ∷ octets_of payloads.now) r.0)) }
         ensures refused { (index : ℕ) → IsErrOf result (ReplayFault.Refused index)
             → OwesSome base.now.mark (octets_of payloads.now) index }
     {
@@ -117,30 +139,36 @@ impl Ledger {
             dropped: base.dropped,
             owed_bytes: 0,
         };
+        let mut at = BASE_RECORD_LEN;
         for (index, payload) in payloads.iter().enumerate() {
-            ledger.apply_debt(alloc, base.mark, 1 + index, payload)?;
+            ledger.apply_debt(alloc, base.mark, 1 + index, at, payload)?;
+            at = offset_behind(at, payload);
         }
-        Ok(ledger)
+        Ok((ledger, at))
     }
 
-    // Takes the debt that the payload at this index spells, where it is not above a mark.
+    // Takes the debt that the payload at this index spells, where it is not above a mark. Its record is at this offset.
     fn apply_debt(
         &mut self,
         alloc: Global,
         mark: u64,
         index: usize,
+        at: u64,
         payload: &[u8],
     ) -> Result<(), ReplayFault>
         ensures ok { OnOk result
             (TakesDebt mark payload.now (state_of self.old) (state_of self.new)) }
         ensures refused { (place : ℕ) → IsErrOf result (ReplayFault.Refused place)
             → (place ≡ index) × SpellsNoNext mark payload.now (state_of self.old) }
+        ensures indexes { (kept : ℕ) (payloads : List (List ℕ)) → Indexes kept payloads self.old
+            → StandsAt kept payloads at 0 payload.now
+            → OnOk result (Indexes kept payloads self.new) }
     {
         let Some(note) = decode(alloc, payload)? else {
             return Err(ReplayFault::Refused { index });
         };
         match &note {
-            Note::Owe { number, .. } if *number <= mark => self.apply_note(index, &note),
+            Note::Owe { number, .. } if *number <= mark => self.apply_note(index, at, &note),
             _ => Err(ReplayFault::Refused { index }),
         }
     }

@@ -4,7 +4,9 @@ use Rattle.std.specs.Prelude.{Err, Ok, OnErr, OnOk, Result, find, option_map}
 use Rattle.std.specs.List.{Contains}
 use Rattle.std.proofs.lemmas.Bool.{eqb-true, eq-eqb, eqb-false, ne_eqb}
 use Rattle.std.proofs.lemmas.List.Elements.{Contains-append_right, Contains-append_cases}
-use Rattle.ledger_core.specs.State.{Owing, numbers_of}
+use Rattle.ledger_core.specs.Index.{debt_at}
+use Rattle.ledger_core.specs.State.{Owing, State, numbers_of}
+use Rattle.recovery.specs.Texts.{HasLengths, lengths_of}
 use Rattle.peer_queue.specs.Place.{AreAbove, AreRising, Held, IsUnheld, Later, Place, Places, Ready, is_candidate, is_held, least_candidate, moved, place_at, placed}
 use Rattle.peer_queue.proofs.Ends.{placed-moved}
 
@@ -45,6 +47,19 @@ missing_step n debt debts false e rest is has = elim (Contains-append_cases (deb
 pub missing_debt : (n : ℕ) (debts : List Owing) → find (λ (owing : Owing). owing.0 == n) debts ≡ None → Contains (numbers_of debts) n → ⊥
 missing_debt n [] is (k, inside, at) = omega (arith, inside)
 missing_debt n (debt ∷ debts) is has = missing_step n debt debts (debt.0 == n) refl (λ none there. missing_debt n debts none there) is has
+
+lengths_number : (n : ℕ) (debts : List Owing) (d : Owing) (o : Option Owing) → find (λ (owing : Owing). owing.0 == n)
+    debts ≡ o
+    → option_map lengths_of (Some d) ≡ option_map lengths_of o → d.0 ≡ n
+lengths_number n debts d None found same = cc same
+lengths_number n debts d (Some debt) found same =
+    let both : lengths_of d ≡ lengths_of debt = cc same in
+    let number : d.0 ≡ debt.0 = ap (λ (x : ℕ × (ℕ × ℕ)). x.0) both in
+    number ∙ (found_debt n debts debt found).0
+
+-- what was read of a number has that number
+pub read_number : (state : State) (n : ℕ) (d : Owing) → HasLengths state n (Some d) → d.0 ≡ n
+read_number state n d same = lengths_number n state.debts d (debt_at state n) refl same
 
 -- ---- the least number that may be claimed
 

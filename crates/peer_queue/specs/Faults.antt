@@ -35,9 +35,12 @@ IsOweFault Broken = Unit {0}
 IsOweFault (TapeRefused fault) = IsOweTapeFault fault
 IsOweFault NoMemory = Unit {0}
 
--- the faults that `claim` tells
+-- the faults that `claim` and `debt` tell
 abbrev pub IsClaimFault : StationFault → Type 0
-IsClaimFault fault = (fault ≡ Broken) ⊎ (fault ≡ NoMemory)
+IsClaimFault NotHeld = ⊥
+IsClaimFault Broken = Unit {0}
+IsClaimFault (TapeRefused fault) = fault ≡ Disk
+IsClaimFault NoMemory = Unit {0}
 
 -- the faults of a tape that `flush` tells
 abbrev pub IsFlushTapeFault : TapeFault → Type 0

@@ -7,7 +7,7 @@ use Rattle.ledger_core.specs.declared.note.FinalCode.{FinalCode}
 use Rattle.ledger_core.specs.State.{State, IsLegal, step}
 use Rattle.recovery.specs.Notes.{History, most_pending, noted}
 use Rattle.recovery.specs.Image.{Log}
-use Rattle.recovery.specs.Tape.{IsOpenedTape, StandsFor as TapeStandsFor}
+use Rattle.recovery.specs.Tape.{IsOpenedTape, IsRead as IsTapeRead, StandsFor as TapeStandsFor}
 use Rattle.recovery.specs.Words.{log_of as tape_log, disks_of as tape_disks, told_of as tape_told, generation_of as tape_generation, AreHonest as AreTapeHonest, Continues as TapeContinues, ledger_of as tape_ledger, pending_of as tape_pending, IsBroken as IsBrokenTape}
 use Rattle.conn_core.specs.declared.verdict.Verdict.{Verdict}
 use Rattle.conn_core.specs.declared.deferral.Deferral.{Deferral}
@@ -103,6 +103,12 @@ module _ {D : Type 0} {g : Ghosts D} where
   -- the tape stayed as it was, so that it stands for the same history
   pub record IsSameTape (old new : Station D g) : Type 0 where
     pub tape : new.tape ≡ old.tape
+    pub limits : new.limits ≡ old.limits
+
+  -- Nothing changed but that the tape was read, and the places: it stands for the same histories, and on an
+  -- honest disk nothing happened.
+  pub record IsRead (old new : Station D g) : Type 0 where
+    pub tape : IsTapeRead old.tape new.tape
     pub limits : new.limits ≡ old.limits
 
   -- nothing changed: what it owes, what pends, what has happened to its disk, the places

@@ -8,7 +8,7 @@ use std::alloc::AllocError;
 use thiserror::Error;
 
 /// Why a station refuses a call. A refusal changes nothing, but that a `Tape(Disk)` of `flush` or `rotate` breaks the
-/// station.
+/// station; one of `claim` or `debt` does not.
 #[derive(Clone, Copy, Debug, PartialEq, Eq, Error)]
 pub enum StationFault {
     /// That connection does not hold that number.

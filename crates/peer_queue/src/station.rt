@@ -21,8 +21,7 @@ use std::alloc::{AllocError, Global};
 /// All that one peer is owed.
 ///
 /// Each call is logarithmic in what is owed; `release` and `shed` also in what they move, `flush` linear in what pends,
-/// `open` and
-/// `list` linear.
+/// `open` and `list` linear.
 #[derive(Drop)]
 pub struct Station<D: Disk> {
     pub(crate) alloc: Global,
@@ -47,6 +46,8 @@ impl<D: Disk> Station<D> {
     ghost use Rattle.recovery.specs.Notes.{History, flushed, most_pending, noted_all};
     ghost use Rattle.recovery.specs.Tape.{IsRefusedTape, Recovers, contents_of};
     ghost use Rattle.recovery.specs.Words.{IsDue, IsFull, IsOpenFault, OneHasRisen, refused_log, RotatesTooLong};
+    ghost use Rattle.ledger_core.specs.Index.{debt_at};
+    ghost use Rattle.recovery.specs.Texts.{HasLengths};
     ghost use Rattle.peer_queue.specs.Place.{AreRising, Held, IsHeldBy, IsLater, Later, Ready, all_gone};
     ghost use Rattle.peer_queue.specs.Place.{deferred_until, gone, held_count, least_candidate, moved, released};
     ghost use Rattle.peer_queue.specs.Place.{unheld};
@@ -55,8 +56,8 @@ impl<D: Disk> Station<D> {
     ghost use Rattle.peer_queue.specs.Settled.{Finishes, IsEnded, Settles, number_in, settled_by};
     ghost use Rattle.peer_queue.specs.Station.{IsShed};
     ghost use Rattle.peer_queue.specs.Faults.{IsClaimFault, IsEndFault, IsFlushFault, IsOweFault, IsRotateFault};
-    ghost use Rattle.peer_queue.specs.Words.{IsBroken, IsEnd, IsOpened, IsOweOf, IsSame, IsSameTape, MeetsFull, Notes};
-    ghost use Rattle.peer_queue.specs.Words.{Refuses, StandsFor, Tells, code_of, deferred_number, disks_of};
+    ghost use Rattle.peer_queue.specs.Words.{IsBroken, IsEnd, IsOpened, IsOweOf, IsRead, IsSame, IsSameTape, MeetsFull};
+    ghost use Rattle.peer_queue.specs.Words.{Notes, Refuses, StandsFor, Tells, code_of, deferred_number, disks_of};
     ghost use Rattle.peer_queue.specs.Words.{generation_of, told_of, AreHonest, Continues, ledger_of, limits_of};
     ghost use Rattle.peer_queue.specs.Words.{log_of, number_of, pending_of, places_of};
 
@@ -166,24 +167,30 @@ impl<D: Disk> Station<D> {
     }
 
     /// Claims the least number that is ready, or later until a moment at or before `now`: from now on this connection
-    /// holds it.
+    /// holds it. Its texts are read back from the tape, unless its note pends.
     ///
     /// # Errors
-    /// Tried in this order: `Broken`; `NoMemory`.
+    /// Tried in this order: `Broken`; `NoMemory`; `Tape(Disk)`, where the reading failed, or gave another note than was
+    /// put there, which an honest disk never does. The debt keeps its place, and the station works on.
     pub fn claim(&mut self, connection: CxnId, now: u64) -> Result<Option<Debt>, StationFault>
         ensures none { IfOk result
             (λ debt. IfNone debt ((least_candidate now (places_of self.old) ≡ None)
             × (places_of self.new ≡ places_of self.old))) }
         ensures some { IfOk result
             (λ debt. IfSome debt (λ d. (least_candidate now (places_of self.old) ≡ Some d.0)
-            × Contains (ledger_of self.old).debts d
             × (places_of self.new ≡ moved (places_of self.old) d.0 (Held connection.0)))) }
-        ensures tape { IsSameTape self.old self.new }
+        // It is the debt that was noted.
+        ensures debt { (h : History) → StandsFor self.old h
+            → IfOk result (λ debt. IfSome debt (λ d. Contains (ledger_of self.old).debts d)) }
+        ensures reads { IsRead self.old self.new }
         ensures broken { IsErrOf result StationFault.Broken ↔ IsBroken self.old }
-        ensures no_memory { IsErrOf result StationFault.NoMemory
-            → IsSome (least_candidate now (places_of self.old)) }
+        ensures refused { IfErr result
+            (λ e. e ≢ StationFault.Broken → IsSome (least_candidate now (places_of self.old))) }
+        ensures cause { (h : History) → StandsFor self.old h
+            → IsErrOf result (StationFault.Tape TapeFault.Disk)
+            → OneHasRisen (told_of self.old) (told_of self.new) }
         ensures kinds { IfErr result IsClaimFault }
-        ensures unchanged { OnErr result (IsSame self.old self.new) }
+        ensures places { OnErr result (places_of self.new ≡ places_of self.old) }
     {
         if self.tape.is_broken() {
             return Err(StationFault::Broken);
@@ -421,13 +428,20 @@ impl<D: Disk> Station<D> {
         Ok(Owed::New)
     }
 
-    // A copy of a debt that is owed.
-    fn owed_debt(&self, number: u64) -> Result<Debt, StationFault>
-        requires works { IsBroken self.now → ⊥ }
-        requires owed { IsOwed (ledger_of self.now) number }
-        ensures debt { IfOk result
-            (λ debt. (debt.0 ≡ number) × Contains (ledger_of self.now).debts debt) }
-        ensures memory { IfErr result (λ fault. fault ≡ StationFault.NoMemory) }
+    // A debt that is owed, read back.
+    fn owed_debt(&mut self, number: u64) -> Result<Debt, StationFault>
+        requires works { IsBroken self.old → ⊥ }
+        requires owed { IsOwed (ledger_of self.old) number }
+        ensures number { IfOk result (λ debt. debt.0 ≡ number) }
+        ensures debt { (h : History) → StandsFor self.old h
+            → IfOk result (λ debt. Contains (ledger_of self.old).debts debt) }
+        ensures cause { (h : History) → StandsFor self.old h
+            → IsErrOf result (StationFault.Tape TapeFault.Disk)
+            → OneHasRisen (told_of self.old) (told_of self.new) }
+        ensures kinds { IfErr result
+            (λ e. (e ≡ StationFault.Tape TapeFault.Disk) ⊎ (e ≡ StationFault.NoMemory)) }
+        ensures reads { IsRead self.old self.new }
+        ensures places { places_of self.new ≡ places_of self.old }
     {
         match self.tape.debt(number) {
             Ok(Some(debt)) => Ok(debt),
@@ -625,7 +639,7 @@ impl<D: Disk> Station<D> {
             ↔ ((IsBroken self.old → ⊥)
             × (generation_of self.old ≢ 2 ^ 64 - 1) × RotatesTooLong self.old.tape) }
         ensures refused { IfErr result
-            (λ e. e ≢ StationFault.Tape TapeFault.Disk → IsSame self.old self.new) }
+            (λ e. e ≢ StationFault.Tape TapeFault.Disk → IsRead self.old self.new) }
         ensures breaks { IsErrOf result (StationFault.Tape TapeFault.Disk) → IsBroken self.new }
         ensures works { OnOk result (IsBroken self.new → ⊥) }
         ensures cause { (h : History) → StandsFor self.old h
@@ -641,19 +655,27 @@ impl<D: Disk> Station<D> {
         }
     }
 
-    /// The debt of this number, where it is owed.
+    /// The debt of this number, where it is owed. Its texts are read back from the tape, unless its note pends.
     ///
     /// # Errors
-    /// Tried in this order: `Broken`; `NoMemory`.
-    pub fn debt(&self, number: u64) -> Result<Option<Debt>, StationFault>
-        ensures debt { IfOk result
-            (λ debt. debt ≡ find (λ (owing : Owing). owing.0 == number)
-            (ledger_of self.now).debts) }
-        ensures broken { IsErrOf result StationFault.Broken ↔ IsBroken self.now }
-        ensures no_memory { IsErrOf result StationFault.NoMemory
-            → IsOwed (ledger_of self.now) number }
-        ensures kinds { IfErr result
-            (λ e. (e ≡ StationFault.Broken) ⊎ (e ≡ StationFault.NoMemory)) }
+    /// Tried in this order: `Broken`; `NoMemory`; `Tape(Disk)`, where the reading failed, or gave another note than was
+    /// put there, which an honest disk never does. The station works on.
+    pub fn debt(&mut self, number: u64) -> Result<Option<Debt>, StationFault>
+        // It is the debt that was noted.
+        ensures debt { (h : History) → StandsFor self.old h
+            → IfOk result (λ debt. debt ≡ debt_at (ledger_of self.old) number) }
+        // Whatever the disk gives, the number is owed, and the texts have the lengths that were noted.
+        ensures owed { IfOk result (λ debt. (IsSome debt ↔ IsOwed (ledger_of self.old) number)
+            × HasLengths (ledger_of self.old) number debt) }
+        ensures broken { IsErrOf result StationFault.Broken ↔ IsBroken self.old }
+        ensures refused { IfErr result
+            (λ e. e ≢ StationFault.Broken → IsOwed (ledger_of self.old) number) }
+        ensures cause { (h : History) → StandsFor self.old h
+            → IsErrOf result (StationFault.Tape TapeFault.Disk)
+            → OneHasRisen (told_of self.old) (told_of self.new) }
+        ensures kinds { IfErr result IsClaimFault }
+        ensures reads { IsRead self.old self.new }
+        ensures places { places_of self.new ≡ places_of self.old }
     {
         match self.tape.debt(number) {
             Ok(debt) => Ok(debt),

@@ -1,5 +1,5 @@
 -- The counts of faults that the disks of a tape tell, of which one disk is called.
-use Rattle.std.proofs.Common.{◌≡◌, ◌↔◌, inl, inr, ℕ, ◌≤◌, Bool, true, false, arith, refl}
+use Rattle.std.proofs.Common.{inl, inr, ℕ, ◌≤◌, Bool, true, false, arith}
 use Rattle.recovery.specs.Pairs.{placed}
 use Rattle.recovery.specs.Words.{HasRisen, OneHasRisen}
 

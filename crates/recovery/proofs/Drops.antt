@@ -1,10 +1,10 @@
 -- Drops of several debts.
-use Rattle.std.proofs.Common.{◌≡◌, ◌==◌, ◌⊎◌, inl, inr, Bool, false, cond, not, ℕ, suc, ◌+◌, ◌<◌, ◌≤◌, ◌^◌, List, [], ◌∷◌, ◌++◌, length, get_or, take, drop, true, refl, sym, ap, ◌∙◌, subst, arith, length-append, add-one}
+use Rattle.std.proofs.Common.{◌≡◌, ◌==◌, ◌⊎◌, inl, inr, Bool, false, cond, not, ℕ, suc, ◌+◌, ◌<◌, ◌≤◌, ◌^◌, List, [], ◌∷◌, ◌++◌, length, get_or, take, drop, true, refl, sym, ap, ◌∙◌, subst, arith, add-one}
 use Rattle.std.specs.Prelude.{Vec, Contains, Result, Ok, Err, OnOk, IsErrOf}
 use Rattle.ledger_core.specs.declared.ledger.LedgerFault.{LedgerFault}
 use Rattle.ledger_core.specs.declared.ledger.LedgerFault.TheVariants.{OldNumber, NotOwed, CountFull, NoMemory}
 use Rattle.std.specs.declared.alloc.Global.{Global}
-use Rattle.std.proofs.lemmas.List.{length-map, map-append, take-append-le, drop-append-le, take_more}
+use Rattle.std.proofs.lemmas.List.{length-map, map-append, take_more}
 use Rattle.std.proofs.Math.Seq.{drop-cons}
 use Rattle.std.proofs.lemmas.Bool.{eqb-false, eqb-true}
 use Rattle.std.proofs.lemmas.List.Elements.{Contains-append_cases, Contains-append_left, Contains-append_right, Contains-push, Contains-push_cases}
@@ -13,11 +13,9 @@ use Rattle.tape_journal.specs.Words.{octets_of}
 use Rattle.ledger_core.specs.declared.note.Note.{Note}
 use Rattle.ledger_core.specs.declared.note.Note.TheVariants.{Drop}
 use Rattle.ledger_core.specs.declared.note.Cause.{Cause}
-use Rattle.ledger_core.specs.Laws.{after-append, AllLegal-append}
 use Rattle.ledger_core.specs.Note.{AreNotes}
 use Rattle.ledger_core.specs.Spelling.{spellings}
-use Rattle.ledger_core.specs.SpellingLaws.{AreNotes-append, spellings-append}
-use Rattle.ledger_core.specs.State.{State, AllLegal, IsLegal, IsOld, IsOwed, LacksDebt, Overflows, Owing, after, numbers_of, start, step, without}
+use Rattle.ledger_core.specs.State.{State, AllLegal, IsLegal, IsOld, IsOwed, LacksDebt, Overflows, Owing, numbers_of, step, without}
 use Rattle.recovery.specs.Notes.{AreOwed, drops}
 use Rattle.recovery.proofs.Stands.{note_short, spellings-length}
 

@@ -5,3 +5,5 @@ pub mod Payloads
 pub mod Rotates
 pub mod Stands
 mod Rows
+pub mod Indexed
+pub mod Readings

@@ -1,6 +1,6 @@
 -- What an opening finds.
-use Rattle.std.proofs.Common.{◌≡◌, ◌⊎◌, inl, inr, ⊎_elim, ℕ, ◌+◌, ◌-◌, ◌<◌, ◌≤◌, ◌^◌, Bool, true, false, List, [], ◌∷◌, length, take, refl, sym, ap, ◌∙◌, subst, arith}
-use Rattle.std.specs.Prelude.{Result, Ok, IsTrue, cond, min}
+use Rattle.std.proofs.Common.{◌≡◌, inl, inr, ⊎_elim, ℕ, ◌<◌, ◌≤◌, Bool, true, false, List, [], ◌∷◌, length, take, refl, sym, ap, ◌∙◌, subst, arith}
+use Rattle.std.specs.Prelude.{Result, Ok, cond}
 use Rattle.std.proofs.Common.{length-take}
 use Rattle.std.proofs.lemmas.Bool.{cases_lt}
 use Rattle.disk_model.specs.Disk.{Event, EachImage, FirstSync, Image, Leaves, Syncs, content}
@@ -9,26 +9,27 @@ use Rattle.disk_model.specs.Disk.Leaves.{at_start}
 use Rattle.disk_model.specs.Moments.{FirstSync-sync, FirstSync-weaker, Leaves-now, Leaves-sync, Leaves-weaker}
 use Rattle.disk_model.specs.declared.Disk.{Ghosts}
 use Rattle.disk_model.specs.declared.DiskFault.{DiskFault}
-use Rattle.tape_journal.specs.Journal.{Holds, IsOpened, IsRefused, opening, disk_of as journal_disk}
+use Rattle.tape_journal.specs.Journal.{IsOpened, opening, disk_of as journal_disk, end_of as journal_end}
 use Rattle.tape_journal.specs.Kept.{KeptFrom}
 use Rattle.tape_journal.specs.Segment.{Reads, records}
 use Rattle.tape_journal.specs.declared.fault.OpenFault.{OpenFault}
 use Rattle.tape_journal.specs.declared.fault.OpenFault.TheVariants.{Damaged as JournalDamaged, Disk as JournalDisk, NoMemory as NoJournalMemory}
 use Rattle.ledger_core.specs.Base.{Restores}
+use Rattle.ledger_core.specs.Index.{Indexes}
 use Rattle.ledger_core.specs.State.{State, after}
 use Rattle.ledger_core.specs.Written.{restored-whole}
 use Rattle.recovery.specs.Notes.{History, found, recovered}
-use Rattle.recovery.specs.Image.{AsContent, EachTape, HasGeneration, IsNoTapeAt, IsTape, KeptTape, LeavesNothingAt, Lives, Log, Octets, Survives, TapeFirstSync, TapeLeaves}
+use Rattle.recovery.specs.Image.{AsContent, EachTape, IsNoTapeAt, IsTape, KeptTape, LeavesNothingAt, Lives, Log, Octets, Survives, TapeFirstSync, TapeLeaves}
 use Rattle.recovery.specs.Laws.{Survives-kept, generation_of_payloads, generation_once, tape_nowhere_damaged, tape_once}
 use Rattle.recovery.specs.PairLaws.{live_leaves, other_leaves, pairs-then, pairs-weaker}
-use Rattle.recovery.specs.Pairs.{EachPair, LeavesPair, live_of, placed}
+use Rattle.recovery.specs.Pairs.{live_of, placed}
 use Rattle.recovery.specs.Pairs.LeavesPair.{at_start as at_both}
-use Rattle.recovery.specs.Tape.{GoesBefore, IsOpenedTape, IsRefusedTape, Recovers, StandsFor, StaysBehind, contents_of, tape_opening}
-use Rattle.recovery.specs.Words.{open_fault, AreHonest, generation_of, ledger_of, live_segment, log_of, other_log, refused_log}
-use Rattle.recovery.specs.declared.fault.TapeFault.{TapeFault}
+use Rattle.recovery.specs.Tape.{IsOpenedTape, IsRefusedTape, Recovers, StaysBehind, contents_of, tape_opening}
+use Rattle.recovery.specs.Words.{open_fault, generation_of, ledger_of, live_segment, log_of, other_log, refused_log}
 use Rattle.recovery.specs.declared.fault.TapeFault.TheVariants.{Damaged}
 use Rattle.recovery.specs.declared.tape.RefusedTape.{RefusedTape}
 use Rattle.recovery.specs.declared.tape.Tape.{Tape}
+use Rattle.recovery.proofs.Indexed.{next_end}
 use Rattle.recovery.proofs.Stands.{stands_whole}
 
 -- ---- both disks, told by the one that lives
@@ -127,6 +128,8 @@ module _ {D : Type 0} {g : Ghosts D} (tape : Tape D g) (live other : List Event)
     pub honest : g.honest tape.segments.other
     pub none : tape.pending.items ≡ []
     pub zero : tape.flushed ≡ 0
+    pub indexes : Indexes (length payloads) payloads tape.ledger
+    pub next : tape.next ≡ journal_end (live_segment tape)
 
   abbrev was_tape : Opens → IsTape (contents_of old) (ledger_of tape)
   was_tape o = record {
@@ -167,7 +170,8 @@ module _ {D : Type 0} {g : Ghosts D} (tape : Tape D g) (live other : List Event)
           notes_are = tt;
           legal = tt;
         })
-        refl refl payloads o.opened.holds o.restores (rests o) o.none (omega (arith, o.zero)) (omega arith);
+        refl refl payloads o.opened.holds o.restores (rests o) o.none (omega (arith, o.zero)) (omega arith) o.indexes
+        (next_end payloads (live_segment tape).end tape.next o.next o.opened.holds.end (live_segment tape).fits);
     calls = calls_placed tape.segments.second live other (g.log (journal_disk (live_segment tape))) (other_log tape)
         (length (records payloads)) o.opened.calls o.synced;
     moments = moments_of o;
@@ -195,7 +199,8 @@ module _ {D : Type 0} {g : Ghosts D} (tape : Tape D g) (live other : List Event)
         stands = stands_whole tape (recovered h here.count) (o.opened.holds.honest, o.honest) here.legal
             (sym short) same payloads o.opened.holds (subst (Restores payloads (generation_of tape)) same o.restores)
             (rests o) o.none
-            (omega (arith, o.zero)) (omega arith);
+            (omega (arith, o.zero)) (omega arith) o.indexes
+            (next_end payloads (live_segment tape).end tape.next o.next o.opened.holds.end (live_segment tape).fits);
         moments = kept_survives h old (log_of tape) first second each (moments_of o);
       }
 

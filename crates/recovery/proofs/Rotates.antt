@@ -1,18 +1,13 @@
 -- What a rotation writes, and how what a tape stands for goes on in it.
-use Rattle.std.proofs.Common.{◌≡◌, ◌≢◌, ◌⊎◌, ◌↔◌, inl, inr, ℕ, suc, ◌+◌, ◌-◌, ◌*◌, ◌≤◌, ◌<◌, ◌^◌, Bool, true, false, List, [], ◌∷◌, ◌++◌, length, take, drop, refl, sym, ◌∙◌, ap, subst, arith, length-append}
-use Rattle.std.specs.Prelude.{min, not}
-use Rattle.std.proofs.lemmas.List.{take_all}
+use Rattle.std.proofs.Common.{◌≡◌, inl, inr, ℕ, suc, ◌+◌, ◌*◌, Bool, true, false, List, [], ◌∷◌, ◌++◌, length, take, refl, sym, ◌∙◌, ap, subst, arith, length-append}
+use Rattle.std.specs.Prelude.{not}
 use Rattle.std.proofs.lemmas.List.Sums.{sum_by-cons}
 use Rattle.disk_model.specs.Disk.{Event, EachImage, Image, Leaves, content}
 use Rattle.disk_model.specs.Moments.{Leaves-weaker}
 use Rattle.disk_model.specs.declared.Disk.{Ghosts}
-use Rattle.tape_journal.specs.Journal.{Holds, disk_of as journal_disk}
-use Rattle.tape_journal.specs.Rewrite.{RenewedFrom, renewing}
+use Rattle.tape_journal.specs.Rewrite.{RenewedFrom}
 use Rattle.tape_journal.specs.Segment.{AllShort, Reads, gated, open_gate, records}
 use Rattle.tape_journal.specs.SegmentLaws.{length-sized, reads_rest}
-use Rattle.tape_journal.specs.declared.fault.RenewFault.{RenewFault}
-use Rattle.tape_journal.specs.declared.fault.RenewFault.TheVariants.{Disk as RenewDisk, TapeFull as RenewTapeFull, PayloadTooLong as RenewTooLong, NoMemory as NoRenewMemory}
-use Rattle.ledger_core.specs.declared.note.Note.TheVariants.{Owe}
 use Rattle.ledger_core.specs.Base.{Restores, base_spelling, owe, owes}
 use Rattle.ledger_core.specs.Note.{AreNotes, IsNumber}
 use Rattle.ledger_core.specs.Spelling.{head, sized_text, spelling, spellings}
@@ -20,13 +15,11 @@ use Rattle.ledger_core.specs.State.{Owing, State, after, line_octets, octets_of_
 use Rattle.ledger_core.specs.Written.{IsWhole, base_of, written, written-restores}
 use Rattle.recovery.specs.Image.{IsTape, Survives, TapeLeaves}
 use Rattle.recovery.specs.Laws.{AreLegal-take, Survives-whole, generation_of_payloads, tape_placed, whole_behind}
-use Rattle.recovery.specs.Notes.{AreLegal, History, ledger_after}
+use Rattle.recovery.specs.Notes.{History, ledger_after}
 use Rattle.recovery.specs.PairLaws.{other_leaves, placed-pair}
 use Rattle.recovery.specs.Pairs.{placed}
 use Rattle.recovery.specs.Tape.{GoesBefore, IsWorking, StandsFor, StaysBehind}
-use Rattle.recovery.specs.Words.{IsBroken, IsRotateFault, generation_of, ledger_of, live_log, log_of, other_log, renew_fault}
-use Rattle.recovery.specs.declared.fault.TapeFault.{TapeFault}
-use Rattle.recovery.specs.declared.fault.TapeFault.TheVariants.{Broken, Disk, GenerationFull, TapeFull}
+use Rattle.recovery.specs.Words.{IsBroken, generation_of, ledger_of, live_log, log_of, other_log}
 use Rattle.recovery.specs.declared.tape.Tape.{Tape}
 use Rattle.recovery.proofs.Drops.{AllShort-notes}
 
@@ -90,30 +83,6 @@ written-short generation state are = (
       are,
 )
 
--- ---- faults
-
--- what is short and fits is refused for want of memory or by the disk alone
-pub renew_full : (fault : RenewFault) → (fault ≡ RenewTapeFull → ⊥) → (fault ≡ RenewTooLong → ⊥) → renew_fault fault ≡
-    TapeFull → ⊥
-renew_full RenewDisk full long e = cc e
-renew_full RenewTapeFull full long e = full refl
-renew_full RenewTooLong full long e = long refl
-renew_full NoRenewMemory full long e = cc e
-
--- the other faults of a rotation are told before
-pub renew_others : (fault : RenewFault) → (renew_fault fault ≡ Broken → ⊥) × (renew_fault fault ≡ GenerationFull → ⊥)
-    × IsRotateFault (renew_fault fault)
-renew_others RenewDisk = (λ e. cc e, λ e. cc e, tt)
-renew_others RenewTapeFull = (λ e. cc e, λ e. cc e, tt)
-renew_others RenewTooLong = (λ e. cc e, λ e. cc e, tt)
-renew_others NoRenewMemory = (λ e. cc e, λ e. cc e, tt)
-
-pub renew_disk : (fault : RenewFault) → renew_fault fault ≡ Disk → fault ≡ RenewDisk
-renew_disk RenewDisk e = refl
-renew_disk RenewTapeFull e = cc e
-renew_disk RenewTooLong e = cc e
-renew_disk NoRenewMemory e = cc e
-
 -- ---- the other lives
 
 pub turned : {A : Type 0} (second : Bool) (one other : A) → placed (not second) one other ≡ placed second other one
@@ -140,6 +109,12 @@ module _ {D : Type 0} {g : Ghosts D} (tape : Tape D g) (h : History) where
         (reads_rest w.payloads w.holds.rest.short)) w.restores;
     behind = turned_before tape.segments.second (generation_of tape);
   }
+
+  -- all that it owes can be noted
+  pub owes_notes : StandsFor tape h → AreNotes (owes (ledger_of tape).debts)
+  owes_notes stands =
+      subst (λ (s : State). AreNotes (owes s.debts)) (sym stands.ledger)
+      (whole_behind h.base h.notes stands.are_legal).debts.valid
 
   -- what is written restores the ledger
   pub written_whole : StandsFor tape h → IsNumber (generation_of tape + 1) → Restores

@@ -1,11 +1,11 @@
 -- How what a tape stands for goes on.
-use Rattle.std.proofs.Common.{◌≡◌, ◌⊎◌, ◌↔◌, inl, inr, ℕ, zero, suc, ◌+◌, ◌-◌, ◌≤◌, ◌<◌, ◌^◌, Bool, true, false, List, [], ◌∷◌, ◌++◌, length, take, drop, refl, sym, ◌∙◌, ap, subst, arith, length-append, length-drop, take-append-drop}
+use Rattle.std.proofs.Common.{◌≡◌, ℕ, zero, suc, ◌+◌, ◌-◌, ◌≤◌, ◌^◌, true, List, [], ◌∷◌, ◌++◌, length, take, drop, refl, sym, ◌∙◌, ap, subst, arith, length-append, length-drop}
 use Rattle.std.specs.Prelude.{Vec, min}
 use Rattle.std.proofs.Math.Bridge.{le_prop}
 use Rattle.std.proofs.Math.Seq.{take-add, take-append-add}
 use Rattle.std.specs.declared.alloc.Global.{Global}
-use Rattle.std.proofs.lemmas.List.{map-append, length-map, take_all, drop_all, take-append-le, drop-append-le, length-take-le}
-use Rattle.disk_model.specs.Disk.{Event, EachImage, Image, Leaves, content}
+use Rattle.std.proofs.lemmas.List.{append-nil, map-append, length-map, take_all, drop_all, take-append-le, drop-append-le}
+use Rattle.disk_model.specs.Disk.{Event, EachImage, Image, Leaves}
 use Rattle.disk_model.specs.Moments.{Leaves-weaker}
 use Rattle.disk_model.specs.declared.Disk.{Ghosts}
 use Rattle.tape_journal.specs.Journal.{Holds, disk_of as journal_disk}
@@ -14,6 +14,8 @@ use Rattle.tape_journal.specs.SegmentLaws.{reads_rest}
 use Rattle.tape_journal.specs.Words.{octets_of}
 use Rattle.ledger_core.specs.declared.note.Note.{Note}
 use Rattle.ledger_core.specs.Base.{Restores}
+use Rattle.ledger_core.specs.Index.{Indexes}
+use Rattle.ledger_core.specs.Spots.{records_length}
 use Rattle.ledger_core.specs.Laws.{after-append, AllLegal-back}
 use Rattle.ledger_core.specs.Note.{AreNotes, IsNote}
 use Rattle.ledger_core.specs.Spelling.{spelling, spellings}
@@ -26,7 +28,7 @@ use Rattle.recovery.specs.Image.{EachTape, IsTape, Survives, TapeLeaves}
 use Rattle.recovery.specs.Laws.{AreLegal-append, AreLegal-take, Survives-noted_all, Survives-whole, tape_placed}
 use Rattle.recovery.specs.PairLaws.{live_leaves, pair-placed, pairs-now}
 use Rattle.recovery.specs.Pairs.{placed}
-use Rattle.recovery.specs.Tape.{StandsFor, StaysBehind}
+use Rattle.recovery.specs.Tape.{IsIndexed, StandsFor, StaysBehind}
 use Rattle.recovery.specs.Words.{AreHonest, IsBroken, generation_of, ledger_of, live_log, live_segment, log_of, other_log}
 use Rattle.recovery.specs.declared.segments.Segments.{Segments}
 use Rattle.recovery.specs.declared.tape.Tape.{Tape}
@@ -70,11 +72,14 @@ module _ {D : Type 0} {g : Ghosts D} (tape : Tape D g) (h : History) where
       → (payloads : List (List ℕ)) → Holds (live_segment tape) payloads → Restores payloads (generation_of tape)
       (ledger_after h)
       → EachImage (StaysBehind tape.segments.second (generation_of tape)) (other_log tape)
-      → tape.pending.items ≡ [] → tape.flushed ≡ min (h.kept - h.opened) (2 ^ 64 - 1) → h.opened ≤ h.kept → StandsFor
-      tape h
-  stands_whole honest legal all ledger payloads holds restores other none count opened =
+      → tape.pending.items ≡ [] → tape.flushed ≡ min (h.kept - h.opened) (2 ^ 64 - 1) → h.opened ≤ h.kept
+      → Indexes (length payloads) payloads tape.ledger → tape.next ≡ min (records_length payloads) (2 ^ 64 - 1) →
+      StandsFor tape h
+  stands_whole honest legal all ledger payloads holds restores other none count opened indexes next =
       let here : take h.kept h.notes ≡ h.notes = take_all h.kept h.notes (omega (arith, all)) in
       let rest : drop h.kept h.notes ≡ [] = drop_all h.kept h.notes (omega (arith, all)) in
+      let whole : payloads ++ octets_of tape.pending.items ≡ payloads =
+      ap (λ (l : List (Vec ℕ Global)). payloads ++ octets_of l) none ∙ append-nil payloads in
       record {
         honest = honest;
         are_legal = legal;
@@ -95,6 +100,10 @@ module _ {D : Type 0} {g : Ghosts D} (tape : Tape D g) (h : History) where
               (sym here) restores;
           other = other;
           pending = ap octets_of none ∙ ap spellings (sym rest);
+          indexed = record {
+            indexes = subst (λ (l : List (List ℕ)). Indexes (length payloads) l tape.ledger) (sym whole) indexes;
+            next = next ∙ ap (λ (l : List (List ℕ)). min (records_length l) (2 ^ 64 - 1)) (sym whole);
+          };
           count = count;
           opened = opened;
         };
@@ -186,8 +195,9 @@ pub stands_noted_all : {D : Type 0} {g : Ghosts D} (old new : Tape D g) (h : His
     (payloads : List (Vec ℕ Global)) → StandsFor old h → new.segments ≡ old.segments → AreNotes notes → AllLegal
     (ledger_of old) notes → ledger_of new ≡ after (ledger_of old) notes
     → new.pending.items ≡ old.pending.items ++ payloads → octets_of payloads ≡ spellings notes → new.flushed ≡
-    old.flushed → StandsFor new (noted_all h notes)
-stands_noted_all {D} {g} old new h notes payloads stands same are legal stepped pending spelled flushed =
+    old.flushed
+    → ((kept : List (List ℕ)) → IsIndexed old kept → IsIndexed new kept) → StandsFor new (noted_all h notes)
+stands_noted_all {D} {g} old new h notes payloads stands same are legal stepped pending spelled flushed grows =
     let here : AllLegal (ledger_after h) notes = subst (λ (s : State). AllLegal s notes) stands.ledger legal in
     let front : take h.kept (h.notes ++ notes) ≡ take h.kept h.notes = take-append-le h.kept h.notes notes
     stands.kept_within in
@@ -216,6 +226,7 @@ stands_noted_all {D} {g} old new h notes payloads stands same are legal stepped 
                 (ap (λ (l : List (List ℕ)). l ++ octets_of payloads) w.pending ∙
                 (ap (λ (p : List (List ℕ)). spellings (drop h.kept h.notes) ++ p) spelled ∙
                 (sym (spellings-append (drop h.kept h.notes) notes) ∙ sym (ap spellings back)))));
+            indexed = grows w.payloads w.indexed;
             count = flushed ∙ w.count;
             opened = w.opened;
           };
@@ -225,9 +236,9 @@ stands_noted_all {D} {g} old new h notes payloads stands same are legal stepped 
 pub stands_refused : {D : Type 0} {g : Ghosts D} (old new : Tape D g) (h : History) → StandsFor old h → AreHonest new
     → ledger_of new ≡ ledger_of old → octets_of new.pending.items ≡ octets_of old.pending.items → new.flushed ≡
     old.flushed
-    → TapeLeaves (Survives h) (log_of old) (log_of new) → ((IsBroken new → ⊥) → new.segments ≡ old.segments) →
-    StandsFor new h
-stands_refused {D} {g} old new h stands honest ledger pending flushed moments same = record {
+    → TapeLeaves (Survives h) (log_of old) (log_of new) → ((IsBroken new → ⊥) → new.segments ≡ old.segments)
+    → ((kept : List (List ℕ)) → IsIndexed old kept → IsIndexed new kept) → StandsFor new h
+stands_refused {D} {g} old new h stands honest ledger pending flushed moments same still = record {
   honest = honest;
   are_legal = stands.are_legal;
   kept_within = stands.kept_within;
@@ -244,6 +255,7 @@ stands_refused {D} {g} old new h stands honest ledger pending flushed moments sa
         other = subst (λ (s : Segments D g). EachImage (StaysBehind s.second s.generation) (g.log s.other)) (sym stay)
             w.other;
         pending = pending ∙ w.pending;
+        indexed = still w.payloads w.indexed;
         count = flushed ∙ w.count;
         opened = w.opened;
       };

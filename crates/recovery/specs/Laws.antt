@@ -1,25 +1,24 @@
 -- Laws of tapes and of histories, for this crate and those above.
-use Rattle.std.proofs.Common.{◌≡◌, ◌⊎◌, ◌↔◌, ℕ, ◌+◌, ◌<◌, ◌≤◌, Bool, true, false, List, [], ◌∷◌, ◌++◌, length, take, drop, refl, sym, ap}
+use Rattle.std.proofs.Common.{◌≡◌, ℕ, ◌≤◌, Bool, true, false, List, [], ◌∷◌, ◌++◌, length, take, drop, refl, sym, ap}
 use Rattle.std.proofs.Common.{◌∙◌, subst, inl, inr, arith, length-append, length-take, take-append-drop}
 use Rattle.std.specs.Prelude.{IsTrue, cond}
 use Rattle.std.proofs.lemmas.List.{take_all, take-append-le, take-take}
 use Rattle.disk_model.specs.declared.Disk.{Ghosts}
-use Rattle.disk_model.specs.Disk.{Event, EachImage, Image, content}
+use Rattle.disk_model.specs.Disk.{Event, Image, content}
 use Rattle.tape_journal.specs.Kept.{KeptFrom}
-use Rattle.tape_journal.specs.Segment.{Ends, IsCutShort, IsRecord, Reads, ReadsAs, records}
-use Rattle.tape_journal.specs.SegmentLaws.{damaged_once, reads_once, read_or_damaged, reads_first, ends_first, record_once, record_goes_on, record_uncut, ends_uncut}
+use Rattle.tape_journal.specs.Segment.{Reads, ReadsAs, records}
+use Rattle.tape_journal.specs.SegmentLaws.{damaged_once, reads_once, read_or_damaged, reads_first, record_once, record_goes_on, record_uncut, ends_uncut}
 use Rattle.ledger_core.specs.declared.base.Base.{Base}
 use Rattle.ledger_core.specs.declared.note.Note.{Note}
 use Rattle.ledger_core.specs.Base.{IsBase, RestoreStopsAt, Restores, base_spelling}
 use Rattle.ledger_core.specs.BaseLaws.{never_restored, restores_once, same-base}
 use Rattle.ledger_core.specs.StopLaws.{restore_stops_once}
 use Rattle.ledger_core.specs.Laws.{AllLegal-append, AllLegal-front}
-use Rattle.ledger_core.specs.Note.{AreNotes, IsNote}
-use Rattle.ledger_core.specs.Spelling.{spelling, spellings}
+use Rattle.ledger_core.specs.Note.{AreNotes}
 use Rattle.ledger_core.specs.SpellingLaws.{AreNotes-append, AreNotes-front}
-use Rattle.ledger_core.specs.State.{State, AllLegal, IsLegal, after}
+use Rattle.ledger_core.specs.State.{State, AllLegal, after}
 use Rattle.ledger_core.specs.Written.{IsWhole, whole-after}
-use Rattle.recovery.specs.Notes.{AreLegal, History, noted, noted_all, recovered}
+use Rattle.recovery.specs.Notes.{AreLegal, History, noted_all, recovered}
 use Rattle.recovery.specs.Image.{Octets, Log, AsContent, EachTape, HasGeneration, HasNoGeneration, IsNoTapeAt, IsTape, KeptTape, LeavesNothingAt, Lives, Survives, TapeFirstSync, TapeLeaves, TellsGeneration}
 use Rattle.recovery.specs.Pairs.{live_of, placed}
 use Rattle.recovery.specs.Tape.{GoesBefore, IsOpenedTape, IsRefusedTape}

@@ -8,3 +8,4 @@ pub mod Tape
 pub mod Laws
 pub mod Leaving
 pub mod LeavingLaws
+pub mod Texts

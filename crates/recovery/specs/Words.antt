@@ -1,5 +1,5 @@
 -- What a tape holds, in words of its own.
-use Rattle.std.specs.Prelude.{◌≡◌, ◌≢◌, ◌⊎◌, ◌↔◌, ◌+◌, ◌-◌, ◌*◌, ◌^◌, ◌<◌, ◌≤◌, ℕ, Bool, cond, min, [], ◌∷◌, List, length, Result, IsErrAnd}
+use Rattle.std.specs.Prelude.{◌≡◌, ◌≢◌, ◌⊎◌, ◌↔◌, ◌+◌, ◌-◌, ◌*◌, ◌^◌, ◌<◌, ◌≤◌, ℕ, min, [], List, length, Result, IsErrAnd}
 use Rattle.disk_model.specs.Disk.{Event}
 use Rattle.disk_model.specs.declared.Disk.{Ghosts}
 use Rattle.tape_journal.specs.Journal.{disk_of as journal_disk, end_of as journal_end, IsBroken as IsBrokenJournal, appending}
@@ -11,8 +11,6 @@ use Rattle.tape_journal.specs.declared.fault.OpenFault.{OpenFault}
 use Rattle.tape_journal.specs.declared.fault.OpenFault.TheVariants.{Damaged as JournalDamaged, Disk as JournalDisk, NoMemory as NoJournalMemory}
 use Rattle.tape_journal.specs.declared.fault.AppendFault.{AppendFault}
 use Rattle.tape_journal.specs.declared.fault.AppendFault.TheVariants.{Disk as AppendDisk, Broken as AppendBroken, TapeFull as AppendTapeFull, PayloadTooLong, NoMemory as NoAppendMemory}
-use Rattle.tape_journal.specs.declared.fault.RenewFault.{RenewFault}
-use Rattle.tape_journal.specs.declared.fault.RenewFault.TheVariants.{Disk as RenewDisk, TapeFull as RenewTapeFull, PayloadTooLong as RenewTooLong, NoMemory as NoRenewMemory}
 use Rattle.ledger_core.specs.declared.ledger.LedgerFault.{LedgerFault}
 use Rattle.ledger_core.specs.declared.ledger.LedgerFault.TheVariants.{OldNumber, NotOwed, CountFull, NoMemory}
 use Rattle.ledger_core.specs.declared.note.Note.{Note}
@@ -79,6 +77,10 @@ module _ {D : Type 0} {g : Ghosts D} where
   abbrev pub rotated_length : Tape D g → ℕ
   rotated_length tape = 1 + length (records (written (generation_of tape + 1) (ledger_of tape)))
 
+  -- these payloads are what a rotation writes
+  abbrev pub Writes : Tape D g → List (List ℕ) → Type 0
+  Writes tape payloads = payloads ≡ written (generation_of tape + 1) (ledger_of tape)
+
   -- what a rotation writes would be too long
   abbrev pub RotatesTooLong : Tape D g → Type 0
   RotatesTooLong tape = longest_segment < rotated_length tape
@@ -105,6 +107,7 @@ module _ {D : Type 0} {g : Ghosts D} where
     pub segments : new.segments ≡ old.segments
     pub ledger : ledger_of new ≡ ledger_of old
     pub pending : octets_of new.pending.items ≡ octets_of old.pending.items
+    pub next : new.next ≡ old.next
     pub flushed : new.flushed ≡ old.flushed
 
   -- the disks are honest where they were, and their counts of faults did not fall
@@ -138,13 +141,6 @@ append_fault AppendBroken = Broken
 append_fault AppendTapeFull = TapeFull
 append_fault PayloadTooLong = TapeFull
 append_fault NoAppendMemory = NoTapeMemory
-
--- The fault of a segment that was not written anew, as a tape tells it. No payload is too long.
-abbrev pub renew_fault : RenewFault → TapeFault
-renew_fault RenewDisk = Disk
-renew_fault RenewTapeFull = TapeFull
-renew_fault RenewTooLong = TapeFull
-renew_fault NoRenewMemory = NoTapeMemory
 
 -- why a ledger refuses a note
 abbrev pub RefusesNote : State → Note → LedgerFault → Type 0
@@ -226,10 +222,14 @@ IsRotateFault (RefusedNote fault) = ⊥
 -- the faults that `debt` tells
 abbrev pub IsDebtFault : TapeFault → Type 0
 IsDebtFault (Damaged segment at) = ⊥
-IsDebtFault Disk = ⊥
+IsDebtFault Disk = Unit {0}
 IsDebtFault Broken = Unit {0}
 IsDebtFault TapeFull = ⊥
 IsDebtFault GenerationFull = ⊥
 IsDebtFault PendingFull = ⊥
 IsDebtFault NoTapeMemory = Unit {0}
 IsDebtFault (RefusedNote fault) = ⊥
+
+-- the faults that a reading of a tape that works tells
+abbrev pub IsReadFault : TapeFault → Type 0
+IsReadFault fault = (fault ≡ Disk) ⊎ (fault ≡ NoTapeMemory)

@@ -1,11 +1,11 @@
 // Why a call of a tape was refused.
 ghost use Rattle.std.specs.Prelude.{◌≡◌};
 ghost use Rattle.recovery.specs.declared.fault.TapeFault.TheVariants.{NoMemory as NoTapeMemory};
-ghost use Rattle.recovery.specs.Words.{append_fault, open_fault, renew_fault};
+ghost use Rattle.recovery.specs.Words.{append_fault, open_fault};
 
 use ledger_core::LedgerFault;
 use std::alloc::{AllocError, AllocFailed};
-use tape_journal::{AppendFault, OpenFault, RenewFault};
+use tape_journal::{AppendFault, OpenFault};
 use thiserror::Error;
 
 /// Why a tape refuses a call. Each call tells which of these come, and in which order they are tried.
@@ -75,16 +75,5 @@ pub(crate) fn append_fault(fault: AppendFault) -> TapeFault
         AppendFault::Broken => TapeFault::Broken,
         AppendFault::TapeFull | AppendFault::PayloadTooLong => TapeFault::TapeFull,
         AppendFault::NoMemory => TapeFault::NoMemory,
-    }
-}
-
-// The fault of a segment that was not written anew. None of its payloads is too long.
-pub(crate) fn renew_fault(fault: RenewFault) -> TapeFault
-    ensures { result ≡ renew_fault fault }
-{
-    match fault {
-        RenewFault::Disk => TapeFault::Disk,
-        RenewFault::TapeFull | RenewFault::PayloadTooLong => TapeFault::TapeFull,
-        RenewFault::NoMemory => TapeFault::NoMemory,
     }
 }

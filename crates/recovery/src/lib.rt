@@ -9,8 +9,10 @@
 mod fault;
 mod laws;
 mod read;
+mod rotate;
 mod segments;
 mod tape;
+mod texts;
 
 pub use fault::TapeFault;
 pub use laws::tape_once;

@@ -3,6 +3,7 @@ ghost use Rattle.std.specs.Prelude.{◌≡◌, ◌-◌, ◌^◌, ◌<◌, ◌≤
 ghost use Rattle.std.specs.Prelude.{MatchResult};
 ghost use Rattle.tape_journal.specs.Segment.{records};
 ghost use Rattle.tape_journal.specs.Words.{octets_of};
+ghost use Rattle.ledger_core.specs.Index.{Indexes};
 ghost use Rattle.ledger_core.specs.Ledger.{state_of};
 ghost use Rattle.ledger_core.specs.Base.{RestoreStopsAt, Restores};
 ghost use Rattle.ledger_core.specs.State.{State};
@@ -12,13 +13,18 @@ use crate::TapeFault;
 use ledger_core::{Ledger, ReplayFault, Restored};
 use std::alloc::Global;
 
+// How many octets a record has before its payload.
+pub(crate) const RECORD_HEAD: u64 = 5;
+
 // How long the records of these payloads are, or more than any disk.
-fn records_len(payloads: &[Vec<u8>]) -> u64
+pub(crate) fn records_len(payloads: &[Vec<u8>]) -> u64
     ensures { result ≡ min (length (records (octets_of payloads.now))) (2 ^ 64 - 1) }
 {
     let mut total = 0u64;
     for payload in payloads {
-        total = total.saturating_add(5).saturating_add(payload.len() as u64);
+        total = total
+            .saturating_add(RECORD_HEAD)
+            .saturating_add(payload.len() as u64);
     }
     total
 }
@@ -48,6 +54,8 @@ pub(crate) fn read_ledger(
         → (index : ℕ) × RestoreStopsAt (octets_of payloads.now) index
         × (at ≡ length (records (take index (octets_of payloads.now)))))) }
     ensures kinds { IfErr result IsReplayFault }
+    ensures indexes { IfOk result
+        (λ r. Indexes (length payloads.now) (octets_of payloads.now) r.ledger) }
 {
     match Ledger::restore(alloc, payloads) {
         Ok(restored) => Ok(restored),

@@ -7,7 +7,9 @@ ghost use Rattle.recovery.specs.Notes.{most_pending};
 ghost use Rattle.recovery.specs.Shorts.{AllShort-prop};
 ghost use Rattle.std.specs.Prelude.{IfOk, OnOk};
 ghost use Rattle.std.specs.List.{All, Contains};
+ghost use Rattle.ledger_core.specs.Index.{Indexes};
 ghost use Rattle.ledger_core.specs.Ledger.{state_of};
+ghost use Rattle.tape_journal.specs.Journal.{end_of as journal_end};
 ghost use Rattle.ledger_core.specs.Note.{AreNotes};
 ghost use Rattle.ledger_core.specs.Spelling.{spellings};
 ghost use Rattle.ledger_core.specs.State.{AllLegal, after};
@@ -15,11 +17,11 @@ ghost use Rattle.recovery.specs.Notes.{drops};
 ghost use Rattle.recovery.specs.declared.fault.TapeFault.TheVariants.{Broken};
 
 use crate::TapeFault;
-use crate::fault::{append_fault, open_fault, renew_fault};
-use crate::read::read_ledger;
+use crate::fault::{append_fault, open_fault};
+use crate::read::{RECORD_HEAD, read_ledger, records_len};
 use crate::segments::{Segments, is_second_live};
 use disk_model::Disk;
-use ledger_core::{Cause, Debt, Ledger, LedgerFault, Note, Totals, encode};
+use ledger_core::{Cause, Ledger, LedgerFault, Note, Totals, encode};
 use std::alloc::{AllocError, Global};
 use tape_journal::Journal;
 
@@ -79,6 +81,8 @@ impl<D: Disk> RefusedTape<D> {
 ///
 /// Each disk has a segment, and the one of greater generation lives: notes are added to it, until `rotate` writes the
 /// ledger into the other, which lives from then on.
+///
+/// In memory is no text of a debt whose note is on the disk: `debt` and `rotate` read it there.
 #[derive(Drop)]
 pub struct Tape<D: Disk> {
     pub(crate) alloc: Global,
@@ -86,6 +90,8 @@ pub struct Tape<D: Disk> {
     pub(crate) ledger: Ledger,
     // The spellings of the notes that pend.
     pub(crate) pending: Vec<Vec<u8>>,
+    // The offset at which the record of the next note will be, or the greatest u64 where that is less.
+    pub(crate) next: u64,
     // How many notes were put on the disks since the tape was opened.
     pub(crate) flushed: u64,
     ghost few: { length pending.items ≤ most_pending },
@@ -99,7 +105,6 @@ impl<D: Disk> Tape<D> {
     ghost use Rattle.disk_model.specs.Disk.{content};
     ghost use Rattle.tape_journal.specs.Segment.{longest_segment};
     ghost use Rattle.ledger_core.specs.Ledger.{totals_of};
-    ghost use Rattle.ledger_core.specs.Base.{owes};
     ghost use Rattle.ledger_core.specs.Spelling.{spellings};
     ghost use Rattle.ledger_core.specs.Written.{written};
     ghost use Rattle.ledger_core.specs.declared.ledger.LedgerFault.{LedgerFault};
@@ -112,9 +117,9 @@ impl<D: Disk> Tape<D> {
     ghost use Rattle.recovery.specs.Words.{generation_of, ledger_of};
     ghost use Rattle.recovery.specs.Words.{log_of, pending_of, refused_log, rotated_length, rotating, told_of};
     ghost use Rattle.recovery.specs.Words.{IsBroken, IsDue, RotatesTooLong, IsFull, IsSame, RefusesNote, Tells};
-    ghost use Rattle.recovery.specs.Words.{IsOpenFault, IsNoteFault, IsFlushFault, IsDebtFault};
+    ghost use Rattle.recovery.specs.Words.{IsOpenFault, IsNoteFault, IsFlushFault};
     ghost use Rattle.recovery.specs.Words.{IsDropFault, IsRotateFault};
-    ghost use Rattle.recovery.specs.Tape.{StandsFor, IsOpenedTape, IsRefusedTape, Recovers, contents_of};
+    ghost use Rattle.recovery.specs.Tape.{StandsFor, IsOpenedTape, IsRead, IsRefusedTape, Recovers, contents_of};
 
     /// Opens the tape of two disks, empty ones among them: of their segments the one of greater generation lives, on a
     /// tie the first. Its ledger is what that leaves; all notes are acknowledged, and none pends. The disks are read
@@ -239,6 +244,7 @@ impl<D: Disk> Tape<D> {
         match unrepaired.repair() {
             Ok(live) => Ok(Tape {
                 alloc,
+                next: end_of(&live),
                 segments: Segments {
                     live,
                     other,
@@ -334,14 +340,23 @@ impl<D: Disk> Tape<D> {
             → OnOk result (StandsFor self.new (noted h note.now)) }
         ensures ledger { OnOk result (ledger_of self.new ≡ step (ledger_of self.old) note.now) }
         ensures pends { OnOk result (pending_of self.new ≡ pending_of self.old + 1) }
+        ensures err { (h : History) → StandsFor self.old h → OnErr result (StandsFor self.new h) }
         ensures unchanged { OnErr result (IsSame self.old self.new) }
         ensures memory { IfErr result (λ fault. fault ≡ TapeFault.NoMemory) }
         ensures segments { self.new.segments ≡ self.old.segments }
     {
         let payload = encode(self.alloc, note)?;
+        let at = self.next;
+        let slot = self.pending.len() as u32;
+        let next = at
+            .saturating_add(RECORD_HEAD)
+            .saturating_add(payload.len() as u64);
         self.pending.push(payload)?;
-        match self.ledger.apply(note) {
-            Ok(()) => Ok(()),
+        match self.ledger.apply_at(note, at, slot) {
+            Ok(()) => {
+                self.next = next;
+                Ok(())
+            }
             Err(_) => {
                 self.pending.pop();
                 Err(TapeFault::NoMemory)
@@ -415,6 +430,7 @@ impl<D: Disk> Tape<D> {
             (ledger_of self.new ≡ after (ledger_of self.old) (drops cause numbers.now)) }
         ensures pends { OnOk result
             (pending_of self.new ≡ pending_of self.old + length numbers.now) }
+        ensures err { (h : History) → StandsFor self.old h → OnErr result (StandsFor self.new h) }
         ensures unchanged { OnErr result (IsSame self.old self.new) }
         ensures memory { IfErr result (λ fault. fault ≡ TapeFault.NoMemory) }
         ensures segments { self.new.segments ≡ self.old.segments }
@@ -422,7 +438,9 @@ impl<D: Disk> Tape<D> {
         let mut payloads = spelled_drops(self.alloc, numbers, cause)?;
         // What was taken, all of it, is a sum with what was dropped, so that no count passes the greatest number.
         let _taken = taken_of(&self.ledger);
+        let next = self.next.saturating_add(records_len(&payloads));
         self.pending.append(&mut payloads)?;
+        self.next = next;
         apply_drops(&mut self.ledger, numbers, cause);
         Ok(())
     }
@@ -542,8 +560,8 @@ impl<D: Disk> Tape<D> {
     /// lives, which is not written. Answers the new generation. Linear in what is owed.
     ///
     /// # Errors
-    /// Tried in this order: `Broken`; `GenerationFull`; `TapeFull`; `NoMemory`; these change nothing. `Disk`: the tape
-    /// is broken from now on.
+    /// Tried in this order: `Broken`; `GenerationFull`; `TapeFull`; `NoMemory`; these change nothing. `Disk`, also
+    /// where a note that was read back is not that of its debt: the tape is broken from now on.
     pub fn rotate(&mut self) -> Result<u64, TapeFault>
         ensures ok { (h : History) → StandsFor self.old h
             → OnOk result (StandsFor self.new (flushed h)) }
@@ -566,7 +584,7 @@ impl<D: Disk> Tape<D> {
             ↔ ((IsBroken self.old → ⊥) × (generation_of self.old ≡ 2 ^ 64 - 1)) }
         ensures full { IsErrOf result TapeFault.TapeFull ↔ ((IsBroken self.old → ⊥)
             × (generation_of self.old ≢ 2 ^ 64 - 1) × RotatesTooLong self.old) }
-        ensures refused { IfErr result (λ e. e ≢ TapeFault.Disk → self.new ≡ self.old) }
+        ensures refused { IfErr result (λ e. e ≢ TapeFault.Disk → IsRead self.old self.new) }
         ensures breaks { IsErrOf result TapeFault.Disk → IsBroken self.new }
         ensures works { OnOk result (IsBroken self.new → ⊥) }
         ensures cause { (h : History) → StandsFor self.old h
@@ -586,80 +604,7 @@ impl<D: Disk> Tape<D> {
         if self.rotated_len() > LONGEST_SEGMENT {
             return Err(TapeFault::TapeFull);
         }
-        let payloads = self
-            .ledger
-            .written(self.alloc, self.segments.generation + 1)?;
-        self.go_on_in(&payloads)
-    }
-
-    // Goes on in the segment that doesn't live, with these payloads, which its ledger writes.
-    fn go_on_in(&mut self, payloads: &[Vec<u8>]) -> Result<u64, TapeFault>
-        requires works { IsBroken self.old → ⊥ }
-        requires room { generation_of self.old < 2 ^ 64 - 1 }
-        requires fits { rotated_length self.old ≤ longest_segment }
-        requires written { octets_of payloads.now
-            ≡ written (generation_of self.old + 1) (ledger_of self.old) }
-        requires notes { AreNotes (owes (ledger_of self.old).debts) }
-        ensures ok { (h : History) → StandsFor self.old h
-            → OnOk result (StandsFor self.new (flushed h)) }
-        ensures err { (h : History) → StandsFor self.old h → OnErr result (StandsFor self.new h) }
-        ensures generation { IfOk result (λ n. (n ≡ generation_of self.old + 1)
-            × (generation_of self.new ≡ n)) }
-        ensures moments { (h : History) → StandsFor self.old h
-            → TapeLeaves (Survives h) (log_of self.old) (log_of self.new) }
-        ensures calls { (h : History) → StandsFor self.old h
-            → OnOk result (log_of self.new ≡ rotating self.old) }
-        ensures none_pends { OnOk result (pending_of self.new ≡ 0) }
-        ensures refused { IfErr result (λ e. e ≢ TapeFault.Disk → self.new ≡ self.old) }
-        ensures breaks { IsErrOf result TapeFault.Disk → IsBroken self.new }
-        ensures works { OnOk result (IsBroken self.new → ⊥) }
-        ensures cause { (h : History) → StandsFor self.old h
-            → IsErrOf result TapeFault.Disk → OneHasRisen (told_of self.old) (told_of self.new) }
-        ensures broken { IsErrOf result TapeFault.Broken → ⊥ }
-        ensures generation_full { IsErrOf result TapeFault.GenerationFull → ⊥ }
-        ensures full { IsErrOf result TapeFault.TapeFull → ⊥ }
-        ensures kinds { IfErr result IsRotateFault }
-        ensures ledger { ledger_of self.new ≡ ledger_of self.old }
-        ensures continues { Continues self.old self.new }
-        ensures quiet { OnOk result (told_of self.new ≡ told_of self.old) }
-    {
-        match self
-            .segments
-            .live
-            .move_to(&mut self.segments.other, payloads)
-        {
-            Ok(()) => {
-                self.segments.second = !self.segments.second;
-                self.segments.generation += 1;
-                self.flushed = self.flushed.saturating_add(self.pending.len() as u64);
-                self.pending.clear();
-                Ok(self.segments.generation)
-            }
-            Err(fault) => Err(renew_fault(fault)),
-        }
-    }
-
-    /// The debt of this number, where it is owed. Logarithmic in what is owed.
-    ///
-    /// # Errors
-    /// Tried in this order: `Broken`; `NoMemory`.
-    pub fn debt(&self, number: u64) -> Result<Option<Debt>, TapeFault>
-        ensures debt { IfOk result
-            (λ debt. debt ≡ find (λ (owing : Owing). owing.0 == number)
-            (ledger_of self.now).debts) }
-        ensures broken { IsErrOf result TapeFault.Broken ↔ IsBroken self.now }
-        ensures no_memory { IsErrOf result TapeFault.NoMemory → IsOwed (ledger_of self.now) number }
-        ensures kinds { IfErr result IsDebtFault }
-    {
-        if self.segments.live.is_broken() {
-            return Err(TapeFault::Broken);
-        }
-        let Some((token, id)) = self.ledger.debt(number) else {
-            return Ok(None);
-        };
-        let token = token.clone()?;
-        let id = id.clone()?;
-        Ok(Some(Debt::new(number, token, id)))
+        self.write_anew()
     }
 
     /// What the debt of this number counts in owed bytes, where it is owed: the octets of token and message-id, and 2.
@@ -669,8 +614,8 @@ impl<D: Disk> Tape<D> {
             (find (λ (owing : Owing). owing.0 == number) (ledger_of self.now).debts) }
         ensures owed { IsSome result ↔ IsOwed (ledger_of self.now) number }
     {
-        let (token, id) = self.ledger.debt(number)?;
-        Some(token.bytes().len() as u64 + id.bytes().len() as u64 + 2)
+        let spot = self.ledger.spot(number)?;
+        Some(u64::from(spot.token_len) + u64::from(spot.id_len) + 2)
     }
 
     /// Whether the debt of this number is owed. Logarithmic in what is owed.
@@ -756,14 +701,24 @@ fn is_among(numbers: &[u64], number: u64, greatest: u64) -> bool
 // Drops these debts, each of which is owed in its turn. A drop takes no memory.
 fn apply_drops(ledger: &mut Ledger, numbers: &[u64], cause: Cause)
     requires { AllLegal (state_of ledger.old) (drops cause numbers.now) }
-    ensures { state_of ledger.new ≡ after (state_of ledger.old) (drops cause numbers.now) }
+    ensures ledger { state_of ledger.new ≡ after (state_of ledger.old) (drops cause numbers.now) }
+    ensures indexes { (kept : ℕ) (payloads : List (List ℕ)) → Indexes kept payloads ledger.old
+        → Indexes kept payloads ledger.new }
 {
     for number in numbers {
-        let _ = ledger.apply(&Note::Drop {
+        let drop = Note::Drop {
             number: *number,
             cause,
-        });
+        };
+        let _ = ledger.apply_at(&drop, 0, 0);
     }
+}
+
+// Where the next record of a journal will be.
+pub(crate) fn end_of<D: Disk>(journal: &Journal<D>) -> u64
+    ensures { result ≡ journal_end journal.now }
+{
+    journal.bytes() - 1
 }
 
 // How many debts were taken: as many as were answered, dropped and are owed.

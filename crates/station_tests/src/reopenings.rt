@@ -99,7 +99,8 @@ const REOPENING: &[Script] = &[
         limits: UNLIMITED,
         steps: &[Step::Flush(Ok(3))],
         opened: &[(
-            Opening::Fused(SMALL, 0),
+            // Each claim reads by two calls.
+            Opening::Fused(SMALL, 6),
             &[
                 Step::Claim(ONE, 0, Ok(1)),
                 Step::Claim(ONE, 0, Ok(2)),
@@ -129,7 +130,8 @@ const REOPENING: &[Script] = &[
         steps: &[Step::Flush(Ok(3))],
         opened: &[
             (
-                Opening::Fused(UNLIMITED, 0),
+                // The claim reads by two calls.
+                Opening::Fused(UNLIMITED, 2),
                 &[
                     Step::Owe(4, Ok(Owed::New)),
                     Step::Claim(ONE, 0, Ok(1)),
@@ -171,6 +173,115 @@ const REOPENING: &[Script] = &[
         tape: None,
     },
 ];
+
+const CANNOT_READ: &[Step] = &[
+    Step::Claim(ONE, 0, Err(DISK)),
+    Step::Debt(2, Err(DISK)),
+    Step::Claim(ONE, 0, Err(DISK)),
+    Step::Totals(3, 0, 0, 3),
+    Step::List(&[1, 2, 3]),
+    Step::Release(ONE, 0),
+    // It works on: a note that pends is not read from the disk.
+    Step::Owe(4, Ok(Owed::New)),
+    Step::Debt(4, Ok(4)),
+    Step::Claim(ONE, 0, Err(DISK)),
+    Step::Totals(4, 0, 0, 4),
+    Step::List(&[1, 2, 3, 4]),
+];
+
+const READS_AGAIN: &[Step] = &[
+    Step::Totals(3, 0, 0, 3),
+    Step::List(&[1, 2, 3]),
+    Step::Claim(ONE, 0, Ok(1)),
+    Step::Debt(3, Ok(3)),
+];
+
+// A debt is read from the first disk by two calls: where one fails the debt is owed in its place, and the station
+// works.
+const READING: &[Script] = &[
+    Script {
+        name: "a claim whose first call fails",
+        owed: 3,
+        limits: UNLIMITED,
+        steps: &[Step::Flush(Ok(3))],
+        opened: &[
+            (Opening::Fused(UNLIMITED, 0), CANNOT_READ),
+            (Opening::Again(UNLIMITED), READS_AGAIN),
+        ],
+        tape: None,
+    },
+    Script {
+        name: "a claim whose second call fails",
+        owed: 3,
+        limits: UNLIMITED,
+        steps: &[Step::Flush(Ok(3))],
+        opened: &[
+            (Opening::Fused(UNLIMITED, 1), CANNOT_READ),
+            (Opening::Again(UNLIMITED), READS_AGAIN),
+        ],
+        tape: None,
+    },
+    Script {
+        name: "a rotation that cannot read",
+        owed: 3,
+        limits: UNLIMITED,
+        steps: &[Step::Flush(Ok(3))],
+        opened: &[
+            (
+                Opening::Fused(UNLIMITED, 3),
+                &[
+                    Step::Rotate(Err(DISK)),
+                    Step::Rotate(Err(BROKEN)),
+                    Step::Claim(ONE, 0, Err(BROKEN)),
+                    Step::Totals(3, 0, 0, 3),
+                ],
+            ),
+            (Opening::Again(UNLIMITED), READS_AGAIN),
+        ],
+        tape: None,
+    },
+    Script {
+        name: "debts are read where they stand",
+        owed: 3,
+        limits: UNLIMITED,
+        steps: &[
+            Step::Debt(1, Ok(1)),
+            Step::Flush(Ok(3)),
+            Step::Debt(1, Ok(1)),
+            Step::Owe(4, Ok(Owed::New)),
+            Step::Debt(3, Ok(3)),
+            Step::Debt(4, Ok(4)),
+            Step::Rotate(Ok(1)),
+            Step::Debt(1, Ok(1)),
+            Step::Debt(4, Ok(4)),
+            Step::Owe(5, Ok(Owed::New)),
+            Step::Claim(ONE, 0, Ok(1)),
+            Step::NotWanted(1),
+            Step::Settle(ONE, 1, Ok(())),
+            Step::Debt(5, Ok(5)),
+            Step::Flush(Ok(6)),
+            Step::Debt(2, Ok(2)),
+            Step::Debt(5, Ok(5)),
+            Step::Rotate(Ok(2)),
+            Step::Debt(2, Ok(2)),
+            Step::Debt(5, Ok(5)),
+        ],
+        opened: &[(
+            Opening::Again(UNLIMITED),
+            &[
+                Step::List(&[2, 3, 4, 5]),
+                Step::Debt(2, Ok(2)),
+                Step::Debt(5, Ok(5)),
+            ],
+        )],
+        tape: None,
+    },
+];
+
+#[test]
+fn debts_are_read_from_the_tape(rt: HostRuntime) -> Result<(), Fail> {
+    play_scripts(&rt, rt.alloc(), READING)
+}
 
 const FAILS: &[Step] = &[
     Step::Owe(4, Ok(Owed::New)),

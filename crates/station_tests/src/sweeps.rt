@@ -79,8 +79,24 @@ fn claim(station: &mut Flaky) -> Result<Option<Debt>, StationFault> {
     station.claim(ONE, 0)
 }
 
-fn is_told(station: &Flaky, number: u64) -> Result<bool, StationFault> {
+fn is_told(station: &mut Flaky, number: u64) -> Result<bool, StationFault> {
     Ok(station.debt(number)?.is_some())
+}
+
+// What is told of a number where each call but one succeeds: a reading that failed changed nothing, and the next
+// succeeds.
+fn is_told_at_last(station: &mut Flaky, number: u64) -> Result<bool, StationFault> {
+    match is_told(station, number) {
+        Err(StationFault::Tape(TapeFault::Disk)) => is_told(station, number),
+        told => told,
+    }
+}
+
+fn claim_at_last(station: &mut Flaky) -> Result<Option<Debt>, StationFault> {
+    match claim(station) {
+        Err(StationFault::Tape(TapeFault::Disk)) => claim(station),
+        claimed => claimed,
+    }
 }
 
 fn lose(station: &mut Flaky, debt: Debt) -> Result<(), Fail> {
@@ -92,7 +108,7 @@ fn lose(station: &mut Flaky, debt: Debt) -> Result<(), Fail> {
 
 // The least debt is claimed, and lost.
 fn end_first(station: &mut Flaky) -> Result<(), Fail> {
-    let debt = claim(station)?.ok_or("a debt")?;
+    let debt = claim_at_last(station)?.ok_or("a debt")?;
     lose(station, debt)
 }
 
@@ -142,7 +158,7 @@ fn work<A: Abort>(rt: &A, alloc: Global, station: &mut Flaky) -> Result<Counts, 
     if acknowledged == 0 {
         return Ok((0, 2));
     }
-    assert_eq!(rt; is_told(station, 2)?, true);
+    assert_eq!(rt; is_told_at_last(station, 2)?, true);
     end_first(station)?;
     let acknowledged = flushed(rt, station, acknowledged)?;
     if acknowledged == 2 {
@@ -202,11 +218,12 @@ fn calls_of<A: Abort>(rt: &A, alloc: Global, second: bool) -> Result<u64, Fail> 
     Err(Fail::from("no end of calls"))
 }
 
-// Of the first disk the opening makes five calls, the flush of two notes five, that of one four, and no other call
-// makes one. Of the second the opening makes one, and the rotation eight.
+// Of the first disk the opening makes five calls, the flush of two notes five, and that of one four; two calls read a
+// debt that is told, two one that is claimed, and two one that a rotation writes anew. Of the second the opening makes
+// one, and the rotation eight.
 #[test]
 fn a_fault_at_any_call_leaves_a_front(rt: HostRuntime) -> Result<(), Fail> {
-    assert_eq!(rt; calls_of(&rt, rt.alloc(), false)?, 14);
+    assert_eq!(rt; calls_of(&rt, rt.alloc(), false)?, 20);
     assert_eq!(rt; calls_of(&rt, rt.alloc(), true)?, 9);
     Ok(())
 }

@@ -265,6 +265,16 @@ impl<D: Disk> Journal<D> {
         }
     }
 
+    /// Breaks it, as a call that fails on its disk does. It makes no disk call.
+    pub fn break_off(&mut self)
+        ensures breaks { IsBroken self.new }
+        ensures disk { disk_of self.new ≡ disk_of self.old }
+        ensures end { end_of self.new ≡ end_of self.old }
+    {
+        let Self { broken, .. } = self;
+        *broken = true;
+    }
+
     /// Whether a `Disk` of `append_all` broke it before, so that its disk is to be opened again.
     pub fn is_broken(&self) -> bool
         ensures { IsTrue result ↔ IsBroken self.now }

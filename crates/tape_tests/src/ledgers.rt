@@ -1,6 +1,6 @@
 // Ledgers at which steps are taken.
 use crate::answers::assert_answer;
-use crate::samples::{Sample, TEXTS, Texts, note_of, texts};
+use crate::samples::{Sample, note_of};
 use ledger_core::{Base, Ledger, LedgerFault, ReplayFault, Totals, encode, encode_base};
 use std::alloc::Global;
 use std::process::Abort;
@@ -12,8 +12,8 @@ enum Step {
     Apply(Sample, Result<(), LedgerFault>),
     Check(Sample, Result<(), LedgerFault>),
     Owes(u64, bool),
-    // What is told of the debt of this number.
-    Debt(u64, Option<Texts<'static>>),
+    // Where the debt of this number stands, and how long its token and its message-id are.
+    Spot(u64, Option<(u64, u8, u8)>),
     Numbers(&'static [u64]),
     Totals(Totals),
     Mark(u64),
@@ -22,9 +22,10 @@ enum Step {
 fn apply(
     alloc: Global,
     ledger: &mut Ledger,
+    at: u64,
     sample: Sample,
 ) -> Result<Result<(), LedgerFault>, Fail> {
-    match ledger.apply(&note_of(alloc, sample)?) {
+    match ledger.apply_at(&note_of(alloc, sample)?, at, 0) {
         Err(LedgerFault::NoMemory) => Err(Fail::from(LedgerFault::NoMemory)),
         answer => Ok(answer),
     }
@@ -34,9 +35,9 @@ fn check(alloc: Global, ledger: &Ledger, sample: Sample) -> Result<Result<(), Le
     Ok(ledger.check(&note_of(alloc, sample)?))
 }
 
-fn told(ledger: &Ledger, number: u64) -> Option<Texts<'_>> {
-    match ledger.debt(number) {
-        Some((token, id)) => Some(texts(token, id)),
+fn told(ledger: &Ledger, number: u64) -> Option<(u64, u8, u8)> {
+    match ledger.spot(number) {
+        Some(spot) => Some((spot.at, spot.token_len, spot.id_len)),
         None => None,
     }
 }
@@ -49,10 +50,13 @@ fn take<A: Abort>(
     step: Step,
 ) -> Result<(), Fail> {
     match step {
-        Step::Apply(sample, want) => assert_answer(rt, at, &apply(alloc, ledger, sample)?, &want),
+        Step::Apply(sample, want) => {
+            let answer = apply(alloc, ledger, at as u64, sample)?;
+            assert_answer(rt, at, &answer, &want)
+        }
         Step::Check(sample, want) => assert_answer(rt, at, &check(alloc, ledger, sample)?, &want),
         Step::Owes(number, want) => assert_answer(rt, at, &ledger.owes(number), &want),
-        Step::Debt(number, want) => assert_answer(rt, at, &told(ledger, number), &want),
+        Step::Spot(number, want) => assert_answer(rt, at, &told(ledger, number), &want),
         Step::Numbers(want) => assert_answer(rt, at, &ledger.numbers(alloc)?.as_slice(), &want),
         Step::Totals(want) => assert_answer(rt, at, &ledger.totals(), &want),
         Step::Mark(want) => assert_answer(rt, at, &ledger.mark(), &want),
@@ -119,10 +123,11 @@ fn notes_leave_a_ledger(rt: HostRuntime) -> Result<(), Fail> {
         &[
             Step::Apply(Sample::Owe(1), Ok(())),
             Step::Apply(Sample::Owe(3), Ok(())),
-            Step::Debt(3, Some(TEXTS)),
-            Step::Debt(2, None),
+            Step::Spot(1, Some((0, 3, 5))),
+            Step::Spot(3, Some((1, 3, 5))),
+            Step::Spot(2, None),
             Step::Apply(Sample::Final(3), Ok(())),
-            Step::Debt(3, None),
+            Step::Spot(3, None),
         ],
     ];
     for steps in SCRIPTS {

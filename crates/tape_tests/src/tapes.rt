@@ -132,7 +132,7 @@ fn number_of(debt: &Debt) -> Result<u64, Fail> {
     }
 }
 
-fn told<D: Disk>(tape: &Tape<D>, number: u64) -> Result<Result<Option<u64>, TapeFault>, Fail> {
+fn told<D: Disk>(tape: &mut Tape<D>, number: u64) -> Result<Result<Option<u64>, TapeFault>, Fail> {
     match tape.debt(number) {
         Ok(Some(debt)) => Ok(Ok(Some(number_of(&debt)?))),
         Ok(None) => Ok(Ok(None)),

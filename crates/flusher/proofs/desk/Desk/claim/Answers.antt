@@ -1,16 +1,17 @@
 use Rattle.std.proofs.Common.{ap}
 use Rattle.recovery.specs.Words.{ledger_of as tape_ledger}
 use Rattle.peer_queue.specs.Words.{ledger_of}
-use Rattle.flusher.proofs.Keeps.{keeps_tape, counted_along}
+use Rattle.ledger_core.specs.Ledger.{state_of}
+use Rattle.flusher.proofs.Keeps.{keeps_read, counted_along}
 use Rattle.flusher.proofs.desk.Desk.claim.Goals as goal
 
 pub invariant_of-self : goal.invariant_of-self
 invariant_of-self g c =
     let old = c.args.self.now in
-    let same = c.claim.ensures.tape in
+    let read = c.claim.ensures.reads in
     record {
-      kept = keeps_tape old.station c.claim.new.self same old.kept;
+      kept = keeps_read old.station c.claim.new.self read old.kept;
       one_part = old.one_part;
       counted = counted_along _ _ _ (ledger_of old.station) (ledger_of c.claim.new.self)
-          (ap tape_ledger same.tape) old.counted;
+          (ap state_of read.tape.ledger) old.counted;
     }

@@ -116,3 +116,11 @@ close-requires-3-clause-total g c =
     let opened : map (λ q. q.opened) l.made.items ≡ map sums_at c.args.peers.items = sym (all_moved _)
     ∙ (sym (ap (λ r. map (λ q. q.opened) l.made.items ++ map sums_at r) none) ∙ l.invariant.3) in
     l.invariant.17 ∙ (ap (λ m. (total m).dropped) opened ∙ sym (ap (λ n. n.opened.dropped) c.requires.names))
+
+pub invariant_of-result : goal.invariant_of-result
+invariant_of-result g c =
+    let l = c.loop-peer in
+    let none : l.peer-iterator.rest.items ≡ [] = nothing _ (search rules) in
+    let zero : length l.peer-iterator.rest.items ≡ 0 = ap length none in
+    let peers : length c.args.peers.items ≡ g.N.Naming.names.peers = sym (ap (λ n. n.peers) c.requires.names) in
+    (c.open-taken.ensures.parts, omega (arith, zero, peers, l.invariant.6))

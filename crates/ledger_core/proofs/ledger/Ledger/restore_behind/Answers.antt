@@ -1,7 +1,11 @@
-use Rattle.std.proofs.Common.{Err, ◌≡◌, ◌≤◌, length, refl, sym, ◌∙◌, ap, subst, arith}
+use Rattle.std.proofs.Common.{Err, ◌≡◌, ◌≤◌, ◌+◌, ◌-◌, ◌^◌, ◌++◌, ◌∷◌, ℕ, List, min, take, drop, length-take, take-append-drop, length, refl, sym, ◌∙◌, ap, subst, arith}
 use Rattle.std.proofs.lemmas.Result.{err_from_is_err_and}
 use Rattle.ledger_core.specs.declared.ledger.ReplayFault.TheVariants.{Refused}
-use Rattle.ledger_core.specs.Base.{StopsBehind}
+use Rattle.std.proofs.lemmas.List.{length-drop}
+use Rattle.ledger_core.specs.Base.{StopsBehind, base_spelling}
+use Rattle.ledger_core.specs.Index.{Indexes}
+use Rattle.ledger_core.specs.IndexLaws.{indexes-more}
+use Rattle.ledger_core.specs.Spots.{records_length}
 use Rattle.ledger_core.specs.Ledger.{state_of}
 use Rattle.ledger_core.specs.Owing.{OwesAll, OwesSome}
 use Rattle.ledger_core.specs.Replay.{LeavesFrom, StopsFrom}
@@ -72,3 +76,39 @@ returns-clause-ok c =
     leaves-behind base behind count state new (c.if-not-is_sound.ensures.0 refl) within live all
     (subst (λ ps. LeavesFrom (record state { mark = base.mark }) ps new)
     (octets-rest count c.args.behind.now) c.in_ok-apply_payloads.ensures.fold)
+
+pub returns-clause-indexes : goal.returns-clause-indexes
+returns-clause-indexes c =
+    let base = base_spelling c.args.base.now in
+    let behind = octets_of c.args.behind.now in
+    let count = c.min-count.result in
+    let within : count ≤ length behind =
+    omega (arith, c.min-count.ensures, octets-len c.args.behind.now) in
+    let first = octets-front count c.args.behind.now in
+    let rest = octets-rest count c.args.behind.now in
+    let kept = 1 + length c.args.behind.now in
+    let said = c.in_ok-ledger.ensures.indexes in
+    let long : length (take count behind) ≡ count = omega (arith, within, length-take count behind) in
+    let whole : take count behind ++ drop count behind ≡ behind = take-append-drop count behind in
+    let at : c.in_ok-ledger.offset ≡ min (records_length (base ∷ take count behind)) (2 ^ 64 - 1) =
+    said.0 ∙ ap (λ (l : List (List ℕ)). min (records_length (base ∷ l)) (2 ^ 64 - 1)) first in
+    let debts = subst (λ (l : List (List ℕ)). Indexes kept (base ∷ l) c.in_ok-ledger.ledger) first
+    (said.1 kept (omega (
+      arith,
+      within,
+      ap length first,
+      octets-len (take count c.args.behind.now),
+      octets-len
+          c.args.behind.now,
+      long,
+    ))) in
+    let more = indexes-more kept (base ∷ take count behind) (drop count behind) c.in_ok-ledger.ledger debts in
+    let done = c.in_ok-apply_payloads.ensures.indexes kept (base ∷ take count behind)
+    (record {
+      at_is = at;
+      on_tape = omega (arith, within, ap length rest, length-drop count behind, octets-len c.args.behind.now, long);
+    })
+    (subst (λ (l : List (List ℕ)). Indexes kept ((base ∷ take count behind) ++ l) c.in_ok-ledger.ledger) (sym rest)
+    more) in
+    subst (λ (l : List (List ℕ)). Indexes kept (base ∷ l) c.apply_payloads.new.self) whole
+    (subst (λ (l : List (List ℕ)). Indexes kept ((base ∷ take count behind) ++ l) c.apply_payloads.new.self) rest done)

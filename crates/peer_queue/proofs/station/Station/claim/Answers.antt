@@ -1,5 +1,6 @@
 use Rattle.std.proofs.Common.{ℕ, List, sym, ◌∙◌, subst}
 use Rattle.std.specs.List.{Contains}
+use Rattle.peer_queue.specs.Place.{IsUnheld, Places}
 use Rattle.peer_queue.proofs.Claims.{candidate_placed, placed_hold}
 use Rattle.peer_queue.proofs.station.Station.claim.Goals as goal
 
@@ -10,12 +11,14 @@ owed_debt-requires-clause-owed g c =
     subst (λ (l : List ℕ). Contains l n) old.all_placed (candidate_placed c.args.now n old.index (sym c.in-Some.ensures.least))
 
 pub hold-requires : goal.hold-requires
-hold-requires g c = c.in-Some.ensures.unheld
+hold-requires g c = subst (λ (places : Places). IsUnheld places c.in-Some.number) (sym c.owed_debt.ensures.places)
+    c.in-Some.ensures.unheld
 
 pub invariant_of-self : goal.invariant_of-self
 invariant_of-self g c =
-    let old = c.args.self.now in
+    let mid = c.owed_debt.new.self in
     record {
-      all_placed = placed_hold c.hold.result old.index c.hold.new.self c.in-Some.number c.args.connection.0 c.hold.ensures.ok c.hold.ensures.err ∙ old.all_placed;
-      marked = old.marked;
+      all_placed = placed_hold c.hold.result mid.index c.hold.new.self c.in-Some.number c.args.connection.0
+          c.hold.ensures.ok c.hold.ensures.err ∙ mid.all_placed;
+      marked = mid.marked;
     }

@@ -1,4 +1,4 @@
-use Rattle.std.proofs.Common.{◌≡◌, ℕ, ◌+◌, ◌-◌, List, length, Option, sym, ap, ◌∙◌, subst, inl, inr, arith}
+use Rattle.std.proofs.Common.{◌≡◌, ℕ, ◌+◌, ◌-◌, List, length, Option, refl, sym, ap, ◌∙◌, subst, inl, inr, arith}
 use Rattle.std.specs.Prelude.{unwrap_or}
 use Rattle.std.proofs.lemmas.List.{length_push}
 use Rattle.ledger_core.specs.declared.ledger.Totals.{Totals}
@@ -8,7 +8,7 @@ use Rattle.peer_queue.specs.Words.{ledger_of, places_of}
 use Rattle.peer_queue.proofs.Fronts.{at_some}
 use Rattle.peer_queue.proofs.Sheds.{IsFront, front_all, front_more, front_none}
 use Rattle.peer_queue.proofs.station.Station.shed_set.Goals as goal
-use Rattle.peer_queue.proofs.station.Station.shed_set.Goals.{in-None-1, in-Some+else-owed-limit}
+use Rattle.peer_queue.proofs.station.Station.shed_set.Goals.{in-None-1, in-Some+else-owed-limit, then-limit-eq0-via-then-limit-eq0, then-limit-eq0-via-else-limit-eq0+then-owed-self}
 
 pub loop-next-init : goal.loop-next-init
 loop-next-init g c =
@@ -52,3 +52,25 @@ returns-clause-set g c =
     ] in
     front_all station.limits (ledger_of station) (places_of station) c.loop-next.set.items c.loop-next.next c.loop-next.owed over c.loop-next.invariant
     (elim c.match-next.branch [ in-None-1 w ↦ inl cc | in-Some+else-owed-limit w ↦ inr w.if-owed-limit.false ])
+
+pub returns-then-limit-eq0-clause-set : goal.returns-then-limit-eq0-clause-set
+returns-then-limit-eq0-clause-set g c =
+    let station = c.args.self.now in
+    let within : IsWithin station.limits (ledger_of station) = elim c.then-limit-eq0.branch [
+      | then-limit-eq0-via-then-limit-eq0 w ↦ inl w.if-limit-eq0.true
+      | then-limit-eq0-via-else-limit-eq0+then-owed-self w ↦
+          inr (omega (
+            arith,
+            w.if-owed-self.true,
+            ap (λ (totals : Totals). totals.owed_bytes)
+                c.totals-owed.ensures.counts,
+          ))
+    ] in
+    record {
+      count = 0;
+      within = omega arith;
+      front = c.new-set.ensures.items;
+      none = λ w. refl;
+      enough = λ over. absurd (over within);
+      shortest = λ over fewer less. absurd (over within);
+    }

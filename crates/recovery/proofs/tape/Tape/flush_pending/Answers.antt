@@ -1,17 +1,17 @@
 -- What pended is on the disk, and nothing pends; or the tape broke, and stands for what it stood for.
-use Rattle.std.proofs.Common.{◌≡◌, ℕ, ◌+◌, List, ◌++◌, length, take, drop, take-append-drop, Err, refl, sym, ap, ◌∙◌, subst, arith}
-use Rattle.std.proofs.lemmas.List.{length-map}
-use Rattle.std.specs.Prelude.{Vec}
-use Rattle.std.specs.declared.alloc.Global.{Global}
+use Rattle.std.proofs.Common.{◌≡◌, ℕ, List, ◌++◌, length, take, drop, take-append-drop, Err, refl, sym, ap, ◌∙◌, subst, arith}
 use Rattle.ledger_core.specs.Spelling.{spellings}
-use Rattle.tape_journal.specs.Journal.{Holds, disk_of as journal_disk, end_of}
-use Rattle.tape_journal.specs.Segment.{records}
+use Rattle.tape_journal.specs.Journal.{Holds, disk_of as journal_disk}
 use Rattle.tape_journal.specs.Words.{octets_of}
 use Rattle.tape_journal.specs.declared.fault.AppendFault.{AppendFault}
 use Rattle.tape_journal.specs.declared.fault.AppendFault.TheVariants.{Disk as AppendDisk, Broken as AppendBroken, TapeFull as AppendTapeFull, PayloadTooLong, NoMemory as NoAppendMemory}
 use Rattle.disk_model.specs.declared.Disk.{Ghosts}
 use Rattle.tape_journal.specs.declared.journal.Journal.{Journal}
 use Rattle.ledger_core.specs.Base.{Restores}
+use Rattle.std.specs.Prelude.{◌-◌, ◌^◌, min}
+use Rattle.ledger_core.specs.Index.{Indexes}
+use Rattle.ledger_core.specs.IndexLaws.{indexes-flushed}
+use Rattle.ledger_core.specs.Spots.{records_length}
 use Rattle.ledger_core.specs.Laws.{after-append, AllLegal-back}
 use Rattle.ledger_core.specs.SpellingLaws.{AreNotes-back}
 use Rattle.ledger_core.specs.State.{after}
@@ -60,6 +60,9 @@ returns-in-Ok-clause-ok g c = λ h stands.
     c.clear.ensures.items
     (omega (arith, w.count, count, c.len.ensures, c.saturating_add-self.ensures, w.opened))
     (omega (arith, w.opened, stands.kept_within))
+    (subst (λ (l : List (List ℕ)). Indexes (length (w.payloads ++ l)) (w.payloads ++ l) tape.ledger) w.pending
+    (indexes-flushed (length w.payloads) (w.payloads ++ octets_of tape.pending.items) tape.ledger w.indexed.indexes))
+    (w.indexed.next ∙ ap (λ (l : List (List ℕ)). min (records_length (w.payloads ++ l)) (2 ^ 64 - 1)) w.pending)
 
 pub returns-in-Ok-clause-count : goal.returns-in-Ok-clause-count
 returns-in-Ok-clause-count g c = λ h stands.
@@ -90,6 +93,7 @@ returns-in-Err-clause-err g c = λ h stands.
     refl refl
     (returns-in-Err-clause-moments g c h stands) (λ works. same_segments c.args.self.now.segments
     c.append_all.new.self (c.in-Err.ensures.unchanged works))
+    (λ kept was. record { indexes = was.indexes; next = was.next })
 
 pub returns-in-Err-clause-refused : goal.returns-in-Err-clause-refused
 returns-in-Err-clause-refused g c = λ other.

@@ -2,7 +2,6 @@
 use Rattle.std.proofs.Common.{Err, ◌≡◌, ℕ, List, sym, ap, ◌∙◌, subst}
 use Rattle.std.specs.Prelude.{IfErr}
 use Rattle.disk_model.specs.Disk.{Event}
-use Rattle.disk_model.specs.declared.Disk.{Ghosts}
 use Rattle.recovery.specs.Image.{EachTape, IsNoTapeAt, Log, Survives}
 use Rattle.recovery.specs.Tape.{contents_of}
 use Rattle.recovery.specs.declared.fault.TapeFault.TheVariants.{Damaged}

@@ -1,14 +1,13 @@
 -- What was read is judged before anything is written; then the other disk is synced, and the segment that
 -- lives is repaired.
-use Rattle.std.proofs.Common.{◌≡◌, inl, inr, ℕ, ◌<◌, ◌^◌, Bool, true, false, List, length, refl, sym, ap, ◌∙◌, subst, arith}
+use Rattle.std.proofs.Common.{◌≡◌, inl, inr, ◌<◌, ◌^◌, Bool, List, length, refl, sym, ap, ◌∙◌, subst, arith}
 use Rattle.std.specs.Prelude.{cond}
 use Rattle.disk_model.specs.Disk.{Event, content}
 use Rattle.tape_journal.specs.Journal.{IsOpened, IsRefused}
 use Rattle.tape_journal.specs.Segment.{Reads, records}
 use Rattle.tape_journal.specs.Words.{octets_of}
 use Rattle.recovery.specs.Pairs.{placed}
-use Rattle.recovery.specs.Image.{LeavesNothingAt}
-use Rattle.recovery.proofs.Opens
+use Rattle.recovery.proofs.Indexed.{indexed_all}
 use Rattle.recovery.proofs.Opens.{as_they_were, damage_told, honest_refused, images_placed, kept_survives, logs_refused, never_damaged, not_repaired, nothing_placed, opened_tape, recovered_tape, still_survives}
 use Rattle.recovery.proofs.tape.Tape.open_live.Goals as goal
 use Rattle.recovery.proofs.tape.Tape.open_live.Goals.{then-second, else-second}
@@ -113,6 +112,9 @@ returns-in-Ok-repair-clause-ok g c = λ honest honest'.
       honest = c.sync.ensures.honest.0 honest';
       none = c.new.ensures.items;
       zero = refl;
+      indexes = indexed_all c.in-Ok.read.1.items c.in-Ok-read_ledger.restored.ledger
+          (rw c.deref.ensures.value at c.in-Ok-read_ledger.ensures.indexes);
+      next = c.end_of.ensures;
     })
 
 pub returns-in-Ok-repair-clause-recovers : goal.returns-in-Ok-repair-clause-recovers
@@ -134,6 +136,9 @@ returns-in-Ok-repair-clause-recovers g c = λ h honest honest' each.
       honest = c.sync.ensures.honest.0 honest';
       none = c.new.ensures.items;
       zero = refl;
+      indexes = indexed_all c.in-Ok.read.1.items c.in-Ok-read_ledger.restored.ledger
+          (rw c.deref.ensures.value at c.in-Ok-read_ledger.ensures.indexes);
+      next = c.end_of.ensures;
     })
 
 pub returns-in-Err-sync-clause-err : goal.returns-in-Err-sync-clause-err

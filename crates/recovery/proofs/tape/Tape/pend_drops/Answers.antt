@@ -6,7 +6,13 @@ use Rattle.ledger_core.specs.Spelling.{spellings}
 use Rattle.recovery.specs.Notes.{drops}
 use Rattle.recovery.specs.Words.{ledger_of}
 use Rattle.recovery.proofs.Drops.{AllShort-append, AllShort-notes, drops_count, legal_drops}
-use Rattle.recovery.proofs.Stands.{octets_of-append, stands_noted_all}
+use Rattle.std.proofs.Common.{◌-◌, ℕ, List}
+use Rattle.std.specs.Prelude.{min}
+use Rattle.ledger_core.specs.Index.{Indexes}
+use Rattle.ledger_core.specs.Spots.{records_length}
+use Rattle.recovery.specs.Pairs.LeavesPair.{at_start}
+use Rattle.recovery.proofs.Indexed.{on_err, records-long, tells-more}
+use Rattle.recovery.proofs.Stands.{octets_of-append, stands_noted_all, stands_refused}
 use Rattle.recovery.proofs.tape.Tape.pend_drops.Goals as goal
 
 pub apply_drops-requires : goal.apply_drops-requires
@@ -32,7 +38,25 @@ invariant_of-self g c =
 
 pub returns-clause-ok : goal.returns-clause-ok
 returns-clause-ok g c = λ h stands.
-    stands_noted_all c.args.self.now _ h (drops c.args.cause c.args.numbers.now) c.in_ok-payloads.payloads.items stands refl c.in_ok-payloads.ensures.notes (returns-clause-legal g c) c.apply_drops.ensures c.in_ok-append.ensures.items c.in_ok-payloads.ensures.spelled refl
+    stands_noted_all c.args.self.now _ h (drops c.args.cause c.args.numbers.now) c.in_ok-payloads.payloads.items
+    stands refl c.in_ok-payloads.ensures.notes (returns-clause-legal g c) c.apply_drops.ensures.ledger
+    c.in_ok-append.ensures.items c.in_ok-payloads.ensures.spelled refl
+    (λ kept was.
+    let tape = c.args.self.now in
+    let more = octets_of c.in_ok-payloads.payloads.items in
+    let told = tells-more kept (octets_of tape.pending.items) more (octets_of c.append.new.self.items) tape.ledger
+    c.apply_drops.new.ledger tape.next c.saturating_add-next.result
+    (record { indexes = was.indexes; next_is = was.next })
+    (ap octets_of c.in_ok-append.ensures.items ∙ octets_of-append tape.pending.items c.in_ok-payloads.payloads.items)
+    (c.apply_drops.ensures.indexes (length kept) ((kept ++ octets_of tape.pending.items) ++ more))
+    (omega (
+      arith,
+      c.saturating_add-next.ensures,
+      rw c.deref.ensures.value at c.records_len.ensures,
+      records-long
+          more,
+    )) in
+    record { indexes = told.indexes; next = told.next_is })
 
 pub invariant_of-self-2 : goal.invariant_of-self-2
 invariant_of-self-2 g c =
@@ -51,3 +75,15 @@ pub returns-clause-pends : goal.returns-clause-pends
 returns-clause-pends g c =
     let payloads = c.in_ok-payloads.payloads.items in
     omega (arith, ap length c.in_ok-append.ensures.items, length-append c.args.self.now.pending.items payloads, drops_count payloads c.args.cause c.args.numbers.now c.in_ok-payloads.ensures.spelled)
+
+pub returns-in_err-append-clause-err : goal.returns-in_err-append-clause-err
+returns-in_err-append-clause-err g c = λ h stands.
+    let tape = c.args.self.now in
+    let same : octets_of c.append.new.self.items ≡ octets_of tape.pending.items = ap octets_of
+    c.in_err-append.ensures.items in
+    on_err c.from_residual-in_err-append.result
+    (stands_refused tape _ h stands stands.honest refl same refl (at_start stands.images) (λ works. refl)
+    (λ kept was. record {
+      indexes = subst (λ (l : List (List ℕ)). Indexes (length kept) (kept ++ l) tape.ledger) (sym same) was.indexes;
+      next = was.next ∙ ap (λ (l : List (List ℕ)). min (records_length (kept ++ l)) (2 ^ 64 - 1)) (sym same);
+    }))

@@ -10,6 +10,3 @@ returns-then-self-clause-moments g c = λ h stands. at_start stands.images
 pub returns-then-rotated_len-gt-LONGEST_SEGMENT-clause-moments :
     goal.returns-then-rotated_len-gt-LONGEST_SEGMENT-clause-moments
 returns-then-rotated_len-gt-LONGEST_SEGMENT-clause-moments g c = λ h stands. at_start stands.images
-
-pub returns-in_err-payloads-clause-moments : goal.returns-in_err-payloads-clause-moments
-returns-in_err-payloads-clause-moments g c = λ h stands. at_start stands.images

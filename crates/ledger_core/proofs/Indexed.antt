@@ -1,0 +1,101 @@
+-- Where the debts of a ledger stand.
+use Rattle.std.proofs.Common.{◌≡◌, ℕ, ◌+◌, ◌-◌, ◌<◌, ◌≤◌, ◌^◌, List, [], ◌∷◌, ◌++◌, length, get_or, take, drop, min, Result, Ok, Err, sym, ap, ◌∙◌, subst, arith, length-append, length-take, take-append-drop}
+use Rattle.std.proofs.lemmas.List.{append_assoc, take_more}
+use Rattle.std.specs.Prelude.{OnErr}
+use Rattle.std.specs.List.{All}
+use Rattle.std.specs.Int.{to_be_bytes, w64}
+use Rattle.ledger_core.specs.declared.base.Base.{Base}
+use Rattle.ledger_core.specs.Base.{base_spelling, owe}
+use Rattle.ledger_core.specs.Spelling.{spelling}
+use Rattle.ledger_core.specs.Spots.{PointsAt, StandsAt, debt_of, records_length}
+use Rattle.ledger_core.specs.declared.note.Note.TheVariants.{Owe}
+use Rattle.ledger_core.specs.declared.spot.Entry.{Entry}
+
+-- what was added points where it was told to
+pub points-new : (kept : ℕ) (payloads : List (List ℕ)) (number at slot : ℕ) (entry : Entry) (token id : List ℕ)
+    → entry.spot.at ≡ at → entry.spot.slot ≡ slot → entry.token.value ≡ token → entry.id.value ≡ id
+    → StandsAt kept payloads at slot (spelling (Owe number token id)) → PointsAt kept payloads (number, entry)
+points-new kept payloads number at slot entry token id a s t i stands =
+    subst (λ (n : ℕ). StandsAt kept payloads n entry.spot.slot (spelling (owe (debt_of (number, entry))))) (sym a)
+    (subst (λ (n : ℕ). StandsAt kept payloads at n (spelling (owe (debt_of (number, entry))))) (sym s)
+    (subst (λ (x : List ℕ). StandsAt kept payloads at slot (spelling (Owe number x entry.id.value))) (sym t)
+    (subst (λ (x : List ℕ). StandsAt kept payloads at slot (spelling (Owe number token x))) (sym i) stands)))
+
+pub on-err : {T E : Type 0} (r : Result T E) {P : Type 0} → P → OnErr r P
+on-err (Ok value) p = tt
+on-err (Err fault) p = p
+
+-- ---- records, one behind another
+
+pub records-append : (front behind : List (List ℕ))
+    → records_length (front ++ behind) ≡ records_length front + records_length behind
+records-append [] behind = omega arith
+records-append (payload ∷ front) behind = omega (arith, records-append front behind)
+
+pub records-push : (front : List (List ℕ)) (payload : List ℕ)
+    → records_length (front ++ payload ∷ []) ≡ records_length front + (5 + length payload)
+records-push front payload = omega (arith, records-append front (payload ∷ []))
+
+front-more : (front payloads : List (List ℕ)) (index : ℕ) → index < length payloads
+    → front ++ take (index + 1) payloads ≡ (front ++ take index payloads) ++ get_or payloads index [] ∷ []
+front-more front payloads index within =
+    ap (λ (l : List (List ℕ)). front ++ l) (take_more payloads index [] within)
+    ∙ sym (append_assoc front (take index payloads) (get_or payloads index [] ∷ []))
+
+-- a payload behind the others, all of which are on the tape
+pub stands-here : (kept : ℕ) (front payloads : List (List ℕ)) (index at : ℕ) → index < length payloads
+    → length front + length payloads ≤ kept
+    → at ≡ min (records_length (front ++ take index payloads)) (2 ^ 64 - 1)
+    → StandsAt kept (front ++ payloads) at 0 (get_or payloads index [])
+stands-here kept front payloads index at within few is =
+    let before = front ++ take index payloads in
+    let rest = drop (index + 1) payloads in
+    record {
+      front = before;
+      behind = rest;
+      split = ap (λ (l : List (List ℕ)). front ++ l) (sym (take-append-drop (index + 1) payloads))
+          ∙ (sym (append_assoc front (take (index + 1) payloads) rest)
+          ∙ (ap (λ (l : List (List ℕ)). l ++ rest) (front-more front payloads index within)
+          ∙ append_assoc before (get_or payloads index [] ∷ []) rest));
+      at_is = is;
+      slot_is = λ pends. absurd
+          (omega (arith, pends, few, within, length-append front (take index payloads), length-take index payloads));
+    }
+
+-- and where the next one does
+pub next-here : (front payloads : List (List ℕ)) (index at next : ℕ) → index < length payloads
+    → at ≡ min (records_length (front ++ take index payloads)) (2 ^ 64 - 1)
+    → next ≡ min (at + (5 + length (get_or payloads index []))) (2 ^ 64 - 1)
+    → next ≡ min (records_length (front ++ take (index + 1) payloads)) (2 ^ 64 - 1)
+next-here front payloads index at next within is step =
+    let more : records_length (front ++ take (index + 1) payloads)
+    ≡ records_length (front ++ take index payloads) + (5 + length (get_or payloads index [])) =
+    ap records_length (front-more front payloads index within)
+    ∙ records-push (front ++ take index payloads) (get_or payloads index []) in
+    omega (arith, is, step, more)
+
+-- ---- no debts
+
+pub all-none : {X : Type 0} (P : X → Type 0) (xs : List X) → xs ≡ [] → All P xs
+all-none P xs none = subst (All P) (sym none) (λ k d within. absurd (omega arith))
+
+base-length : (base : Base) → length (base_spelling base) ≡ 49
+base-length base =
+    let dropped = to_be_bytes w64 base.dropped in
+    let answered = to_be_bytes w64 base.answered in
+    let taken = to_be_bytes w64 base.taken in
+    let mark = to_be_bytes w64 base.mark in
+    let generation = to_be_bytes w64 base.generation in
+    let live = to_be_bytes w64 base.live in
+    omega (
+      arith,
+      length-append generation (mark ++ (taken ++ (answered ++ (dropped ++ live)))),
+      length-append mark (taken ++ (answered ++ (dropped ++ live))),
+      length-append taken (answered ++ (dropped ++ live)),
+      length-append answered (dropped ++ live),
+      length-append dropped live,
+    )
+
+-- where the first record behind a Base stands
+pub behind-base : (base : Base) → 54 ≡ min (records_length (base_spelling base ∷ [])) (2 ^ 64 - 1)
+behind-base base = omega (arith, base-length base)

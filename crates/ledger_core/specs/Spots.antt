@@ -1,0 +1,54 @@
+-- Where the notes of debts stand, from which their texts are read.
+use Rattle.std.specs.Prelude.{◌≡◌, ◌==◌, ℕ, ◌+◌, ◌-◌, ◌^◌, ◌≤◌, min, not, List, [], ◌∷◌, ◌++◌, length, map, filter}
+use Rattle.ledger_core.specs.declared.note.Note.{Note}
+use Rattle.ledger_core.specs.declared.note.Note.TheVariants.{Owe, Final, Drop, Seen}
+use Rattle.ledger_core.specs.declared.spot.Entry.{Entry}
+use Rattle.ledger_core.specs.Base.{owe}
+use Rattle.ledger_core.specs.Spelling.{spelling}
+use Rattle.ledger_core.specs.State.{Owing}
+
+-- what is kept of debts, by their numbers
+abbrev pub Entries : Type 0
+Entries = List (ℕ × Entry)
+
+-- the debt of which this is kept
+abbrev pub debt_of : ℕ × Entry → Owing
+debt_of entry = (entry.0, (entry.1.token.value, entry.1.id.value))
+
+abbrev pub debts_of : Entries → List Owing
+debts_of entries = map debt_of entries
+
+-- all but the one of this number
+abbrev pub lacking : ℕ → Entries → Entries
+lacking number entries = filter (λ (entry : ℕ × Entry). not (entry.0 == number)) entries
+
+-- how many octets the records of these payloads have on a tape: each has a gate and a length in four octets before it
+abbrev pub records_length : List (List ℕ) → ℕ
+records_length [] = 0
+records_length (payload ∷ payloads) = 5 + length payload + records_length payloads
+
+-- The payload is one of these, of which the first so many are on the tape and the others pend. Its record is at this
+-- offset; and where it pends it does so in this slot.
+pub record StandsAt (kept : ℕ) (payloads : List (List ℕ)) (at slot : ℕ) (payload : List ℕ) : Type 0 where
+  pub front : List (List ℕ)
+  pub behind : List (List ℕ)
+  pub split : payloads ≡ front ++ payload ∷ behind
+  pub at_is : at ≡ min (records_length front) (2 ^ 64 - 1)
+  pub slot_is : kept ≤ length front → slot + kept ≡ length front
+
+-- The records of these payloads begin at this offset, behind others, and so many are on the tape, those and
+-- these among them.
+pub record Follows (kept : ℕ) (front payloads : List (List ℕ)) (at : ℕ) : Type 0 where
+  pub at_is : at ≡ min (records_length front) (2 ^ 64 - 1)
+  pub on_tape : length front + length payloads ≤ kept
+
+-- where the note stands; of a note that owes nothing nothing is asked
+abbrev pub IsPlaced : ℕ → List (List ℕ) → ℕ → ℕ → Note → Type 0
+IsPlaced kept payloads at slot (Owe number token id) = StandsAt kept payloads at slot (spelling (Owe number token id))
+IsPlaced kept payloads at slot (Final number code) = Unit {0}
+IsPlaced kept payloads at slot (Drop number cause) = Unit {0}
+IsPlaced kept payloads at slot (Seen number) = Unit {0}
+
+-- the note that owes this debt stands at this spot
+abbrev pub PointsAt : ℕ → List (List ℕ) → ℕ × Entry → Type 0
+PointsAt kept payloads entry = StandsAt kept payloads entry.1.spot.at entry.1.spot.slot (spelling (owe (debt_of entry)))

@@ -1,0 +1,77 @@
+-- All notes of a ledger, read back.
+use Rattle.std.proofs.Common.{◌≡◌, ◌+◌, ◌<◌, ◌++◌, ◌∷◌, [], ℕ, List, length, get_or, take, Some, sym, ap, ◌∙◌, subst, arith}
+use Rattle.std.proofs.lemmas.List.{map_push, take_more}
+use Rattle.std.specs.List.Sorted.{IsStrictlyIncreasing}
+use Rattle.tape_journal.specs.Words.{octets_of}
+use Rattle.ledger_core.specs.declared.ledger.Ledger.{Ledger}
+use Rattle.ledger_core.specs.declared.spot.Spot.{Spot}
+use Rattle.ledger_core.specs.Base.{base_spelling, owe, owes}
+use Rattle.ledger_core.specs.Index.{IsSpotOf, debt_at, spots_of}
+use Rattle.ledger_core.specs.IndexLaws.{spots-at, spots-length}
+use Rattle.ledger_core.specs.Ledger.{state_of}
+use Rattle.ledger_core.specs.Spelling.{spelling, spellings}
+use Rattle.ledger_core.specs.SpellingLaws.{spellings-append}
+use Rattle.ledger_core.specs.State.{Owing, numbers}
+use Rattle.ledger_core.specs.Written.{base_of}
+use Rattle.recovery.specs.Words.{generation_of, ledger_of}
+use Rattle.recovery.proofs.Readings.{read_then}
+use Rattle.recovery.proofs.Stands.{octets_of-push}
+use Rattle.recovery.proofs.tape.Tape.read_back.Goals as goal
+
+-- the spot of the debt in its place
+spot_here : (ledger : Ledger) (spots : List (ℕ × Spot)) (k : ℕ) (d : ℕ × Spot) (e : Owing) → spots ≡ spots_of ledger
+    → IsStrictlyIncreasing (numbers (state_of ledger)) → k < length spots
+    → IsSpotOf ledger (get_or spots k d).0 (get_or spots k d).1
+    × (debt_at (state_of ledger) (get_or spots k d).0 ≡ Some (get_or (state_of ledger).debts k e))
+spot_here ledger spots k d e same rising within =
+    subst (λ (l : List (ℕ × Spot)). IsSpotOf ledger (get_or l k d).0 (get_or l k d).1
+    × (debt_at (state_of ledger) (get_or l k d).0 ≡ Some (get_or (state_of ledger).debts k e))) (sym same)
+    (spots-at ledger k d e rising (subst (λ (l : List (ℕ × Spot)). k < length l) same within))
+
+pub note_at-requires-clause-spot : goal.note_at-requires-clause-spot
+note_at-requires-clause-spot g c =
+    let tape = c.args.self.now in
+    let d : ℕ × Spot = (0, record { at = 0; slot = 0; token_len = 0; id_len = 0 }) in
+    subst (λ (l : Ledger). IsSpotOf l (get_or c.args.spots.now c.loop-index.index d).0
+    (get_or c.args.spots.now c.loop-index.index d).1)
+    (sym c.loop-index.invariant.reads.ledger)
+    (spot_here tape.ledger c.args.spots.now c.loop-index.index d (0, ([], [])) c.requires.spots c.requires.rising
+    c.loop-index-test.true).0
+
+one_more : (base : List ℕ) (debts : List Owing) (k : ℕ) (e : Owing) → k < length debts
+    → base ∷ spellings (owes (take (k + 1) debts)) ≡ (base ∷ spellings (owes (take k debts))) ++ spelling
+    (owe (get_or debts k e)) ∷ []
+one_more base debts k e within =
+    ap (λ (l : List Owing). base ∷ spellings (owes l)) (take_more debts k e within)
+    ∙ ap (λ l. base ∷ spellings l) (map_push owe (take k debts) (get_or debts k e))
+    ∙ ap (λ (l : List (List ℕ)). base ∷ l) (spellings-append (owes (take k debts)) (owe (get_or debts k e) ∷ []))
+
+pub loop-index-preserved : goal.loop-index-preserved
+loop-index-preserved g c =
+    let tape = c.args.self.now in
+    let loop = c.loop-index in
+    let was = loop.invariant in
+    let d : ℕ × Spot = (0, record { at = 0; slot = 0; token_len = 0; id_len = 0 }) in
+    let e : Owing = (0, ([], [])) in
+    let base = base_spelling (base_of (generation_of tape + 1) (ledger_of tape)) in
+    let debts = (ledger_of tape).debts in
+    let here = spot_here tape.ledger c.args.spots.now loop.index d e c.requires.spots c.requires.rising
+    c.loop-index-test.true in
+    let within : loop.index < length debts =
+    omega (arith, c.loop-index-test.true, ap length c.requires.spots, spots-length tape.ledger) in
+    record {
+      reads = read_then tape loop.self c.note_at.new.self was.reads c.note_at.ensures.reads;
+      quiet = c.in-Ok.ensures.quiet ∙ was.quiet;
+      count = omega (arith, was.count, c.in_ok-push-2.ensures.len);
+      written = λ h stands.
+          let found : debt_at (ledger_of loop.self) (get_or c.args.spots.now loop.index d).0 ≡ Some
+          (get_or debts loop.index e) =
+          subst (λ (l : Ledger). debt_at (state_of l) (get_or c.args.spots.now loop.index d).0 ≡ Some
+          (get_or debts loop.index e)) (sym was.reads.ledger) here.1 in
+          let read = c.in-Ok.ensures.note h (was.reads.stands h stands) (get_or debts loop.index e) found in
+          ap octets_of c.in_ok-push-2.ensures.items
+          ∙ (octets_of-push loop.payloads.items c.in-Ok.payload
+          ∙ (ap (λ (l : List (List ℕ)). l ++ c.in-Ok.payload.items ∷ []) (was.written h stands)
+          ∙ (ap (λ (p : List ℕ). (base ∷ spellings (owes (take loop.index debts))) ++ p ∷ []) read
+          ∙ sym (one_more base debts loop.index e within))));
+    }

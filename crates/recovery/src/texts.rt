@@ -1,0 +1,218 @@
+// Reading back the notes of debts, whose texts are on the tape alone.
+ghost use Rattle.std.specs.Prelude.{◌≡◌, ◌≢◌, ◌+◌, ◌-◌, ◌^◌, ◌<◌, ◌≤◌, ◌↔◌, ℕ, IfErr, IfOk, IsErrOf, length};
+ghost use Rattle.ledger_core.specs.declared.spot.Spot.{Spot};
+ghost use Rattle.ledger_core.specs.Base.{owe};
+ghost use Rattle.ledger_core.specs.Note.{IsNote};
+ghost use Rattle.ledger_core.specs.Spelling.{SpellsOwe, spelling};
+ghost use Rattle.ledger_core.specs.State.{Owing};
+ghost use Rattle.recovery.specs.Words.{IsReadFault};
+
+use crate::TapeFault;
+use crate::tape::{Tape, end_of};
+use disk_model::Disk;
+use ledger_core::{Debt, Note, Spot, decode, encode_base, spells_owe};
+use std::alloc::{AllocError, Global};
+use tape_journal::ReadFault;
+
+// The debt that a payload owes, where it is that of this number with texts of these lengths.
+fn debt_of(alloc: Global, number: u64, spot: Spot, payload: &[u8]) -> Result<Debt, TapeFault>
+    ensures debt { (debt : Owing) → IsNote (owe debt) → payload.now ≡ spelling (owe debt)
+        → debt.0 ≡ number
+        → length debt.1.0 ≡ spot.token_len → length debt.1.1 ≡ spot.id_len
+        → (IfOk result (λ d. d ≡ debt)) × (IsErrOf result TapeFault.Disk → ⊥) }
+    ensures ok { IfOk result (λ d. (d.0 ≡ number) × (length d.1.0 ≡ spot.token_len)
+        × (length d.1.1 ≡ spot.id_len) × (payload.now ≡ spelling (owe d))) }
+    ensures kinds { IfErr result IsReadFault }
+{
+    let Some(note) = decode(alloc, payload)? else {
+        return Err(TapeFault::Disk);
+    };
+    match note {
+        Note::Owe {
+            number: read,
+            token,
+            id,
+        } => debt_as(number, spot, Debt::new(read, token, id)),
+        Note::Final { .. } => Err(TapeFault::Disk),
+        Note::Drop { .. } => Err(TapeFault::Disk),
+        Note::Seen { .. } => Err(TapeFault::Disk),
+    }
+}
+
+// The debt, where it is that of this number with texts of these lengths.
+fn debt_as(number: u64, spot: Spot, debt: Debt) -> Result<Debt, TapeFault>
+    ensures ok { IfOk result
+        (λ d. (d ≡ debt) × (debt.0 ≡ number) × (length debt.1.0 ≡ spot.token_len)
+        × (length debt.1.1 ≡ spot.id_len)) }
+    ensures refused { IsErrOf result TapeFault.Disk → debt.0 ≡ number
+        → length debt.1.0 ≡ spot.token_len
+        → length debt.1.1 ≡ spot.id_len → ⊥ }
+    ensures kinds { IfErr result (λ e. e ≡ TapeFault.Disk) }
+{
+    if debt.number() != number {
+        return Err(TapeFault::Disk);
+    }
+    if debt.token().bytes().len() != usize::from(spot.token_len) {
+        return Err(TapeFault::Disk);
+    }
+    if debt.id().bytes().len() != usize::from(spot.id_len) {
+        return Err(TapeFault::Disk);
+    }
+    Ok(debt)
+}
+
+impl<D: Disk> Tape<D> {
+    ghost use Rattle.std.specs.Prelude.{[], ◌==◌, find, option_map, OnErr, OnOk, IfNone, IsSome};
+    ghost use Rattle.ledger_core.specs.Base.{base_spelling};
+    ghost use Rattle.ledger_core.specs.Index.{Indexes, IsSpotOf, debt_at, spots_of};
+    ghost use Rattle.ledger_core.specs.Spots.{StandsAt};
+    ghost use Rattle.std.specs.Prelude.{List, slice_index_or};
+    ghost use Rattle.ledger_core.specs.Ledger.{state_of};
+    ghost use Rattle.std.specs.List.Sorted.{IsStrictlyIncreasing};
+    ghost use Rattle.ledger_core.specs.State.{IsOwed, numbers};
+    ghost use Rattle.ledger_core.specs.Written.{written};
+    ghost use Rattle.tape_journal.specs.Words.{octets_of};
+    ghost use Rattle.recovery.specs.Notes.{History};
+    ghost use Rattle.recovery.specs.Tape.{IsRead, StandsFor};
+    ghost use Rattle.recovery.specs.Texts.{HasLengths};
+    ghost use Rattle.recovery.specs.Words.{IsBroken, IsDebtFault, OneHasRisen, generation_of, ledger_of, told_of};
+
+    /// The debt of this number, where it is owed. Its note is read back from the disk, unless it pends. Logarithmic in
+    /// what is owed, and one reading of the disk.
+    ///
+    /// # Errors
+    /// Tried in this order: `Broken`; `NoMemory`; `Disk`, where the reading failed, or gave another note than was put
+    /// there, which an honest disk never does. None of them changes anything, or breaks the tape.
+    pub fn debt(&mut self, number: u64) -> Result<Option<Debt>, TapeFault>
+        // It is the debt that was noted.
+        ensures debt { (h : History) → StandsFor self.old h
+            → IfOk result (λ debt. debt ≡ debt_at (ledger_of self.old) number) }
+        // Whatever the disk gives, the number is owed, and the texts have the lengths that were noted.
+        ensures owed { IfOk result (λ debt. (IsSome debt ↔ IsOwed (ledger_of self.old) number)
+            × HasLengths (ledger_of self.old) number debt) }
+        ensures broken { IsErrOf result TapeFault.Broken ↔ IsBroken self.old }
+        ensures refused { IfErr result
+            (λ e. e ≢ TapeFault.Broken → IsOwed (ledger_of self.old) number) }
+        ensures cause { (h : History) → StandsFor self.old h
+            → IsErrOf result TapeFault.Disk → OneHasRisen (told_of self.old) (told_of self.new) }
+        ensures kinds { IfErr result IsDebtFault }
+        ensures reads { IsRead self.old self.new }
+        ensures quiet { OnOk result (told_of self.new ≡ told_of self.old) }
+    {
+        if self.segments.live.is_broken() {
+            return Err(TapeFault::Broken);
+        }
+        let Some(spot) = self.ledger.spot(number) else {
+            return Ok(None);
+        };
+        let payload = match self.note_at(number, spot) {
+            Ok(payload) => payload,
+            Err(fault) => return Err(fault),
+        };
+        match debt_of(self.alloc, number, spot, &payload) {
+            Ok(debt) => Ok(Some(debt)),
+            Err(fault) => Err(fault),
+        }
+    }
+
+    // The payload of the note that owes the debt of this number, which stands there.
+    fn note_at(&mut self, number: u64, spot: Spot) -> Result<Vec<u8>, TapeFault>
+        requires works { IsBroken self.old → ⊥ }
+        requires spot { IsSpotOf self.old.ledger number spot }
+        ensures note { (h : History) → StandsFor self.old h → IfOk result (λ v. (debt : Owing)
+            → debt_at (ledger_of self.old) number ≡ Some debt → v.items ≡ spelling (owe debt)) }
+        ensures spelled { IfOk result (λ v. SpellsOwe v.items number spot.token_len spot.id_len) }
+        ensures cause { (h : History) → StandsFor self.old h
+            → IsErrOf result TapeFault.Disk → OneHasRisen (told_of self.old) (told_of self.new) }
+        ensures kinds { IfErr result IsReadFault }
+        ensures reads { IsRead self.old self.new }
+        ensures quiet { OnOk result (told_of self.new ≡ told_of self.old) }
+    {
+        let payload = match self.payload_of(spot) {
+            Ok(payload) => payload,
+            Err(fault) => return Err(fault),
+        };
+        if spells_owe(&payload, number, spot.token_len, spot.id_len) {
+            Ok(payload)
+        } else {
+            Err(TapeFault::Disk)
+        }
+    }
+
+    // The payload of the note that stands there, on the disk or among those that pend.
+    fn payload_of(&mut self, spot: Spot) -> Result<Vec<u8>, TapeFault>
+        requires works { IsBroken self.old → ⊥ }
+        ensures note { (h : History) (payload : List ℕ) → StandsFor self.old h
+            → ((kept : ℕ) (payloads : List (List ℕ)) → Indexes kept payloads self.old.ledger
+            → StandsAt kept payloads spot.at spot.slot payload)
+            → IfOk result (λ v. v.items ≡ payload) }
+        ensures cause { (h : History) (payload : List ℕ) → StandsFor self.old h
+            → ((kept : ℕ) (payloads : List (List ℕ)) → Indexes kept payloads self.old.ledger
+            → StandsAt kept payloads spot.at spot.slot payload)
+            → IsErrOf result TapeFault.Disk → OneHasRisen (told_of self.old) (told_of self.new) }
+        ensures kinds { IfErr result IsReadFault }
+        ensures reads { IsRead self.old self.new }
+        ensures quiet { OnOk result (told_of self.new ≡ told_of self.old) }
+    {
+        if spot.at >= end_of(&self.segments.live) {
+            return self.pending_at(spot.slot);
+        }
+        match self.segments.live.payload_at(spot.at) {
+            Ok(payload) => Ok(payload),
+            Err(ReadFault::NoMemory) => Err(TapeFault::NoMemory),
+            Err(ReadFault::Disk) => Err(TapeFault::Disk),
+            // The journal works.
+            Err(ReadFault::Broken) => Err(TapeFault::Disk),
+        }
+    }
+
+    // A copy of the payload that pends in this slot.
+    fn pending_at(&self, slot: u32) -> Result<Vec<u8>, TapeFault>
+        ensures payload { IfOk result (λ v. (slot < length self.now.pending.items)
+            × (v.items ≡ slice_index_or (octets_of self.now.pending.items) slot [])) }
+        ensures none { IsErrOf result TapeFault.Disk → length self.now.pending.items ≤ slot }
+        ensures kinds { IfErr result IsReadFault }
+    {
+        match self.pending.get(slot as usize) {
+            Some(payload) => Ok(Vec::from_slice(self.alloc, payload)?),
+            None => Err(TapeFault::Disk),
+        }
+    }
+
+    // The numbers that are owed, rising, each with where it stands.
+    pub(crate) fn spots(&self) -> Result<Vec<(u64, Spot)>, AllocError>
+        ensures items { IfOk result (λ v. v.items ≡ spots_of self.now.ledger) }
+        ensures rising { OnOk result (IsStrictlyIncreasing (numbers (ledger_of self.now))) }
+    {
+        self.ledger.spots(self.alloc)
+    }
+
+    // Reads back the notes of all debts, whose spots are these, behind the Base of the next generation.
+    pub(crate) fn read_back(&mut self, spots: &[(u64, Spot)]) -> Result<Vec<Vec<u8>>, TapeFault>
+        requires works { IsBroken self.old → ⊥ }
+        requires room { generation_of self.old < 2 ^ 64 - 1 }
+        requires spots { spots.now ≡ spots_of self.old.ledger }
+        requires rising { IsStrictlyIncreasing (numbers (ledger_of self.old)) }
+        ensures written { (h : History) → StandsFor self.old h → IfOk result
+            (λ v. octets_of v.items ≡ written (generation_of self.old + 1) (ledger_of self.old)) }
+        ensures some { IfOk result (λ v. v.items ≢ []) }
+        ensures cause { (h : History) → StandsFor self.old h
+            → IsErrOf result TapeFault.Disk → OneHasRisen (told_of self.old) (told_of self.new) }
+        ensures kinds { IfErr result IsReadFault }
+        ensures reads { IsRead self.old self.new }
+        ensures quiet { OnOk result (told_of self.new ≡ told_of self.old) }
+    {
+        let mut payloads = Vec::new(self.alloc);
+        let base = self.ledger.base(self.segments.generation + 1);
+        payloads.push(encode_base(self.alloc, &base)?)?;
+        for index in 0..spots.len() {
+            let (number, spot) = spots[index];
+            let payload = match self.note_at(number, spot) {
+                Ok(payload) => payload,
+                Err(fault) => return Err(fault),
+            };
+            payloads.push(payload)?;
+        }
+        Ok(payloads)
+    }
+}
