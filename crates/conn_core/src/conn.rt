@@ -165,8 +165,8 @@ impl Conn {
     /// of the reader, or once closed, the octets are dropped.
     ///
     /// # Errors
-    /// `NoMemory` where memory was refused while it was open: some of the whole replies were taken, from the first on, and it
-    /// is closed as by [`Conn::broken`].
+    /// `NoMemory` where memory was refused while it was open: some of the whole replies were taken, from the first on,
+    /// and it is closed as by [`Conn::broken`].
     pub fn input(&mut self, octets: &[u8]) -> Result<(), AllocError>
         ensures received { OnOk result
             ((options : Options) (unread : List ℕ) (h : List Event)

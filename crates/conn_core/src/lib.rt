@@ -3,8 +3,7 @@
 //! May touch nothing but memory; it stands on `reply_reader` for replies, on `dot_codec` for blocks, on `ledger_core`
 //! for debts. The crates above use `Conn`: each call says what it makes of every transcript that the connection stands
 //! for (`specs/Stands.antt`, over the transcript of `specs/History.antt`). What holds over whole transcripts is in the
-//! crate
-//! `conn_laws`.
+//! crate `conn_laws`.
 #![tactic(auto)]
 
 mod article;

@@ -1,6 +1,5 @@
 -- Each verdict and each deferral is what a reply says to an unanswered command of that debt, each loss is what was
--- handed in
--- for it, and what comes back was held as the connection was closed.
+-- handed in for it, and what comes back was held as the connection was closed.
 use Rattle.std.proofs.Common.{◌≡◌, ℕ, ◌+◌, Bool, true, false, List, [], ◌∷◌, refl, sym, ap, subst, ◌∙◌, arith, find}
 use Rattle.std.proofs.Common.{Option, Some, None}
 use Rattle.std.specs.Prelude.{◌==◌, ◌||◌, if◌then◌else◌, is_some, option_map}

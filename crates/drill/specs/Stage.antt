@@ -52,9 +52,8 @@ stopped_confs peers = map (λ (peer : StoppedPeer). peer.conf) peers
 abbrev pub stopped_logs : List StoppedPeer → List Log
 stopped_logs peers = map stopped_log peers
 
--- whatever a stop may leave of the peer's disks stands for the ledger after the first notes of the history,
--- every acknowledged one
--- among them
+-- whatever a stop may leave of the peer's disks stands for the ledger after the first notes of the history, every
+-- acknowledged one among them
 abbrev pub KeepsHistory : History → StoppedPeer → Type 0
 KeepsHistory h peer = EachTape (Survives h) (stopped_log peer)
 

@@ -110,8 +110,7 @@ impl Drill {
     }
 
     // Takes one step, and adds what it prints. A step that is refused prints nothing, and one in which a stop is met
-    // prints
-    // `stopped` alone, unless memory was refused to it.
+    // prints `stopped` alone, unless memory was refused to it.
     fn take(&mut self, step: Step<'_>, out: &mut Vec<u8>) -> Result<(), Fault> {
         let taken = match step {
             Step::Line(text) => self.line(text, out),

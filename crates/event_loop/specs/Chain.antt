@@ -67,8 +67,7 @@ receipts (Send out ∷ steps) = receipts steps
 receipts (Receipt into ∷ steps) = receipts steps + 1
 
 -- From one transcript, with the octets held back behind it, to a later one, by sends and receipts alone; what they
--- were,
--- newest first; and from what the link told that it took and gave to what it tells then.
+-- were, newest first; and from what the link told that it took and gave to what it tells then.
 pub data Moves (options : Options) (unread : List ℕ) (h : List Event) (took gave : Option (List ℕ))
     : List Step → List ℕ → List Event → Option (List ℕ) → Option (List ℕ) → Type 0 where
   None_yet : Moves options unread h took gave [] unread h took gave

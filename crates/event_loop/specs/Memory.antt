@@ -33,8 +33,7 @@ move_of [] count = Later
 move_of (octet ∷ waiting) count = Done count
 
 -- what it answers where there is room for so many octets: its end, where that is met; else as many as wait, up to a
--- piece and to the
--- end
+-- piece and to the end
 abbrev pub gives_now : Memory → (room : ℕ) → Moved
 gives_now link room =
     unwrap_or (met link.gives (length link.gave))
@@ -45,8 +44,7 @@ abbrev pub after_giving : Memory → ℕ → Memory
 after_giving link count = record link { gave = link.gave ++ take count link.waiting; waiting = drop count link.waiting }
 
 -- what it answers where so many octets are offered: its end, where that is met; else as many as are offered, up to a
--- piece and to the
--- end
+-- piece and to the end
 abbrev pub takes_now : Memory → (offered : ℕ) → Moved
 takes_now link offered =
     unwrap_or (met link.takes (length link.taken)) (Done (cut link.takes (length link.taken) (min link.piece offered)))

@@ -45,15 +45,13 @@ abbrev pub path_of : List ℕ → ℕ → List ℕ
 path_of outer block = path_within block outer block
 
 -- The value along blocks, from the inside out, of which an inner one goes before an outer one, and the scope of the
--- file, which is
--- block 0, comes last.
+-- file, which is block 0, comes last.
 abbrev pub value_along : ℕ → List Use → List ℕ → Option Value
 value_along place uses [] = last_value 0 place uses
 value_along place uses (block ∷ outer) = later (last_value block place uses) (value_along place uses outer)
 
--- The value of a key at a peer: the last use in its own block, else in its innermost group, and so outward, else in the
--- scope of the
--- file, else the default.
+-- The value of a key at a peer: the last use in its own block, else in its innermost group, and so outward, else in
+-- the scope of the file, else the default.
 abbrev pub value_of : List Use → (outer : List ℕ) → Declared → Key → Value
 value_of uses outer peer key =
     unwrap_or (value_along (row_of key).place uses (path_of outer peer.block)) ((row_of key).default peer.name)

@@ -14,9 +14,8 @@ IsRaisedBy number named names old new =
     (peer : ℕ) → peer < length names
     → IsRaisedAt number named (slice_index_or names peer []) (slice_index old peer) (slice_index new peer)
 
--- The marks of the stations that a line owes to are raised to its number, where they are below it, and no others: those
--- whose peers a good
--- line names, and of a line that is not good none.
+-- The marks of the stations that a line owes to are raised to its number, where they are below it, and no others:
+-- those whose peers a good line names, and of a line that is not good none.
 abbrev pub IsRaised : ℕ → List ℕ → List (List ℕ) → List ℕ → List ℕ → Type 0
 IsRaised number line names old new =
     ((token id : List ℕ) (named : List (List ℕ)) → IsFunnelLine line token id named
@@ -30,8 +29,7 @@ rises (m ∷ ms) [] = 0
 rises (m ∷ ms) (n ∷ ns) = (if nat_lt m n then 1 else 0) + rises ms ns
 
 -- One station, the k-th, of a peer of this name, took a line of this number, which names these peers: the marks, and
--- what was counted, before
--- and after.
+-- what was counted, before and after.
 abbrev pub IsTakenAt : ℕ → List (List ℕ) → List ℕ → ℕ → List ℕ → List ℕ → ℕ → ℕ → Type 0
 IsTakenAt number named name k old new a b =
     (Contains named name × (new ≡ slice_set old k (max (slice_index old k) number))
