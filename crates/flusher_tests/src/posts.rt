@@ -1,0 +1,252 @@
+// A post in one thread: what is shed, claimed, given back, released and deferred.
+ghost use Rattle.std.specs.Prelude.{◌≡◌, ◌<◌, length};
+ghost use Rattle.flusher.specs.Post.{names_of};
+
+use crate::shared::{Ending, intake, outcome, peer};
+use conn_core::CxnId;
+use disk_model::{Disk, MemDisk};
+use flusher::{Blanks, Closed, FeederShare, Free, IntakeShare, Naming, Peer, Post, PostFault};
+use ledger_core::Debt;
+use peer_queue::{Limits, Settled, StationFault};
+use recovery::{Tape, TapeFault};
+use std::alloc::Global;
+use std::marker::Brand;
+use std::sync::Wait;
+use std::test::*;
+
+const LIMITED: Limits = Limits {
+    backlog_limit: 100,
+    backlog_high: 110,
+    drop_deferred: false,
+};
+
+// The debt that a connection claims of the first peer at this moment.
+fn claim<D: Disk, N: Naming, R: Wait>(
+    rt: &R,
+    post: &Post<D, N>,
+    connection: CxnId,
+    now: u64,
+) -> Result<Debt, Fail>
+    requires { 0 < length post.now.names }
+{
+    Ok(post.claim(rt, 0, connection, now)?.ok_or("a debt")?)
+}
+
+// Claims a debt of the first peer, and finishes it at the moment 0.
+fn finish<D: Disk, N: Naming, R: Wait>(
+    rt: &R,
+    alloc: Global,
+    post: &Post<D, N>,
+    connection: CxnId,
+    ending: Ending,
+    share: &mut FeederShare<N>,
+) -> Result<(u64, Settled), Fail>
+    requires { 0 < length post.now.names }
+{
+    let debt = claim(rt, post, connection, 0)?;
+    let number = debt.number();
+    let outcome = outcome(alloc, connection, debt, ending)?;
+    match post.finish(rt, 0, connection, outcome, 0, share) {
+        Ok(settled) => Ok((number, settled)),
+        Err((_, fault)) => Err(Fail::from(fault)),
+    }
+}
+
+// What is told of twelve debts of ten octets, of which at most a hundred octets are kept.
+#[derive(Debug, PartialEq, Eq, Drop)]
+struct Told {
+    shed: Vec<u64>,
+    back: (u64, Settled),
+    claimed: u64,
+    released: u64,
+    later: (u64, Settled),
+    at_59: u64,
+    at_60: u64,
+    dropped: u64,
+}
+
+fn run_steps<D: Disk + Drop, N: Naming, R: Wait>(
+    rt: &R,
+    alloc: Global,
+    peers: Vec<Peer<D>>,
+    intake: Tape<D>,
+    blanks: Blanks,
+) -> Result<Told, Fail>
+    requires names { N.names ≡ names_of blanks peers.items }
+    requires taken { (blanks.taken.workers.parts ≡ 1)
+        × (blanks.taken.stations.parts ≡ length peers.items) }
+    requires answered { (blanks.answered.workers.parts ≡ 3)
+        × (blanks.answered.stations.parts ≡ length peers.items) }
+    requires dropped { (blanks.dropped.workers.parts ≡ 3)
+        × (blanks.dropped.stations.parts ≡ length peers.items) }
+{
+    let (post, mut lines, mut share, second, third) = Post::<D, N>::new(
+        alloc, peers, intake, blanks,
+    )?;
+    if post.peers() == 0 {
+        return Err(Fail::from("a peer"));
+    }
+    for _ in 0..12u8 {
+        post.take_line(rt, b"a/1 <x@y> p", &mut lines)?;
+    }
+    let shed = post.shed(rt, 0, &mut share)?.numbers;
+    let back = finish(rt, alloc, &post, CxnId(1), Ending::Broken, &mut share)?;
+    let claimed = claim(rt, &post, CxnId(2), 0)?.number();
+    let released = post.release(rt, 0, CxnId(2));
+    let later = finish(rt, alloc, &post, CxnId(3), Ending::WantedLater, &mut share)?;
+    let at_59 = claim(rt, &post, CxnId(4), 59)?.number();
+    let at_60 = claim(rt, &post, CxnId(4), 60)?.number();
+    let dropped = match post.close(lines, share, second, third) {
+        Ok(Closed { sums, .. }) => sums.dropped,
+        Err(_) => return Err(Fail::from("memory")),
+    };
+    Ok(Told {
+        shed,
+        back,
+        claimed,
+        released,
+        later,
+        at_59,
+        at_60,
+        dropped,
+    })
+}
+
+fn on_disks<R: Wait>(
+    rt: &R,
+    alloc: Global,
+    peer: Peer<MemDisk>,
+    intake: Tape<MemDisk>,
+) -> Result<Told, Fail> {
+    let peers = vec![in alloc; peer]?;
+    run_steps::<MemDisk, Brand, R>(rt, alloc, peers, intake, Blanks::new(1))
+}
+
+#[test]
+fn what_is_not_sent_comes_again(rt: HostRuntime) -> Result<(), Fail> {
+    let alloc = rt.alloc();
+    let told = on_disks(&rt, alloc, peer(alloc, b"p", LIMITED)?, intake(alloc)?)?;
+    let want = Told {
+        shed: vec![in alloc; 1, 2]?,
+        back: (3, Settled::Ready),
+        claimed: 3,
+        released: 1,
+        later: (3, Settled::Later(60)),
+        at_59: 4,
+        at_60: 3,
+        dropped: 2,
+    };
+    assert_eq!(rt; told, want);
+    Ok(())
+}
+
+// How many notes may pend at a station, and half of them.
+const MOST: u64 = 65_536;
+
+const HALF: u64 = 32_768;
+
+// What is told where lines fill the station of q, and one then comes for p and q.
+#[derive(Clone, Copy, Debug, PartialEq, Eq)]
+struct Filled {
+    // Whether q was newly half full: a line before half, at half, and asked once more.
+    half: (bool, bool, bool),
+    refused: PostFault,
+    // The line's number, given again.
+    number: u64,
+    taken: u64,
+}
+
+// Takes a line; where memory is refused it is given again.
+fn take<D: Disk, N: Naming, R: Wait>(
+    rt: &R,
+    post: &Post<D, N>,
+    line: &[u8],
+    lines: &mut IntakeShare<N>,
+) -> Result<u64, PostFault> {
+    match post.take_line(rt, line, lines) {
+        Err(PostFault::NoMemory)
+        | Err(
+            PostFault::Station {
+                fault: StationFault::NoMemory,
+                ..
+            },
+        ) => post.take_line(rt, line, lines),
+        told => told,
+    }
+}
+
+fn fill<D: Disk + Drop, N: Naming, R: Wait>(
+    rt: &R,
+    alloc: Global,
+    peers: Vec<Peer<D>>,
+    intake: Tape<D>,
+    blanks: Blanks,
+) -> Result<Filled, Fail>
+    requires names { N.names ≡ names_of blanks peers.items }
+    requires taken { (blanks.taken.workers.parts ≡ 1)
+        × (blanks.taken.stations.parts ≡ length peers.items) }
+    requires answered { (blanks.answered.workers.parts ≡ 3)
+        × (blanks.answered.stations.parts ≡ length peers.items) }
+    requires dropped { (blanks.dropped.workers.parts ≡ 3)
+        × (blanks.dropped.stations.parts ≡ length peers.items) }
+{
+    let (post, mut lines, first, second, third) = Post::<D, N>::new(alloc, peers, intake, blanks)?;
+    if post.peers() < 2 {
+        return Err(Fail::from("two peers"));
+    }
+    let mut half = (false, false, false);
+    for number in 1..=MOST {
+        take(rt, &post, b"a/1 <x@y> q", &mut lines)?;
+        if number == HALF - 1 {
+            half.0 = post.is_newly_half_full(1);
+        }
+        if number == HALF {
+            half.1 = post.is_newly_half_full(1);
+        }
+    }
+    half.2 = post.is_newly_half_full(1);
+    let Err(refused) = take(rt, &post, b"a/1 <x@y> p q", &mut lines) else {
+        return Err(Fail::from("a refusal"));
+    };
+    post.flush_all(rt, &Free)?;
+    let number = take(rt, &post, b"a/1 <x@y> p q", &mut lines)?;
+    match post.close(lines, first, second, third) {
+        Ok(Closed { sums, .. }) => Ok(Filled {
+            half,
+            refused,
+            number,
+            taken: sums.taken,
+        }),
+        Err(_) => Err(Fail::from("memory")),
+    }
+}
+
+fn fill_disks<R: Wait>(
+    rt: &R,
+    alloc: Global,
+    first: Peer<MemDisk>,
+    second: Peer<MemDisk>,
+    intake: Tape<MemDisk>,
+) -> Result<Filled, Fail> {
+    let peers = vec![in alloc; first, second]?;
+    fill::<MemDisk, Brand, R>(rt, alloc, peers, intake, Blanks::new(2))
+}
+
+#[test]
+fn a_line_refused_at_its_second_peer_is_taken_once(rt: HostRuntime) -> Result<(), Fail> {
+    let alloc = rt.alloc();
+    let first = peer(alloc, b"p", LIMITED)?;
+    let second = peer(alloc, b"q", LIMITED)?;
+    let told = fill_disks(&rt, alloc, first, second, intake(alloc)?)?;
+    let want = Filled {
+        half: (false, true, false),
+        refused: PostFault::Station {
+            peer: 1,
+            fault: StationFault::Tape(TapeFault::PendingFull),
+        },
+        number: MOST + 1,
+        taken: MOST + 2,
+    };
+    assert_eq!(rt; told, want);
+    Ok(())
+}

@@ -1,0 +1,472 @@
+// Workers in threads of their own that meet, as rows.
+ghost use Rattle.std.specs.Prelude.{◌≡◌, length};
+ghost use Rattle.flusher.specs.Post.{names_of};
+
+use crate::pace::{At, Meeting};
+use crate::shared::{Ending, intake, outcome, peer};
+use conn_core::{CxnId, Outcome};
+use disk_model::{Disk, MemDisk};
+use flusher::{
+    Blanks, Closed, FeederShare, Flusher, IntakeShare, Naming, NoThread, Pace, Peer, Place, Post,
+    PostFault, Signals, Sums, Who, Work, run_threads,
+};
+use ledger_core::FinalCode;
+use log::Log;
+use peer_queue::{Limits, Settled};
+use recovery::Tape;
+use std::alloc::Global;
+use std::marker::Brand;
+use std::rt::Clock;
+use std::sync::Wait;
+use std::test::*;
+use std::thread::Threads;
+
+// What becomes of a debt that its peer does not want.
+const NOT_WANTED: Settled = Settled::Answered(FinalCode::CheckNotWanted);
+
+const UNLIMITED: Limits = Limits {
+    backlog_limit: 0,
+    backlog_high: 0,
+    drop_deferred: false,
+};
+
+// What a worker does between its two places.
+#[derive(Clone, Copy)]
+enum Job {
+    Nothing,
+    // Finishes the debt that it was given.
+    Finish,
+    // Asks for a debt of the first peer without waiting, where it is not that peer's; then claims one of the peer of
+    // its number.
+    Claim,
+    // Calls `flush_all` once.
+    Flush,
+}
+
+// A worker that does one thing. What it is told is a number, 0 where there is none, and what became of a debt.
+#[derive(Drop)]
+struct Hand<N: Naming> {
+    who: Who,
+    peer: usize,
+    connection: CxnId,
+    job: Job,
+    outcome: Option<Outcome>,
+    share: FeederShare<N>,
+    number: u64,
+    // The first peer's station was in use.
+    is_refused: bool,
+    settled: Option<Settled>,
+}
+
+impl<N: Naming> Hand<N> {
+    fn done<D: Disk, R: Wait, P: Pace>(
+        &mut self,
+        rt: &R,
+        post: &Post<D, N>,
+        pace: &P,
+    ) -> Option<()> {
+        if self.peer >= post.peers() {
+            return None;
+        }
+        match self.job {
+            Job::Nothing => {}
+            Job::Finish => {
+                let outcome = self.outcome.take()?;
+                let Ok(settled) = post.finish(
+                    rt,
+                    self.peer,
+                    self.connection,
+                    outcome,
+                    0,
+                    &mut self.share,
+                ) else {
+                    return None;
+                };
+                self.settled = Some(settled);
+            }
+            Job::Claim => {
+                if self.peer > 0 {
+                    let asked = post.try_claim(0, self.connection, 0);
+                    self.is_refused = matches!(asked, Err(PostFault::Busy { .. }));
+                }
+                let debt = post.claim(rt, self.peer, self.connection, 0).ok()??;
+                self.number = debt.number();
+            }
+            Job::Flush => self.number = post.flush_all(rt, pace).ok()?.number(),
+        }
+        Some(())
+    }
+}
+
+impl<D: Disk, N: Naming> Work<D, N> for Hand<N> {
+    fn run<R: AllocGlobal + Wait + Clock + Log, P: Pace>(
+        &mut self,
+        rt: &R,
+        post: &Post<D, N>,
+        _signals: &Signals,
+        pace: &P,
+    ) {
+        pace.turn(self.who, Place::BeforeSettle);
+        self.done(rt, post, pace);
+        pace.turn(self.who, Place::AfterSettle);
+    }
+}
+
+// What the intake does.
+#[derive(Clone, Copy)]
+enum Turn {
+    Nothing,
+    // Takes line 2.
+    Take,
+    // Orders a flush, and waits for its receipt.
+    Order,
+}
+
+// The intake. What it is told is the line's number, or that of the receipt.
+#[derive(Drop)]
+struct Taker<N: Naming> {
+    turn: Turn,
+    share: IntakeShare<N>,
+    number: u64,
+}
+
+impl<D: Disk, N: Naming> Work<D, N> for Taker<N> {
+    fn run<R: AllocGlobal + Wait + Clock + Log, P: Pace>(
+        &mut self,
+        rt: &R,
+        post: &Post<D, N>,
+        signals: &Signals,
+        pace: &P,
+    ) {
+        pace.turn(Who::Intake, Place::BeforeSettle);
+        match self.turn {
+            Turn::Nothing => {}
+            Turn::Take => {
+                if let Ok(number) = post.take_line(rt, b"a/2 <z@y> p", &mut self.share) {
+                    self.number = number;
+                }
+            }
+            Turn::Order => {
+                let order = signals.order();
+                if let Some(receipt) = signals.receipt(rt, order) {
+                    self.number = receipt.number();
+                }
+            }
+        }
+        pace.turn(Who::Intake, Place::AfterSettle);
+        signals.begin_last_phase();
+    }
+}
+
+// The third worker: the flusher, or a hand.
+#[derive(Drop)]
+enum Third<N: Naming> {
+    Flusher(Flusher<N>),
+    Hand(Hand<N>),
+}
+
+impl<N: Naming> Third<N> {
+    // What it has counted, and what it was told.
+    fn parts(self) -> (FeederShare<N>, u64) {
+        match self {
+            Third::Flusher(flusher) => {
+                let Flusher { share, .. } = flusher;
+                (share, 0)
+            }
+            Third::Hand(hand) => {
+                let Hand { share, number, .. } = hand;
+                (share, number)
+            }
+        }
+    }
+}
+
+impl<D: Disk, N: Naming> Work<D, N> for Third<N> {
+    fn run<R: AllocGlobal + Wait + Clock + Log, P: Pace>(
+        &mut self,
+        rt: &R,
+        post: &Post<D, N>,
+        signals: &Signals,
+        pace: &P,
+    ) {
+        match self {
+            Third::Flusher(flusher) => flusher.run(rt, post, signals, pace),
+            Third::Hand(hand) => hand.run(rt, post, signals, pace),
+        }
+    }
+}
+
+// What the workers of a row were told, and what it came to.
+#[derive(Clone, Copy, Debug, PartialEq, Eq)]
+struct Told {
+    first: Option<Settled>,
+    second: Option<Settled>,
+    // The number of the debt that the second claimed, and whether it was refused one of the first peer's.
+    claimed: u64,
+    refused: bool,
+    // The receipt of the third, where it is no flusher.
+    receipt: u64,
+    // The intake's line, or its receipt.
+    intake: u64,
+    gave_up: bool,
+    // The mark of the intake tape.
+    mark: u64,
+    sums: Sums,
+}
+
+// Two feeders, a third worker and the intake over the peers `p` and `q`, each of which is owed one debt, of line 1.
+struct Row {
+    name: &'static str,
+    feeders: Job,
+    flushes: bool,
+    turn: Turn,
+    first: At,
+    second: At,
+    last: At,
+    told: Told,
+}
+
+// A hand that has claimed the debt that it is to finish.
+fn hire<D: Disk, N: Naming, R: Wait>(
+    rt: &R,
+    alloc: Global,
+    post: &Post<D, N>,
+    number: u8,
+    job: Job,
+    share: FeederShare<N>,
+) -> Result<Hand<N>, Fail> {
+    let peer = usize::from(number);
+    let connection = CxnId(u64::from(number));
+    let mut outcome_of = None;
+    if let Job::Finish = job
+        && peer < post.peers()
+    {
+        let debt = post.claim(rt, peer, connection, 0)?.ok_or("a debt")?;
+        outcome_of = Some(outcome(alloc, connection, debt, Ending::NotWanted)?);
+    }
+    Ok(Hand {
+        who: Who::Feeder(number),
+        peer,
+        connection,
+        job,
+        outcome: outcome_of,
+        share,
+        number: 0,
+        is_refused: false,
+        settled: None,
+    })
+}
+
+// Runs the workers of a row, and gives them back.
+fn run_all<
+    D: Disk + Send,
+    N: Naming + Send + Sync,
+    R: AllocGlobal + Clock + Log + Threads + Wait + Sync,
+>(
+    rt: &R,
+    post: &Post<D, N>,
+    feeders: (Hand<N>, Hand<N>),
+    third: Third<N>,
+    taker: &mut Taker<N>,
+    pace: &Meeting,
+) -> Result<(Hand<N>, Hand<N>, Third<N>), NoThread> {
+    let signals = Signals::new();
+    run_threads(rt, post, &signals, feeders, third, taker, pace)
+}
+
+fn meet<
+    D: Disk + Drop + Send,
+    N: Naming + Send + Sync,
+    R: AllocGlobal + Clock + Log + Threads + Wait + Sync,
+>(
+    rt: &R,
+    alloc: Global,
+    row: &Row,
+    peers: Vec<Peer<D>>,
+    intake: Tape<D>,
+    blanks: Blanks,
+) -> Result<Told, Fail>
+    requires names { N.names ≡ names_of blanks peers.items }
+    requires taken { (blanks.taken.workers.parts ≡ 1)
+        × (blanks.taken.stations.parts ≡ length peers.items) }
+    requires answered { (blanks.answered.workers.parts ≡ 3)
+        × (blanks.answered.stations.parts ≡ length peers.items) }
+    requires dropped { (blanks.dropped.workers.parts ≡ 3)
+        × (blanks.dropped.stations.parts ≡ length peers.items) }
+{
+    let (post, mut share, first, second, third) = Post::<D, N>::new(alloc, peers, intake, blanks)?;
+    post.take_line(rt, b"a/1 <x@y> p q", &mut share)?;
+    let first = hire(rt, alloc, &post, 0, row.feeders, first)?;
+    let second = hire(rt, alloc, &post, 1, row.feeders, second)?;
+    let third = if row.flushes {
+        let hand = hire(rt, alloc, &post, 0, Job::Flush, third)?;
+        Third::Hand(Hand {
+            who: Who::Flusher,
+            ..hand
+        })
+    } else {
+        Third::Flusher(Flusher::new(third))
+    };
+    let mut taker = Taker {
+        turn: row.turn,
+        share,
+        number: 0,
+    };
+    let pace = Meeting::new(row.first, row.second, row.last);
+    let ended = run_all(rt, &post, (first, second), third, &mut taker, &pace);
+    let gave_up = pace.gave_up();
+    let Ok((first, second, third)) = ended else {
+        return Err(Fail::from("a thread"));
+    };
+    let Hand {
+        share: one,
+        settled: first,
+        ..
+    } = first;
+    let Hand {
+        share: two,
+        settled: second,
+        number: claimed,
+        is_refused: refused,
+        ..
+    } = second;
+    let (three, receipt) = third.parts();
+    let Taker { share, number, .. } = taker;
+    match post.close(share, one, two, three) {
+        Ok(Closed { intake, sums, .. }) => Ok(Told {
+            first,
+            second,
+            claimed,
+            refused,
+            receipt,
+            intake: number,
+            gave_up,
+            mark: intake.mark(),
+            sums,
+        }),
+        Err(_) => Err(Fail::from("memory")),
+    }
+}
+
+fn on_disks<R: AllocGlobal + Clock + Log + Threads + Wait + Sync>(
+    rt: &R,
+    alloc: Global,
+    row: &Row,
+) -> Result<Told, Fail> {
+    let first = peer(alloc, b"p", UNLIMITED)?;
+    let second = peer(alloc, b"q", UNLIMITED)?;
+    let peers = vec![in alloc; first, second]?;
+    meet::<MemDisk, Brand, R>(rt, alloc, row, peers, intake(alloc)?, Blanks::new(2))
+}
+
+const ROWS: [Row; 3] = [
+    Row {
+        name: "both feeders settle at once",
+        feeders: Job::Finish,
+        flushes: false,
+        turn: Turn::Order,
+        first: At {
+            who: Who::Feeder(0),
+            place: Place::BeforeSettle,
+        },
+        second: At {
+            who: Who::Feeder(1),
+            place: Place::BeforeSettle,
+        },
+        last: At {
+            who: Who::Feeder(1),
+            place: Place::BeforeSettle,
+        },
+        told: Told {
+            first: Some(NOT_WANTED),
+            second: Some(NOT_WANTED),
+            claimed: 0,
+            refused: false,
+            receipt: 0,
+            intake: 1,
+            gave_up: false,
+            mark: 1,
+            sums: Sums {
+                taken: 2,
+                answered: 2,
+                dropped: 0,
+            },
+        },
+    },
+    Row {
+        name: "in p's flush a claim at q is answered, and one at p is refused where it does not wait",
+        feeders: Job::Claim,
+        flushes: true,
+        turn: Turn::Nothing,
+        first: At {
+            who: Who::Flusher,
+            place: Place::InFlush,
+        },
+        second: At {
+            who: Who::Feeder(1),
+            place: Place::BeforeSettle,
+        },
+        last: At {
+            who: Who::Feeder(1),
+            place: Place::AfterSettle,
+        },
+        told: Told {
+            first: None,
+            second: None,
+            claimed: 1,
+            refused: true,
+            receipt: 1,
+            intake: 0,
+            gave_up: false,
+            mark: 1,
+            sums: Sums {
+                taken: 2,
+                answered: 0,
+                dropped: 0,
+            },
+        },
+    },
+    Row {
+        name: "a line is taken at the first end of a flush",
+        feeders: Job::Nothing,
+        flushes: true,
+        turn: Turn::Take,
+        first: At {
+            who: Who::Flusher,
+            place: Place::AfterFlush,
+        },
+        second: At {
+            who: Who::Intake,
+            place: Place::BeforeSettle,
+        },
+        last: At {
+            who: Who::Intake,
+            place: Place::AfterSettle,
+        },
+        told: Told {
+            first: None,
+            second: None,
+            claimed: 0,
+            refused: false,
+            receipt: 1,
+            intake: 2,
+            gave_up: false,
+            mark: 1,
+            sums: Sums {
+                taken: 3,
+                answered: 0,
+                dropped: 0,
+            },
+        },
+    },
+];
+
+#[test]
+fn workers_that_meet(rt: HostRuntime) -> Result<(), Fail> {
+    let alloc = rt.alloc();
+    for row in &ROWS {
+        let told = on_disks(&rt, alloc, row)?;
+        assert_eq!(rt; told, row.told, "{}", row.name);
+    }
+    Ok(())
+}
