@@ -2,9 +2,9 @@
 //
 // `flush DIRECTORY COUNT` flushes 256 notes so many times to a new tape in two files of this
 // directory; the making of the notes is not in the time. `fill DIRECTORY COUNT` leaves the tape of
-// so many debts there, and `open DIRECTORY` opens it. `memory DIRECTORY` opens it too, and prints
-// how much memory the program took at most, as Linux tells it. `rotate DIRECTORY COUNT` rotates the
-// tape there so many times; its opening is not in the time.
+// so many debts there, 51,200 to a flush, and prints how much memory the program took at most, as
+// Linux tells it. `open DIRECTORY` opens it, and `memory DIRECTORY` prints the same of that. `rotate
+// DIRECTORY COUNT` rotates the tape there so many times; its opening is not in the time.
 use crate::openings::{open, owe};
 use crate::time::{number, tell};
 use anyhow::{Context, Result, bail};
@@ -29,14 +29,16 @@ pub fn run<R: AllocGlobal + Print + Clock + Files<File = File>>(
     match words {
         [] => small(rt),
         [work, path] if work.as_str() == "open" => measured(rt, path),
-        [work, path] if work.as_str() == "memory" => tell_memory(rt, path),
+        [work, path] if work.as_str() == "memory" => tell_memory(rt, &tape_in(rt, path)?),
         [work, path, count] if work.as_str() == "flush" => {
             let count = number(count)?;
             let time = flushed(rt, &mut emptied(rt, path)?, count)?;
             tell(rt, count, "flushes", time)
         }
         [work, path, count] if work.as_str() == "fill" => {
-            fill(rt, &mut emptied(rt, path)?, number(count)? / BATCH)
+            let mut tape = emptied(rt, path)?;
+            fill(rt, &mut tape, number(count)? / BATCH)?;
+            tell_memory(rt, &tape)
         }
         [work, path, count] if work.as_str() == "rotate" => {
             let count = number(count)?;
@@ -146,8 +148,10 @@ fn measured<R: AllocGlobal + Print + Clock + Files<File = File>>(rt: &R, path: &
     tell(rt, owed, "owed", start.elapsed(rt)?)
 }
 
-fn tell_memory<R: AllocGlobal + Print + Files<File = File>>(rt: &R, path: &str) -> Result<()> {
-    let tape = tape_in(rt, path)?;
+fn tell_memory<R: AllocGlobal + Print + Files<File = File>>(
+    rt: &R,
+    tape: &Tape<FileDisk<File>>,
+) -> Result<()> {
     let status = fs::read_to_string(rt, "/proc/self/status")?;
     let most = status
         .lines()

@@ -1,5 +1,5 @@
 -- A ledger as the index of what lies on a tape.
-use Rattle.std.specs.Prelude.{◌≡◌, ◌==◌, if◌then◌else◌, ℕ, List, [], ◌∷◌, Option, Some, find, length, map}
+use Rattle.std.specs.Prelude.{◌≡◌, ◌==◌, ℕ, List, Option, Some, find, length, map}
 use Rattle.std.specs.List.{All}
 use Rattle.ledger_core.specs.declared.ledger.Ledger.{Ledger}
 use Rattle.ledger_core.specs.declared.spot.Entry.{Entry}
@@ -22,13 +22,6 @@ debt_at state number = find (λ (owing : Owing). owing.0 == number) state.debts
 -- the numbers of the debts, by rising numbers, and where they stand
 abbrev pub spots_of : Ledger → List (ℕ × Spot)
 spots_of ledger = map (λ (entry : ℕ × Entry). (entry.0, entry.1.spot)) ledger.debts.entries
-
--- the debt of this number stands at this offset now
-abbrev pub moved_spot : ℕ → ℕ → List (ℕ × Spot) → List (ℕ × Spot)
-moved_spot number at [] = []
-moved_spot number at (entry ∷ rest) =
-    if entry.0 == number then (entry.0, record entry.1 { at = at; slot = 0 }) ∷ rest else entry ∷ moved_spot number at
-    rest
 
 -- Where a ledger has the debt of this number: how long its texts are, and where the note stands that owes it.
 pub record IsSpotOf (ledger : Ledger) (number : ℕ) (spot : Spot) : Type 0 where

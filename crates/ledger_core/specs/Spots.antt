@@ -3,6 +3,7 @@ use Rattle.std.specs.Prelude.{◌≡◌, ◌==◌, ℕ, ◌+◌, ◌-◌, ◌^�
 use Rattle.ledger_core.specs.declared.note.Note.{Note}
 use Rattle.ledger_core.specs.declared.note.Note.TheVariants.{Owe, Final, Drop, Seen}
 use Rattle.ledger_core.specs.declared.spot.Entry.{Entry}
+use Rattle.ledger_core.specs.declared.spot.Spot.{Spot}
 use Rattle.ledger_core.specs.Base.{owe}
 use Rattle.ledger_core.specs.Spelling.{spelling}
 use Rattle.ledger_core.specs.State.{Owing}
@@ -52,3 +53,11 @@ IsPlaced kept payloads at slot (Seen number) = Unit {0}
 -- the note that owes this debt stands at this spot
 abbrev pub PointsAt : ℕ → List (List ℕ) → ℕ × Entry → Type 0
 PointsAt kept payloads entry = StandsAt kept payloads entry.1.spot.at entry.1.spot.slot (spelling (owe (debt_of entry)))
+
+-- the spot of the same debt at this offset of the tape
+abbrev pub moved_to : ℕ → Spot → Spot
+moved_to at spot = record spot { at = at; slot = 0 }
+
+-- where the record behind it stands then
+abbrev pub beyond : ℕ → Spot → ℕ
+beyond at spot = min (at + (16 + spot.token_len + spot.id_len)) (2 ^ 64 - 1)

@@ -1,5 +1,5 @@
 // A ledger whose tape is written anew.
-ghost use Rattle.std.specs.Prelude.{◌≡◌, ◌+◌, ◌-◌, ◌^◌, ℕ, IfOk, OnOk, length, min};
+ghost use Rattle.std.specs.Prelude.{◌≡◌, ℕ, IfOk, OnOk, length};
 ghost use Rattle.std.specs.List.Sorted.{IsStrictlyIncreasing};
 ghost use Rattle.ledger_core.specs.State.{numbers};
 ghost use Rattle.ledger_core.specs.declared.base.Base.{Base};
@@ -10,20 +10,8 @@ use crate::restore::BASE_RECORD_LEN;
 use crate::spot::Spot;
 use std::alloc::{AllocError, Global};
 
-// How many octets the record of the note of a debt has on a tape beside its token and its message-id.
-const DEBT_RECORD_LEN: u64 = 16;
-
-// Where the record behind the one of the debt at this offset stands.
-fn offset_beyond(at: u64, spot: Spot) -> u64
-    ensures { result ≡ min (at + (16 + spot.token_len + spot.id_len)) (2 ^ 64 - 1) }
-{
-    at.saturating_add(DEBT_RECORD_LEN)
-        .saturating_add(u64::from(spot.token_len))
-        .saturating_add(u64::from(spot.id_len))
-}
-
 impl Ledger {
-    ghost use Rattle.ledger_core.specs.Index.{Indexes, moved_spot, spots_of};
+    ghost use Rattle.ledger_core.specs.Index.{Indexes, spots_of};
     ghost use Rattle.ledger_core.specs.Ledger.{state_of};
     ghost use Rattle.ledger_core.specs.Written.{base_of, written};
 
@@ -56,33 +44,18 @@ impl Ledger {
         Ok(spots)
     }
 
-    /// Has its debts stand behind a Base, by rising numbers, where a tape has them that is written anew. These are its
-    /// spots. Takes no memory.
-    pub fn move_behind_base(&mut self, spots: &[(u64, Spot)])
-        requires { spots.now ≡ spots_of self.old }
+    /// Has its debts stand behind a Base, by rising numbers, where a tape has them that is written anew. Takes no memory,
+    /// and a time that is linear in what is owed.
+    pub fn move_behind_base(&mut self)
         ensures state { state_of self.new ≡ state_of self.old }
         ensures indexes { (generation : ℕ)
             → Indexes (length (written generation (state_of self.old)))
             (written generation (state_of self.old)) self.new }
     {
-        // The numbers rise.
-        let _count = self.debts.len();
         let mut at = BASE_RECORD_LEN;
-        for index in 0..spots.len() {
-            let (number, spot) = spots[index];
-            self.move_to(number, at);
-            at = offset_beyond(at, spot);
-        }
-    }
-
-    // Has the debt of this number, where it is owed, stand at this offset.
-    fn move_to(&mut self, number: u64, at: u64)
-        ensures state { state_of self.new ≡ state_of self.old }
-        ensures spots { spots_of self.new ≡ moved_spot number at (spots_of self.old) }
-    {
-        if let Some(entry) = self.debts.get_mut(&number) {
-            entry.spot.at = at;
-            entry.spot.slot = 0;
-        }
+        self.debts.retain(move |_number, entry| {
+            at = entry.move_to(at);
+            true
+        });
     }
 }

@@ -1,8 +1,11 @@
 // What a ledger keeps of a debt in the place of its texts.
-ghost use Rattle.std.specs.Prelude.{◌≡◌, length};
+ghost use Rattle.std.specs.Prelude.{◌≡◌, ◌+◌, ◌-◌, ◌^◌, length, min};
 
 use funnel::{MsgId, Token};
 use std::snapshot::Snapshot;
+
+// How many octets the record of the note of a debt has on a tape beside its token and its message-id.
+const DEBT_RECORD_LEN: u64 = 16;
 
 /// Where the note that owes a debt stands, and how long its texts are, which are read there.
 #[derive(Clone, Copy, Debug, PartialEq, Eq)]
@@ -30,6 +33,7 @@ pub(crate) struct Entry {
 
 impl Entry {
     ghost use Rattle.std.specs.Prelude.{◌≤◌};
+    ghost use Rattle.ledger_core.specs.Spots.{beyond, moved_to};
 
     // What is kept of a debt of these texts, whose note stands at this offset or in this slot.
     pub(crate) fn of(at: u64, slot: u32, token: &Token, id: &MsgId) -> Self
@@ -51,6 +55,27 @@ impl Entry {
             id: Snapshot::of(id),
         }
     }
+
+    // Has the note stand on the tape at this offset, and tells where the record behind it stands.
+    pub(crate) fn move_to(&mut self, at: u64) -> u64
+        ensures spot { self.new.spot ≡ moved_to at self.old.spot }
+        ensures token { self.new.token ≡ self.old.token }
+        ensures id { self.new.id ≡ self.old.id }
+        ensures next { result ≡ beyond at self.old.spot }
+    {
+        self.spot.at = at;
+        self.spot.slot = 0;
+        offset_beyond(at, self.spot)
+    }
+}
+
+// Where the record behind the one of the debt at this offset stands.
+fn offset_beyond(at: u64, spot: Spot) -> u64
+    ensures { result ≡ min (at + (16 + spot.token_len + spot.id_len)) (2 ^ 64 - 1) }
+{
+    at.saturating_add(DEBT_RECORD_LEN)
+        .saturating_add(u64::from(spot.token_len))
+        .saturating_add(u64::from(spot.id_len))
 }
 
 // The octets of a token.

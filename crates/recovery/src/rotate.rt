@@ -4,14 +4,12 @@ ghost use Rattle.std.specs.Prelude.{◌≡◌, ◌≢◌, ◌+◌, ◌-◌, ◌^
 use crate::TapeFault;
 use crate::tape::{Tape, end_of};
 use disk_model::Disk;
-use ledger_core::Spot;
 use tape_journal::RenewFault;
 
 impl<D: Disk> Tape<D> {
     ghost use Rattle.std.specs.Prelude.{[]};
     ghost use Rattle.tape_journal.specs.Segment.{longest_segment};
     ghost use Rattle.tape_journal.specs.Words.{octets_of};
-    ghost use Rattle.ledger_core.specs.Index.{spots_of};
     ghost use Rattle.recovery.specs.Image.{Survives, TapeLeaves};
     ghost use Rattle.recovery.specs.Notes.{History, flushed};
     ghost use Rattle.recovery.specs.Tape.{IsRead, StandsFor};
@@ -48,19 +46,18 @@ impl<D: Disk> Tape<D> {
             Err(_) => return Err(TapeFault::NoMemory),
         };
         match self.read_back(&spots) {
-            Ok(payloads) => self.go_on_in(&spots, &payloads),
+            Ok(payloads) => self.go_on_in(&payloads),
             Err(TapeFault::Disk) => Err(self.give_up()),
             Err(_) => Err(TapeFault::NoMemory),
         }
     }
 
     // Goes on in the segment that doesn't live, with these payloads, which its ledger writes where each disk gives what
-    // was put there. These are its spots.
-    fn go_on_in(&mut self, spots: &[(u64, Spot)], payloads: &[Vec<u8>]) -> Result<u64, TapeFault>
+    // was put there.
+    fn go_on_in(&mut self, payloads: &[Vec<u8>]) -> Result<u64, TapeFault>
         requires works { IsBroken self.old → ⊥ }
         requires room { generation_of self.old < 2 ^ 64 - 1 }
         requires fits { rotated_length self.old ≤ longest_segment }
-        requires spots { spots.now ≡ spots_of self.old.ledger }
         requires some { payloads.now ≢ [] }
         ensures ok { (h : History) → StandsFor self.old h → Writes self.old (octets_of payloads.now)
             → OnOk result (StandsFor self.new (flushed h)) }
@@ -97,7 +94,7 @@ impl<D: Disk> Tape<D> {
                 self.segments.generation += 1;
                 self.flushed = self.flushed.saturating_add(self.pending.len() as u64);
                 self.pending.clear();
-                self.ledger.move_behind_base(spots);
+                self.ledger.move_behind_base();
                 self.next = end_of(&self.segments.live);
                 Ok(self.segments.generation)
             }

@@ -187,7 +187,8 @@ impl<D: Disk> Tape<D> {
         self.ledger.spots(self.alloc)
     }
 
-    // Reads back the notes of all debts, whose spots are these, behind the Base of the next generation.
+    // Reads back the notes of all debts, whose spots are these, behind the Base of the next generation. The segment that
+    // lives is read in pieces.
     pub(crate) fn read_back(&mut self, spots: &[(u64, Spot)]) -> Result<Vec<Vec<u8>>, TapeFault>
         requires works { IsBroken self.old → ⊥ }
         requires room { generation_of self.old < 2 ^ 64 - 1 }
@@ -202,7 +203,44 @@ impl<D: Disk> Tape<D> {
         ensures reads { IsRead self.old self.new }
         ensures quiet { OnOk result (told_of self.new ≡ told_of self.old) }
     {
-        let mut payloads = Vec::new(self.alloc);
+        self.read_ahead()?;
+        let read = self.read_each(spots);
+        self.read_singly();
+        read
+    }
+
+    // Has the segment that lives read ahead.
+    fn read_ahead(&mut self) -> Result<(), AllocError>
+        ensures reads { IsRead self.old self.new }
+        ensures told { told_of self.new ≡ told_of self.old }
+    {
+        self.segments.live.read_ahead()
+    }
+
+    // Has it read ahead no more.
+    fn read_singly(&mut self)
+        ensures reads { IsRead self.old self.new }
+        ensures told { told_of self.new ≡ told_of self.old }
+    {
+        self.segments.live.read_singly();
+    }
+
+    // Reads back the notes of all debts, whose spots are these, behind the Base of the next generation, one by one.
+    fn read_each(&mut self, spots: &[(u64, Spot)]) -> Result<Vec<Vec<u8>>, TapeFault>
+        requires works { IsBroken self.old → ⊥ }
+        requires room { generation_of self.old < 2 ^ 64 - 1 }
+        requires spots { spots.now ≡ spots_of self.old.ledger }
+        requires rising { IsStrictlyIncreasing (numbers (ledger_of self.old)) }
+        ensures written { (h : History) → StandsFor self.old h → IfOk result
+            (λ v. octets_of v.items ≡ written (generation_of self.old + 1) (ledger_of self.old)) }
+        ensures some { IfOk result (λ v. v.items ≢ []) }
+        ensures cause { (h : History) → StandsFor self.old h
+            → IsErrOf result TapeFault.Disk → OneHasRisen (told_of self.old) (told_of self.new) }
+        ensures kinds { IfErr result IsReadFault }
+        ensures reads { IsRead self.old self.new }
+        ensures quiet { OnOk result (told_of self.new ≡ told_of self.old) }
+    {
+        let mut payloads = Vec::with_capacity(self.alloc, spots.len().saturating_add(1))?;
         let base = self.ledger.base(self.segments.generation + 1);
         payloads.push(encode_base(self.alloc, &base)?)?;
         for index in 0..spots.len() {

@@ -1,7 +1,8 @@
 // A journal of payloads.
-ghost use Rattle.std.specs.Prelude.{◌≡◌, ◌+◌, ◌-◌, ◌^◌, ◌<◌, ◌≤◌, ℕ, List};
+ghost use Rattle.std.specs.Prelude.{◌≡◌, ◌+◌, ◌-◌, ◌^◌, ◌<◌, ◌≤◌, ℕ, List, take, drop};
 ghost use Rattle.disk_model.specs.Disk.{content};
 ghost use Rattle.tape_journal.specs.Segment.{IsDamagedAt, Reads};
+ghost use Rattle.tape_journal.specs.Window.{held_by, shown_by, start_of};
 ghost use Rattle.tape_journal.specs.declared.fault.OpenFault.TheVariants.{Damaged};
 
 use crate::append::{add_records, are_short, length_of, staging_of};
@@ -9,7 +10,7 @@ use crate::read::{payloads_of, record_at};
 use crate::window::Window;
 use crate::{AppendFault, OpenFault, ReadFault, Unrepaired};
 use disk_model::Disk;
-use std::alloc::Global;
+use std::alloc::{AllocError, Global};
 
 // The longest segment, in octets, with its end gate.
 pub(crate) const MAX_LEN: u64 = 4294967296;
@@ -31,7 +32,11 @@ pub struct Journal<D: Disk> {
     pub(crate) disk: D,
     pub(crate) end: u64,
     pub(crate) broken: bool,
+    // What was read of the disk last, while it reads ahead.
+    pub(crate) window: Window,
     ghost fits: { end < 2 ^ 64 - 1 },
+    ghost shows: { D.honest disk → shown_by window
+        ≡ take (held_by window) (drop (start_of window) (content (D.log disk))) },
 }
 
 ghost use Rattle.tape_journal.specs.Words.{read_fault};
@@ -47,7 +52,7 @@ fn read_fault_of(fault: OpenFault) -> ReadFault
 }
 
 impl<D: Disk> Journal<D> {
-    ghost use Rattle.std.specs.Prelude.{◌≢◌, ◌↔◌, [], ◌∷◌, ◌++◌, length, min, drop, MatchResult, IfOk, IfErr, OnOk};
+    ghost use Rattle.std.specs.Prelude.{◌≢◌, ◌↔◌, [], ◌∷◌, ◌++◌, length, min, MatchResult, IfOk, IfErr, OnOk};
     ghost use Rattle.std.specs.Prelude.{OnErr, IsOk, IsErrOf, IsTrue};
     ghost use Rattle.disk_model.specs.Disk.{Leaves, AfterSync};
     ghost use Rattle.tape_journal.specs.Words.{octets_of};
@@ -202,6 +207,7 @@ impl<D: Disk> Journal<D> {
             return Ok(());
         }
         let staged = staging_of(self.alloc, payloads)?;
+        self.window.forget();
         match add_records(&mut self.disk, self.end, &staged, payloads) {
             Ok(()) => {
                 self.end += added;
@@ -251,18 +257,37 @@ impl<D: Disk> Journal<D> {
         if offset >= len {
             return Err(ReadFault::Disk);
         }
-        let found = record_at(
-            self.alloc,
-            &mut Window::unbuffered(self.alloc),
-            &mut self.disk,
-            offset,
-            len,
-        );
+        let found = record_at(self.alloc, &mut self.window, &mut self.disk, offset, len);
         match found {
             Ok(Some(payload)) => Ok(payload),
             Ok(None) => Err(ReadFault::Disk),
             Err(fault) => Err(read_fault_of(fault)),
         }
+    }
+
+    /// Reads ahead from now on: `payload_at` takes up the disk in pieces of 65,536 octets, and reads no more where the
+    /// last of them has what is asked. What it answers stays the same. Takes room for a piece.
+    ///
+    /// # Errors
+    /// `NoMemory` where memory was refused; nothing changes.
+    pub fn read_ahead(&mut self) -> Result<(), AllocError>
+        ensures stays { (all : List (List ℕ)) → Holds self.old all → Holds self.new all }
+        ensures disk { disk_of self.new ≡ disk_of self.old }
+        ensures end { end_of self.new ≡ end_of self.old }
+        ensures works { IsBroken self.old ↔ IsBroken self.new }
+    {
+        self.window = Window::onto(self.alloc, self.disk.len())?;
+        Ok(())
+    }
+
+    /// Reads ahead no more, and lets go the room that it took for that.
+    pub fn read_singly(&mut self)
+        ensures stays { (all : List (List ℕ)) → Holds self.old all → Holds self.new all }
+        ensures disk { disk_of self.new ≡ disk_of self.old }
+        ensures end { end_of self.new ≡ end_of self.old }
+        ensures works { IsBroken self.old ↔ IsBroken self.new }
+    {
+        self.window = Window::unbuffered(self.alloc);
     }
 
     /// Breaks it, as a call that fails on its disk does. It makes no disk call.

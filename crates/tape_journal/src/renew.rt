@@ -14,6 +14,7 @@ use crate::append::{are_short, length_of};
 use crate::journal::MAX_LEN;
 use crate::put::put_synced;
 use crate::read::OPEN;
+use crate::window::Window;
 use crate::{Journal, RenewFault};
 use disk_model::{Disk, DiskFault};
 use std::alloc::{AllocError, Global};
@@ -194,6 +195,7 @@ impl<D: Disk> Journal<D> {
                 disk,
                 end,
                 broken: false,
+                window: Window::unbuffered(alloc),
             }),
             Err(fault) => Err(NotRenewed { disk, fault }),
         }
@@ -233,6 +235,7 @@ impl<D: Disk> Journal<D> {
     {
         match renew_on(self.alloc, other, payloads) {
             Ok(end) => {
+                self.window = Window::unbuffered(self.alloc);
                 mem::swap(&mut self.disk, other);
                 self.end = end;
                 self.broken = false;

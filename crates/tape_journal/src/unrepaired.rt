@@ -2,6 +2,7 @@
 ghost use Rattle.std.specs.Prelude.{◌≡◌, ◌-◌, ◌^◌, ◌<◌};
 
 use crate::repair::repair;
+use crate::window::Window;
 use crate::{Journal, OpenFault, Refused};
 use disk_model::Disk;
 use std::alloc::Global;
@@ -57,6 +58,7 @@ impl<D: Disk> Unrepaired<D> {
                 disk,
                 end,
                 broken: false,
+                window: Window::unbuffered(alloc),
             }),
             Err(_) => Err(Refused {
                 disk,

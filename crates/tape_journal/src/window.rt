@@ -83,6 +83,13 @@ impl Window {
         })
     }
 
+    // Keeps nothing of what was read.
+    pub(crate) fn forget(&mut self)
+        ensures { (all : List ℕ) → Shows self.new all }
+    {
+        self.held = 0;
+    }
+
     // Fills a slice from an offset on, where the window has all of it.
     fn give(&self, at: u64, into: &mut [u8]) -> bool
         ensures gives { (all : List ℕ) → Shows self.now all → IsTrue result

@@ -17,14 +17,14 @@ pub returns-in-Ok-read_back-clause-ok : goal.returns-in-Ok-read_back-clause-ok
 returns-in-Ok-read_back-clause-ok g c = λ h stands.
     let read = c.in-Ok-read_back.ensures in
     c.go_on_in.ensures.ok h (read.reads.stands h stands)
-    (ap octets_of c.deref-in-Ok-read_back-2.ensures.value
+    (ap octets_of c.deref-in-Ok-read_back.ensures.value
     ∙ (read.written h stands ∙ sym (read_written c.args.self.now c.read_back.new.self read.reads)))
 
 pub returns-in-Ok-read_back-clause-err : goal.returns-in-Ok-read_back-clause-err
 returns-in-Ok-read_back-clause-err g c = λ h stands.
     let read = c.in-Ok-read_back.ensures in
     c.go_on_in.ensures.err h (read.reads.stands h stands)
-    (ap octets_of c.deref-in-Ok-read_back-2.ensures.value
+    (ap octets_of c.deref-in-Ok-read_back.ensures.value
     ∙ (read.written h stands ∙ sym (read_written c.args.self.now c.read_back.new.self read.reads)))
 
 pub returns-in-Ok-read_back-clause-moments : goal.returns-in-Ok-read_back-clause-moments
@@ -33,7 +33,7 @@ returns-in-Ok-read_back-clause-moments g c = λ h stands.
     subst (λ (l : Log). TapeLeaves (Survives h) l (log_of c.go_on_in.new.self))
     (read_log c.args.self.now c.read_back.new.self read.reads stands.honest)
     (c.go_on_in.ensures.moments h (read.reads.stands h stands)
-    (ap octets_of c.deref-in-Ok-read_back-2.ensures.value
+    (ap octets_of c.deref-in-Ok-read_back.ensures.value
     ∙ (read.written h stands ∙ sym (read_written c.args.self.now c.read_back.new.self read.reads))))
 
 pub returns-in-Ok-read_back-clause-calls : goal.returns-in-Ok-read_back-clause-calls
@@ -42,7 +42,7 @@ returns-in-Ok-read_back-clause-calls g c = λ h stands.
     subst (λ (l : Log). OnOk c.go_on_in.result (log_of c.go_on_in.new.self ≡ l))
     (read_rotating c.args.self.now c.read_back.new.self read.reads stands.honest)
     (c.go_on_in.ensures.calls h (read.reads.stands h stands)
-    (ap octets_of c.deref-in-Ok-read_back-2.ensures.value
+    (ap octets_of c.deref-in-Ok-read_back.ensures.value
     ∙ (read.written h stands ∙ sym (read_written c.args.self.now c.read_back.new.self read.reads))))
 
 pub returns-in-Ok-read_back-clause-refused : goal.returns-in-Ok-read_back-clause-refused
@@ -56,7 +56,7 @@ returns-in-Ok-read_back-clause-cause g c = λ h stands told.
     let read = c.in-Ok-read_back.ensures in
     subst (λ (t : ℕ × ℕ). OneHasRisen t (told_of c.go_on_in.new.self)) read.quiet
     (c.go_on_in.ensures.cause h (read.reads.stands h stands)
-    (ap octets_of c.deref-in-Ok-read_back-2.ensures.value
+    (ap octets_of c.deref-in-Ok-read_back.ensures.value
     ∙ (read.written h stands ∙ sym (read_written c.args.self.now c.read_back.new.self read.reads))) told)
 
 pub returns-in-Err-Disk-clause-moments : goal.returns-in-Err-Disk-clause-moments

@@ -6,7 +6,7 @@ use Rattle.ledger_core.specs.Written.{base_of}
 use Rattle.recovery.specs.Notes.{History}
 use Rattle.recovery.specs.Tape.{IsRead, StandsFor}
 use Rattle.recovery.specs.Words.{generation_of, ledger_of, told_of}
-use Rattle.recovery.proofs.tape.Tape.read_back.Given as goal
+use Rattle.recovery.proofs.tape.Tape.read_each.Given as goal
 
 abbrev pub invariant-loop-index : goal.invariant-loop-index
 invariant-loop-index g l = record {

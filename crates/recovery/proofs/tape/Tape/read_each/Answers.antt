@@ -16,7 +16,7 @@ use Rattle.ledger_core.specs.Written.{base_of}
 use Rattle.recovery.specs.Words.{generation_of, ledger_of}
 use Rattle.recovery.proofs.Readings.{read_then}
 use Rattle.recovery.proofs.Stands.{octets_of-push}
-use Rattle.recovery.proofs.tape.Tape.read_back.Goals as goal
+use Rattle.recovery.proofs.tape.Tape.read_each.Goals as goal
 
 -- the spot of the debt in its place
 spot_here : (ledger : Ledger) (spots : List (ℕ × Spot)) (k : ℕ) (d : ℕ × Spot) (e : Owing) → spots ≡ spots_of ledger
