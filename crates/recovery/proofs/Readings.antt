@@ -1,12 +1,18 @@
 -- Tapes of which nothing changed but that a segment was read.
-use Rattle.std.proofs.Common.{◌≡◌, ◌+◌, ℕ, Bool, List, length, refl, ap, ◌∙◌, arith}
+use Rattle.std.proofs.Common.{◌≡◌, ◌↔◌, ◌+◌, ◌≤◌, ℕ, Bool, List, length, refl, sym, ap, ◌∙◌, subst, arith}
 use Rattle.disk_model.specs.Disk.{Event}
 use Rattle.disk_model.specs.declared.Disk.{Ghosts}
+use Rattle.tape_journal.specs.Journal.{Holds, disk_of as journal_disk, end_of as journal_end, IsBroken as IsBrokenJournal}
+use Rattle.tape_journal.specs.declared.journal.Journal.{Journal}
+use Rattle.tape_journal.specs.Segment.{AllShort}
+use Rattle.tape_journal.specs.Words.{octets_of}
 use Rattle.tape_journal.specs.Rewrite.{renewing}
 use Rattle.tape_journal.specs.Segment.{records}
 use Rattle.ledger_core.specs.declared.ledger.Ledger.{Ledger}
 use Rattle.ledger_core.specs.Ledger.{state_of}
 use Rattle.ledger_core.specs.Written.{written}
+use Rattle.recovery.specs.Image.{EachTape, Survives}
+use Rattle.recovery.specs.Notes.{most_pending}
 use Rattle.recovery.specs.Pairs.{placed}
 use Rattle.recovery.specs.Tape.{IsRead}
 use Rattle.recovery.specs.Words.{AreHonest, generation_of, ledger_of, live_log, log_of, other_log, rotated_length, rotating}
@@ -27,6 +33,57 @@ module _ {D : Type 0} {g : Ghosts D} where
     works = (λ broken. broken, λ broken. broken);
     continues = record { honest = (λ honest. honest, λ honest. honest); first = omega arith; second = omega arith };
   }
+
+  -- the segment that lives has its disk as it was, and holds what it held
+  pub read_so : (tape : Tape D g) (journal : Journal D g) (few : length tape.pending.items ≤ most_pending)
+      (short : AllShort (octets_of tape.pending.items))
+      → journal_disk journal ≡ journal_disk tape.segments.live → journal_end journal ≡ journal_end tape.segments.live
+      → (IsBrokenJournal tape.segments.live ↔ IsBrokenJournal journal)
+      → ((all : List (List ℕ)) → Holds tape.segments.live all → Holds journal all)
+      → IsRead tape (record tape { segments = record tape.segments { live = journal }; few = few; short = short })
+  read_so tape journal few short disk end works stays =
+      let second = tape.segments.second in
+      let told : ◌≡◌ {A = ℕ × ℕ} (placed second (g.told (journal_disk journal)) (g.told tape.segments.other))
+      (placed second (g.told (journal_disk tape.segments.live)) (g.told tape.segments.other)) =
+      ap (λ d. placed second (g.told d) (g.told tape.segments.other)) disk in
+      record {
+        stands = λ h stands. record {
+          honest = (subst (λ d. g.honest d) (sym disk) stands.honest.0, stands.honest.1);
+          are_legal = stands.are_legal;
+          kept_within = stands.kept_within;
+          ledger = stands.ledger;
+          images = subst (λ d. EachTape (Survives h) (placed second (g.log d) (g.log tape.segments.other))) (sym disk)
+              stands.images;
+          working = λ still.
+              let w = stands.working (λ broken. still (works.0 broken)) in
+              record {
+                payloads = w.payloads;
+                holds = stays w.payloads w.holds;
+                restores = w.restores;
+                other = w.other;
+                pending = w.pending;
+                indexed = record { indexes = w.indexed.indexes; next = w.indexed.next };
+                count = w.count;
+                opened = w.opened;
+              };
+        };
+        ledger = refl;
+        pending = refl;
+        second = refl;
+        generation = refl;
+        other = refl;
+        end = end;
+        log = λ honest. ap g.log disk;
+        works = works;
+        continues = record {
+          honest = (
+            λ honest. (subst (λ d. g.honest d) (sym disk) honest.0, honest.1),
+            λ honest. (subst (λ d. g.honest d) disk honest.0, honest.1),
+          );
+          first = omega (arith, ap (λ (t : ℕ × ℕ). t.0) told);
+          second = omega (arith, ap (λ (t : ℕ × ℕ). t.1) told);
+        };
+      }
 
   -- one reading and another
   pub read_then : (one two three : Tape D g) → IsRead one two → IsRead two three → IsRead one three

@@ -103,6 +103,14 @@ returns-in-Err-NoMemory-clause-refused g c = λ others.
     let same = c.in-Err-NoMemory.ensures.refused (λ disk. cc (disk, c.in-Err-NoMemory.field-0-is)) in
     same_tape tape _ (same_segments tape.segments c.move_to.new.self c.move_to.new.other same.0 same.1) _ _
 
+pub returns-in-Err-NoMemory-clause-err : goal.returns-in-Err-NoMemory-clause-err
+returns-in-Err-NoMemory-clause-err g c = λ h stands is.
+    let tape = c.args.self.now in
+    let same = c.in-Err-NoMemory.ensures.refused (λ disk. cc (disk, c.in-Err-NoMemory.field-0-is)) in
+    subst (λ (t : Tape _ g.D.Disk). StandsFor t h)
+    (sym (same_tape tape _ (same_segments tape.segments c.move_to.new.self c.move_to.new.other same.0 same.1) _ _))
+    stands
+
 -- what is too long is not what was written
 not_long : {D : Type 0} {g : Ghosts D} (tape : Tape D g) (h : History) (payloads : List (List ℕ)) → StandsFor tape h
     → payloads ≡ written (generation_of tape + 1) (ledger_of tape) → rotated_length tape ≤ longest_segment
