@@ -33,6 +33,8 @@ enum Step {
     Append(u64, Result<(), AppendFault>),
     // The payload is read back at this offset.
     ReadBack(u64, Result<(), ReadFault>),
+    ReadAhead,
+    ReadSingly,
     IsBroken(bool),
     Bytes(u64),
 }
@@ -96,6 +98,8 @@ fn take<A: Abort, D: Disk>(
     match step {
         Step::Append(count, want) => assert_answer(rt, at, &append(alloc, journal, count)?, &want),
         Step::ReadBack(offset, want) => assert_answer(rt, at, &read_back(journal, offset)?, &want),
+        Step::ReadAhead => journal.read_ahead()?,
+        Step::ReadSingly => journal.read_singly(),
         Step::IsBroken(want) => assert_answer(rt, at, &journal.is_broken(), &want),
         Step::Bytes(want) => assert_answer(rt, at, &journal.bytes(), &want),
     }
@@ -208,6 +212,23 @@ fn steps_are_taken_at_a_journal(rt: HostRuntime) -> Result<(), Fail> {
             &[],
             u64::MAX,
             &[Step::Append(2, Ok(())), Step::ReadBack(24, Ok(()))],
+            Some(&TWICE),
+        ),
+        // A journal that reads ahead reads back what it adds, too.
+        (
+            &SEGMENT,
+            u64::MAX,
+            &[
+                Step::ReadAhead,
+                Step::ReadBack(0, Ok(())),
+                Step::ReadBack(24, Err(ReadFault::Disk)),
+                Step::Append(1, Ok(())),
+                Step::ReadBack(24, Ok(())),
+                Step::ReadBack(1, Err(ReadFault::Disk)),
+                Step::ReadSingly,
+                Step::ReadBack(0, Ok(())),
+                Step::ReadBack(24, Ok(())),
+            ],
             Some(&TWICE),
         ),
         // Opening an empty disk takes five calls, and the first write is the sixth. A fault breaks the journal.
