@@ -1,6 +1,6 @@
 // A file as a disk.
 ghost use Rattle.std.specs.Prelude.{◌≡◌, ◌+◌, ◌-◌, ◌<◌, ◌≤◌, ◌↔◌, ◌^◌, length, min, take, OnOk, OnErr, slice_range};
-ghost use Rattle.disk_model.specs.Disk.{content, Writes, Cuts, Syncs, CountsFaults};
+ghost use Rattle.disk_model.specs.Disk.{content, Writes, Cuts, Syncs, CountsFaults, ToldFault};
 
 use crate::raw_file::{RawFault, RawFile};
 use crate::{Disk, DiskFault};
@@ -51,7 +51,7 @@ impl<F: RawFile> FileDisk<F> {
 
     // Counts a fault.
     fn fault(&mut self) -> DiskFault
-        ensures counts { min (self.old.faults + 1) (2 ^ 64 - 1) ≤ self.new.faults }
+        ensures counts { ToldFault self.old.faults self.new.faults }
         ensures later { self.old.faults ≤ self.new.faults }
         ensures file { self.new.file ≡ self.old.file }
         ensures lost { self.new.lost ≡ self.old.lost }
