@@ -1,6 +1,8 @@
+pub mod Append
 pub mod Head
 pub mod Journal
 pub mod Kept
+pub mod Open
 pub mod Renew
 pub mod Rewrite
 pub mod Segment

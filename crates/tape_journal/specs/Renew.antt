@@ -22,10 +22,11 @@ module _ {D : Type 0} {g : Ghosts D} where
     pub honest : g.honest refused.disk
     pub moments : Leaves (RenewedFrom old payloads) old (g.log refused.disk)
 
-  -- the journal works, on a disk that told no fault, and is honest where it was
+  -- the journal works, on a disk that is honest where it was, told no fault, and whose count of faults did not fall
   pub record Works (disk : D) (journal : Journal D g) : Type 0 where
     pub works : IsBroken journal → ⊥
     pub honest : g.honest disk ↔ g.honest (disk_of journal)
+    pub later : g.told disk ≤ g.told (disk_of journal)
     pub quiet : g.told (disk_of journal) ≡ g.told disk
 
   -- the disk is honest where it was, and its count of faults did not fall

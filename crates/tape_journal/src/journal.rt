@@ -54,11 +54,13 @@ fn read_fault_of(fault: OpenFault) -> ReadFault
 impl<D: Disk> Journal<D> {
     ghost use Rattle.std.specs.Prelude.{◌≢◌, ◌↔◌, [], ◌∷◌, ◌++◌, length, min, MatchResult, IfOk, IfErr, OnOk};
     ghost use Rattle.std.specs.Prelude.{OnErr, IsOk, IsErrOf, IsTrue};
-    ghost use Rattle.disk_model.specs.Disk.{Leaves, AfterSync};
+    ghost use Rattle.disk_model.specs.Disk.{ToldFault};
     ghost use Rattle.tape_journal.specs.Words.{octets_of};
-    ghost use Rattle.tape_journal.specs.Segment.{ReadsFrom, AllShort, IsRecord, records, longest_segment};
-    ghost use Rattle.tape_journal.specs.Stage.{Staged};
-    ghost use Rattle.tape_journal.specs.Journal.{disk_of, end_of, IsBroken, Holds, IsOpened, IsRefused, appending};
+    ghost use Rattle.tape_journal.specs.Segment.{AllShort, IsRecord, records, longest_segment};
+    ghost use Rattle.tape_journal.specs.Append.{Appends, Continues, RefusesAppend};
+    ghost use Rattle.tape_journal.specs.Journal.{disk_of, end_of, IsBroken, Holds, IsOpened, IsRefused};
+    ghost use Rattle.tape_journal.specs.Open.{HasCause, IsReturned};
+    ghost use Rattle.tape_journal.specs.Renew.{Works};
     ghost use Rattle.tape_journal.specs.Unrepaired.{read_disk, Finds};
 
     /// Reads the payloads of a disk, front to back, and writes nothing.
@@ -77,7 +79,7 @@ impl<D: Disk> Journal<D> {
         ensures damaged { D.honest disk → IfErr result (λ e. (at : ℕ)
             → e.fault ≡ OpenFault.Damaged at → IsDamagedAt (content (D.log disk)) at) }
         ensures cause { D.honest disk → IfErr result (λ e. e.fault ≡ OpenFault.Disk
-            → min (D.told disk + 1) (2 ^ 64 - 1) ≤ D.told e.disk) }
+            → ToldFault (D.told disk) (D.told e.disk)) }
 
         ensures honest { MatchResult result (λ r. D.honest disk ↔ D.honest (read_disk r.0))
             (λ e. D.honest disk ↔ D.honest e.disk) }
@@ -103,21 +105,9 @@ impl<D: Disk> Journal<D> {
         ensures err { D.honest disk → IfErr result (λ e. IsRefused (D.log disk) e) }
 
         // It doesn't give up by itself: each fault has its cause.
-        ensures damaged { D.honest disk
-            → IfErr result (λ e. (at : ℕ) → e.fault ≡ OpenFault.Damaged at
-            → IsDamagedAt (content (D.log disk)) at × (D.log e.disk ≡ D.log disk)) }
-        ensures memory { D.honest disk
-            → IfErr result (λ e. e.fault ≡ OpenFault.NoMemory → D.log e.disk ≡ D.log disk) }
-        ensures cause { D.honest disk
-            → IfErr result (λ e. e.fault ≡ OpenFault.Disk
-            → min (D.told disk + 1) (2 ^ 64 - 1) ≤ D.told e.disk) }
-
-        ensures works { IfOk result (λ r. IsBroken r.0 → ⊥) }
-        ensures honest { MatchResult result (λ r. D.honest disk ↔ D.honest (disk_of r.0))
-            (λ e. D.honest disk ↔ D.honest e.disk) }
-        ensures later { MatchResult result (λ r. D.told disk ≤ D.told (disk_of r.0))
-            (λ e. D.told disk ≤ D.told e.disk) }
-        ensures quiet { IfOk result (λ r. D.told (disk_of r.0) ≡ D.told disk) }
+        ensures causes { D.honest disk → IfErr result (HasCause disk) }
+        ensures works { IfOk result (λ r. Works disk r.0) }
+        ensures returned { IfErr result (IsReturned disk) }
     {
         let (unrepaired, payloads) = Journal::read(alloc, disk)?;
         let journal = unrepaired.repair()?;
@@ -163,44 +153,17 @@ impl<D: Disk> Journal<D> {
     /// with the end gate would pass 4,294,967,296; `NoMemory`; these change nothing. `Disk`: a call failed, the journal
     /// is broken from then on, and its disk is to be opened again.
     pub fn append_all(&mut self, payloads: &[Vec<u8>]) -> Result<(), AppendFault>
-        ensures ok { (all : List (List ℕ)) → Holds self.old all
-            → OnOk result (Holds self.new (all ++ octets_of payloads.now)) }
-
-        // The calls that it makes.
-        ensures calls { (all : List (List ℕ)) → Holds self.old all → payloads.now ≢ []
-            → OnOk result (D.log (disk_of self.new)
-            ≡ appending (end_of self.old) (octets_of payloads.now) (D.log (disk_of self.old))) }
+        ensures appends { (all : List (List ℕ)) → Holds self.old all
+            → Appends all payloads.now self.old self.new result }
         ensures empty { payloads.now ≡ [] → self.new ≡ self.old }
         ensures empty_ok { payloads.now ≡ [] → (IsBroken self.old → ⊥) → IsOk result }
-
-        // A stop at any moment of the call leaves the first of the payloads, with all from before the call.
-        ensures moments { (all : List (List ℕ)) → Holds self.old all
-            → Leaves (ReadsFrom (length all) (all ++ octets_of payloads.now))
-            (D.log (disk_of self.old)) (D.log (disk_of self.new)) }
-
-        // After its first sync that succeeded the images differ in the new gates alone.
-        ensures gates { (all : List (List ℕ)) → Holds self.old all
-            → AfterSync (Staged all (octets_of payloads.now)) (D.log (disk_of self.old))
-            (D.log (disk_of self.new)) }
-
-        ensures broken { IsErrOf result AppendFault.Broken ↔ IsBroken self.old }
-        ensures too_long { IsErrOf result AppendFault.PayloadTooLong
-            ↔ ((IsBroken self.old → ⊥) × (AllShort (octets_of payloads.now) → ⊥)) }
-        ensures full { IsErrOf result AppendFault.TapeFull
-            ↔ ((IsBroken self.old → ⊥) × AllShort (octets_of payloads.now) × (payloads.now ≢ [])
-            × (longest_segment < end_of self.old + 1 + length (records (octets_of payloads.now)))) }
-        ensures refused { IfErr result (λ e. e ≢ AppendFault.Disk → self.new ≡ self.old) }
-        ensures unchanged { OnErr result ((IsBroken self.new → ⊥) → self.new ≡ self.old) }
-        ensures failed { IsErrOf result AppendFault.Disk → IsBroken self.new }
+        ensures refuses { RefusesAppend payloads.now self.old self.new result }
         ensures works { OnOk result (IsBroken self.new → ⊥) }
-        ensures cause { (all : List (List ℕ)) → Holds self.old all → IsErrOf result AppendFault.Disk
-            → min (D.told (disk_of self.old) + 1) (2 ^ 64 - 1) ≤ D.told (disk_of self.new) }
         ensures end { MatchResult result
             (λ _. end_of self.new ≡ end_of self.old + length (records (octets_of payloads.now)))
             (λ _. end_of self.new ≡ end_of self.old) }
-        ensures honest { D.honest (disk_of self.old) ↔ D.honest (disk_of self.new) }
+        ensures continues { Continues self.old self.new }
         ensures quiet { OnOk result (D.told (disk_of self.new) ≡ D.told (disk_of self.old)) }
-        ensures later { D.told (disk_of self.old) ≤ D.told (disk_of self.new) }
     {
         let added = self.room_for(payloads)?;
         if payloads.is_empty() {
@@ -232,7 +195,7 @@ impl<D: Disk> Journal<D> {
         ensures cause { (front more : List (List ℕ)) (payload : List ℕ)
             → Holds self.old (front ++ payload ∷ more) → offset ≡ length (records front)
             → IsErrOf result ReadFault.Disk
-            → min (D.told (disk_of self.old) + 1) (2 ^ 64 - 1) ≤ D.told (disk_of self.new) }
+            → ToldFault (D.told (disk_of self.old)) (D.told (disk_of self.new)) }
 
         // At any offset an honest disk gives the payload of a whole open record, or none.
         ensures record { D.honest (disk_of self.old)

@@ -2,7 +2,7 @@
 ghost use Rattle.std.specs.Prelude.{◌≡◌, ◌+◌, ◌-◌, ◌^◌, ◌<◌, ◌≤◌, ◌↔◌, ℕ, List, length, min, take, drop, IfOk, OnOk};
 ghost use Rattle.std.specs.Prelude.{IsErrOf, MatchOption, IfSome};
 ghost use Rattle.std.specs.Int.{to_be_bytes, from_be_bytes, w32};
-ghost use Rattle.disk_model.specs.Disk.{content};
+ghost use Rattle.disk_model.specs.Disk.{ToldFault, content};
 ghost use Rattle.tape_journal.specs.Head.{IsHead, FitsHead};
 ghost use Rattle.tape_journal.specs.Segment.{Ends, IsRecord, IsCutShort, IsDamagedAt, HasPayloads};
 ghost use Rattle.tape_journal.specs.Window.{Shows};
@@ -47,7 +47,7 @@ fn octets_at<D: Disk>(
     ensures later { D.told disk.old ≤ D.told disk.new }
     ensures damaged { (e : ℕ) → IsErrOf result (OpenFault.Damaged e) → ⊥ }
     ensures cause { D.honest disk.old → at + count ≤ length (content (D.log disk.old))
-        → IsErrOf result OpenFault.Disk → min (D.told disk.old + 1) (2 ^ 64 - 1) ≤ D.told disk.new }
+        → IsErrOf result OpenFault.Disk → ToldFault (D.told disk.old) (D.told disk.new) }
     ensures quiet { OnOk result (D.told disk.new ≡ D.told disk.old) }
 {
     let mut octets = vec![in alloc; 0u8; count]?;
@@ -107,7 +107,7 @@ pub(crate) fn record_at<D: Disk>(
         → (e ≡ at) × IsCutShort (drop at (content (D.log disk.old))) }
     ensures later { D.told disk.old ≤ D.told disk.new }
     ensures cause { D.honest disk.old → len ≡ length (content (D.log disk.old))
-        → IsErrOf result OpenFault.Disk → min (D.told disk.old + 1) (2 ^ 64 - 1) ≤ D.told disk.new }
+        → IsErrOf result OpenFault.Disk → ToldFault (D.told disk.old) (D.told disk.new) }
     ensures quiet { OnOk result (D.told disk.new ≡ D.told disk.old) }
 {
     let left = len - at;
@@ -138,7 +138,7 @@ pub(crate) fn payloads_of<D: Disk>(
         → IsDamagedAt (content (D.log disk.old)) e }
     ensures later { D.told disk.old ≤ D.told disk.new }
     ensures cause { D.honest disk.old → IsErrOf result OpenFault.Disk
-        → min (D.told disk.old + 1) (2 ^ 64 - 1) ≤ D.told disk.new }
+        → ToldFault (D.told disk.old) (D.told disk.new) }
     ensures quiet { OnOk result (D.told disk.new ≡ D.told disk.old) }
 {
     let len = disk.len();
@@ -172,7 +172,7 @@ pub fn peek_first<D: Disk>(alloc: Global, disk: &mut D) -> Result<Option<Vec<u8>
     ensures damaged { D.honest disk.old → (at : ℕ) → IsErrOf result (OpenFault.Damaged at)
         → (at ≡ 0) × IsCutShort (content (D.log disk.old)) }
     ensures cause { D.honest disk.old → IsErrOf result OpenFault.Disk
-        → min (D.told disk.old + 1) (2 ^ 64 - 1) ≤ D.told disk.new }
+        → ToldFault (D.told disk.old) (D.told disk.new) }
     ensures honest { D.honest disk.old ↔ D.honest disk.new }
     ensures later { D.told disk.old ≤ D.told disk.new }
     ensures quiet { OnOk result (D.told disk.new ≡ D.told disk.old) }
