@@ -9,3 +9,7 @@ pub mod Laws
 pub mod Leaving
 pub mod LeavingLaws
 pub mod Texts
+pub mod Flushes
+pub mod Opens
+pub mod Rotates
+pub mod Takes

@@ -1,6 +1,6 @@
 -- What a tape holds, in words of its own.
-use Rattle.std.specs.Prelude.{◌≡◌, ◌≢◌, ◌⊎◌, ◌↔◌, ◌+◌, ◌-◌, ◌*◌, ◌^◌, ◌<◌, ◌≤◌, ℕ, min, [], List, length, Result, IsErrAnd}
-use Rattle.disk_model.specs.Disk.{Event}
+use Rattle.std.specs.Prelude.{◌≡◌, ◌≢◌, ◌⊎◌, ◌↔◌, ◌+◌, ◌*◌, ◌<◌, ◌≤◌, ℕ, [], List, length, Result, IsErrAnd}
+use Rattle.disk_model.specs.Disk.{Event, ToldFault}
 use Rattle.disk_model.specs.declared.Disk.{Ghosts}
 use Rattle.tape_journal.specs.Journal.{disk_of as journal_disk, end_of as journal_end, IsBroken as IsBrokenJournal, appending}
 use Rattle.tape_journal.specs.Rewrite.{renewing}
@@ -120,13 +120,9 @@ module _ {D : Type 0} {g : Ghosts D} where
   abbrev pub refused_log : RefusedTape D g → Log
   refused_log refused = (g.log refused.a, g.log refused.b)
 
--- a count of faults rose, or stands at its greatest value
-abbrev pub HasRisen : ℕ → ℕ → Type 0
-HasRisen old new = min (old + 1) (2 ^ 64 - 1) ≤ new
-
--- one of two counts rose
+-- of two counts of faults, one told a fault
 abbrev pub OneHasRisen : ℕ × ℕ → ℕ × ℕ → Type 0
-OneHasRisen old new = HasRisen old.0 new.0 ⊎ HasRisen old.1 new.1
+OneHasRisen old new = ToldFault old.0 new.0 ⊎ ToldFault old.1 new.1
 
 -- the fault of a segment that was not read, as a tape tells it
 abbrev pub open_fault : ℕ → OpenFault → TapeFault

@@ -2,7 +2,6 @@
 ghost use Rattle.std.specs.Prelude.{◌≡◌, ◌≢◌, ◌+◌, ◌-◌, ◌*◌, ◌^◌, ◌≤◌, ◌<◌, ◌↔◌, ℕ, List, length, IsTrue};
 ghost use Rattle.tape_journal.specs.Segment.{AllShort};
 ghost use Rattle.tape_journal.specs.Words.{octets_of};
-ghost use Rattle.recovery.specs.Image.{IsNoTapeAt};
 ghost use Rattle.recovery.specs.Notes.{most_pending};
 ghost use Rattle.recovery.specs.Shorts.{AllShort-prop};
 ghost use Rattle.std.specs.Prelude.{IfOk, OnOk};
@@ -99,27 +98,27 @@ pub struct Tape<D: Disk> {
 }
 
 impl<D: Disk> Tape<D> {
-    ghost use Rattle.std.specs.Prelude.{◌⊎◌, [], ◌∷◌, ◌++◌, ◌==◌, find, min, take, drop};
+    ghost use Rattle.std.specs.Prelude.{[], ◌∷◌, ◌==◌, find, min, drop};
     ghost use Rattle.std.specs.Prelude.{MatchResult, IfErr, OnErr, IsOk, IsErrOf, IsSome, option_map};
     ghost use Rattle.std.specs.List.Sorted.{IsStrictlyIncreasing};
-    ghost use Rattle.disk_model.specs.Disk.{content};
-    ghost use Rattle.tape_journal.specs.Segment.{longest_segment};
     ghost use Rattle.ledger_core.specs.Ledger.{totals_of};
     ghost use Rattle.ledger_core.specs.Spelling.{spellings};
-    ghost use Rattle.ledger_core.specs.Written.{written};
     ghost use Rattle.ledger_core.specs.declared.ledger.LedgerFault.{LedgerFault};
     ghost use Rattle.ledger_core.specs.declared.note.Note.{Note};
     ghost use Rattle.ledger_core.specs.State.{IsLegal, IsOwed, Owing, line_octets, numbers, step};
     ghost use Rattle.recovery.specs.Notes.{AreOwed, History, noted, noted_all, flushed};
-    ghost use Rattle.recovery.specs.Image.{EachTape, IsNoTapeAt, IsSomeTape, Lives, TapeLeaves, Survives};
-    ghost use Rattle.recovery.specs.Pairs.{live_of, placed};
-    ghost use Rattle.recovery.specs.Words.{AreHonest, Continues, OneHasRisen, disks_of, flushing};
+    ghost use Rattle.recovery.specs.Flushes.{Flushes, RefusesFlush};
+    ghost use Rattle.recovery.specs.Image.{EachTape, Lives, Survives};
+    ghost use Rattle.recovery.specs.Opens.{HasCause, Opens, OpensWhatSurvives};
+    ghost use Rattle.recovery.specs.Rotates.{Rotates, RefusesRotation};
+    ghost use Rattle.recovery.specs.Takes.{RefusesDrops, RefusesNoting, Takes};
+    ghost use Rattle.recovery.specs.Pairs.{placed};
+    ghost use Rattle.recovery.specs.Words.{AreHonest, Continues, disks_of};
     ghost use Rattle.recovery.specs.Words.{generation_of, ledger_of};
-    ghost use Rattle.recovery.specs.Words.{log_of, pending_of, refused_log, rotated_length, rotating, told_of};
-    ghost use Rattle.recovery.specs.Words.{IsBroken, IsDue, RotatesTooLong, IsFull, IsSame, RefusesNote, Tells};
-    ghost use Rattle.recovery.specs.Words.{IsOpenFault, IsNoteFault, IsFlushFault};
-    ghost use Rattle.recovery.specs.Words.{IsDropFault, IsRotateFault};
-    ghost use Rattle.recovery.specs.Tape.{StandsFor, IsOpenedTape, IsRead, IsRefusedTape, Recovers, contents_of};
+    ghost use Rattle.recovery.specs.Words.{pending_of, refused_log, rotated_length, told_of};
+    ghost use Rattle.recovery.specs.Words.{IsBroken, IsDue, IsSame, RefusesNote};
+    ghost use Rattle.recovery.specs.Words.{IsOpenFault, IsNoteFault};
+    ghost use Rattle.recovery.specs.Tape.{StandsFor, contents_of};
 
     /// Opens the tape of two disks, empty ones among them: of their segments the one of greater generation lives, on a
     /// tie the first. Its ledger is what that leaves; all notes are acknowledged, and none pends. The disks are read
@@ -133,35 +132,18 @@ impl<D: Disk> Tape<D> {
     /// where a debt of its Base is missing, or `NoMemory` of judging. These leave the disks as they were, octet for
     /// octet. Then `Disk` of the sync and the repair, which leave a tape of the same ledger.
     pub fn open(alloc: Global, mut a: D, mut b: D) -> Result<Tape<D>, RefusedTape<D>>
-        ensures ok { D.honest a → D.honest b
-            → IfOk result (IsOpenedTape (D.log a, D.log b)) }
-        ensures err { D.honest a → D.honest b
-            → IfErr result (IsRefusedTape (D.log a, D.log b)) }
+        ensures opens { D.honest a → D.honest b → Opens (λ tape. tape) (D.log a, D.log b) result }
 
-        // Whatever a stop left of a history is opened to the ledger after a front of it that holds every acknowledged
-        // note, and is never damaged.
+        // Whatever a stop left of a history is opened.
         ensures recovers { (h : History) → D.honest a → D.honest b
             → EachTape (Survives h) (D.log a, D.log b)
-            → IfOk result (Recovers h (D.log a, D.log b)) }
-        ensures survives { (h : History) → D.honest a → D.honest b
-            → EachTape (Survives h) (D.log a, D.log b)
-            → IfErr result (λ e. TapeLeaves (Survives h) (D.log a, D.log b) (refused_log e)) }
-        ensures undamaged { (h : History) → D.honest a → D.honest b
-            → EachTape (Survives h) (D.log a, D.log b)
-            → IfErr result (λ e. (segment at : ℕ) → e.fault ≢ TapeFault.Damaged segment at) }
+            → OpensWhatSurvives (λ tape. tape) h (D.log a, D.log b) result }
 
-        // Each fault has its cause.
-        ensures damaged { D.honest a → D.honest b → IfErr result (λ e. (segment at : ℕ)
-            → e.fault ≡ TapeFault.Damaged segment at
-            → IsNoTapeAt (contents_of (D.log a, D.log b)) segment at) }
-        // Refused disks are as they were, but for a `Disk` of the repair; and only a tape is repaired.
+        // Each fault has its cause; refused disks are as they were, but for a `Disk` of the repair.
+        ensures causes { D.honest a → D.honest b
+            → IfErr result (HasCause (D.log a, D.log b) (D.told a, D.told b)) }
         ensures untouched { D.honest a → D.honest b → IfErr result
             (λ e. e.fault ≢ TapeFault.Disk → refused_log e ≡ (D.log a, D.log b)) }
-        ensures judged { D.honest a → D.honest b → IfErr result
-            (λ e. e.fault ≡ TapeFault.Disk → (refused_log e ≡ (D.log a, D.log b))
-            ⊎ IsSomeTape (contents_of (D.log a, D.log b))) }
-        ensures cause { D.honest a → D.honest b → IfErr result (λ e. e.fault ≡ TapeFault.Disk
-            → OneHasRisen (D.told a, D.told b) (D.told e.a, D.told e.b)) }
         ensures kinds { IfErr result (λ e. IsOpenFault e.fault) }
 
         ensures works { IfOk result (λ tape. (IsBroken tape → ⊥) × (pending_of tape ≡ 0)) }
@@ -186,32 +168,18 @@ impl<D: Disk> Tape<D> {
     ) -> Result<Tape<D>, RefusedTape<D>>
         requires lives { D.honest live → D.honest other
             → Lives (contents_of (placed second (D.log live) (D.log other))) second }
-        ensures ok { D.honest live → D.honest other
-            → IfOk result (IsOpenedTape (placed second (D.log live) (D.log other))) }
-        ensures err { D.honest live → D.honest other
-            → IfErr result (IsRefusedTape (placed second (D.log live) (D.log other))) }
+        ensures opens { D.honest live → D.honest other
+            → Opens (λ tape. tape) (placed second (D.log live) (D.log other)) result }
         ensures recovers { (h : History) → D.honest live → D.honest other
             → EachTape (Survives h) (placed second (D.log live) (D.log other))
-            → IfOk result (Recovers h (placed second (D.log live) (D.log other))) }
-        ensures survives { (h : History) → D.honest live → D.honest other
-            → EachTape (Survives h) (placed second (D.log live) (D.log other))
-            → IfErr result (λ e. TapeLeaves (Survives h) (placed second (D.log live) (D.log other))
-            (refused_log e)) }
-        ensures undamaged { (h : History) → D.honest live → D.honest other
-            → EachTape (Survives h) (placed second (D.log live) (D.log other))
-            → IfErr result (λ e. (segment at : ℕ) → e.fault ≢ TapeFault.Damaged segment at) }
-        ensures damaged { D.honest live → D.honest other → IfErr result (λ e. (segment at : ℕ)
-            → e.fault ≡ TapeFault.Damaged segment at
-            → IsNoTapeAt (contents_of (placed second (D.log live) (D.log other))) segment at) }
+            → OpensWhatSurvives (λ tape. tape) h (placed second (D.log live) (D.log other))
+            result }
+        ensures causes { D.honest live → D.honest other
+            → IfErr result (HasCause (placed second (D.log live) (D.log other))
+            (placed second (D.told live) (D.told other))) }
         ensures untouched { D.honest live → D.honest other → IfErr result
             (λ e. e.fault ≢ TapeFault.Disk
             → refused_log e ≡ (placed second (D.log live) (D.log other))) }
-        ensures judged { D.honest live → D.honest other → IfErr result
-            (λ e. e.fault ≡ TapeFault.Disk
-            → (refused_log e ≡ (placed second (D.log live) (D.log other)))
-            ⊎ IsSomeTape (contents_of (placed second (D.log live) (D.log other)))) }
-        ensures cause { D.honest live → D.honest other → IfErr result (λ e. e.fault ≡ TapeFault.Disk
-            → OneHasRisen (placed second (D.told live) (D.told other)) (D.told e.a, D.told e.b)) }
         ensures kinds { IfErr result (λ e. IsOpenFault e.fault) }
         ensures works { IfOk result (λ tape. (IsBroken tape → ⊥) × (pending_of tape ≡ 0)) }
         ensures honest { MatchResult result
@@ -265,27 +233,14 @@ impl<D: Disk> Tape<D> {
     /// The note is handed back, and nothing changes. Tried in this order: `Broken`; `Note`, why the ledger refuses it;
     /// `PendingFull` with 65,536 notes pending; `NoMemory`.
     pub fn note(&mut self, note: Note) -> Result<(), (Note, TapeFault)>
-        ensures ok { (h : History) → StandsFor self.old h
-            → OnOk result (StandsFor self.new (noted h note)) }
+        ensures takes { (h : History) → StandsFor self.old h
+            → Takes (note ∷ []) h self.new result }
         ensures ledger { OnOk result
             (IsLegal (ledger_of self.old) note
             × (ledger_of self.new ≡ step (ledger_of self.old) note)) }
         ensures pends { OnOk result (pending_of self.new ≡ pending_of self.old + 1) }
-        ensures err { (h : History) → StandsFor self.old h → OnErr result (StandsFor self.new h) }
-        ensures unchanged { OnErr result (IsSame self.old self.new) }
         ensures handed { IfErr result (λ e. e.0 ≡ note) }
-
-        ensures broken { Tells result TapeFault.Broken ↔ IsBroken self.old }
-        ensures refused { (fault : LedgerFault) → Tells result (TapeFault.Note fault)
-            ↔ ((IsBroken self.old → ⊥) × RefusesNote (ledger_of self.old) note fault) }
-        ensures pending_full { Tells result TapeFault.PendingFull
-            ↔ ((IsBroken self.old → ⊥) × IsLegal (ledger_of self.old) note
-            × (pending_of self.old ≡ most_pending)) }
-        ensures no_memory { Tells result TapeFault.NoMemory
-            → (IsBroken self.old → ⊥) × IsLegal (ledger_of self.old) note
-            × (pending_of self.old < most_pending) }
-        ensures kinds { IfErr result (λ e. IsNoteFault e.1) }
-
+        ensures refuses { RefusesNoting note self.old self.new result }
         ensures disks { disks_of self.new ≡ disks_of self.old }
         ensures works { IsBroken self.old ↔ IsBroken self.new }
     {
@@ -371,24 +326,14 @@ impl<D: Disk> Tape<D> {
     /// Nothing changes. Tried in this order: `Broken`; `Note(NotOwed)` where one of them is not owed, or is named
     /// twice; `PendingFull` where more than 65,536 notes would pend; `NoMemory`.
     pub fn drop_all(&mut self, numbers: &[u64], cause: Cause) -> Result<(), TapeFault>
-        ensures ok { (h : History) → StandsFor self.old h
-            → OnOk result (StandsFor self.new (noted_all h (drops cause numbers.now))) }
+        ensures takes { (h : History) → StandsFor self.old h
+            → Takes (drops cause numbers.now) h self.new result }
         ensures legal { OnOk result (AllLegal (ledger_of self.old) (drops cause numbers.now)) }
         ensures ledger { OnOk result
             (ledger_of self.new ≡ after (ledger_of self.old) (drops cause numbers.now)) }
         ensures pends { OnOk result
             (pending_of self.new ≡ pending_of self.old + length numbers.now) }
-        ensures err { (h : History) → StandsFor self.old h → OnErr result (StandsFor self.new h) }
-        ensures unchanged { OnErr result (IsSame self.old self.new) }
-
-        ensures broken { IsErrOf result TapeFault.Broken ↔ IsBroken self.old }
-        ensures not_owed { IsErrOf result (TapeFault.Note LedgerFault.NotOwed)
-            ↔ ((IsBroken self.old → ⊥) × (AreOwed (ledger_of self.old) [] numbers.now → ⊥)) }
-        ensures pending_full { IsErrOf result TapeFault.PendingFull
-            ↔ ((IsBroken self.old → ⊥) × AreOwed (ledger_of self.old) [] numbers.now
-            × (most_pending < pending_of self.old + length numbers.now)) }
-        ensures kinds { IfErr result IsDropFault }
-
+        ensures refuses { RefusesDrops numbers.now self.old self.new result }
         ensures disks { disks_of self.new ≡ disks_of self.old }
         ensures works { IsBroken self.old ↔ IsBroken self.new }
     {
@@ -453,33 +398,12 @@ impl<D: Disk> Tape<D> {
     /// Tried in this order: `Broken`; `TapeFull`; `NoMemory`; these change nothing. `Disk`: the tape is broken from now
     /// on.
     pub fn flush(&mut self) -> Result<u64, TapeFault>
-        ensures ok { (h : History) → StandsFor self.old h
-            → OnOk result (StandsFor self.new (flushed h)) }
-        ensures err { (h : History) → StandsFor self.old h → OnErr result (StandsFor self.new h) }
-        ensures count { (h : History) → StandsFor self.old h
-            → IfOk result (λ n. n ≡ min (length h.notes - h.opened) (2 ^ 64 - 1)) }
-
-        // A stop at any moment of the call leaves a tape of the first of the notes, with every acknowledged one.
-        ensures moments { (h : History) → StandsFor self.old h
-            → TapeLeaves (Survives h) (log_of self.old) (log_of self.new) }
-
-        // The calls that it makes.
-        ensures calls { (h : History) → StandsFor self.old h → pending_of self.old ≢ 0 → OnOk result
-            (log_of self.new ≡ flushing (spellings (drop h.kept h.notes)) self.old) }
+        ensures flushes { (h : History) → StandsFor self.old h
+            → Flushes TapeFault.Disk h self.old self.new result }
         ensures empty { pending_of self.old ≡ 0 → self.new ≡ self.old }
         ensures empty_ok { pending_of self.old ≡ 0 → (IsBroken self.old → ⊥) → IsOk result }
         ensures none_pends { OnOk result (pending_of self.new ≡ 0) }
-
-        ensures broken { IsErrOf result TapeFault.Broken ↔ IsBroken self.old }
-        ensures full { IsErrOf result TapeFault.TapeFull
-            ↔ ((IsBroken self.old → ⊥) × IsFull self.old) }
-        ensures refused { IfErr result (λ e. e ≢ TapeFault.Disk → self.new ≡ self.old) }
-        ensures breaks { IsErrOf result TapeFault.Disk → IsBroken self.new }
-        ensures works { OnOk result (IsBroken self.new → ⊥) }
-        ensures cause { (h : History) → StandsFor self.old h
-            → IsErrOf result TapeFault.Disk → OneHasRisen (told_of self.old) (told_of self.new) }
-        ensures kinds { IfErr result IsFlushFault }
-
+        ensures refuses { RefusesFlush self.old self.new result }
         ensures ledger { ledger_of self.new ≡ ledger_of self.old }
         ensures continues { Continues self.old self.new }
         ensures quiet { OnOk result (told_of self.new ≡ told_of self.old) }
@@ -503,24 +427,10 @@ impl<D: Disk> Tape<D> {
     fn flush_pending(&mut self) -> Result<u64, TapeFault>
         requires works { IsBroken self.old → ⊥ }
         requires pends { pending_of self.old ≢ 0 }
-        ensures ok { (h : History) → StandsFor self.old h
-            → OnOk result (StandsFor self.new (flushed h)) }
-        ensures err { (h : History) → StandsFor self.old h → OnErr result (StandsFor self.new h) }
-        ensures count { (h : History) → StandsFor self.old h
-            → IfOk result (λ n. n ≡ min (length h.notes - h.opened) (2 ^ 64 - 1)) }
-        ensures moments { (h : History) → StandsFor self.old h
-            → TapeLeaves (Survives h) (log_of self.old) (log_of self.new) }
-        ensures calls { (h : History) → StandsFor self.old h → OnOk result
-            (log_of self.new ≡ flushing (spellings (drop h.kept h.notes)) self.old) }
+        ensures flushes { (h : History) → StandsFor self.old h
+            → Flushes TapeFault.Disk h self.old self.new result }
         ensures none_pends { OnOk result (pending_of self.new ≡ 0) }
-        ensures broken { IsErrOf result TapeFault.Broken → ⊥ }
-        ensures full { IsErrOf result TapeFault.TapeFull ↔ IsFull self.old }
-        ensures refused { IfErr result (λ e. e ≢ TapeFault.Disk → self.new ≡ self.old) }
-        ensures breaks { IsErrOf result TapeFault.Disk → IsBroken self.new }
-        ensures works { OnOk result (IsBroken self.new → ⊥) }
-        ensures cause { (h : History) → StandsFor self.old h
-            → IsErrOf result TapeFault.Disk → OneHasRisen (told_of self.old) (told_of self.new) }
-        ensures kinds { IfErr result IsFlushFault }
+        ensures refuses { RefusesFlush self.old self.new result }
         ensures ledger { ledger_of self.new ≡ ledger_of self.old }
         ensures continues { Continues self.old self.new }
         ensures quiet { OnOk result (told_of self.new ≡ told_of self.old) }
@@ -563,34 +473,12 @@ impl<D: Disk> Tape<D> {
     /// Tried in this order: `Broken`; `GenerationFull`; `TapeFull`; `NoMemory`; these change nothing. `Disk`, also
     /// where a note that was read back is not that of its debt: the tape is broken from now on.
     pub fn rotate(&mut self) -> Result<u64, TapeFault>
-        ensures ok { (h : History) → StandsFor self.old h
-            → OnOk result (StandsFor self.new (flushed h)) }
-        ensures err { (h : History) → StandsFor self.old h → OnErr result (StandsFor self.new h) }
+        ensures rotates { (h : History) → StandsFor self.old h
+            → Rotates TapeFault.Disk h self.old self.new result }
         ensures generation { IfOk result (λ n. (n ≡ generation_of self.old + 1)
             × (generation_of self.new ≡ n)) }
-
-        // A stop at any moment of the call leaves a tape of the ledger after the first of the notes, with every
-        // acknowledged one.
-        ensures moments { (h : History) → StandsFor self.old h
-            → TapeLeaves (Survives h) (log_of self.old) (log_of self.new) }
-
-        // The calls that it makes.
-        ensures calls { (h : History) → StandsFor self.old h
-            → OnOk result (log_of self.new ≡ rotating self.old) }
         ensures none_pends { OnOk result (pending_of self.new ≡ 0) }
-
-        ensures broken { IsErrOf result TapeFault.Broken ↔ IsBroken self.old }
-        ensures generation_full { IsErrOf result TapeFault.GenerationFull
-            ↔ ((IsBroken self.old → ⊥) × (generation_of self.old ≡ 2 ^ 64 - 1)) }
-        ensures full { IsErrOf result TapeFault.TapeFull ↔ ((IsBroken self.old → ⊥)
-            × (generation_of self.old ≢ 2 ^ 64 - 1) × RotatesTooLong self.old) }
-        ensures refused { IfErr result (λ e. e ≢ TapeFault.Disk → IsRead self.old self.new) }
-        ensures breaks { IsErrOf result TapeFault.Disk → IsBroken self.new }
-        ensures works { OnOk result (IsBroken self.new → ⊥) }
-        ensures cause { (h : History) → StandsFor self.old h
-            → IsErrOf result TapeFault.Disk → OneHasRisen (told_of self.old) (told_of self.new) }
-        ensures kinds { IfErr result IsRotateFault }
-
+        ensures refuses { RefusesRotation self.old self.new result }
         ensures ledger { ledger_of self.new ≡ ledger_of self.old }
         ensures continues { Continues self.old self.new }
         ensures quiet { OnOk result (told_of self.new ≡ told_of self.old) }
