@@ -5,3 +5,4 @@ pub mod Shed
 pub mod Words
 pub mod Station
 pub mod Settled
+pub mod Calls

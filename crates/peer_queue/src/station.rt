@@ -1,5 +1,5 @@
 // Stations.
-ghost use Rattle.std.specs.Prelude.{◌≡◌, ◌≢◌, ◌+◌, ◌-◌, ◌^◌, ◌≤◌, ◌<◌, ℕ, List, length};
+ghost use Rattle.std.specs.Prelude.{◌≡◌, ◌≢◌, ◌+◌, ◌≤◌, ◌<◌, ℕ};
 ghost use Rattle.std.specs.List.{All};
 ghost use Rattle.std.specs.List.Sorted.{IsStrictlyIncreasing};
 ghost use Rattle.ledger_core.specs.State.{numbers};
@@ -34,32 +34,35 @@ pub struct Station<D: Disk> {
 }
 
 impl<D: Disk> Station<D> {
-    ghost use Rattle.std.specs.Prelude.{◌⊎◌, ◌↔◌, ◌==◌, ◌++◌, [], ◌∷◌, true, false, min, nat_lt, find, MatchResult};
+    ghost use Rattle.std.specs.Prelude.{◌⊎◌, ◌↔◌, ◌==◌, ◌++◌, [], ◌∷◌, true, nat_lt, find, MatchResult};
     ghost use Rattle.std.specs.Prelude.{IfErr, IfNone, IfSome, OnErr, IsErr, IsErrOf, IsOk, IsSome, IsTrue, Ok, None};
     ghost use Rattle.std.specs.Prelude.{Some};
     ghost use Rattle.std.specs.List.{Contains};
     ghost use Rattle.ledger_core.specs.Ledger.{totals_of};
     ghost use Rattle.ledger_core.specs.declared.ledger.LedgerFault.{LedgerFault};
     ghost use Rattle.ledger_core.specs.declared.note.Note.{Note};
-    ghost use Rattle.ledger_core.specs.State.{IsOwed, Overflows, Owing, after};
-    ghost use Rattle.recovery.specs.Image.{EachTape, IsNoTapeAt, IsSomeTape, Survives, TapeLeaves};
-    ghost use Rattle.recovery.specs.Notes.{History, flushed, most_pending, noted_all};
-    ghost use Rattle.recovery.specs.Tape.{IsRefusedTape, Recovers, contents_of};
-    ghost use Rattle.recovery.specs.Words.{IsDue, IsFull, IsOpenFault, OneHasRisen, refused_log, RotatesTooLong};
+    ghost use Rattle.ledger_core.specs.State.{IsOwed, Overflows};
+    ghost use Rattle.recovery.specs.Flushes.{Flushes};
+    ghost use Rattle.recovery.specs.Image.{EachTape, Survives};
+    ghost use Rattle.recovery.specs.Notes.{History, most_pending};
+    ghost use Rattle.recovery.specs.Opens.{HasCause, Opens, OpensWhatSurvives};
+    ghost use Rattle.recovery.specs.Rotates.{Rotates};
+    ghost use Rattle.recovery.specs.Words.{IsDue, IsOpenFault, OneHasRisen, refused_log};
     ghost use Rattle.ledger_core.specs.Index.{debt_at};
     ghost use Rattle.recovery.specs.Texts.{HasLengths};
-    ghost use Rattle.peer_queue.specs.Place.{AreRising, Held, IsHeldBy, IsLater, Later, Ready, all_gone};
-    ghost use Rattle.peer_queue.specs.Place.{deferred_until, gone, held_count, least_candidate, moved, released};
+    ghost use Rattle.peer_queue.specs.Calls.{Defers, IsFresh, KeepsDebts, RefusesClaim, RefusesFlush};
+    ghost use Rattle.peer_queue.specs.Calls.{RefusesOwe, RefusesRotation, Sheds};
+    ghost use Rattle.peer_queue.specs.Place.{AreRising, Held, IsHeldBy, IsLater, Later, Ready};
+    ghost use Rattle.peer_queue.specs.Place.{gone, held_count, least_candidate, moved, released};
     ghost use Rattle.peer_queue.specs.Place.{unheld};
     ghost use Rattle.peer_queue.specs.Index.{place_until};
-    ghost use Rattle.peer_queue.specs.Shed.{IsShedSet, dropped};
+    ghost use Rattle.peer_queue.specs.Shed.{IsShedSet};
     ghost use Rattle.peer_queue.specs.Settled.{Finishes, IsEnded, Settles, number_in, settled_by};
-    ghost use Rattle.peer_queue.specs.Station.{IsShed};
-    ghost use Rattle.peer_queue.specs.Faults.{IsClaimFault, IsEndFault, IsFlushFault, IsOweFault, IsRotateFault};
-    ghost use Rattle.peer_queue.specs.Words.{IsBroken, IsEnd, IsOpened, IsOweOf, IsRead, IsSame, IsSameTape, MeetsFull};
+    ghost use Rattle.peer_queue.specs.Faults.{IsClaimFault, IsEndFault, IsOweFault};
+    ghost use Rattle.peer_queue.specs.Words.{IsBroken, IsEnd, IsOweOf, IsRead, IsSame, IsSameTape, MeetsFull};
     ghost use Rattle.peer_queue.specs.Words.{Notes, Refuses, StandsFor, Tells, code_of, deferred_number, disks_of};
     ghost use Rattle.peer_queue.specs.Words.{generation_of, told_of, AreHonest, Continues, ledger_of, limits_of};
-    ghost use Rattle.peer_queue.specs.Words.{log_of, number_of, pending_of, places_of};
+    ghost use Rattle.peer_queue.specs.Words.{number_of, pending_of, places_of};
 
     /// Opens the station of two disks, empty ones among them: all that its tape owes is ready.
     ///
@@ -67,38 +70,20 @@ impl<D: Disk> Station<D> {
     /// The tape's: `Damaged`, `Disk`, `NoMemory`; then `NoMemory` of the station. The disks are handed back: as they
     /// were where they are `Damaged`, and with the tape's end repaired where the station was refused memory.
     pub fn open(alloc: Global, a: D, b: D, limits: Limits) -> Result<Station<D>, RefusedTape<D>>
-        // Whatever a stop left of a history is opened to the ledger after a front of it that holds every acknowledged
-        // note.
+        // Whatever a stop left of a history is opened.
         ensures recovers { (h : History) → D.honest a → D.honest b
             → EachTape (Survives h) (D.log a, D.log b)
-            → IfOk result (λ station. Recovers h (D.log a, D.log b) station.tape) }
-        ensures survives { (h : History) → D.honest a → D.honest b
-            → EachTape (Survives h) (D.log a, D.log b)
-            → IfErr result (λ e. TapeLeaves (Survives h) (D.log a, D.log b) (refused_log e)) }
-        ensures undamaged { (h : History) → D.honest a → D.honest b
-            → EachTape (Survives h) (D.log a, D.log b)
-            → IfErr result (λ e. (segment at : ℕ) → e.fault ≢ TapeFault.Damaged segment at) }
+            → OpensWhatSurvives (λ station. station.tape) h (D.log a, D.log b) result }
         // At `Ok` the disks held a tape; at `Err` a stop left images from before, or ones that read as the disks did.
-        ensures opened { D.honest a → D.honest b → IfOk result (IsOpened (D.log a, D.log b)) }
-        ensures err { D.honest a → D.honest b
-            → IfErr result (IsRefusedTape (D.log a, D.log b)) }
-        ensures damaged { D.honest a → D.honest b → IfErr result (λ e. (segment at : ℕ)
-            → e.fault ≡ TapeFault.Damaged segment at
-            → IsNoTapeAt (contents_of (D.log a, D.log b)) segment at) }
-        // What is no tape is handed back as it was, and told before any `Disk` of a repair.
+        ensures opens { D.honest a → D.honest b
+            → Opens (λ station. station.tape) (D.log a, D.log b) result }
+        // Each fault has its cause; what is no tape is handed back as it was.
+        ensures causes { D.honest a → D.honest b
+            → IfErr result (HasCause (D.log a, D.log b) (D.told a, D.told b)) }
         ensures untouched { D.honest a → D.honest b → IfErr result (λ e. (segment at : ℕ)
             → e.fault ≡ TapeFault.Damaged segment at → refused_log e ≡ (D.log a, D.log b)) }
-        ensures judged { D.honest a → D.honest b → IfErr result (λ e. e.fault ≡ TapeFault.Disk
-            → (refused_log e ≡ (D.log a, D.log b))
-            ⊎ IsSomeTape (contents_of (D.log a, D.log b))) }
-        ensures cause { D.honest a → D.honest b → IfErr result (λ e. e.fault ≡ TapeFault.Disk
-            → OneHasRisen (D.told a, D.told b) (D.told e.a, D.told e.b)) }
         ensures kinds { IfErr result (λ e. IsOpenFault e.fault) }
-        ensures ready { IfOk result
-            (λ station. places_of station ≡ all_ready (numbers (ledger_of station))) }
-        ensures fresh { IfOk result
-            (λ station. (IsBroken station → ⊥) × (pending_of station ≡ 0)
-            × (limits_of station ≡ limits)) }
+        ensures fresh { IfOk result (IsFresh limits) }
         ensures honest { MatchResult result
             (λ station. (D.honest a × D.honest b) ↔ AreHonest station)
             (λ e. (D.honest a × D.honest b) ↔ (D.honest e.a × D.honest e.b)) }
@@ -137,20 +122,8 @@ impl<D: Disk> Station<D> {
             → Notes self.old self.new (Note.Owe number token.now id.now) }
         ensures places { result ≡ Ok Owed.New
             → places_of self.new ≡ places_of self.old ++ (number, Ready) ∷ [] }
-        ensures broken { IsErrOf result StationFault.Broken ↔ IsBroken self.old }
-        ensures count_full { IsErrOf result
-            (StationFault.Tape (TapeFault.Note LedgerFault.CountFull))
-            → Overflows (ledger_of self.old) (Note.Owe number token.now id.now) }
-        ensures pending_full { IsErrOf result (StationFault.Tape TapeFault.PendingFull)
-            → ((ledger_of self.old).mark < number) × (pending_of self.old ≡ most_pending)
-            × (Overflows (ledger_of self.old) (Note.Owe number token.now id.now) → ⊥) }
-        ensures no_memory { IsErrOf result StationFault.NoMemory
-            → (IsBroken self.old → ⊥) × ((ledger_of self.old).mark < number) }
-        ensures never { Overflows (ledger_of self.old) (Note.Owe number token.now id.now)
-            ⊎ ((ledger_of self.old).mark < number) × (pending_of self.old ≡ most_pending)
-            → IsErr result }
-        ensures kinds { IfErr result IsOweFault }
-        ensures unchanged { OnErr result (IsSame self.old self.new) }
+        ensures refuses { RefusesOwe number (Note.Owe number token.now id.now)
+            self.old self.new result }
     {
         if self.tape.is_broken() {
             return Err(StationFault::Broken);
@@ -183,14 +156,10 @@ impl<D: Disk> Station<D> {
         ensures debt { (h : History) → StandsFor self.old h
             → IfOk result (λ debt. IfSome debt (λ d. Contains (ledger_of self.old).debts d)) }
         ensures reads { IsRead self.old self.new }
-        ensures broken { IsErrOf result StationFault.Broken ↔ IsBroken self.old }
-        ensures refused { IfErr result
-            (λ e. e ≢ StationFault.Broken → IsSome (least_candidate now (places_of self.old))) }
+        ensures refuses { RefusesClaim now self.old self.new result }
         ensures cause { (h : History) → StandsFor self.old h
             → IsErrOf result (StationFault.Tape TapeFault.Disk)
             → OneHasRisen (told_of self.old) (told_of self.new) }
-        ensures kinds { IfErr result IsClaimFault }
-        ensures places { OnErr result (places_of self.new ≡ places_of self.old) }
     {
         if self.tape.is_broken() {
             return Err(StationFault::Broken);
@@ -242,17 +211,7 @@ impl<D: Disk> Station<D> {
         deferral: Deferral,
         now: u64,
     ) -> Result<(), (Deferral, StationFault)>
-        ensures later { OnOk result
-            ((limits_of self.old).drop_deferred ≡ false
-            → IsSameTape self.old self.new
-            × (places_of self.new ≡ moved (places_of self.old) (deferred_number deferral)
-            (Later (deferred_until now)))) }
-        ensures dropped { OnOk result
-            ((limits_of self.old).drop_deferred ≡ true
-            → Notes self.old self.new (Note.Drop (deferred_number deferral) Cause.Deferred)
-            × (places_of self.new ≡ gone (places_of self.old) (deferred_number deferral))) }
-        ensures held { OnOk result
-            (IsHeldBy (places_of self.old) connection.0 (deferred_number deferral)) }
+        ensures ok { OnOk result (Defers connection.0 deferral now self.old self.new) }
         ensures refused { Refuses self.old connection.0 (deferred_number deferral) result }
         ensures pending_full { Tells result (StationFault.Tape TapeFault.PendingFull)
             ↔ (((limits_of self.old).drop_deferred ≡ true)
@@ -366,18 +325,7 @@ impl<D: Disk> Station<D> {
     /// # Errors
     /// Tried in this order: `Broken`; `NoMemory`.
     pub fn shed(&mut self) -> Result<Shed, StationFault>
-        ensures set { IfOk result
-            (λ shed. IsShed (limits_of self.old) (ledger_of self.old) (places_of self.old)
-            (pending_of self.old) shed) }
-        ensures notes { IfOk result
-            (λ shed. (h : History) → StandsFor self.old h
-            → StandsFor self.new (noted_all h (dropped shed.numbers.items))) }
-        ensures ledger { IfOk result
-            (λ shed. ledger_of self.new ≡ after (ledger_of self.old) (dropped shed.numbers.items)) }
-        ensures places { IfOk result
-            (λ shed. places_of self.new ≡ all_gone (places_of self.old) shed.numbers.items) }
-        ensures pends { IfOk result
-            (λ shed. pending_of self.new ≡ pending_of self.old + length shed.numbers.items) }
+        ensures ok { IfOk result (Sheds self.old self.new) }
         ensures disks { disks_of self.new ≡ disks_of self.old }
         ensures works { IsBroken self.old ↔ IsBroken self.new }
         ensures limits { limits_of self.new ≡ limits_of self.old }
@@ -570,33 +518,15 @@ impl<D: Disk> Station<D> {
     /// Tried in this order: `Broken`; `Tape(TapeFull)`; `NoMemory`; these change nothing. `Tape(Disk)`: the station is
     /// broken from now on.
     pub fn flush(&mut self) -> Result<u64, StationFault>
-        ensures ok { (h : History) → StandsFor self.old h
-            → OnOk result (StandsFor self.new (flushed h)) }
-        ensures err { (h : History) → StandsFor self.old h → OnErr result (StandsFor self.new h) }
-        ensures count { (h : History) → StandsFor self.old h
-            → IfOk result (λ n. n ≡ min (length h.notes - h.opened) (2 ^ 64 - 1)) }
-        // A stop at any moment of the call leaves a tape of the first of the notes, with every acknowledged one.
-        ensures moments { (h : History) → StandsFor self.old h
-            → TapeLeaves (Survives h) (log_of self.old) (log_of self.new) }
+        ensures flushes { (h : History) → StandsFor self.old h
+            → Flushes (StationFault.Tape TapeFault.Disk) h self.old.tape self.new.tape result }
         ensures none_pends { OnOk result (pending_of self.new ≡ 0) }
         ensures empty { pending_of self.old ≡ 0 → self.new ≡ self.old }
         ensures empty_ok { pending_of self.old ≡ 0 → (IsBroken self.old → ⊥) → IsOk result }
-        ensures places { places_of self.new ≡ places_of self.old }
-        ensures ledger { ledger_of self.new ≡ ledger_of self.old }
-        ensures limits { limits_of self.new ≡ limits_of self.old }
-        ensures broken { IsErrOf result StationFault.Broken ↔ IsBroken self.old }
-        ensures full { IsErrOf result (StationFault.Tape TapeFault.TapeFull)
-            ↔ ((IsBroken self.old → ⊥) × IsFull self.old.tape) }
-        ensures refused { IfErr result
-            (λ e. e ≢ StationFault.Tape TapeFault.Disk → IsSame self.old self.new) }
-        ensures breaks { IsErrOf result (StationFault.Tape TapeFault.Disk) → IsBroken self.new }
-        ensures works { OnOk result (IsBroken self.new → ⊥) }
-        ensures cause { (h : History) → StandsFor self.old h
-            → IsErrOf result (StationFault.Tape TapeFault.Disk)
-            → OneHasRisen (told_of self.old) (told_of self.new) }
+        ensures refuses { RefusesFlush self.old self.new result }
+        ensures keeps { KeepsDebts self.old self.new }
         ensures continues { Continues self.old self.new }
         ensures quiet { OnOk result (told_of self.new ≡ told_of self.old) }
-        ensures kinds { IfErr result IsFlushFault }
     {
         match self.tape.flush() {
             Ok(count) => Ok(count),
@@ -619,35 +549,15 @@ impl<D: Disk> Station<D> {
     /// Tried in this order: `Broken`; `Tape(GenerationFull)`; `Tape(TapeFull)`; `NoMemory`; these change nothing.
     /// `Tape(Disk)`: the station is broken from now on.
     pub fn rotate(&mut self) -> Result<u64, StationFault>
-        ensures ok { (h : History) → StandsFor self.old h
-            → OnOk result (StandsFor self.new (flushed h)) }
-        ensures err { (h : History) → StandsFor self.old h → OnErr result (StandsFor self.new h) }
+        ensures rotates { (h : History) → StandsFor self.old h
+            → Rotates (StationFault.Tape TapeFault.Disk) h self.old.tape self.new.tape result }
         ensures generation { IfOk result (λ n. (n ≡ generation_of self.old + 1)
             × (generation_of self.new ≡ n)) }
-        // A stop at any moment of the call leaves a tape of the ledger after the first of the notes, with every
-        // acknowledged one.
-        ensures moments { (h : History) → StandsFor self.old h
-            → TapeLeaves (Survives h) (log_of self.old) (log_of self.new) }
         ensures none_pends { OnOk result (pending_of self.new ≡ 0) }
-        ensures places { places_of self.new ≡ places_of self.old }
-        ensures ledger { ledger_of self.new ≡ ledger_of self.old }
-        ensures limits { limits_of self.new ≡ limits_of self.old }
-        ensures broken { IsErrOf result StationFault.Broken ↔ IsBroken self.old }
-        ensures generation_full { IsErrOf result (StationFault.Tape TapeFault.GenerationFull)
-            ↔ ((IsBroken self.old → ⊥) × (generation_of self.old ≡ 2 ^ 64 - 1)) }
-        ensures full { IsErrOf result (StationFault.Tape TapeFault.TapeFull)
-            ↔ ((IsBroken self.old → ⊥)
-            × (generation_of self.old ≢ 2 ^ 64 - 1) × RotatesTooLong self.old.tape) }
-        ensures refused { IfErr result
-            (λ e. e ≢ StationFault.Tape TapeFault.Disk → IsRead self.old self.new) }
-        ensures breaks { IsErrOf result (StationFault.Tape TapeFault.Disk) → IsBroken self.new }
-        ensures works { OnOk result (IsBroken self.new → ⊥) }
-        ensures cause { (h : History) → StandsFor self.old h
-            → IsErrOf result (StationFault.Tape TapeFault.Disk)
-            → OneHasRisen (told_of self.old) (told_of self.new) }
+        ensures refuses { RefusesRotation self.old self.new result }
+        ensures keeps { KeepsDebts self.old self.new }
         ensures continues { Continues self.old self.new }
         ensures quiet { OnOk result (told_of self.new ≡ told_of self.old) }
-        ensures kinds { IfErr result IsRotateFault }
     {
         match self.tape.rotate() {
             Ok(generation) => Ok(generation),

@@ -13,13 +13,28 @@ invariant_of-result g c = record {
   marked = c.in-Ok-index_of.ensures.marked;
 }
 
-pub returns-in-Err-index_of-clause-survives : goal.returns-in-Err-index_of-clause-survives
-returns-in-Err-index_of-clause-survives g c = λ h honest honest' each.
+pub returns-in-Err-index_of-clause-recovers : goal.returns-in-Err-index_of-clause-recovers
+returns-in-Err-index_of-clause-recovers g c = λ h honest honest' each.
     let old : Log = (g.D.Disk.log c.args.a, g.D.Disk.log c.args.b) in
-    let recovers = c.in-Ok.ensures.recovers h honest honest' each in
+    let recovers = (c.in-Ok.ensures.recovers h honest honest' each).recovers in
     let logs = logs_of_disks c.in-Ok.tape c.into_disks-a.result c.into_disks-a.ensures.disks in
-    subst (λ (log : Log). TapeLeaves (Survives h) old log) (sym logs) recovers.moments
+    record {
+      recovers = tt;
+      survives = subst (λ (log : Log). TapeLeaves (Survives h) old log) (sym logs) recovers.moments;
+      undamaged = λ segment at told. cc told;
+    }
 
-pub returns-in-Err-index_of-clause-err : goal.returns-in-Err-index_of-clause-err
-returns-in-Err-index_of-clause-err g c = λ honest honest'.
-    refused_as_opened _ c.in-Ok.tape _ c.into_disks-a.ensures.disks (c.in-Ok.ensures.ok honest honest')
+pub returns-in-Err-index_of-clause-opens : goal.returns-in-Err-index_of-clause-opens
+returns-in-Err-index_of-clause-opens g c = λ honest honest'. record {
+  ok = tt;
+  err = refused_as_opened _ c.in-Ok.tape _ c.into_disks-a.ensures.disks (c.in-Ok.ensures.opens honest honest').ok;
+}
+
+pub returns-in-Err-clause-recovers : goal.returns-in-Err-clause-recovers
+returns-in-Err-clause-recovers g c = λ h honest honest' each.
+    let was = c.in-Err.ensures.recovers h honest honest' each in
+    record { recovers = tt; survives = was.survives; undamaged = was.undamaged }
+
+pub returns-in-Ok-index_of-clause-opens : goal.returns-in-Ok-index_of-clause-opens
+returns-in-Ok-index_of-clause-opens g c = λ honest honest'.
+    record { ok = (c.in-Ok.ensures.opens honest honest').ok; err = tt }

@@ -28,8 +28,8 @@ invariant_of-self-in-Err g c =
     let below : AreBelow n old.index = owed_below old.index (tape_ledger old.tape) n old.all_placed old.marked c.requires.above in
     let back : c.remove.new.self ≡ old.index = c.remove.ensures ∙ (ap (λ (p : Places). gone p n) c.in_ok-add.ensures.ok ∙ gone_new old.index n below) in
     record {
-      all_placed = ap placed back ∙ (old.all_placed ∙ sym (ap numbers c.in-Err.ensures.unchanged.ledger));
-      marked = subst (λ (s : State). All (λ m. m ≤ s.mark) (numbers s)) (sym c.in-Err.ensures.unchanged.ledger) old.marked;
+      all_placed = ap placed back ∙ (old.all_placed ∙ sym (ap numbers c.in-Err.ensures.refuses.unchanged.ledger));
+      marked = subst (λ (s : State). All (λ m. m ≤ s.mark) (numbers s)) (sym c.in-Err.ensures.refuses.unchanged.ledger) old.marked;
     }
 
 pub invariant_of-self-in_default : goal.invariant_of-self-in_default
@@ -46,13 +46,13 @@ invariant_of-self-in_default g c =
 pub returns-in-Err-clause-count_full : goal.returns-in-Err-clause-count_full
 returns-in-Err-clause-count_full g c = λ is.
     let told : c.station_fault.result ≡ TapeRefused (RefusedNote CountFull) = cc in
-    ((c.in-Err.ensures.refused CountFull).0 (told_fault c.in-Err.fault (RefusedNote CountFull) (sym c.station_fault.ensures ∙ told))).1
+    ((c.in-Err.ensures.refuses.refused CountFull).0 (told_fault c.in-Err.fault (RefusedNote CountFull) (sym c.station_fault.ensures ∙ told))).1
 
 pub returns-in-Err-clause-kinds : goal.returns-in-Err-clause-kinds
 returns-in-Err-clause-kinds g c =
     subst IsOweFault (sym c.station_fault.ensures)
-    (owe_fault (tape_ledger c.args.self.now.tape) c.args.note c.args.number c.requires.owes c.requires.above c.in-Err.fault c.in-Err.ensures.kinds
-    (λ other is. ((c.in-Err.ensures.refused other).0 is).1))
+    (owe_fault (tape_ledger c.args.self.now.tape) c.args.note c.args.number c.requires.owes c.requires.above c.in-Err.fault c.in-Err.ensures.refuses.kinds
+    (λ other is. ((c.in-Err.ensures.refuses.refused other).0 is).1))
 
 pub returns-in-Err-clause-unchanged : goal.returns-in-Err-clause-unchanged
 returns-in-Err-clause-unchanged g c =
@@ -60,9 +60,9 @@ returns-in-Err-clause-unchanged g c =
     let n = c.args.number in
     let below : AreBelow n old.index = owed_below old.index (tape_ledger old.tape) n old.all_placed old.marked c.requires.above in
     record {
-      stands = c.in-Err.ensures.err;
-      ledger = c.in-Err.ensures.unchanged.ledger;
-      pending = pending_same old.tape.pending.items c.note.new.self.pending.items c.in-Err.ensures.unchanged.pending;
+      stands = λ h stands. (c.in-Err.ensures.takes h stands).err;
+      ledger = c.in-Err.ensures.refuses.unchanged.ledger;
+      pending = pending_same old.tape.pending.items c.note.new.self.pending.items c.in-Err.ensures.refuses.unchanged.pending;
       disks = c.in-Err.ensures.disks;
       places = c.remove.ensures ∙ (ap (λ (p : Places). gone p n) c.in_ok-add.ensures.ok ∙ gone_new old.index n below);
       limits = refl;

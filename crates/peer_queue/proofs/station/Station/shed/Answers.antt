@@ -22,10 +22,10 @@ returns-in-Err-clause-kinds g c =
     let owed : AreOwed (ledger_of station) [] c.deref.result.now =
     subst (λ (l : List ℕ). AreOwed (ledger_of station) [] l) (sym cut) (shed_owed station.limits (ledger_of station) (places_of station) set room c.in_ok-numbers.ensures.rising station.all_placed c.in_ok-numbers.ensures.set) in
     let few : length c.deref.result.now ≤ room = omega (arith, ap (λ (l : List ℕ). length l) cut, length-take room set) in
-    inr (c.station_fault.ensures ∙ drop_fault c.in-Err.fault c.in-Err.ensures.kinds
-    (λ e. iff_false c.is_broken.ensures c.if-is_broken.false (c.in-Err.ensures.broken.0 (ap (λ (f : TapeFault). Err f) e)))
-    (λ e. (c.in-Err.ensures.not_owed.0 (ap (λ (f : TapeFault). Err f) e)).1 owed)
-    (λ e. let over = (c.in-Err.ensures.pending_full.0 (ap (λ (f : TapeFault). Err f) e)).2 in omega (arith, over, few, c.room-room.ensures)))
+    inr (c.station_fault.ensures ∙ drop_fault c.in-Err.fault c.in-Err.ensures.refuses.kinds
+    (λ e. iff_false c.is_broken.ensures c.if-is_broken.false (c.in-Err.ensures.refuses.broken.0 (ap (λ (f : TapeFault). Err f) e)))
+    (λ e. (c.in-Err.ensures.refuses.not_owed.0 (ap (λ (f : TapeFault). Err f) e)).1 owed)
+    (λ e. let over = (c.in-Err.ensures.refuses.pending_full.0 (ap (λ (f : TapeFault). Err f) e)).2 in omega (arith, over, few, c.room-room.ensures)))
 
 pub remove_all-requires : goal.remove_all-requires
 remove_all-requires g c =

@@ -1,0 +1,97 @@
+-- What the calls of a station do, and when they are refused.
+use Rattle.std.specs.Prelude.{◌≡◌, ◌≢◌, ◌⊎◌, ◌+◌, ◌-◌, ◌^◌, ◌<◌, ◌↔◌, ℕ, true, false, length, IsErr, IsErrOf, IsSome, IfErr, OnErr, OnOk, Result}
+use Rattle.disk_model.specs.declared.Disk.{Ghosts}
+use Rattle.ledger_core.specs.State.{Overflows, after, numbers}
+use Rattle.ledger_core.specs.declared.ledger.LedgerFault.TheVariants.{CountFull}
+use Rattle.ledger_core.specs.declared.note.Cause.TheVariants.{Deferred}
+use Rattle.ledger_core.specs.declared.note.Note.{Note}
+use Rattle.ledger_core.specs.declared.note.Note.TheVariants.{Drop}
+use Rattle.recovery.specs.Notes.{History, most_pending, noted_all}
+use Rattle.recovery.specs.Words.{IsFull, RotatesTooLong}
+use Rattle.recovery.specs.declared.fault.TapeFault.TheVariants.{Disk, GenerationFull, PendingFull, TapeFull, Note as RefusedNote}
+use Rattle.conn_core.specs.declared.deferral.Deferral.{Deferral}
+use Rattle.peer_queue.specs.Faults.{IsClaimFault, IsFlushFault, IsOweFault, IsRotateFault}
+use Rattle.peer_queue.specs.Place.{IsHeldBy, Later, all_gone, all_ready, deferred_until, gone, least_candidate, moved}
+use Rattle.peer_queue.specs.Shed.{dropped}
+use Rattle.peer_queue.specs.Station.{IsShed}
+use Rattle.peer_queue.specs.Words.{IsBroken, IsRead, IsSame, IsSameTape, Notes, StandsFor, deferred_number, generation_of, ledger_of, limits_of, pending_of, places_of}
+use Rattle.peer_queue.specs.declared.fault.StationFault.{StationFault}
+use Rattle.peer_queue.specs.declared.fault.StationFault.TheVariants.{Broken, NoMemory, Tape}
+use Rattle.peer_queue.specs.declared.limits.Limits.{Limits}
+use Rattle.peer_queue.specs.declared.limits.Shed.{Shed}
+use Rattle.peer_queue.specs.declared.station.Station.{Station}
+
+module _ {D : Type 0} {g : Ghosts D} where
+  -- a station as it is opened: all that it owes is ready, it works, nothing pends, and it has the limits that were given
+  pub record IsFresh (given : Limits) (station : Station D g) : Type 0 where
+    pub ready : places_of station ≡ all_ready (numbers (ledger_of station))
+    pub works : IsBroken station → ⊥
+    pub none_pends : pending_of station ≡ 0
+    pub limits : limits_of station ≡ given
+
+  -- each debt is owed as before, at its place, under the same limits
+  pub record KeepsDebts (old new : Station D g) : Type 0 where
+    pub places : places_of new ≡ places_of old
+    pub ledger : ledger_of new ≡ ledger_of old
+    pub limits : limits_of new ≡ limits_of old
+
+  -- When a flush is refused, in the order in which it is tried, and what it leaves.
+  pub record RefusesFlush (old new : Station D g) (result : Result ℕ StationFault) : Type 0 where
+    pub broken : IsErrOf result Broken ↔ IsBroken old
+    pub full : IsErrOf result (Tape TapeFull) ↔ ((IsBroken old → ⊥) × IsFull old.tape)
+    -- all but Tape(Disk) change nothing
+    pub refused : IfErr result (λ e. e ≢ Tape Disk → IsSame old new)
+    pub breaks : IsErrOf result (Tape Disk) → IsBroken new
+    pub works : OnOk result (IsBroken new → ⊥)
+    pub kinds : IfErr result IsFlushFault
+
+  -- When a rotation is refused, in the order in which it is tried, and what it leaves.
+  pub record RefusesRotation (old new : Station D g) (result : Result ℕ StationFault) : Type 0 where
+    pub broken : IsErrOf result Broken ↔ IsBroken old
+    pub generation_full : IsErrOf result (Tape GenerationFull)
+        ↔ ((IsBroken old → ⊥) × (generation_of old ≡ 2 ^ 64 - 1))
+    pub full : IsErrOf result (Tape TapeFull)
+        ↔ ((IsBroken old → ⊥) × (generation_of old ≢ 2 ^ 64 - 1) × RotatesTooLong old.tape)
+    -- all but Tape(Disk) change nothing
+    pub refused : IfErr result (λ e. e ≢ Tape Disk → IsRead old new)
+    pub breaks : IsErrOf result (Tape Disk) → IsBroken new
+    pub works : OnOk result (IsBroken new → ⊥)
+    pub kinds : IfErr result IsRotateFault
+
+  -- When it is refused to owe this number by this note, in the order in which it is tried; then nothing has changed.
+  pub record RefusesOwe {T : Type 0} (number : ℕ) (note : Note) (old new : Station D g) (result : Result T StationFault)
+      : Type 0 where
+    pub broken : IsErrOf result Broken ↔ IsBroken old
+    pub count_full : IsErrOf result (Tape (RefusedNote CountFull)) → Overflows (ledger_of old) note
+    pub pending_full : IsErrOf result (Tape PendingFull)
+        → ((ledger_of old).mark < number) × (pending_of old ≡ most_pending) × (Overflows (ledger_of old) note → ⊥)
+    pub no_memory : IsErrOf result NoMemory → (IsBroken old → ⊥) × ((ledger_of old).mark < number)
+    -- where a count would overflow, or no more may pend of a number that is new, it is never Ok
+    pub never : Overflows (ledger_of old) note ⊎ ((ledger_of old).mark < number) × (pending_of old ≡ most_pending)
+        → IsErr result
+    pub kinds : IfErr result IsOweFault
+    pub unchanged : OnErr result (IsSame old new)
+
+  -- When a claim at this moment is refused; each debt keeps its place.
+  pub record RefusesClaim {T : Type 0} (now : ℕ) (old new : Station D g) (result : Result T StationFault) : Type 0 where
+    pub broken : IsErrOf result Broken ↔ IsBroken old
+    -- but for Broken there was a debt to claim
+    pub refused : IfErr result (λ e. e ≢ Broken → IsSome (least_candidate now (places_of old)))
+    pub kinds : IfErr result IsClaimFault
+    pub places : OnErr result (places_of new ≡ places_of old)
+
+  -- a debt that the connection held was deferred at this moment: it waits, or is dropped where deferred debts are
+  pub record Defers (connection : ℕ) (deferral : Deferral) (now : ℕ) (old new : Station D g) : Type 0 where
+    pub held : IsHeldBy (places_of old) connection (deferred_number deferral)
+    pub later : (limits_of old).drop_deferred ≡ false → IsSameTape old new
+        × (places_of new ≡ moved (places_of old) (deferred_number deferral) (Later (deferred_until now)))
+    pub dropped : (limits_of old).drop_deferred ≡ true → Notes old new (Drop (deferred_number deferral) Deferred)
+        × (places_of new ≡ gone (places_of old) (deferred_number deferral))
+
+  -- these debts were shed: each is dropped by a note, which pends, and has no place any more
+  pub record Sheds (old new : Station D g) (shed : Shed) : Type 0 where
+    pub set : IsShed (limits_of old) (ledger_of old) (places_of old) (pending_of old) shed
+    pub notes : (h : History) → StandsFor old h → StandsFor new (noted_all h (dropped shed.numbers.items))
+    pub ledger : ledger_of new ≡ after (ledger_of old) (dropped shed.numbers.items)
+    pub places : places_of new ≡ all_gone (places_of old) shed.numbers.items
+    pub pends : pending_of new ≡ pending_of old + length shed.numbers.items
