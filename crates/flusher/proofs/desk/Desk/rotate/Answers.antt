@@ -8,10 +8,11 @@ invariant_of-self g c =
     let new = c.rotate.new.self in
     let e = c.rotate.ensures in
     record {
-      kept = keeps_flushed old.station new c.rotate.result e.continues.honest e.ok e.err old.kept;
+      kept = keeps_flushed old.station new c.rotate.result e.continues.honest (λ h stands. (e.rotates h stands).ok)
+          (λ h stands. (e.rotates h stands).err) old.kept;
       one_part = old.one_part;
       counted =
-          counted_along _ _ _ (ledger_of old.station) (ledger_of new) e.ledger old.counted;
+          counted_along _ _ _ (ledger_of old.station) (ledger_of new) e.keeps.ledger old.counted;
     }
 
 pub invariant_of-self-2 : goal.invariant_of-self-2
@@ -20,8 +21,9 @@ invariant_of-self-2 g c =
     let new = c.rotate.new.self in
     let e = c.rotate.ensures in
     record {
-      kept = keeps_flushed old.station new c.rotate.result e.continues.honest e.ok e.err old.kept;
+      kept = keeps_flushed old.station new c.rotate.result e.continues.honest (λ h stands. (e.rotates h stands).ok)
+          (λ h stands. (e.rotates h stands).err) old.kept;
       one_part = old.one_part;
       counted =
-          counted_along _ _ _ (ledger_of old.station) (ledger_of new) e.ledger old.counted;
+          counted_along _ _ _ (ledger_of old.station) (ledger_of new) e.keeps.ledger old.counted;
     }

@@ -23,7 +23,7 @@ invariant_of-self-2 g c =
     let count = c.count.ensures.station in
     let more : c.count.new.station.amount ≡ old.dropped.amount + length numbers = search rules in
     record {
-      kept = keeps_shed old.station new numbers c.shed.ensures.disks e.notes old.kept;
+      kept = keeps_shed old.station new numbers c.shed.ensures.disks e.ok.notes old.kept;
       one_part = (old.one_part.0, old.one_part.1, count.1 ∙ old.one_part.2);
-      counted = counted_shed _ _ _ _ numbers (ledger_of old.station) (ledger_of new) e.ledger more old.counted;
+      counted = counted_shed _ _ _ _ numbers (ledger_of old.station) (ledger_of new) e.ok.ledger more old.counted;
     }

@@ -33,7 +33,7 @@ invariant_of-self-in-Ok-Already g c =
 pub invariant_of-self-in-Err-1 : goal.invariant_of-self-in-Err-1
 invariant_of-self-in-Err-1 g c =
     let old = c.args.self.now in
-    let same = c.in-Err.ensures.unchanged in
+    let same = c.in-Err.ensures.refuses.unchanged in
     record {
       kept = keeps_same old.station c.owe.new.self same old.kept;
       one_part = old.one_part;
