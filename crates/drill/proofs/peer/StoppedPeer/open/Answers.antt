@@ -13,7 +13,7 @@ returns-in-Err-clause-survives c = λ h each.
     let first = subst (λ (d : MemDisk). EachTape (Survives h) (events d, events b)) (sym c.new-a.ensures) each in
     let given = subst (λ (d : MemDisk). EachTape (Survives h) (events c.new-a.result.disk, events d))
     (sym c.new-b.ensures) first in
-    let left = pairs-now (Survives h) _ _ (c.in-Err.ensures.survives h tt tt given) in
+    let left = pairs-now (Survives h) _ _ (c.in-Err.ensures.recovers h tt tt given).survives in
     let back = subst (λ (d : MemDisk). EachTape (Survives h) (events d, events c.in-Err.refused.b.disk))
     (sym c.into_inner-a.ensures) left in
     subst (λ (d : MemDisk). EachTape (Survives h) (events c.into_inner-a.result, events d))
@@ -25,4 +25,4 @@ returns-in-Err-clause-undamaged c = λ h each.
     let first = subst (λ (d : MemDisk). EachTape (Survives h) (events d, events b)) (sym c.new-a.ensures) each in
     let given = subst (λ (d : MemDisk). EachTape (Survives h) (events c.new-a.result.disk, events d))
     (sym c.new-b.ensures) first in
-    c.in-Err.ensures.undamaged h tt tt given
+    (c.in-Err.ensures.recovers h tt tt given).undamaged
