@@ -1,5 +1,6 @@
 -- The debts of a ledger, moved behind a Base in one walk.
-use Rattle.std.proofs.Common.{◌≡◌, ℕ, ◌+◌, ◌-◌, ◌^◌, Bool, true, cond, List, [], ◌∷◌, ◌++◌, length, map, min, refl, sym, ap, ◌∙◌, subst, arith, length-append}
+use Rattle.std.proofs.Common.{◌≡◌, ℕ, ◌+◌, ◌-◌, ◌^◌, Bool, true, cond, List, [], ◌∷◌, ◌++◌, length, map, min, refl, sym}
+use Rattle.std.proofs.Common.{ap, ◌∙◌, subst, arith, length-append}
 use Rattle.std.proofs.lemmas.List.{append_assoc, length-map}
 use Rattle.std.proofs.lemmas.List.Elements.{All-cons}
 use Rattle.std.specs.Int.{to_be_bytes, w64}
@@ -37,7 +38,10 @@ pub moved_all : {F : Type 0} (T : F → ℕ → Entry → Bool → Entry → F �
     → ((f : F) (k : ℕ) (v : Entry) (b : Bool) (w : Entry) (f' : F) → T f k v b w f'
     → (b ≡ true) × IsMoved (at_of f) v w × (at_of f' ≡ beyond (at_of f) v.spot))
     → (f : F) (old new : Entries) → RetainsPairs T f old new → AreMoved (at_of f) old new
-moved_all T at_of told f [] new run = record { debts = ap debts_of run; spots = ap (λ (es : Entries). map spot_at es) run }
+moved_all T at_of told f [] new run = record {
+  debts = ap debts_of run;
+  spots = ap (λ (es : Entries). map spot_at es) run;
+}
 moved_all T at_of told f (entry ∷ old) new run =
     let at = at_of f in
     let w = run.1 in

@@ -2,7 +2,8 @@
 use Rattle.std.proofs.Common.{◌≡◌, ◌↔◌, ◌+◌, ◌≤◌, ℕ, Bool, List, length, refl, sym, ap, ◌∙◌, subst, arith}
 use Rattle.disk_model.specs.Disk.{Event}
 use Rattle.disk_model.specs.declared.Disk.{Ghosts}
-use Rattle.tape_journal.specs.Journal.{Holds, disk_of as journal_disk, end_of as journal_end, IsBroken as IsBrokenJournal}
+use Rattle.tape_journal.specs.Journal.{Holds, IsBroken as IsBrokenJournal}
+use Rattle.tape_journal.specs.Journal.{disk_of as journal_disk, end_of as journal_end}
 use Rattle.tape_journal.specs.declared.journal.Journal.{Journal}
 use Rattle.tape_journal.specs.Segment.{AllShort}
 use Rattle.tape_journal.specs.Words.{octets_of}

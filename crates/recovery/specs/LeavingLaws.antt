@@ -1,18 +1,19 @@
 -- Laws of what a stop leaves of a tape and of what an opening finds, for the crates above.
-use Rattle.std.proofs.Common.{◌≡◌, ◌↔◌, ℕ, ◌+◌, ◌-◌, ◌<◌, ◌≤◌, Bool, true, false, List, [], ◌∷◌, ◌++◌, length, take, drop, refl, sym, ap}
-use Rattle.std.proofs.Common.{◌∙◌, subst, inl, inr, arith, length-drop}
+use Rattle.std.proofs.Common.{◌≡◌, ◌≢◌, ◌↔◌, ℕ, ◌+◌, ◌-◌, ◌<◌, ◌≤◌, Bool, true, false, List, [], ◌∷◌, ◌++◌, length, take, drop, refl, sym, ap}
+use Rattle.std.proofs.Common.{◌∙◌, subst, inl, inr, arith, length-append, length-drop, length-take}
 use Rattle.std.specs.Prelude.{Vec}
 use Rattle.std.specs.declared.alloc.Global.{Global}
 use Rattle.std.proofs.Math.Seq.{take-add}
 use Rattle.std.proofs.lemmas.Bool.{cases_lt}
 use Rattle.std.proofs.lemmas.List.{length-map, length-take-le}
 use Rattle.disk_model.specs.Choice.{chosen_image}
-use Rattle.disk_model.specs.Disk.{Event, Image, content}
+use Rattle.disk_model.specs.Disk.{Event, EachImage, Image, content}
 use Rattle.disk_model.specs.declared.Disk.{Ghosts}
 use Rattle.disk_model.specs.declared.choice.Choice.{Choice}
 use Rattle.tape_journal.specs.Journal.{end_of as journal_end}
 use Rattle.tape_journal.specs.Segment.{Reads, longest_segment, records}
 use Rattle.tape_journal.specs.SegmentLaws.{reads_once, reads_rest}
+use Rattle.tape_journal.specs.Words.{octets_of}
 use Rattle.ledger_core.specs.declared.note.Note.{Note}
 use Rattle.ledger_core.specs.declared.note.Note.TheVariants.{Owe, Final, Drop, Seen}
 use Rattle.ledger_core.specs.Base.{Restores}
@@ -21,7 +22,7 @@ use Rattle.ledger_core.specs.Laws.{AllLegal-back, after-append}
 use Rattle.ledger_core.specs.Spelling.{spellings}
 use Rattle.ledger_core.specs.State.{State, AllLegal, IsLegal, after, step}
 use Rattle.ledger_core.specs.Written.{written}
-use Rattle.recovery.specs.Notes.{AreLegal, History}
+use Rattle.recovery.specs.Notes.{AreLegal, History, found, ledger_after, recovered}
 use Rattle.recovery.specs.Image.{EachTape, HasGeneration, IsTape, Log, Octets, Survives, TapeLeaves}
 use Rattle.recovery.specs.Laws.{AreLegal-take, generation_of_payloads, lives_once, logs_of_disks, tape_once}
 use Rattle.recovery.specs.Leaving.{EachLedger, HasLedger, HasSegment, IsFront, IsFullBy, LedgersLeave, LiesLeft, LiesOn, MayLeave}
@@ -29,8 +30,8 @@ use Rattle.recovery.specs.Leaving.{RotatesTooLongBy}
 use Rattle.recovery.specs.Leaving.{left_by, ledger_of_first, pending_notes}
 use Rattle.recovery.specs.PairLaws.{pairs-first, pairs-now, pairs-then, pairs-weaker}
 use Rattle.recovery.specs.Pairs.{live_of, placed}
-use Rattle.recovery.specs.Tape.{GoesBefore, IsOpenedTape, IsWorking, Recovers, StandsFor, contents_of}
-use Rattle.recovery.specs.Words.{IsBroken, IsFull, RotatesTooLong, disks_of, generation_of, live_log, live_segment, log_of, other_log, pending_of}
+use Rattle.recovery.specs.Tape.{GoesBefore, IsOpenedTape, IsWorking, Recovers, StandsFor, StaysBehind, contents_of}
+use Rattle.recovery.specs.Words.{IsBroken, IsFull, RotatesTooLong, disks_of, generation_of, ledger_of, live_log, live_segment, log_of, other_log, pending_of}
 use Rattle.recovery.specs.Words.{told_of}
 use Rattle.recovery.specs.declared.tape.Tape.{Tape}
 

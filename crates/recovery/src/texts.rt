@@ -187,8 +187,8 @@ impl<D: Disk> Tape<D> {
         self.ledger.spots(self.alloc)
     }
 
-    // Reads back the notes of all debts, whose spots are these, behind the Base of the next generation. The segment that
-    // lives is read in pieces.
+    // Reads back the notes of all debts, whose spots are these, behind the Base of the next generation. The segment
+    // that lives is read in pieces.
     pub(crate) fn read_back(&mut self, spots: &[(u64, Spot)]) -> Result<Vec<Vec<u8>>, TapeFault>
         requires works { IsBroken self.old → ⊥ }
         requires room { generation_of self.old < 2 ^ 64 - 1 }
