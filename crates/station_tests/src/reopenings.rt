@@ -228,7 +228,7 @@ const READING: &[Script] = &[
         steps: &[Step::Flush(Ok(3))],
         opened: &[
             (
-                Opening::Fused(UNLIMITED, 3),
+                Opening::Fused(UNLIMITED, 0),
                 &[
                     Step::Rotate(Err(DISK)),
                     Step::Rotate(Err(BROKEN)),

@@ -219,11 +219,11 @@ fn calls_of<A: Abort>(rt: &A, alloc: Global, second: bool) -> Result<u64, Fail> 
 }
 
 // Of the first disk the opening makes five calls, the flush of two notes five, and that of one four; two calls read a
-// debt that is told, two one that is claimed, and two one that a rotation writes anew. Of the second the opening makes
+// debt that is told, two one that is claimed, and one all that a rotation writes anew. Of the second the opening makes
 // one, and the rotation eight.
 #[test]
 fn a_fault_at_any_call_leaves_a_front(rt: HostRuntime) -> Result<(), Fail> {
-    assert_eq!(rt; calls_of(&rt, rt.alloc(), false)?, 20);
+    assert_eq!(rt; calls_of(&rt, rt.alloc(), false)?, 19);
     assert_eq!(rt; calls_of(&rt, rt.alloc(), true)?, 9);
     Ok(())
 }
