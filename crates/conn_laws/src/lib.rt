@@ -20,7 +20,7 @@ ghost use Rattle.conn_core.specs.Commands.{Ask, Handing};
 ghost use Rattle.conn_core.specs.History.{Event, Came, accepted, answered_ask, asks, closes};
 ghost use Rattle.conn_core.specs.History.{is_mode, phase, put_out, reason};
 ghost use Rattle.conn_core.specs.Receipt.{IsHandedAs, Receives};
-ghost use Rattle.conn_core.specs.Stands.{Stands};
+ghost use Rattle.conn_core.specs.Stands.{Arises, Stands};
 ghost use Rattle.conn_core.specs.State.{Holding};
 ghost use Rattle.conn_core.specs.declared.codes.Verb.{Verb};
 ghost use Rattle.conn_core.specs.declared.options.Options.{Options};
@@ -58,6 +58,7 @@ pub fn returns_come_last_in_order()
 pub fn verdicts_are_right()
     ensures right { (options : Options) (conn : Holding) (unread : List ℕ) (h : List Event)
         → Stands options conn unread h → AllRight options h }
+    ensures arises { (options : Options) (h : List Event) → Arises options h → AllRight options h }
     ensures first { (options : Options) (h : List Event) (reply : Given) (command : ℕ × Ask)
         → answered_ask options h reply ≡ Some command ↔ IsFirstOpen options h reply command }
     ensures stray { (options : Options) (h : List Event) (reply : Given)

@@ -8,6 +8,9 @@ pub returns-clause-right : goal.returns-clause-right
 unfolding Stands
 returns-clause-right c = λ options conn unread h s. all_right options h s.0
 
+pub returns-clause-arises : goal.returns-clause-arises
+returns-clause-arises c = all_right
+
 pub returns-clause-first : goal.returns-clause-first
 returns-clause-first c = answers_first
 

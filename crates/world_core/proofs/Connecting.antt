@@ -1,0 +1,252 @@
+-- A connection that is made is one of the world's, and holds nothing.
+use Rattle.std.proofs.Common.{
+  ◌≡◌,
+  ◌↔◌,
+  ◌⊎◌,
+  ℕ,
+  ◌+◌,
+  ◌^◌,
+  ◌<◌,
+  ◌≤◌,
+  Bool,
+  true,
+  false,
+  cond,
+  Option,
+  None,
+  Some,
+  List,
+  [],
+  ◌∷◌,
+  ◌++◌,
+  length,
+  get_or,
+  map,
+  refl,
+  sym,
+  ap,
+  ◌∙◌,
+  subst,
+  inl,
+  inr,
+  arith,
+}
+use Rattle.std.specs.Prelude.{◌==◌, Contains, slice_get}
+use Rattle.std.specs.Cmp.{nat_cmp_is}
+use Rattle.std.specs.List.{AllByRecursion, AllZip, IsDistinct}
+use Rattle.std.specs.List.Sorted.{IsStrictlyIncreasing, IsStrictlySortedBy}
+use Rattle.std.specs.Ordering.{nat_cmp}
+use Rattle.std.specs.declared.cmp.Ordering.TheVariants.{Less}
+use Rattle.std.proofs.lemmas.Map.Keys.{IsStrictlyIncreasing-from_sorted, sorted_from_strictly_increasing}
+use Rattle.disk_model.specs.declared.Disk.{Ghosts}
+use Rattle.feed_conf.specs.declared.conf.PeerConf.{PeerConf}
+use Rattle.conn_core.specs.History.{story}
+use Rattle.conn_core.specs.Stands.{Stands as ConnStands, Starts}
+use Rattle.conn_core.specs.declared.options.Options.{Options}
+use Rattle.peer_queue.specs.Place.{IsHeldBy}
+use Rattle.world_core.specs.Past.{ConnPast, Life, PeerPast, conn_at, options_of, place_of}
+use Rattle.world_core.specs.Exchange.{RefusesConnect, TakesConnect}
+use Rattle.world_core.specs.Joined.{AreRunning, MadeOn, RefusedOn}
+use Rattle.world_core.specs.Pairs.{Tells}
+use Rattle.world_core.specs.Sound.{HasNumber, IsSoundConn, numbers_at}
+use Rattle.world_core.specs.Stands.{ConnectionStands, HoldsTranscript, PeerStands}
+use Rattle.world_core.specs.Told.{Connected}
+use Rattle.world_core.specs.declared.connection.Connection.{Connection}
+use Rattle.world_core.specs.declared.fault.Fault.{Fault}
+use Rattle.world_core.specs.declared.fault.Fault.TheVariants.{CountFull, NoMemory, NoPeer}
+use Rattle.world_core.specs.declared.peer.Peer.{Peer}
+use Rattle.world_core.specs.declared.stations.Stations.{Stations}
+use Rattle.world_core.specs.declared.told.Told.{Told}
+use Rattle.world_core.proofs.Pure.{all_push, all_weaker, zip_at}
+
+abbrev Entry : Type 0
+Entry = ℕ × ConnPast
+
+-- ---- lists
+
+zip_push : {A B : Type 0} (R : A → B → Type 0) (xs : List A) (ys : List B) (x : A) (y : B) → AllZip R xs ys → R x y
+    → AllZip R (xs ++ x ∷ []) (ys ++ y ∷ [])
+zip_push R [] [] x y all one = (one, tt)
+zip_push R [] (b ∷ ys) x y all one = absurd all
+zip_push R (a ∷ xs) [] x y all one = absurd all
+zip_push R (a ∷ xs) (b ∷ ys) x y all one = (all.0, zip_push R xs ys x y all.1 one)
+
+map_push : {A B : Type 0} (f : A → B) (xs : List A) (x : A) → map f (xs ++ x ∷ []) ≡ map f xs ++ f x ∷ []
+map_push f [] x = refl
+map_push f (y ∷ xs) x = ap (λ l. f y ∷ l) (map_push f xs x)
+
+sorted_push : (xs : List ℕ) (n : ℕ) → AllByRecursion (λ (x : ℕ). x < n) xs → IsStrictlySortedBy nat_cmp xs
+    → IsStrictlySortedBy nat_cmp (xs ++ n ∷ [])
+unfolding IsStrictlySortedBy
+sorted_push [] n below sorted = (tt, tt)
+sorted_push (x ∷ xs) n below sorted = (
+  all_push (λ y. nat_cmp x y ≡ Less) xs n sorted.0 (sym (nat_cmp_is x n Less below.0)),
+  sorted_push xs n below.1 sorted.1,
+)
+
+rises_push : (xs : List ℕ) (n : ℕ) → AllByRecursion (λ (x : ℕ). x < n) xs → IsStrictlyIncreasing xs
+    → IsStrictlyIncreasing (xs ++ n ∷ [])
+rises_push xs n below rises =
+    IsStrictlyIncreasing-from_sorted (xs ++ n ∷ []) (sorted_push xs n below (sorted_from_strictly_increasing xs rises))
+
+numbers_below : (n : ℕ) (conns : List Entry) → AllByRecursion (λ (entry : Entry). entry.0 ≤ n) conns
+    → AllByRecursion (λ (x : ℕ). x < n + 1) (map (λ (entry : Entry). entry.0) conns)
+numbers_below n [] all = tt
+numbers_below n (e ∷ conns) all = (omega (arith, all.0), numbers_below n conns all.1)
+
+-- ---- one connection more
+
+front_step : (b : Bool) (e : Entry) (found more : Option ConnPast) (k : ConnPast) → (found ≡ Some k → more ≡ Some k)
+    → cond b (Some e.1) found ≡ Some k → cond b (Some e.1) more ≡ Some k
+front_step true e found more k rest is = is
+front_step false e found more k rest is = rest is
+
+at_front : (conns : List Entry) (new : Entry) (id : ℕ) (k : ConnPast) → conn_at conns id ≡ Some k
+    → conn_at (conns ++ new ∷ []) id ≡ Some k
+at_front [] new id k is = let never : None ≡ Some k = is in cc
+at_front (e ∷ conns) new id k is =
+    front_step (e.0 == id) e (conn_at conns id) (conn_at (conns ++ new ∷ []) id) k (at_front conns new id k) is
+
+last_step : (b : Bool) (e : Entry) (found more : Option ConnPast) (new k : ConnPast)
+    → (more ≡ Some k → (found ≡ Some k) ⊎ (k ≡ new))
+    → cond b (Some e.1) more ≡ Some k → (cond b (Some e.1) found ≡ Some k) ⊎ (k ≡ new)
+last_step true e found more new k rest is = inl is
+last_step false e found more new k rest is = rest is
+
+one_step : (b : Bool) (new k : ConnPast) → cond b (Some new) None ≡ Some k → k ≡ new
+one_step true new k is = let same : Some new ≡ Some k = is in cc
+one_step false new k is = let never : None ≡ Some k = is in cc
+
+-- what is found was there, or is the new one
+at_last : (conns : List Entry) (new : Entry) (id : ℕ) (k : ConnPast) → conn_at (conns ++ new ∷ []) id ≡ Some k
+    → (conn_at conns id ≡ Some k) ⊎ (k ≡ new.1)
+at_last [] new id k is = inr (one_step (new.0 == id) new.1 k is)
+at_last (e ∷ conns) new id k is =
+    last_step (e.0 == id) e (conn_at conns id) (conn_at (conns ++ new ∷ []) id) new.1 k (at_last conns new id k) is
+
+-- a connection at its start has no number
+numbers_none : (options : Options) → numbers_at options [] ≡ []
+unfolding story
+numbers_none options = refl
+
+none_twice : (numbers : List ℕ) → numbers ≡ [] → IsDistinct (λ one other. one == other) numbers
+unfolding IsDistinct
+none_twice [] is = tt
+none_twice (n ∷ numbers) is = let never : n ∷ numbers ≡ [] = is in cc
+
+none_has : (numbers : List ℕ) (n : ℕ) → numbers ≡ [] → Contains numbers n → ⊥
+none_has numbers n is has = omega (arith, has.1, ap length is)
+
+module _ {D : Type 0} {g : Ghosts D} (name : List ℕ) (life : Life) (old : Stations D g) (cs : List Connection)
+    (running : AreRunning life old cs) where
+  module _ (place : ℕ) (here : place_of life.past name ≡ Some place) (fits : life.connected + 1 < 2 ^ 64)
+      (c : Connection) (peer : Peer D g)
+      (at : peer ≡ get_or old.peers.items place peer) (within : place < length old.peers.items)
+      (stands : ConnStands (options_of peer.conf) c.conn [] []) (own : c.conn.id.0 ≡ life.connected + 1)
+      (its : c.place ≡ place)
+      (waits : c.waiting ≡ None) where
+    abbrev fresh : ConnPast
+    fresh = record { place = place; unread = []; transcript = [] }
+
+    abbrev later_life : Life
+    later_life = record life { conns = life.conns ++ (life.connected + 1, fresh) ∷ []; connected = life.connected + 1 }
+
+    found : (p : PeerPast) × (slice_get life.past.peers place ≡ Some p) × PeerStands p peer
+    found =
+        let one = zip_at PeerStands life.past.peers old.peers.items place peer running.stands.peers within in
+        (one.0, one.1, subst (λ (q : Peer D g). PeerStands one.0 q) (sym at) one.2)
+
+    tie : (at_place id number : ℕ) (q : PeerPast) → slice_get life.past.peers at_place ≡ Some q
+        → IsHeldBy q.places id number ↔ HasNumber later_life at_place q id number
+    tie at_place id number q there =
+        let was = running.tied.held at_place id number q there in (
+          λ is.
+              let has = was.0 is in
+              record {
+                conn = has.conn;
+                here = at_front life.conns (life.connected + 1, fresh) id has.conn has.here;
+                its = has.its;
+                has = has.has;
+              },
+          λ has. elim (at_last life.conns (life.connected + 1, fresh) id has.conn has.here) [
+            | inl before ↦ was.1 (record { conn = has.conn; here = before; its = has.its; has = has.has })
+            | inr new ↦ absurd (none_has (numbers_at (options_of q.conf) []) number (numbers_none (options_of q.conf))
+                (subst (λ (k : ConnPast). Contains (numbers_at (options_of q.conf) k.transcript) number) new has.has))
+          ],
+        )
+
+    pub connected_made : (number : ℕ) (before told : List Told) (new_cs : List Connection)
+        → number ≡ life.connected + 1 → new_cs ≡ cs ++ c ∷ []
+        → Tells before (Connected (life.connected + 1) name ∷ []) told
+        → MadeOn (TakesConnect name) number life before told old new_cs
+    connected_made number before told new_cs is pushed tells = record {
+      later = later_life;
+      said = Connected (life.connected + 1) name ∷ [];
+      makes = record { place = place; here = here; fits = fits; told_is = refl; changed = refl };
+      told_is = tells;
+      stand = record {
+        running = running.running;
+        stands = running.stands;
+        conns = subst (AllZip (ConnectionStands life.past.peers) (life.conns ++ (life.connected + 1, fresh) ∷ []))
+            (sym pushed)
+            (zip_push (ConnectionStands life.past.peers) life.conns cs (life.connected + 1, fresh) c running.conns
+            (record {
+              id = own;
+              place = its;
+              peer = found.0;
+              here = found.1;
+              holds = subst (HoldsTranscript found.0.conf fresh c) (sym waits)
+                  (subst (λ (conf : PeerConf). ConnStands (options_of conf) c.conn [] []) found.2.conf stands);
+            }));
+        tied = record {
+          rising = subst IsStrictlyIncreasing
+              (sym (map_push (λ (entry : Entry). entry.0) life.conns (life.connected + 1, fresh)))
+              (rises_push (map (λ (entry : Entry). entry.0) life.conns) (life.connected + 1)
+              (numbers_below life.connected life.conns running.tied.made) running.tied.rising);
+          made = all_push (λ (entry : Entry). entry.0 ≤ life.connected + 1) life.conns (life.connected + 1, fresh)
+              (all_weaker (λ (entry : Entry). entry.0 ≤ life.connected)
+              (λ (entry : Entry). entry.0 ≤ life.connected + 1)
+              (λ entry less. omega (arith, less)) life.conns running.tied.made) (omega arith);
+          each = all_push (λ (entry : Entry). IsSoundConn life.past.peers entry.1) life.conns (
+            life.connected + 1,
+            fresh,
+          ) running.tied.each (record {
+            peer = found.0;
+            here = found.1;
+            arises = Starts;
+            once = none_twice (numbers_at (options_of found.0.conf) []) (numbers_none (options_of found.0.conf));
+          });
+          held = tie;
+          none = λ stopped. let never : true ≡ false = sym running.running ∙ stopped in cc;
+        };
+      };
+      armed = refl;
+      connected_is = sym is;
+      now = refl;
+    }
+
+  -- ---- it was refused
+
+  refused_so : (fault : Fault) (new_cs : List Connection) → new_cs ≡ cs → RefusesConnect name life fault life
+      → RefusedOn (RefusesConnect name) life fault old new_cs
+  refused_so fault new_cs same refuses = record {
+    later = life;
+    refuses = refuses;
+    stand = subst (AreRunning life old) (sym same) running;
+    armed = refl;
+    connected_is = refl;
+    now = refl;
+  }
+
+  pub connect_absent : place_of life.past name ≡ None → RefusedOn (RefusesConnect name) life NoPeer old cs
+  connect_absent none = refused_so NoPeer cs refl (inl (refl, none), refl)
+
+  pub connect_full : (place : ℕ) → place_of life.past name ≡ Some place → life.connected + 1 ≡ 2 ^ 64
+      → RefusedOn (RefusesConnect name) life CountFull old cs
+  connect_full place here full = refused_so CountFull cs refl (inr ((place, here), inl (refl, full)), refl)
+
+  pub connect_memory : (place : ℕ) (fault : Fault) (new_cs : List Connection) → place_of life.past name ≡ Some place
+      → life.connected + 1 < 2 ^ 64
+      → fault ≡ NoMemory → new_cs ≡ cs → RefusedOn (RefusesConnect name) life fault old new_cs
+  connect_memory place fault new_cs here fits memory same =
+      refused_so fault new_cs same (inr ((place, here), inr (memory, fits)), refl)

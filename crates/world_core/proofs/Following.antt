@@ -1,0 +1,150 @@
+-- What follows a step on a connection: its outcomes go to the peer one after another, and are told.
+use Rattle.std.proofs.Common.{
+  ◌≡◌,
+  ℕ,
+  List,
+  [],
+  ◌∷◌,
+  ◌++◌,
+  map,
+  refl,
+  sym,
+  ap,
+  ◌∙◌,
+  subst,
+  inl,
+  inr,
+  append_assoc,
+  append-nil,
+}
+use Rattle.std.specs.Prelude.{IfErr, IsErrAnd, Result, Ok, Err}
+use Rattle.disk_model.specs.declared.Disk.{Ghosts}
+use Rattle.feed_conf.specs.declared.conf.PeerConf.{PeerConf}
+use Rattle.conn_core.specs.History.{Event as Happening, Taken}
+use Rattle.conn_core.specs.declared.outcome.Outcome.{Outcome}
+use Rattle.world_core.specs.Past.{ConnPast, PeerPast, options_of}
+use Rattle.world_core.specs.Exchange.{untold, with_taken, with_transcript}
+use Rattle.world_core.specs.Pairs.{
+  FollowedNot,
+  Next,
+  PairStands,
+  SettledAll,
+  SettledNone,
+  SettledNot,
+  SettledOne,
+  SettledSome,
+  Start,
+  settled_said,
+}
+use Rattle.world_core.specs.Told.{Said, said_of}
+use Rattle.world_core.specs.declared.connection.Connection.{Connection}
+use Rattle.world_core.specs.declared.fault.Fault.{Fault}
+use Rattle.world_core.specs.declared.peer.Peer.{Peer}
+use Rattle.world_core.specs.declared.told.Told.{Told}
+use Rattle.world_core.proofs.Settling.{conf_settled}
+
+pub taken_more : (done : List Outcome) (outcome : Outcome) (h : List Happening)
+    → with_taken (done ++ outcome ∷ []) h ≡ Taken ∷ with_taken done h
+taken_more [] outcome h = refl
+taken_more (o ∷ done) outcome h = taken_more done outcome (Taken ∷ h)
+
+map_more : {A B : Type 0} (f : A → B) (xs : List A) (x : A) → map f (xs ++ x ∷ []) ≡ map f xs ++ f x ∷ []
+map_more f [] x = refl
+map_more f (y ∷ xs) x = ap (λ l. f y ∷ l) (map_more f xs x)
+
+-- what is told of an outcome rests on its peer's settings alone
+said_same : (id now : ℕ) (one other : PeerPast) (outcome : Outcome) → one.conf ≡ other.conf
+    → settled_said id now one outcome ≡ settled_said id now other outcome
+said_same id now one other outcome same = ap (λ (c : PeerConf). said_at c) same
+  where
+    said_at : PeerConf → Said
+    said_at c = settled_said id now (record other { conf = c }) outcome
+
+module _ {D : Type 0} {g : Ghosts D} where
+  pub settled_start : (id now : ℕ) (conn : ConnPast) (past : PeerPast) (connection : Connection) (peer : Peer D g)
+      (told : List Told)
+      → PairStands id conn past connection peer → SettledSome id now conn past told [] past connection peer told
+  settled_start id now conn past connection peer told pair = record {
+    split = refl;
+    settles = Start;
+    same_conf = refl;
+    told_is = sym (append-nil (map said_of told));
+    stand = pair;
+  }
+
+  module _ (id now : ℕ) (conn : ConnPast) (past : PeerPast) (was : List Told) (done : List Outcome)
+      (mid : PeerPast) where
+    pub settled_more : (old_c new_c : Connection) (old new : Peer D g) (told more : List Told)
+        → SettledSome id now conn past was done mid old_c old told
+        → SettledOne id now (with_transcript conn (with_taken done conn.transcript)) mid told new_c new more
+        → (done' : List Outcome) × (later : PeerPast) × SettledSome id now conn past was done' later new_c new more
+    settled_more old_c new_c old new told more some one =
+        let o = one.outcome in
+        let one_more = taken_more done o conn.transcript in
+        let next = subst (λ (c : PeerConf). untold (options_of c) (with_taken done conn.transcript)
+        ≡ o ∷ untold (options_of c) (Taken ∷ with_taken done conn.transcript)) some.same_conf one.next in (
+          done ++ o ∷ [],
+          one.later,
+          record {
+            split = some.split ∙ (ap (λ l. done ++ l) next ∙ (sym (append_assoc done (o ∷ []) _)
+                ∙ ap (λ (k : List Happening). (done ++ o ∷ []) ++ untold (options_of past.conf) k) (sym one_more)));
+            settles = Next done o mid one.later some.settles one.settles;
+            same_conf = ap (λ (p : PeerPast). p.conf) one.settles.changed ∙ (conf_settled now o mid ∙ some.same_conf);
+            told_is = one.told_is ∙ (ap (λ l. l ++ settled_said id now mid o ∷ []) some.told_is
+                ∙ (append_assoc (map said_of was) _ _ ∙ ap (λ l. map said_of was ++ l)
+                (ap (λ said. map (settled_said id now past) done ++ said ∷ [])
+                (said_same id now mid past o some.same_conf)
+                ∙ sym (map_more (settled_said id now past) done o))));
+            stand = subst (λ (k : List Happening). PairStands id (with_transcript conn k) one.later new_c new)
+                (sym one_more) one.stand;
+          },
+        )
+
+    pub settled_all : (old_c new_c : Connection) (old new : Peer D g) (told more : List Told)
+        → SettledSome id now conn past was done mid old_c old told
+        → SettledNone id (with_transcript conn (with_taken done conn.transcript)) mid told new_c new more
+        → SettledAll id now conn past was new_c new more
+    settled_all old_c new_c old new told more some none =
+        let left = subst (λ (c : PeerConf). untold (options_of c) (with_taken done conn.transcript) ≡ [])
+        some.same_conf none.none in
+        let all : untold (options_of past.conf) conn.transcript ≡ done =
+        some.split ∙ (ap (λ l. done ++ l) left ∙ append-nil done) in
+        record {
+          later = mid;
+          some = subst (λ (os : List Outcome). SettledSome id now conn past was os mid new_c new more) (sym all)
+              (record {
+                split = some.split;
+                settles = some.settles;
+                same_conf = some.same_conf;
+                told_is = none.told_is ∙ (append-nil (map said_of told) ∙ some.told_is);
+                stand = none.stand;
+              });
+          waits = none.waits;
+        }
+
+    pub settled_refused : (old_c new_c : Connection) (old new : Peer D g) (told : List Told) (fault : Fault)
+        → SettledSome id now conn past was done mid old_c old told
+        → SettledNot id now (with_transcript conn (with_taken done conn.transcript)) mid fault new_c new
+        → FollowedNot id now conn past fault new_c new
+    settled_refused old_c new_c old new told fault some not = record {
+      later_conn = with_transcript conn (with_taken done conn.transcript);
+      later = mid;
+      follows = record {
+        done = done;
+        left = untold (options_of mid.conf) (with_taken done conn.transcript);
+        split = subst (λ (c : PeerConf). untold (options_of past.conf) conn.transcript
+            ≡ done ++ untold (options_of c) (with_taken done conn.transcript)) (sym some.same_conf) some.split;
+        settles = some.settles;
+        why = elim not.why [
+          | inl memory ↦ inl memory
+          | inr end ↦ inr (end.0, untold (options_of mid.conf) (Taken ∷ with_taken done conn.transcript), end.1, end.2)
+        ];
+        changed = refl;
+      };
+      stand = not.stand;
+    }
+
+-- what was refused is told on
+pub if_err : {T E : Type 0} (r : Result T E) (P Q : E → Type 0) → IsErrAnd r P → ((e : E) → P e → Q e) → IfErr r Q
+if_err (Ok v) P Q is all = absurd is
+if_err (Err e) P Q is all = all e is

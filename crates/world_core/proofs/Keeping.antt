@@ -1,0 +1,226 @@
+-- What was acknowledged stays so over each event, and so over any of them one after another.
+use Rattle.std.proofs.Common.{
+  ◌≡◌,
+  ℕ,
+  zero,
+  suc,
+  ◌+◌,
+  ◌-◌,
+  ◌≤◌,
+  Some,
+  List,
+  [],
+  ◌∷◌,
+  ◌++◌,
+  length,
+  take,
+  drop,
+  refl,
+  sym,
+  ap,
+  ◌∙◌,
+  subst,
+  arith,
+  append_assoc,
+  append-nil,
+  take-append-drop,
+}
+use Rattle.std.proofs.Math.ListN.{set}
+use Rattle.std.specs.List.{AllZip, slice_get}
+use Rattle.ledger_core.specs.declared.note.Note.{Note}
+use Rattle.ledger_core.specs.declared.note.Note.TheVariants.{Drop, Final, Owe}
+use Rattle.peer_queue.specs.Shed.{dropped}
+use Rattle.peer_queue.specs.declared.limits.Owed.{Owed}
+use Rattle.peer_queue.specs.declared.limits.Owed.TheVariants.{New, Already}
+use Rattle.recovery.specs.Notes.{History, flushed, noted_all, recovered}
+use Rattle.world_core.specs.Past.{Past, PeerPast, TapePast, with_peer}
+use Rattle.world_core.specs.Events.{
+  Acknowledges,
+  AllDo,
+  Claims,
+  Does,
+  Event,
+  Opens,
+  OpensIntake,
+  Owes,
+  Parts,
+  Returns,
+  Rotates,
+  Sees,
+  Settles,
+  Sheds,
+}
+use Rattle.world_core.specs.Events.{owed_as, owing_as, settled_as, settling}
+use Rattle.peer_queue.specs.declared.settled.Settled.{Settled}
+use Rattle.peer_queue.specs.declared.settled.Settled.TheVariants.{Answered, Dropped, Later, Ready}
+use Rattle.peer_queue.specs.Settled.{number_in}
+use Rattle.world_core.specs.Events.AllDo.{Start, Next}
+use Rattle.world_core.specs.Keeping.{PeerStays, PeersStay}
+use Rattle.world_core.specs.Laws.{StaysAcknowledged}
+
+-- ---- one tape
+
+none_less : (n : ℕ) → 0 ≡ 0 - n
+none_less n = omega arith
+
+whole_less : (n : ℕ) → n ≡ n - 0
+whole_less n = omega arith
+
+both_less : (k n : ℕ) → k - n ≡ suc k - suc n
+both_less k n = omega arith
+
+take_less : {A : Type 0} (k : ℕ) (xs ys : List A) → take k (xs ++ ys) ≡ take k xs ++ take (k - length xs) ys
+take_less zero xs ys = ap (λ (n : ℕ). take n ys) (none_less (length xs))
+take_less (suc k) [] ys = ap (λ (n : ℕ). take n ys) (whole_less (suc k))
+take_less (suc k) (x ∷ xs) ys =
+    ap (λ l. x ∷ l) (take_less k xs ys ∙ ap (λ (n : ℕ). take k xs ++ take n ys) (both_less k (length xs)))
+
+take_whole : {A : Type 0} (xs : List A) → take (length xs) xs ≡ xs
+take_whole [] = refl
+take_whole (x ∷ xs) = ap (λ l. x ∷ l) (take_whole xs)
+
+take_twice : {A : Type 0} (k : ℕ) (xs : List A) → take k (take k xs) ≡ take k xs
+take_twice zero xs = refl
+take_twice (suc k) [] = refl
+take_twice (suc k) (x ∷ xs) = ap (λ l. x ∷ l) (take_twice k xs)
+
+take_up : {A : Type 0} (k n : ℕ) (xs : List A) → k ≤ n → take n xs ≡ take k xs ++ drop k (take n xs)
+take_up zero n xs le = refl
+take_up (suc k) zero xs le = absurd (omega (arith, le))
+take_up (suc k) (suc n) [] le = refl
+take_up (suc k) (suc n) (x ∷ xs) le = ap (λ l. x ∷ l) (take_up k n xs (omega (arith, le)))
+
+pub tape_same : (was now : TapePast) → now.history ≡ was.history → StaysAcknowledged was now
+tape_same was now same = record {
+  base = ap (λ (h : History). h.base) same;
+  more = [];
+  front = ap (λ (h : History). take h.kept h.notes) same ∙ sym (append-nil (take was.history.kept was.history.notes));
+}
+
+tape_noted : (was now : TapePast) (notes : List Note) → now.history ≡ noted_all was.history notes
+    → StaysAcknowledged was now
+tape_noted was now notes is = record {
+  base = ap (λ (h : History). h.base) is;
+  more = _;
+  front = ap (λ (h : History). take h.kept h.notes) is ∙ take_less was.history.kept was.history.notes notes;
+}
+
+tape_flushed : (was now : TapePast) → now.history ≡ flushed was.history → StaysAcknowledged was now
+tape_flushed was now is = record {
+  base = ap (λ (h : History). h.base) is;
+  more = _;
+  front = ap (λ (h : History). take h.kept h.notes) is ∙ take_whole was.history.notes
+      ∙ sym (take-append-drop was.history.kept was.history.notes);
+}
+
+tape_opened : (was now : TapePast) (count : ℕ) → was.history.kept ≤ count → now.history ≡ recovered was.history count
+    → StaysAcknowledged was now
+tape_opened was now count enough is = record {
+  base = ap (λ (h : History). h.base) is;
+  more = _;
+  front = ap (λ (h : History). take h.kept h.notes) is ∙ take_twice count was.history.notes
+      ∙ take_up was.history.kept count was.history.notes enough;
+}
+
+tape_then : (was mid now : TapePast) → StaysAcknowledged was mid → StaysAcknowledged mid now → StaysAcknowledged was now
+tape_then was mid now first second = record {
+  base = second.base ∙ first.base;
+  more = first.more ++ second.more;
+  front = second.front ∙ ap (λ l. l ++ second.more) first.front
+      ∙ append_assoc (take was.history.kept was.history.notes) first.more second.more;
+}
+
+-- ---- all peers
+
+pub peer_same : (peer : PeerPast) → PeerStays peer peer
+peer_same peer = (refl, tape_same peer.tape peer.tape refl)
+
+peers_same : (peers : List PeerPast) → AllZip PeerStays peers peers
+peers_same [] = tt
+peers_same (peer ∷ peers) = (peer_same peer, peers_same peers)
+
+peers_set : (peers : List PeerPast) (place : ℕ) (was now : PeerPast) → slice_get peers place ≡ Some was
+    → PeerStays was now
+    → AllZip PeerStays peers (set peers place now)
+peers_set [] place was now here stays = tt
+peers_set (peer ∷ peers) zero was now here stays =
+    let same : peer ≡ was = cc in
+    (subst (λ (p : PeerPast). PeerStays p now) (sym same) stays, peers_same peers)
+peers_set (peer ∷ peers) (suc place) was now here stays = (peer_same peer, peers_set peers place was now here stays)
+
+peers_then : (was mid now : List PeerPast) → AllZip PeerStays was mid → AllZip PeerStays mid now
+    → AllZip PeerStays was now
+peers_then [] [] now first second = second
+peers_then [] (peer ∷ mid) now first second = absurd first
+peers_then (peer ∷ was) [] now first second = absurd first
+peers_then (peer ∷ was) (other ∷ mid) [] first second = absurd second
+peers_then (peer ∷ was) (other ∷ mid) (last ∷ now) first second = (
+  (second.0.0 ∙ first.0.0, tape_then peer.tape other.tape last.tape first.0.1 second.0.1),
+  peers_then was mid now first.1 second.1,
+)
+
+pub stay_same : (was now : Past) → now.peers ≡ was.peers → PeersStay was now
+stay_same was now same = subst (AllZip PeerStays was.peers) (sym same) (peers_same was.peers)
+
+pub stay_then : (was mid now : Past) → PeersStay was mid → PeersStay mid now → PeersStay was now
+stay_then was mid now first second = peers_then was.peers mid.peers now.peers first second
+
+pub one_changed : (was now : Past) (place : ℕ) (peer new : PeerPast) → slice_get was.peers place ≡ Some peer
+    → now ≡ with_peer was place new
+    → PeerStays peer new → PeersStay was now
+one_changed was now place peer new here changed stays =
+    subst (λ (p : Past). PeersStay was p) (sym changed) (peers_set was.peers place peer new here stays)
+
+-- ---- each event
+
+owing_stays : (owed : Owed) (number : ℕ) (token id : List ℕ) (peer : PeerPast)
+    → PeerStays peer (owing_as owed number token id peer)
+owing_stays New number token id peer =
+    (refl, tape_noted peer.tape (owing_as New number token id peer).tape (Owe number token id ∷ []) refl)
+owing_stays Already number token id peer = peer_same peer
+
+settled_stays : (settled : Settled) (number : ℕ) (peer : PeerPast) → PeerStays peer (settled_as settled number peer)
+settled_stays (Answered code) number peer =
+    (refl, tape_noted peer.tape (settled_as (Answered code) number peer).tape (Final number code ∷ []) refl)
+settled_stays (Dropped cause) number peer =
+    (refl, tape_noted peer.tape (settled_as (Dropped cause) number peer).tape (Drop number cause ∷ []) refl)
+settled_stays (Later moment) number peer = (refl, tape_same peer.tape peer.tape refl)
+settled_stays Ready number peer = (refl, tape_same peer.tape peer.tape refl)
+
+history_of : (was now : TapePast) → was ≡ now → was.history ≡ now.history
+history_of was now same = ap (λ (t : TapePast). t.history) same
+
+pub event_stays : (event : Event) (was now : Past) → Does event was now → PeersStay was now
+event_stays (Owes place token id) was now does =
+    one_changed was now place does.peer _ does.here does.changed
+    (owing_stays (owed_as (was.last + 1) does.peer) (was.last + 1) token id does.peer)
+event_stays (Parts place) was now does =
+    one_changed was now place does.peer _ does.here does.changed
+    (refl, tape_flushed does.peer.tape does.tape (history_of _ _ does.flushes.all))
+event_stays (Rotates place generation) was now does =
+    one_changed was now place does.peer _ does.here does.changed
+    (refl, tape_flushed does.peer.tape does.tape (history_of _ _ does.rotates.all))
+event_stays (Sheds place numbers) was now does =
+    one_changed was now place does.peer _ does.here does.changed
+    (refl, tape_noted does.peer.tape _ (dropped numbers) refl)
+event_stays (Claims place id moment) was now does =
+    one_changed was now place does.peer _ does.here does.changed
+    (refl, tape_same does.peer.tape does.tape (history_of _ _ does.reads.all))
+event_stays (Returns place id number) was now does =
+    one_changed was now place does.peer _ does.here does.changed (refl, tape_same does.peer.tape does.peer.tape refl)
+event_stays (Settles place id moment outcome) was now does =
+    one_changed was now place does.peer _ does.here does.changed
+    (settled_stays (settling does.peer moment outcome) (number_in outcome) does.peer)
+event_stays (Sees number) was now does = stay_same was now (ap (λ (p : Past). p.peers) does.changed)
+event_stays Acknowledges was now does = stay_same was now (ap (λ (p : Past). p.peers) does.changed)
+event_stays (Opens place) was now does =
+    one_changed was now place does.peer _ does.here does.changed
+    (refl, tape_opened does.peer.tape does.tape does.opens.count does.opens.enough (history_of _ _ does.opens.all))
+event_stays OpensIntake was now does = stay_same was now (ap (λ (p : Past). p.peers) does.changed)
+
+-- ---- events one after another
+
+pub events_stay : (begun later : Past) (events : List Event) → AllDo begun events later → PeersStay begun later
+events_stay begun _ _ Start = stay_same begun begun refl
+events_stay begun _ _ (Next events event past later does one safe) =
+    stay_then begun past later (events_stay begun past events does) (event_stays event past later one)

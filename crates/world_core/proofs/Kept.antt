@@ -1,0 +1,71 @@
+-- The names of the peers stay, whatever happens.
+use Rattle.std.proofs.Common.{◌≡◌, ℕ, ◌+◌, Some, List, refl, ap, ◌∙◌}
+use Rattle.std.specs.List.{slice_get}
+use Rattle.world_core.specs.Past.{Past, PeerPast, with_peer}
+use Rattle.world_core.specs.Events.{
+  Acknowledges,
+  AllDo,
+  Claims,
+  Does,
+  Event,
+  Opens,
+  OpensIntake,
+  Owes,
+  Parts,
+  Returns,
+  Rotates,
+  Sees,
+  Settles,
+  Sheds,
+}
+use Rattle.world_core.specs.Events.{Next, Refuses, Start, owed_as}
+use Rattle.world_core.specs.Sound.{names_of}
+use Rattle.world_core.proofs.Pure.{map_set}
+use Rattle.world_core.proofs.Settling.{conf_settled}
+use Rattle.world_core.proofs.Sound.{owed_conf}
+
+pub names_put : (past later : Past) (place : ℕ) (was now : PeerPast) → slice_get past.peers place ≡ Some was
+    → now.conf ≡ was.conf → later ≡ with_peer past place now
+    → names_of later.peers ≡ names_of past.peers
+names_put past later place was now here same is =
+    ap (λ (p : Past). names_of p.peers) is
+    ∙ map_set (λ (peer : PeerPast). peer.conf.name) past.peers place was now here (ap (λ conf. conf.name) same)
+
+pub names_does : (event : Event) (past later : Past) → Does event past later
+    → names_of later.peers ≡ names_of past.peers
+names_does (Owes place token id) past later d =
+    names_put past later place d.peer _ d.here
+    (owed_conf (past.last + 1) token id d.peer (owed_as (past.last + 1) d.peer)) d.changed
+names_does (Parts place) past later d = names_put past later place d.peer _ d.here refl d.changed
+names_does (Rotates place generation) past later d = names_put past later place d.peer _ d.here refl d.changed
+names_does (Sheds place numbers) past later d = names_put past later place d.peer _ d.here refl d.changed
+names_does (Claims place id now) past later d = names_put past later place d.peer _ d.here refl d.changed
+names_does (Returns place id number) past later d = names_put past later place d.peer _ d.here refl d.changed
+names_does (Settles place id now outcome) past later d =
+    names_put past later place d.peer _ d.here
+    (conf_settled now outcome d.peer) d.changed
+names_does (Sees number) past later d = ap (λ (p : Past). names_of p.peers) d.changed
+names_does Acknowledges past later d = ap (λ (p : Past). names_of p.peers) d.changed
+names_does (Opens place) past later d = names_put past later place d.peer _ d.here refl d.changed
+names_does OpensIntake past later d = ap (λ (p : Past). names_of p.peers) d.changed
+
+pub names_all : (begun later : Past) (events : List Event) → AllDo begun events later
+    → names_of later.peers ≡ names_of begun.peers
+names_all begun later events Start = refl
+names_all begun later events (Next before event past last did does safe) =
+    names_does event past later does ∙ names_all begun past before did
+
+pub names_refuses : (event : Event) (past later : Past) (fault : _) → Refuses event past fault later
+    → names_of later.peers ≡ names_of past.peers
+names_refuses (Owes place token id) past later fault d = names_put past later place d.peer _ d.here refl d.changed
+names_refuses (Parts place) past later fault d = names_put past later place d.peer _ d.here refl d.changed
+names_refuses (Rotates place generation) past later fault d = names_put past later place d.peer _ d.here refl d.changed
+names_refuses (Sheds place numbers) past later fault d = names_put past later place d.peer _ d.here refl d.changed
+names_refuses (Claims place id now) past later fault d = names_put past later place d.peer _ d.here refl d.changed
+names_refuses (Returns place id number) past later fault d = names_put past later place d.peer _ d.here refl d.changed
+names_refuses (Settles place id now outcome) past later fault d =
+    names_put past later place d.peer _ d.here refl d.changed
+names_refuses (Sees number) past later fault d = ap (λ (p : Past). names_of p.peers) d.changed
+names_refuses Acknowledges past later fault d = ap (λ (p : Past). names_of p.peers) d.changed
+names_refuses (Opens place) past later fault d = names_put past later place d.peer _ d.here refl d.changed
+names_refuses OpensIntake past later fault d = ap (λ (p : Past). names_of p.peers) d.changed

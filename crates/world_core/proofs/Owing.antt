@@ -1,0 +1,238 @@
+-- What a line at a station makes of its peer.
+use Rattle.std.proofs.Common.{
+  ◌≡◌,
+  ◌≢◌,
+  ◌↔◌,
+  ℕ,
+  ◌<◌,
+  ◌≤◌,
+  Bool,
+  true,
+  false,
+  List,
+  [],
+  ◌∷◌,
+  ◌++◌,
+  if◌then◌else◌,
+  nat_lt,
+  refl,
+  sym,
+  ap,
+  ◌∙◌,
+  subst,
+  inl,
+  inr,
+}
+use Rattle.std.proofs.lemmas.Bool.{cases_lt, lt-ltb, le-ltb}
+use Rattle.disk_model.specs.declared.Disk.{Ghosts}
+use Rattle.ledger_core.specs.State.{State, Overflows}
+use Rattle.ledger_core.specs.declared.note.Note.{Note}
+use Rattle.ledger_core.specs.declared.note.Note.TheVariants.{Owe}
+use Rattle.ledger_core.specs.declared.ledger.LedgerFault.TheVariants.{CountFull}
+use Rattle.recovery.specs.Leaving.{broken_of}
+use Rattle.recovery.specs.LeavingLaws.{pends_by, same_disks}
+use Rattle.recovery.specs.Notes.{most_pending}
+use Rattle.recovery.specs.Words.{IsBroken, ledger_of, pending_of}
+use Rattle.recovery.specs.declared.tape.Tape.{Tape}
+use Rattle.recovery.specs.declared.fault.TapeFault.{TapeFault}
+use Rattle.recovery.specs.declared.fault.TapeFault.TheVariants.{
+  Damaged,
+  Disk,
+  Broken as BrokenTape,
+  TapeFull,
+  GenerationFull,
+  PendingFull,
+  NoMemory as NoTapeMemory,
+  Note as RefusedNote,
+}
+use Rattle.peer_queue.specs.Faults.{IsOweFault, IsOweTapeFault}
+use Rattle.peer_queue.specs.Place.{Places, Ready}
+use Rattle.peer_queue.specs.Words.{IsSame, Notes, limits_of as station_limits, places_of}
+use Rattle.peer_queue.specs.declared.fault.StationFault.{StationFault}
+use Rattle.peer_queue.specs.declared.fault.StationFault.TheVariants.{NotHeld, Broken, Tape as TapeRefused, NoMemory}
+use Rattle.peer_queue.specs.declared.limits.Owed.{Owed}
+use Rattle.peer_queue.specs.declared.limits.Owed.TheVariants.{Already, New}
+use Rattle.peer_queue.specs.declared.station.Station.{Station}
+use Rattle.world_core.specs.Past.{PeerPast, TapePast, mark_at}
+use Rattle.world_core.specs.Tapes.{HasRoom, RefusesOwe, noted_at}
+use Rattle.world_core.specs.Events.{owed_as}
+use Rattle.world_core.specs.Fault.{fault_of, fault_of_station}
+use Rattle.world_core.specs.Stands.{OwedNot, OwedTo, PeerStands, TapeStands}
+use Rattle.world_core.specs.declared.fault.Fault.{Fault}
+use Rattle.world_core.specs.declared.peer.Peer.{Peer}
+use Rattle.world_core.proofs.Peers.{same_tape, same_truth, tape_broken, tape_works}
+
+new_where : (number : ℕ) (past : PeerPast) (above : Bool) → nat_lt (mark_at past.tape) number ≡ above
+    → owed_as number past ≡ (if above then New else Already)
+new_where number past above e = ap (λ (b : Bool). if b then New else Already) e
+
+module _ {D : Type 0} {g : Ghosts D} where
+  -- one note more
+  pub noted_tape : (past : TapePast) (old new : Station D g) (note : Note) → TapeStands past old.tape
+      → Notes old new note
+      → TapeStands (noted_at past note) new.tape
+  noted_tape past old new note stands notes =
+      let here = same_disks new.tape old.tape notes.disks in
+      record {
+        stands = notes.stands past.history stands.stands;
+        log = here.0 ∙ stands.log;
+        faults = here.1 ∙ stands.faults;
+        broken = same_truth (broken_of old.tape) (broken_of new.tape) notes.works ∙ stands.broken;
+      }
+
+  -- nothing changed
+  pub same_peer : (past : PeerPast) (old new : Peer D g) → PeerStands past old → IsSame old.station new.station
+      → new.conf ≡ old.conf
+      → new.parted ≡ old.parted → PeerStands past new
+  same_peer past old new stands same conf parts = record {
+    conf = conf ∙ stands.conf;
+    limits = same.limits ∙ stands.limits;
+    tape = same_tape past.tape old.station new.station stands.tape (same.stands past.tape.history stands.tape.stands)
+        same;
+    places = same.places ∙ stands.places;
+    parted = parts ∙ stands.parted;
+  }
+
+  -- there is room where the tape has it
+  pub room_here : (past : TapePast) (tape : Tape D g) → TapeStands past tape → (IsBroken tape → ⊥)
+      → pending_of tape ≢ most_pending → HasRoom past
+  room_here past tape stands works room = λ full. room (pends_by tape past.history stands.stands works ∙ full)
+
+  pub no_room_here : (past : TapePast) (tape : Tape D g) → TapeStands past tape → (IsBroken tape → ⊥)
+      → pending_of tape ≡ most_pending
+      → HasRoom past → ⊥
+  no_room_here past tape stands works full = λ room. room (sym (pends_by tape past.history stands.stands works) ∙ full)
+
+  owed_new : (number : ℕ) (past : PeerPast) (token id : List ℕ) (old new : Peer D g) → PeerStands past old
+      → (IsBroken old.station.tape → ⊥)
+      → (ledger_of old.station.tape).mark < number → pending_of old.station.tape ≢ most_pending
+      → (Overflows (ledger_of old.station.tape) (Owe number token id) → ⊥)
+      → Notes old.station new.station (Owe number token id)
+      → places_of new.station ≡ places_of old.station ++ (number, Ready) ∷ [] → new.conf ≡ old.conf
+      → new.parted ≡ old.parted
+      → OwedTo number token id past New new
+  owed_new number past token id old new stands works above room fits notes places conf parts =
+      let mark : mark_at past.tape < number =
+      subst (λ (state : State). state.mark < number) stands.tape.stands.ledger above in
+      record {
+        works = tape_works past.tape old.station.tape stands.tape works;
+        owed_is = sym (new_where number past true (lt-ltb _ _ mark));
+        room = λ _. (
+          room_here past.tape old.station.tape stands.tape works room,
+          subst (λ (state : State). Overflows state (Owe number token id) → ⊥) stands.tape.stands.ledger fits,
+        );
+        stands = record {
+          conf = conf ∙ stands.conf;
+          limits = notes.limits ∙ stands.limits;
+          tape = noted_tape past.tape old.station new.station (Owe number token id) stands.tape notes;
+          places = places ∙ ap (λ (l : Places). l ++ (number, Ready) ∷ []) stands.places;
+          parted = parts ∙ stands.parted;
+        };
+      }
+
+  owed_old : (number : ℕ) (past : PeerPast) (token id : List ℕ) (peer : Peer D g) → PeerStands past peer
+      → (IsBroken peer.station.tape → ⊥)
+      → number ≤ (ledger_of peer.station.tape).mark → OwedTo number token id past Already peer
+  owed_old number past token id peer stands works below =
+      let mark : number ≤ mark_at past.tape =
+      subst (λ (state : State). number ≤ state.mark) stands.tape.stands.ledger below in
+      record {
+        works = tape_works past.tape peer.station.tape stands.tape works;
+        owed_is = sym (new_where number past false (le-ltb _ _ mark));
+        room = λ e. cc;
+        stands = stands;
+      }
+
+  -- what a station answered
+  pub owed_answered : (number : ℕ) (past : PeerPast) (token id : List ℕ) (old new : Peer D g) (owed : Owed)
+      → PeerStands past old
+      → (IsBroken old.station.tape → ⊥) → (owed ≡ Already → number ≤ (ledger_of old.station.tape).mark)
+      → (owed ≡ Already → new.station ≡ old.station)
+      → (owed ≡ New → Notes old.station new.station (Owe number token id))
+      → (owed ≡ New → places_of new.station ≡ places_of old.station ++ (number, Ready) ∷ [])
+      → (Overflows (ledger_of old.station.tape) (Owe number token id) → ⊥)
+      → ((ledger_of old.station.tape).mark < number → pending_of old.station.tape ≢ most_pending)
+      → new.conf ≡ old.conf → new.parted ≡ old.parted → OwedTo number token id past owed new
+  owed_answered number past token id old new New stands works below same notes places fits room conf parts =
+      let above = (notes refl).legal.1 in
+      owed_new number past token id old new stands works above (room above) fits (notes refl) (places refl) conf parts
+  owed_answered number past token id old new Already stands works below same notes places fits room conf parts =
+      let st = same refl in
+      let stays : PeerStands past new = record {
+        conf = conf ∙ stands.conf;
+        limits = ap (λ (s : Station D g). station_limits s) st ∙ stands.limits;
+        tape = subst (λ (s : Station D g). TapeStands past.tape s.tape) (sym st) stands.tape;
+        places = ap (λ (s : Station D g). places_of s) st ∙ stands.places;
+        parted = parts ∙ stands.parted;
+      } in
+      owed_old number past token id new stays (subst (λ (s : Station D g). IsBroken s.tape → ⊥) (sym st) works)
+      (subst (λ (s : Station D g). number ≤ (ledger_of s.tape).mark) (sym st) (below refl))
+
+  -- ---- refused
+
+  module _ (past : TapePast) (old : Station D g) (note : Note) (stands : TapeStands past old.tape) where
+    unowed_tape : (fault : TapeFault) (told : Fault) → told ≡ fault_of fault → (IsBroken old.tape → ⊥)
+        → (TapeRefused fault ≡ TapeRefused (RefusedNote CountFull) → Overflows (ledger_of old.tape) note)
+        → (TapeRefused fault ≡ TapeRefused PendingFull
+        → (pending_of old.tape ≡ most_pending) × (Overflows (ledger_of old.tape) note → ⊥))
+        → IsOweTapeFault fault → RefusesOwe past note told
+    unowed_tape (Damaged segment at) told e works full pending kind = absurd kind
+    unowed_tape Disk told e works full pending kind = absurd kind
+    unowed_tape BrokenTape told e works full pending kind = absurd kind
+    unowed_tape TapeFull told e works full pending kind = absurd kind
+    unowed_tape GenerationFull told e works full pending kind = absurd kind
+    unowed_tape PendingFull told e works full pending kind = inr (inr (inl (
+      e,
+      tape_works past old.tape stands works,
+      subst (λ (state : State). Overflows state note → ⊥) stands.stands.ledger (pending refl).1,
+      no_room_here past old.tape stands works (pending refl).0,
+    )))
+    unowed_tape NoTapeMemory told e works full pending kind = absurd kind
+    unowed_tape (RefusedNote fault) told e works full pending kind =
+        inr (inl (
+          e ∙ ap (λ f. fault_of (RefusedNote f)) kind,
+          tape_works past old.tape stands works,
+          subst (λ (state : State). Overflows state note) stands.stands.ledger
+              (full (ap (λ f. TapeRefused (RefusedNote f)) kind)),
+        ))
+
+    unowed : (fault : StationFault) (told : Fault) → told ≡ fault_of_station fault
+        → ((fault ≡ Broken) ↔ IsBroken old.tape)
+        → (fault ≡ TapeRefused (RefusedNote CountFull) → Overflows (ledger_of old.tape) note)
+        → (fault ≡ TapeRefused PendingFull
+        → (pending_of old.tape ≡ most_pending) × (Overflows (ledger_of old.tape) note → ⊥))
+        → IsOweFault fault → RefusesOwe past note told
+    unowed NotHeld told e broken full pending kind = absurd kind
+    unowed Broken told e broken full pending kind = inl (e, tape_broken past old.tape stands (broken.0 refl))
+    unowed (TapeRefused fault) told e broken full pending kind =
+        unowed_tape fault told e (λ b. let is : TapeRefused fault ≡ Broken = broken.1 b in cc) full pending kind
+    unowed NoMemory told e broken full pending kind =
+        inr (inr (inr (e, tape_works past old.tape stands (λ b. let is : NoMemory ≡ Broken = broken.1 b in cc))))
+
+  pub owed_refused : (past : PeerPast) (old new : Peer D g) (number : ℕ) (token id : List ℕ) → PeerStands past old
+      → IsSame old.station new.station
+      → new.conf ≡ old.conf → new.parted ≡ old.parted → (fault : StationFault) (told : Fault)
+      → told ≡ fault_of_station fault
+      → ((fault ≡ Broken) ↔ IsBroken old.station.tape)
+      → (fault ≡ TapeRefused (RefusedNote CountFull) → Overflows (ledger_of old.station.tape) (Owe number token id))
+      → (fault ≡ TapeRefused PendingFull
+      → (pending_of old.station.tape ≡ most_pending)
+      × (Overflows (ledger_of old.station.tape) (Owe number token id) → ⊥))
+      → IsOweFault fault → ((IsBroken old.station.tape → ⊥) → number ≤ (ledger_of old.station.tape).mark → ⊥)
+      → OwedNot number token id past told new
+  owed_refused past old new number token id stands same conf parts fault told e broken full pending kind never =
+      record {
+        refused = (
+          λ works. above_mark (λ b. let told_so = tape_broken past.tape old.station.tape stands.tape b in cc),
+          unowed past.tape old.station (Owe number token id) stands.tape fault told e broken full pending kind,
+          refl,
+        );
+        stands = same_peer past old new stands same conf parts;
+      }
+    where
+      above_mark : (IsBroken old.station.tape → ⊥) → owed_as number past ≡ New
+      above_mark works = elim (cases_lt (mark_at past.tape) number) [
+        | inl above ↦ new_where number past true (lt-ltb _ _ above)
+        | inr below ↦ absurd (never works
+            (subst (λ (state : State). number ≤ state.mark) (sym stands.tape.stands.ledger) below))
+      ]

@@ -1,0 +1,260 @@
+-- What the calls of a station make of its peer.
+use Rattle.std.proofs.Common.{
+  ◌≡◌,
+  ◌≢◌,
+  ◌↔◌,
+  ℕ,
+  ◌≤◌,
+  Bool,
+  true,
+  false,
+  List,
+  [],
+  ◌∷◌,
+  length,
+  refl,
+  sym,
+  ap,
+  ◌∙◌,
+  subst,
+  inl,
+  inr,
+  arith,
+}
+use Rattle.disk_model.specs.Disk.{Event as DiskEvent}
+use Rattle.disk_model.specs.declared.Disk.{Ghosts}
+use Rattle.ledger_core.specs.State.{State}
+use Rattle.recovery.specs.Notes.{flushed}
+use Rattle.recovery.specs.Pairs.{placed}
+use Rattle.recovery.specs.Tape.{IsRead, StandsFor}
+use Rattle.recovery.specs.Image.{Log, Survives, TapeLeaves}
+use Rattle.recovery.specs.Leaving.{HasLedger, IsFullBy, LedgersLeave, LiesLeft, broken_of, pending_notes}
+use Rattle.recovery.specs.LeavingLaws.{TapeLeaves-weaker, front_of_survives, full_by, pends_by, same_disks}
+use Rattle.recovery.specs.Words.{IsBroken, IsFull, OneHasRisen, live_log, log_of, other_log, pending_of, told_of}
+use Rattle.recovery.specs.declared.tape.Tape.{Tape}
+use Rattle.recovery.specs.declared.fault.TapeFault.{TapeFault}
+use Rattle.recovery.specs.declared.fault.TapeFault.TheVariants.{Disk, TapeFull}
+use Rattle.peer_queue.specs.Faults.{IsFlushFault}
+use Rattle.peer_queue.specs.Words.{IsSame}
+use Rattle.peer_queue.specs.declared.fault.StationFault.{StationFault}
+use Rattle.peer_queue.specs.declared.fault.StationFault.TheVariants.{NotHeld, Broken, Tape as TapeRefused, NoMemory}
+use Rattle.peer_queue.specs.declared.station.Station.{Station}
+use Rattle.world_core.specs.Past.{PeerPast, TapePast}
+use Rattle.world_core.specs.Safe.{KeepsNotes}
+use Rattle.world_core.specs.Tapes.{Breaks, IsFlushed, IsReadTape, MayFlush, RefusesFlush}
+use Rattle.world_core.specs.Fault.{fault_of_station}
+use Rattle.world_core.specs.Stands.{TapeStands}
+use Rattle.world_core.specs.declared.fault.Fault.{Fault}
+
+pub not_true : (b : Bool) → (b ≡ true → ⊥) → b ≡ false
+not_true true never = absurd (never refl)
+not_true false never = refl
+
+empty : {A : Type 0} (l : List A) → length l ≡ 0 → l ≡ []
+empty [] e = refl
+empty (x ∷ l) e = absurd (omega (arith, e))
+
+-- the moments of a call, told by ledgers
+pub keeps_moments : (past : PeerPast) (old new : Log) → TapeLeaves (Survives past.tape.history) old new
+    → LedgersLeave (KeepsNotes past) old new
+keeps_moments past old new moments =
+    TapeLeaves-weaker (Survives past.tape.history) (HasLedger (KeepsNotes past)) (front_of_survives past.tape.history)
+    old new moments
+
+module _ {D : Type 0} {g : Ghosts D} where
+  pub tape_works : (past : TapePast) (tape : Tape D g) → TapeStands past tape → (IsBroken tape → ⊥)
+      → past.broken ≡ false
+  tape_works past tape stands works = not_true past.broken (λ e. works (stands.broken ∙ e))
+
+  pub tape_broken : (past : TapePast) (tape : Tape D g) → TapeStands past tape → IsBroken tape → past.broken ≡ true
+  tape_broken past tape stands broken = sym stands.broken ∙ broken
+
+  -- ---- what a flush of a tape that works is told by
+
+  module _ (lies : LiesLeft g) (past : TapePast) (tape : Tape D g) (stands : TapeStands past tape)
+      (works : IsBroken tape → ⊥) where
+    -- it is full exactly where what lies on its disks and its history say so
+    pub full_there : IsFullBy past.log past.history → IsFull tape
+    full_there full = (full_by tape past.history lies stands.stands works).1
+        (subst (λ (log : Log). IsFullBy log past.history) (sym stands.log) full)
+
+    pub full_here : IsFull tape → IsFullBy past.log past.history
+    full_here full = subst (λ (log : Log). IsFullBy log past.history) stands.log
+        ((full_by tape past.history lies stands.stands works).0 full)
+
+    -- none pends at the tape exactly where none does in its history
+    pub none_there : pending_notes past.history ≡ [] → pending_of tape ≡ 0
+    none_there none = omega (arith, pends_by tape past.history stands.stands works, ap length none)
+
+    pub none_here : pending_of tape ≡ 0 → pending_notes past.history ≡ []
+    none_here none = empty (pending_notes past.history)
+        (omega (arith, pends_by tape past.history stands.stands works, none))
+
+  module _ (lies : LiesLeft g) (P : State
+      → Type 0) (past : TapePast) (old new : Tape D g) (stands : TapeStands past old)
+      (moments : LedgersLeave P (log_of old) (log_of new)) where
+    from_past : LedgersLeave P past.log (log_of new)
+    from_past = subst (λ (log : Log). LedgersLeave P log (log_of new)) stands.log moments
+
+    -- a flush that answered Ok
+    pub flushed_as : (IsBroken old → ⊥) → (IsBroken new → ⊥) → (IsFull old → ⊥) → (pending_of old ≡ 0 → new ≡ old)
+        → StandsFor new (flushed past.history)
+        → told_of new ≡ told_of old
+        → IsFlushed P past (record {
+          history = flushed past.history;
+          log = log_of new;
+          faults = past.faults;
+          broken =
+              false;
+        })
+        × TapeStands (record {
+          history = flushed past.history;
+          log = log_of new;
+          faults = past.faults;
+          broken =
+              false;
+        }) new
+    flushed_as worked works fits idle is told = (
+      record {
+        worked = tape_works past old stands worked;
+        fits = λ full. fits (full_there lies past old stands worked full);
+        idle = λ none. ap log_of (idle (none_there lies past old stands worked none)) ∙ stands.log;
+        moments = from_past;
+        all = refl;
+      },
+      record { stands = is; log = refl; faults = told ∙ stands.faults; broken = not_true (broken_of new) works },
+    )
+
+    -- a disk told a fault
+    pub broke_as : (IsBroken old → ⊥) → IsBroken new → OneHasRisen (told_of old) (told_of new)
+        → StandsFor new past.history
+        → Breaks P past (record { history = past.history; log = log_of new; faults = told_of new; broken = true })
+        × TapeStands (record { history = past.history; log = log_of new; faults = told_of new; broken = true }) new
+    broke_as worked broke risen is = (
+      record {
+        worked = tape_works past old stands worked;
+        cause = subst (λ (faults : ℕ × ℕ). OneHasRisen faults (told_of new)) stands.faults risen;
+        moments = from_past;
+        all = refl;
+      },
+      record { stands = is; log = refl; faults = refl; broken = broke },
+    )
+
+-- a flush of a tape was refused
+pub record FlushedNot {D : Type 0} {g : Ghosts D} (P : State
+    → Type 0) (past : TapePast) (fault : Fault) (tape : Tape D g) : Type 0 where
+  pub later : TapePast
+  pub refused : RefusesFlush P past fault later
+  pub stands : TapeStands later tape
+
+pub same_truth : (one other : Bool) → (one ≡ true ↔ other ≡ true) → other ≡ one
+same_truth true other both = both.0 refl
+same_truth false true both = sym (both.1 refl)
+same_truth false false both = refl
+
+-- a tape that was read, as it is now
+abbrev pub read_now : {D : Type 0} {g : Ghosts D} → TapePast → Tape D g → TapePast
+read_now past tape = record past { faults = told_of tape }
+
+module _ {D : Type 0} {g : Ghosts D} where
+  -- it was read
+  pub read_tape : (past : TapePast) (old new : Tape D g) → TapeStands past old → IsRead old new
+      → IsReadTape past (read_now past new) × TapeStands (read_now past new) new
+  read_tape past old new stands reads =
+      let logs : log_of new ≡ log_of old = ap (λ (s : Bool). placed s (live_log new) (other_log new)) reads.second
+      ∙ (ap (λ (l : List DiskEvent). placed old.segments.second l (other_log new)) (reads.log stands.stands.honest)
+      ∙ ap (λ (d : D). placed old.segments.second (live_log old) (g.log d)) reads.other) in (
+        record {
+          first = subst (λ (n : ℕ × ℕ). n.0 ≤ (told_of new).0) stands.faults reads.continues.first;
+          second = subst (λ (n : ℕ × ℕ). n.1 ≤ (told_of new).1) stands.faults reads.continues.second;
+          all = refl;
+        },
+        record {
+          stands = reads.stands past.history stands.stands;
+          log = logs ∙ stands.log;
+          faults = refl;
+          broken = same_truth (broken_of old) (broken_of new) reads.works ∙ stands.broken;
+        },
+      )
+
+  -- nothing changed
+  pub same_tape : (past : TapePast) (old new : Station D g) → TapeStands past old.tape
+      → StandsFor new.tape past.history → IsSame old new
+      → TapeStands past new.tape
+  same_tape past old new stands is same =
+      let here = same_disks new.tape old.tape same.disks in
+      record {
+        stands = is;
+        log = here.0 ∙ stands.log;
+        faults = here.1 ∙ stands.faults;
+        broken = same_truth (broken_of old.tape) (broken_of new.tape) same.works ∙ stands.broken;
+      }
+
+  module _ (lies : LiesLeft g) (P : State
+      → Type 0) (past : TapePast) (old new : Station D g) (stands : TapeStands past old.tape)
+      (moments : LedgersLeave P (log_of old.tape) (log_of new.tape)) (is : StandsFor new.tape past.history) where
+    -- something pends, and there is room for it
+    may_flush : (IsBroken old.tape → ⊥) → (IsFull old.tape → ⊥) → (pending_of old.tape ≡ 0 → ⊥) → MayFlush past
+    may_flush works fits some = (
+      λ none. some (none_there lies past old.tape stands works none),
+      λ full. fits (full_there lies past old.tape stands works full),
+    )
+
+    pub unflushed_as : (fault : StationFault) (told : Fault) → told ≡ fault_of_station fault
+        → ((fault ≡ Broken) ↔ IsBroken old.tape)
+        → ((fault ≡ TapeRefused TapeFull) ↔ ((IsBroken old.tape → ⊥) × IsFull old.tape))
+        → (pending_of old.tape ≡ 0 → (IsBroken old.tape → ⊥) → ⊥) → IsFlushFault fault
+        → (fault ≢ TapeRefused Disk → IsSame old new) → (fault ≡ TapeRefused Disk → IsBroken new.tape)
+        → (fault ≡ TapeRefused Disk → OneHasRisen (told_of old.tape) (told_of new.tape))
+        → FlushedNot P past told new.tape
+    unflushed_as NotHeld told e broken full idle kind same breaks cause = absurd kind
+    unflushed_as Broken told e broken full idle kind same breaks cause = record {
+      later = past;
+      refused = inl (e, tape_broken past old.tape stands (broken.0 refl), refl);
+      stands = same_tape past old new stands is (same (λ is. cc));
+    }
+    unflushed_as (TapeRefused fault) told e broken full idle kind same breaks cause =
+        let works : IsBroken old.tape → ⊥ = λ b. let never : TapeRefused fault ≡ Broken = broken.1 b in cc in
+        elim kind [
+          | inl long ↦ record {
+            later = past;
+            refused = inr (inl (
+              e ∙ ap (λ f. fault_of_station (TapeRefused f)) long,
+              tape_works past old.tape stands works,
+              full_here lies past old.tape stands works (full.0 (ap TapeRefused long)).1,
+              refl,
+            ));
+            stands = same_tape past old new stands is
+                (same (λ never. let clash : TapeFull ≡ Disk = sym long ∙ refused_once never in cc));
+          }
+          | inr disk ↦
+              let told_so : TapeRefused fault ≡ TapeRefused Disk = ap TapeRefused disk in
+              let done = broke_as lies P past old.tape new.tape stands moments works (breaks told_so) (cause told_so)
+              is in
+              record {
+                later = _;
+                refused = inr (inr (inr (
+                  e ∙ ap (λ f. fault_of_station (TapeRefused f)) disk,
+                  may_flush works (λ f. let never : TapeRefused fault ≡ TapeRefused TapeFull = full.1 (works, f) in
+                      let clash : TapeFull ≡ Disk = sym (refused_once never) ∙ disk in cc) (λ none. idle none works),
+                  done.0,
+                )));
+                stands = done.1;
+              }
+        ]
+      where
+        refused_once : {one other : TapeFault} → TapeRefused one ≡ TapeRefused other → one ≡ other
+        refused_once same = cc
+    unflushed_as NoMemory told e broken full idle kind same breaks cause =
+        let works : IsBroken old.tape → ⊥ = λ b. let never : NoMemory ≡ Broken = broken.1 b in cc in
+        record {
+          later = past;
+          refused = inr (inr (inl (
+            e,
+            tape_works past old.tape stands works,
+            may_flush works (λ f. let never : NoMemory ≡ TapeRefused TapeFull = full.1 (works, f) in
+                cc) (λ none. idle none works),
+            refl,
+          )));
+          stands = same_tape past old new stands is (same (λ is. cc));
+        }

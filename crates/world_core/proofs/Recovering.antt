@@ -1,0 +1,201 @@
+-- Whatever a stop leaves after a run is recovered as the debts after the first of a peer's notes, every acknowledged
+-- one among them.
+use Rattle.std.proofs.Common.{
+  ◌≡◌,
+  ◌⊎◌,
+  ℕ,
+  zero,
+  suc,
+  ◌<◌,
+  Bool,
+  true,
+  false,
+  cond,
+  not,
+  Some,
+  List,
+  [],
+  ◌∷◌,
+  ◌++◌,
+  take,
+  refl,
+  sym,
+  ap,
+  ◌∙◌,
+  subst,
+  inl,
+  inr,
+  arith,
+}
+use Rattle.std.specs.Prelude.{◌==◌, Contains}
+use Rattle.std.proofs.lemmas.Bool.{cases_eq, eqb-true}
+use Rattle.std.specs.List.{AllByRecursion, AllZip, slice_get}
+use Rattle.ledger_core.specs.State.{Owing, State, after, step, without}
+use Rattle.ledger_core.specs.declared.note.Note.{Note}
+use Rattle.ledger_core.specs.declared.note.Note.TheVariants.{Drop, Final, Owe, Seen}
+use Rattle.peer_queue.specs.Words.{IsEnd}
+use Rattle.recovery.specs.Leaving.{EachLedger}
+use Rattle.recovery.specs.LeavingLaws.{each_may}
+use Rattle.world_core.specs.Past.{Life, PeerPast}
+use Rattle.world_core.specs.Safe.{IsSafe, KeepsNotes}
+use Rattle.world_core.specs.Laws.{AllAreRecovered, IsRecovered, OverRuns}
+use Rattle.world_core.specs.Keeping.{PeerStays}
+use Rattle.world_core.specs.Runs.{Runs}
+use Rattle.world_core.specs.Runs.Runs.{Start, Next}
+use Rattle.world_core.specs.Told.{Said}
+use Rattle.world_core.specs.declared.step.Step.{Step}
+use Rattle.world_core.proofs.Chains.{get_left}
+use Rattle.world_core.proofs.Holding.{contains_first, contains_more}
+use Rattle.world_core.proofs.Running.{all_stay}
+
+-- ---- the elements of a list
+
+module _ {A : Type 0} where
+  contains_left : (xs ys : List A) (x : A) → Contains xs x → Contains (xs ++ ys) x
+  contains_left [] ys x (k, below, is) = absurd (omega (arith, below))
+  contains_left (y ∷ xs) ys x (zero, below, is) = (zero, omega arith, is)
+  contains_left (y ∷ xs) ys x (suc k, below, is) =
+      contains_more (xs ++ ys) y x (contains_left xs ys x (k, omega (arith, below), is))
+
+  contains_last : (xs : List A) (x : A) → Contains (xs ++ x ∷ []) x
+  contains_last [] x = contains_first [] x
+  contains_last (y ∷ xs) x = contains_more (xs ++ x ∷ []) y x (contains_last xs x)
+
+  pub contains_taken : (k : ℕ) (xs : List A) (x : A) → Contains (take k xs) x → Contains xs x
+  contains_taken zero xs x (i, below, is) = absurd (omega (arith, below))
+  contains_taken (suc k) [] x has = has
+  contains_taken (suc k) (y ∷ xs) x (zero, below, is) = (zero, omega arith, is)
+  contains_taken (suc k) (y ∷ xs) x (suc i, below, is) =
+      contains_more xs y x (contains_taken k xs x (i, omega (arith, below), is))
+
+  -- what is among the first stands there, and what stands below is among them
+  get_taken : (k : ℕ) (xs : List A) (i : ℕ) (x : A) → slice_get (take k xs) i ≡ Some x
+      → (i < k) × (slice_get xs i ≡ Some x)
+  get_taken zero xs i x here = absurd cc
+  get_taken (suc k) [] i x here = absurd cc
+  get_taken (suc k) (y ∷ xs) zero x here = (omega arith, here)
+  get_taken (suc k) (y ∷ xs) (suc i) x here =
+      let is = get_taken k xs i x here in
+      (omega (arith, is.0), is.1)
+
+  get_below : (k : ℕ) (xs : List A) (i : ℕ) (x : A) → i < k → slice_get xs i ≡ Some x → slice_get (take k xs) i ≡ Some x
+  get_below zero xs i x below here = absurd (omega (arith, below))
+  get_below (suc k) [] i x below here = absurd cc
+  get_below (suc k) (y ∷ xs) zero x below here = here
+  get_below (suc k) (y ∷ xs) (suc i) x below here = get_below k xs i x (omega (arith, below)) here
+
+-- ---- debts
+
+-- a debt of another number stays
+stays_step : (b : Bool) (e d : Owing) (rest : List Owing) → (d ≡ e → b ≡ false) → Contains (e ∷ []) d
+    → Contains (cond (not b) (e ∷ rest) rest) d
+stays_step true e d rest apart (zero, below, is) = absurd (let no = apart (sym is) in cc)
+stays_step true e d rest apart (suc k, below, is) = absurd (omega (arith, below))
+stays_step false e d rest apart (zero, below, is) = (zero, omega arith, is)
+stays_step false e d rest apart (suc k, below, is) = absurd (omega (arith, below))
+
+goes_step : (b : Bool) (e d : Owing) (rest : List Owing) → Contains rest d → Contains (cond (not b) (e ∷ rest) rest) d
+goes_step true e d rest has = has
+goes_step false e d rest has = contains_more rest e d has
+
+stays : (number : ℕ) (debts : List Owing) (d : Owing) → (d.0 ≡ number → ⊥) → Contains debts d
+    → Contains (without number debts) d
+stays number [] d apart has = has
+stays number (e ∷ debts) d apart (zero, below, is) =
+    stays_step (e.0 == number) e d (without number debts) (λ same. other (e.0 == number) refl same)
+    (zero, omega arith, is)
+  where
+    other : (b : Bool) → (e.0 == number) ≡ b → d ≡ e → b ≡ false
+    other true hit same = absurd (apart (ap (λ (x : Owing). x.0) same ∙ eqb-true e.0 number hit))
+    other false miss same = refl
+stays number (e ∷ debts) d apart (suc k, below, is) =
+    goes_step (e.0 == number) e d (without number debts) (stays number debts d apart (k, omega (arith, below), is))
+
+-- among these notes is one that ends the debt of this number
+abbrev Ends : List Note → ℕ → Type 0
+Ends notes number = (note : Note) × Contains notes note × IsEnd note number
+
+ends_more : (note : Note) (notes : List Note) (number : ℕ) → Ends notes number → Ends (note ∷ notes) number
+ends_more note notes number (one, among, is) = (one, contains_more notes note one among, is)
+
+behind : (X : Type 0) (note : Note) (notes : List Note) (number : ℕ) → X ⊎ Ends notes number
+    → X ⊎ Ends (note ∷ notes) number
+behind X note notes number (inl owed) = inl owed
+behind X note notes number (inr ends) = inr (ends_more note notes number ends)
+
+-- a debt that is owed stays so, or one of the notes ends it
+owed_on : (state : State) (notes : List Note) (number : ℕ) (token id : List ℕ)
+    → Contains state.debts (number, (token, id))
+    → Contains (after state notes).debts (number, (token, id)) ⊎ Ends notes number
+owed_on state [] number token id has = inl has
+owed_on state (Owe n t i ∷ notes) number token id has =
+    behind _ (Owe n t i) notes number
+    (owed_on (step state (Owe n t i)) notes number token id
+    (contains_left state.debts ((n, (t, i)) ∷ []) (number, (token, id)) has))
+owed_on state (Final n code ∷ notes) number token id has = elim (cases_eq number n) [
+  | inl same ↦ inr (Final n code, contains_first notes (Final n code), sym same)
+  | inr apart ↦ behind _ (Final n code) notes number
+      (owed_on (step state (Final n code)) notes number token id (stays n state.debts (number, (token, id)) apart has))
+]
+owed_on state (Drop n cause ∷ notes) number token id has = elim (cases_eq number n) [
+  | inl same ↦ inr (Drop n cause, contains_first notes (Drop n cause), sym same)
+  | inr apart ↦ behind _ (Drop n cause) notes number
+      (owed_on (step state (Drop n cause)) notes number token id (stays n state.debts (number, (token, id)) apart has))
+]
+owed_on state (Seen n ∷ notes) number token id has =
+    behind _ (Seen n) notes number (owed_on (step state (Seen n)) notes number token id has)
+
+-- so does one that a note among them owes
+owed_by : (state : State) (notes : List Note) (index number : ℕ) (token id : List ℕ)
+    → slice_get notes index ≡ Some (Owe number token id)
+    → Contains (after state notes).debts (number, (token, id)) ⊎ Ends notes number
+owed_by state [] index number token id here = absurd cc
+owed_by state (note ∷ notes) zero number token id here =
+    let same : note ≡ Owe number token id = cc in
+    subst (λ (n : Note). Contains (after state (n ∷ notes)).debts (number, (token, id)) ⊎ Ends (n ∷ notes) number)
+    (sym same)
+    (behind _ (Owe number token id) notes number
+    (owed_on (step state (Owe number token id)) notes number token id
+    (contains_last state.debts (number, (token, id)))))
+owed_by state (note ∷ notes) (suc index) number token id here =
+    behind _ note notes number (owed_by (step state note) notes index number token id here)
+
+-- ---- a peer
+
+recovered : (was now : PeerPast) → PeerStays was now → EachLedger (KeepsNotes now) now.tape.log → IsRecovered was now
+recovered was now stays safe = record {
+  front = λ state may. each_may (KeepsNotes now) now.tape.log state safe may;
+  owed = λ index number token id here below state may.
+      let front = each_may (KeepsNotes now) now.tape.log state safe may in
+      let note = Owe number token id in
+      let first : slice_get (take now.tape.history.kept now.tape.history.notes) index ≡ Some note =
+      subst (λ (notes : List Note). slice_get notes index ≡ Some note) (sym stays.1.front)
+      (get_left (take was.tape.history.kept was.tape.history.notes) stays.1.more index note
+      (get_below was.tape.history.kept was.tape.history.notes index note below here)) in
+      let there = get_taken now.tape.history.kept now.tape.history.notes index note first in
+      let among = get_below front.count now.tape.history.notes index note (omega (arith, there.0, front.enough))
+      there.1 in
+      elim (owed_by now.tape.history.base (take front.count now.tape.history.notes) index number token id among) [
+        | inl owed ↦ inl (subst (λ (s : State). Contains s.debts (number, (token, id))) (sym front.is) owed)
+        | inr ends ↦ inr (ends.0, contains_taken front.count now.tape.history.notes ends.0 ends.1, ends.2)
+      ];
+}
+
+all_recovered : (was now : List PeerPast) → AllZip PeerStays was now
+    → AllByRecursion (λ (peer : PeerPast). EachLedger (KeepsNotes peer) peer.tape.log) now → AllZip IsRecovered was now
+all_recovered [] [] stay safe = tt
+all_recovered [] (b ∷ now) stay safe = absurd stay
+all_recovered (a ∷ was) [] stay safe = absurd stay
+all_recovered (a ∷ was) (b ∷ now) stay safe = (recovered a b stay.0 safe.0, all_recovered was now stay.1 safe.1)
+
+-- ---- runs
+
+pub runs_safe : (begun : Life) (steps : List Step) (lines : List (List Said)) (later : Life)
+    → Runs begun steps lines later → IsSafe later.past
+runs_safe begun _ _ _ (Start safe) = safe
+runs_safe begun _ _ _ (Next steps step lines told life later runs takes safe) = safe
+
+pub recover_all : OverRuns AllAreRecovered
+recover_all = λ begun later steps lines sound runs.
+    all_recovered begun.past.peers later.past.peers (all_stay begun later steps lines sound runs).peers
+    (runs_safe begun steps lines later runs).peers

@@ -1,0 +1,214 @@
+-- Worked scripts, computed: what each step tells, what each peer has noted, and how much of it is acknowledged.
+use Rattle.std.proofs.Common.{◌≡◌, ℕ, ◌+◌, true, false, None, Some, List, [], ◌∷◌, ◌++◌, length, map, refl}
+use Rattle.std.specs.Prelude.{codes, if◌then◌else◌}
+use Rattle.disk_model.specs.declared.choice.Choice.{Choice}
+use Rattle.disk_model.specs.Disk.Event.{Made, Synced, Wrote}
+use Rattle.feed_conf.specs.declared.conf.PeerConf.{PeerConf}
+use Rattle.ledger_core.specs.State.{numbers}
+use Rattle.recovery.specs.Notes.{begun as begun_history, flushed, recovered}
+use Rattle.peer_queue.specs.Place.{Ready}
+use Rattle.peer_queue.specs.declared.limits.Owed.TheVariants.{Already, New}
+use Rattle.world_core.specs.Past.{Armed, Life, Past, PeerPast, TapePast, ledger_at, mark_at}
+use Rattle.world_core.specs.Events.{
+  Acknowledges,
+  Opens,
+  OpensIntake,
+  Owes,
+  Parts,
+  Sees,
+  opened_peer,
+  owed_as,
+  owing_as,
+  parted,
+  seen,
+}
+use Rattle.world_core.specs.Halts.{AtRest, ByChoice, armed_with, halted, left, restart_events}
+use Rattle.world_core.specs.Steps.{begun_at, flush_events, is_named, line_events, owed_there}
+use Rattle.world_core.specs.Told.{Mark, Owed, Said, lines_in, mark_said}
+
+-- ---- what the events of a step that goes well leave
+
+-- what a good line leaves
+abbrev lined : List ℕ → List ℕ → List (List ℕ) → Past → Past
+lined token id named past = record past {
+  peers = map (λ (peer : PeerPast).
+      if is_named named peer then owing_as (owed_as (past.last + 1) peer) (past.last + 1) token id peer else peer)
+      past.peers;
+  last = past.last + 1;
+}
+
+-- what it tells
+abbrev line_said : List (List ℕ) → Past → Said
+line_said named past = Owed (past.last + 1) (owed_there (past.last + 1) named past.peers)
+
+-- a tape that was flushed
+abbrev flushed_tape : TapePast → TapePast
+flushed_tape tape = record tape { history = flushed tape.history }
+
+-- each peer was flushed
+abbrev all_parted : Past → Past
+all_parted past = record past { peers = map (λ (peer : PeerPast). parted peer (flushed_tape peer.tape)) past.peers }
+
+-- this number was sealed
+abbrev sealed : ℕ → Past → Past
+sealed number past = record past { intake = flushed_tape (seen number past.intake) }
+
+-- a tape of which so many notes were found
+abbrev opened_tape : ℕ → TapePast → TapePast
+opened_tape count tape = record tape { history = recovered tape.history count }
+
+abbrev opened_peers : List ℕ → List PeerPast → List PeerPast
+opened_peers [] peers = []
+opened_peers (count ∷ counts) [] = []
+opened_peers (count ∷ counts) (peer ∷ peers) =
+    opened_peer peer (opened_tape count peer.tape) ∷ opened_peers counts peers
+
+-- all tapes were opened again
+abbrev restarted : List ℕ → ℕ → Past → Past
+restarted counts count past =
+    let intake = opened_tape count past.intake in
+    record { peers = opened_peers counts past.peers; intake = intake; last = mark_at intake; begun = None }
+
+-- what each peer has: its mark, what it is owed, and how many of its notes are acknowledged
+abbrev standing : Past → List (ℕ × (List ℕ × ℕ))
+standing past = map (λ (peer : PeerPast).
+    (mark_at peer.tape, (numbers (ledger_at peer.tape), peer.tape.history.kept))) past.peers
+
+-- ---- output
+
+-- each line up to its LF, without its CR; octets behind the last LF are none
+two_lines : lines_in (codes "CHECK <x@y>" ++ 13 ∷ 10 ∷ codes ".." ++ 10 ∷ codes "Q")
+    ≡ codes "CHECK <x@y>" ∷ codes ".." ∷ []
+two_lines = refl
+
+module _ (conf : PeerConf) where
+  abbrev tape : TapePast
+  tape = record { history = begun_history; log = ([], []); faults = (0, 0); broken = false }
+
+  abbrev peer : List ℕ → PeerPast
+  peer name = record { conf = record conf { name = name }; tape = tape; places = []; parted = false }
+
+  abbrev two : Past
+  two = record { peers = peer (codes "p") ∷ peer (codes "q") ∷ []; intake = tape; last = 0; begun = None }
+
+  -- a line to both peers, one of them named twice: two events, and both owe it
+  abbrev named : List (List ℕ)
+  named = codes "p" ∷ codes "q" ∷ codes "p" ∷ []
+
+  line_has : line_events (codes "a/1") (codes "<x@y>") named two
+      ≡ Owes 0 (codes "a/1") (codes "<x@y>") ∷ Owes 1 (codes "a/1") (codes "<x@y>") ∷ []
+  line_has = refl
+
+  line_has_one : line_events (codes "a/1") (codes "<x@y>") (codes "q" ∷ codes "other" ∷ []) two
+      ≡ Owes 1 (codes "a/1") (codes "<x@y>") ∷ []
+  line_has_one = refl
+
+  abbrev both : Past
+  both = lined (codes "a/1") (codes "<x@y>") named two
+
+  line_tells : line_said named two ≡ Owed 1 ((codes "p", New) ∷ (codes "q", New) ∷ [])
+  line_tells = refl
+
+  -- a flush: each peer by name, the number, the intake
+  flush_has : flush_events both ≡ Parts 0 ∷ Parts 1 ∷ Sees 1 ∷ Acknowledges ∷ []
+  flush_has = refl
+
+  abbrev acknowledged : Past
+  acknowledged = sealed 1 (all_parted (begun_at both))
+
+  flush_tells : mark_at acknowledged.intake ≡ 1
+  flush_tells = refl
+
+  flush_leaves : standing acknowledged ≡ (1, (1 ∷ [], 1)) ∷ (1, (1 ∷ [], 1)) ∷ []
+  flush_leaves = refl
+
+  -- a stop at rest, and a restart: the same is owed, and all of it is ready
+  restart_has : restart_events acknowledged ≡ Opens 0 ∷ Opens 1 ∷ OpensIntake ∷ []
+  restart_has = refl
+
+  restart_leaves : map (λ (p : PeerPast). p.places) (restarted (1 ∷ 1 ∷ []) 1 (left AtRest acknowledged)).peers
+      ≡ ((1, Ready) ∷ []) ∷ ((1, Ready) ∷ []) ∷ []
+  restart_leaves = refl
+
+  restart_tells : map mark_said (restarted (1 ∷ 1 ∷ []) 1 (left AtRest acknowledged)).peers
+      ≡ Mark (codes "p") 1 (1 ∷ []) ∷ Mark (codes "q") 1 (1 ∷ []) ∷ []
+  restart_tells = refl
+
+  -- a stop at the flush of the second peer: the first has its note, the second has not, and the line given again is
+  -- new there alone
+  abbrev half : Past
+  half = restarted (1 ∷ 0 ∷ []) 0 (left AtRest both)
+
+  half_stands : standing half ≡ (1, (1 ∷ [], 1)) ∷ (0, ([], 0)) ∷ []
+  half_stands = refl
+
+  again_tells : line_said named half ≡ Owed 1 ((codes "p", Already) ∷ (codes "q", New) ∷ [])
+  again_tells = refl
+
+  abbrev again : Past
+  again = sealed 1 (all_parted (begun_at (lined (codes "a/1") (codes "<x@y>") named half)))
+
+  again_stands : standing again ≡ (1, (1 ∷ [], 1)) ∷ (1, (1 ∷ [], 1)) ∷ []
+  again_stands = refl
+
+  -- a line between the part and the seal: the kept number is sealed, and the later line is none that is acknowledged
+  abbrev one : Past
+  one = record { peers = peer (codes "p") ∷ []; intake = tape; last = 0; begun = None }
+
+  abbrev between : Past
+  between = sealed 1 (lined (codes "a/2") (codes "<z@y>") (codes "p" ∷ [])
+      (all_parted (begun_at (lined (codes "a/1") (codes "<x@y>") (codes "p" ∷ []) one))))
+
+  between_tells : mark_at between.intake ≡ 1
+  between_tells = refl
+
+  between_stands : standing between ≡ (2, (1 ∷ 2 ∷ [], 1)) ∷ []
+  between_stands = refl
+
+  -- stopped and opened again with one note: the line behind the mark is the second, and new
+  between_again : line_said (codes "p" ∷ []) (restarted (1 ∷ []) 1 (left AtRest between))
+      ≡ Owed 2 ((codes "p", New) ∷ [])
+  between_again = refl
+
+  -- a seal once more: the number is not above the mark, and no note is taken
+  sealed_twice : length (sealed 1 between).intake.history.notes ≡ 1
+  sealed_twice = refl
+
+  -- a second begin forgets the parts, and keeps the later number
+  begun_again : map (λ (p : PeerPast). p.parted) (begun_at between).peers ≡ false ∷ []
+  begun_again = refl
+
+  -- ---- stops
+
+  abbrev choice : Choice
+  choice = record { happened = 0; fill = 0 }
+
+  abbrev life : Life
+  life = record { past = between; conns = []; connected = 3; now = 60; armed = None; running = true }
+
+  abbrev stop : Armed
+  stop = record { place = Some 0; call = 2; choice = choice }
+
+  -- arming leaves the kept number, and a stop takes it: no number is kept, no stop is armed, and the moment and the
+  -- numbers of connections go on
+  arming_keeps : (armed_with stop life).past.begun ≡ Some 1
+  arming_keeps = refl
+
+  halted_so : halted AtRest between (armed_with stop life) ≡ record {
+    past = left AtRest between;
+    conns = [];
+    connected = 3;
+    now = 60;
+    armed = None;
+    running = false;
+  }
+  halted_so = refl
+
+  halted_keeps : (left AtRest between).begun ≡ None
+  halted_keeps = refl
+
+  -- a write that was not synced is left out by a choice of none, on a new disk whose only image that is
+  torn : map (λ (p : PeerPast). p.tape.log) (left (ByChoice choice) (record one {
+    peers = record (peer (codes "p")) { tape = record tape { log = (Wrote 0 (7 ∷ []) ∷ Synced ∷ [], []) } } ∷ [];
+  })).peers ≡ (Made [] ∷ [], Made [] ∷ []) ∷ []
+  torn = refl

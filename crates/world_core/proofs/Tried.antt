@@ -1,0 +1,276 @@
+-- One opening more, and one that is refused.
+use Rattle.std.proofs.Common.{
+  ◌≡◌,
+  ℕ,
+  ◌==◌,
+  ◌<◌,
+  Bool,
+  true,
+  false,
+  if◌then◌else◌,
+  Option,
+  None,
+  Some,
+  List,
+  [],
+  ◌∷◌,
+  ◌++◌,
+  length,
+  map,
+  refl,
+  sym,
+  ap,
+  ◌∙◌,
+  subst,
+  arith,
+  append_assoc,
+  length-append,
+}
+use Rattle.recovery.specs.Leaving.{pending_notes}
+use Rattle.std.specs.Option.{is_some}
+use Rattle.std.specs.List.{AllByRecursion, AllZip, slice_get}
+use Rattle.disk_model.specs.declared.Disk.{Ghosts}
+use Rattle.ledger_core.specs.State.{numbers}
+use Rattle.peer_queue.specs.Place.{Held, Ready, all_ready, place_at}
+use Rattle.world_core.specs.Past.{Past, PeerPast, TapePast, ledger_at, with_peer, with_tape}
+use Rattle.world_core.specs.Safe.{IsAbove, IsSafe}
+use Rattle.world_core.specs.Events.{AllDo, Event, Next, Opens, OpensIntake, each_place, opened_peer}
+use Rattle.world_core.specs.Halts.{AtRest, left_peer, restart_events}
+use Rattle.world_core.specs.Opening.{FailsAt, HasHalted, HasNoneHeld, HasOpened, HasTried, with_peers}
+use Rattle.world_core.specs.Sound.{IsSound}
+use Rattle.world_core.specs.Stands.{OpenedAs, PeerStands, RefusedOpen, StoppedStands}
+use Rattle.world_core.specs.declared.fault.Fault.{Fault}
+use Rattle.world_core.specs.declared.peer.Peer.{Peer}
+use Rattle.world_core.specs.declared.peer.StoppedPeer.{StoppedPeer}
+use Rattle.world_core.specs.declared.fault.Halt.{Halt}
+use Rattle.world_core.proofs.Pure.{all_push}
+use Rattle.world_core.proofs.Sound.{each_front, sound_same}
+use Rattle.world_core.proofs.Trying.{
+  get_at,
+  get_place,
+  has_opened,
+  length_push,
+  length_set,
+  map_push,
+  safe_put,
+  set_at,
+  sound_opened,
+  take_places,
+}
+use Rattle.world_core.proofs.Zips.{zip_length, zip_push}
+
+-- none of what is ready is held
+none_held : (numbers : List ℕ) (id number : ℕ) → place_at (all_ready numbers) number ≡ Some (Held id) → ⊥
+none_held [] id number is = cc
+none_held (n ∷ ns) id number is = by_test (n == number) (none_held ns id number) is
+  where
+    by_test : (b : Bool) → (place_at (all_ready ns) number ≡ Some (Held id) → ⊥)
+        → (if b then Some Ready else place_at (all_ready ns) number) ≡ Some (Held id) → ⊥
+    by_test true never is = cc
+    by_test false never is = never is
+
+pub opened_free : (peer : PeerPast) (tape : TapePast) → HasNoneHeld (opened_peer peer tape)
+opened_free peer tape = λ id number. none_held (numbers (ledger_at tape)) id number
+
+-- what had stopped before has stopped at rest
+pub stays_stopped : (past : PeerPast) (peer : StoppedPeer) → StoppedStands past peer
+    → StoppedStands (left_peer AtRest past) peer
+stays_stopped past peer stands = record {
+  conf = stands.conf;
+  disks = record {
+    log = stands.disks.log;
+    faults = stands.disks.faults;
+    works = refl;
+    legal = stands.disks.legal;
+    images = stands.disks.images;
+  };
+}
+
+some_at : (front behind : List PeerPast) (p : PeerPast) (count : ℕ) → length (front ++ p ∷ behind) ≡ count
+    → length front < count
+some_at front behind p count is =
+    let both = length-append front (p ∷ behind) in
+    omega (arith, both, is)
+
+module _ {D : Type 0} {g : Ghosts D} (past : Past) (front behind : List PeerPast) (p : PeerPast)
+    (opened : List (Peer D g)) (rest : List StoppedPeer)
+    (opens : AllDo past (each_place Opens (length front)) (with_peers past (front ++ p ∷ behind)))
+    (stand : AllZip PeerStands front opened)
+    (stay : AllZip StoppedStands behind rest) (sound : IsSound (with_peers past (front ++ p ∷ behind)))
+    (safe : IsSafe (with_peers past (front ++ p ∷ behind))) (count : length (front ++ p ∷ behind)
+    ≡ length past.peers) where
+  abbrev mid : Past
+  mid = with_peers past (front ++ p ∷ behind)
+
+  here : slice_get mid.peers (length front) ≡ Some p
+  here = get_at front p behind
+
+  changed : (q : PeerPast) → with_peer mid (length front) q ≡ with_peers past ((front ++ q ∷ []) ++ behind)
+  changed q = ap (with_peers past) (set_at front p q behind)
+
+  pub opens_one : (peer : Peer D g) → AllByRecursion HasNoneHeld front → OpenedAs p peer
+      → HasOpened past (opened ++ peer ∷ []) rest
+  opens_one peer free is =
+      let q = opened_peer p is.later in
+      let history = ap (λ (t : TapePast). t.history) is.opens.all in
+      let is_safe : IsSafe (with_peers past ((front ++ q ∷ []) ++ behind)) =
+      subst IsSafe (changed q)
+      (safe_put mid (length front) p q safe here (each_front q peer.station.tape is.stands.tape)
+      (λ mark _. has_opened mark p is.later is.opens.count history)) in
+      record {
+        front = front ++ q ∷ [];
+        behind = behind;
+        opens = subst (λ (n : ℕ). AllDo past (each_place Opens n) (with_peers past ((front ++ q ∷ []) ++ behind)))
+            (sym (length_push front q))
+            (Next (each_place Opens (length front)) (Opens (length front)) mid
+            (with_peers past ((front ++ q ∷ []) ++ behind)) opens
+            (record { peer = p; tape = is.later; here = here; opens = is.opens; changed = sym (changed q) }) is_safe);
+        stand = zip_push PeerStands front opened q peer stand is.stands;
+        stay = stay;
+        sound = subst IsSound (changed q)
+            (sound_opened mid (length front) p is.later is.opens.count sound here history);
+        safe = is_safe;
+        free = all_push HasNoneHeld front q free (opened_free p is.later);
+        count = ap length (sym (set_at front p q behind)) ∙ length_set (front ++ p ∷ behind) (length front) q ∙ count;
+      }
+
+  pub refuses_one : (fault : Fault) (back : StoppedPeer) (halted : List StoppedPeer)
+      → AllZip StoppedStands (map (left_peer AtRest) front) halted
+      → RefusedOpen p fault back
+      → HasHalted past (record { place = Some (length front); fault = fault }) (halted ++ back ∷ []) rest
+  refuses_one fault back halted all is =
+      let q = with_tape p is.later in
+      let history = ap (λ (t : TapePast). t.history) is.refused.all in
+      let within = some_at front behind p (length past.peers) count in
+      let is_safe : IsSafe (with_peer mid (length front) q) =
+      safe_put mid (length front) p q safe here is.stands.disks.images
+      (λ mark has. subst (λ h. AllByRecursion (IsAbove mark) (pending_notes h)) (sym history) has) in
+      record {
+        under_way = with_peer mid (length front) q;
+        front = front ++ q ∷ [];
+        behind = behind;
+        all = set_at front p q behind;
+        fails = record {
+          fails = record {
+            count = length front;
+            mid = mid;
+            event = Opens (length front);
+            front = subst (λ (events : List Event). AllDo past events mid)
+                (sym (take_places Opens (length past.peers) (length front) (OpensIntake ∷ [])
+                (omega (arith, within)))) opens;
+            here = get_place Opens (length past.peers) (length front) (OpensIntake ∷ []) within;
+            refused = record { peer = p; tape = is.later; here = here; refused = is.refused; changed = refl };
+            safe = is_safe;
+          };
+          at = refl;
+        };
+        stand = subst (λ (ps : List PeerPast). AllZip StoppedStands ps (halted ++ back ∷ []))
+            (sym (map_push (left_peer AtRest) front q))
+            (zip_push StoppedStands (map (left_peer AtRest) front) halted (left_peer AtRest q) back all
+            (stays_stopped q back is.stands));
+        stay = stay;
+        sound = sound_same mid (length front) p is.later sound here history;
+        intake = refl;
+      }
+
+-- ---- what was tried so far
+
+halted_more : (past : Past) (halt : Halt) (stopped rest : List StoppedPeer) (peer : StoppedPeer) (under_way : Past)
+    (front behind : List PeerPast)
+    → under_way.peers ≡ front ++ behind → FailsAt past (restart_events past) halt under_way
+    → AllZip StoppedStands (map (left_peer AtRest) front) stopped → AllZip StoppedStands behind (peer ∷ rest)
+    → IsSound under_way
+    → under_way.intake ≡ past.intake → HasHalted past halt (stopped ++ peer ∷ []) rest
+halted_more past halt stopped rest peer under_way front [] all fails stand stay sound intake = absurd stay
+halted_more past halt stopped rest peer under_way front (p ∷ behind) all fails stand stay sound intake = record {
+  under_way = under_way;
+  front = front ++ p ∷ [];
+  behind = behind;
+  all = all ∙ sym (append_assoc front (p ∷ []) behind);
+  fails = fails;
+  stand = subst (λ (ps : List PeerPast). AllZip StoppedStands ps (stopped ++ peer ∷ []))
+      (sym (map_push (left_peer AtRest) front p))
+      (zip_push StoppedStands (map (left_peer AtRest) front) stopped (left_peer AtRest p) peer stand
+      (stays_stopped p peer stay.0));
+  stay = stay.1;
+  sound = sound;
+  intake = intake;
+}
+
+module _ {D : Type 0} {g : Ghosts D} where
+  opens_more : (past : Past) (opened : List (Peer D g)) (rest : List StoppedPeer) (stopped : StoppedPeer)
+      (peer : Peer D g) (front behind : List PeerPast)
+      → AllDo past (each_place Opens (length front)) (with_peers past (front ++ behind))
+      → AllZip PeerStands front opened
+      → AllZip StoppedStands behind (stopped ∷ rest) → IsSound (with_peers past (front ++ behind))
+      → IsSafe (with_peers past (front ++ behind))
+      → length (front ++ behind) ≡ length past.peers → AllByRecursion HasNoneHeld front
+      → ((p : PeerPast) → StoppedStands p stopped → OpenedAs p peer) → HasOpened past (opened ++ peer ∷ []) rest
+  opens_more past opened rest stopped peer front [] opens stand stay sound safe count free is = absurd stay
+  opens_more past opened rest stopped peer front (p ∷ behind) opens stand stay sound safe count free is =
+      opens_one past front behind p opened rest opens stand stay.1 sound safe count peer free (is p stay.0)
+
+  refuses_more : (past : Past) (opened : List (Peer D g)) (rest : List StoppedPeer) (stopped back : StoppedPeer)
+      (fault : Fault) (halted : List StoppedPeer)
+      (front behind : List PeerPast)
+      → AllDo past (each_place Opens (length front)) (with_peers past (front ++ behind))
+      → AllZip PeerStands front opened
+      → AllZip StoppedStands behind (stopped ∷ rest) → IsSound (with_peers past (front ++ behind))
+      → IsSafe (with_peers past (front ++ behind))
+      → length (front ++ behind) ≡ length past.peers
+      → ((pasts : List PeerPast) → AllZip PeerStands pasts opened
+      → AllZip StoppedStands (map (left_peer AtRest) pasts) halted)
+      → ((p : PeerPast) → StoppedStands p stopped → RefusedOpen p fault back)
+      → HasHalted past (record { place = Some (length front); fault = fault }) (halted ++ back ∷ []) rest
+  refuses_more past opened rest stopped back fault halted front [] opens stand stay sound safe count halts is =
+      absurd stay
+  refuses_more past opened rest stopped back fault halted front (p ∷ behind) opens stand stay sound safe count halts
+      is =
+      refuses_one past front behind p opened rest opens stand stay.1 sound safe count fault back halted
+      (halts front stand) (is p stay.0)
+
+  pub tried_behind : (past : Past) (opened : List (Peer D g)) (stopped now : List StoppedPeer) (refused : Option Halt)
+      (peer : StoppedPeer)
+      (rest : List StoppedPeer) → is_some refused ≡ true → now ≡ stopped ++ peer ∷ []
+      → HasTried past opened stopped refused (peer ∷ rest)
+      → HasTried past opened now refused rest
+  tried_behind past opened stopped now None peer rest some is tries = cc
+  tried_behind past opened stopped now (Some halt) peer rest some is tries =
+      subst (λ (l : List StoppedPeer). HasHalted past halt l rest) (sym is)
+      (halted_more past halt stopped rest peer tries.under_way tries.front tries.behind tries.all tries.fails
+      tries.stand tries.stay tries.sound tries.intake)
+
+  pub tried_open : (past : Past) (opened now : List (Peer D g)) (all : List StoppedPeer) (refused : Option Halt)
+      (stopped : StoppedPeer) (peer : Peer D g)
+      (rest : List StoppedPeer) → is_some refused ≡ false → now ≡ opened ++ peer ∷ []
+      → HasTried past opened all refused (stopped ∷ rest)
+      → ((p : PeerPast) → StoppedStands p stopped → OpenedAs p peer) → HasTried past now all refused rest
+  tried_open past opened now all None stopped peer rest none is (empty, t) opens = (
+    empty,
+    subst (λ (l : List (Peer D g)). HasOpened past l rest) (sym is)
+        (opens_more past opened rest stopped peer t.front t.behind t.opens t.stand t.stay t.sound t.safe t.count
+        t.free opens),
+  )
+  tried_open past opened now all (Some halt) stopped peer rest none is tries opens = absurd cc
+
+  pub tried_refused : (past : Past) (opened now : List (Peer D g)) (all halted behind : List StoppedPeer)
+      (refused told : Option Halt) (stopped back : StoppedPeer)
+      (fault : Fault) (rest : List StoppedPeer) → is_some refused ≡ false → behind ≡ halted ++ back ∷ []
+      → told ≡ Some (record { place = Some (length opened); fault = fault })
+      → ((pasts : List PeerPast) → AllZip PeerStands pasts opened
+      → AllZip StoppedStands (map (left_peer AtRest) pasts) halted)
+      → HasTried past opened all refused (stopped ∷ rest)
+      → ((p : PeerPast) → StoppedStands p stopped → RefusedOpen p fault back)
+      → HasTried past now behind told rest
+  tried_refused past opened now all halted behind None told stopped back fault rest none is same halts (empty, t)
+      refuses =
+      let many = zip_length PeerStands t.front opened t.stand in
+      let told_is : told ≡ Some (record { place = Some (length t.front); fault = fault }) =
+      same ∙ ap (λ (n : ℕ). Some (record { place = Some n; fault = fault })) (sym many) in
+      subst (λ (o : Option Halt). HasTried past now behind o rest) (sym told_is)
+      (subst (λ (l : List StoppedPeer).
+      HasHalted past (record { place = Some (length t.front); fault = fault }) l rest) (sym is)
+      (refuses_more past opened rest stopped back fault halted t.front t.behind t.opens t.stand t.stay t.sound t.safe
+      t.count halts refuses))
+  tried_refused past opened now all halted behind (Some halt) told stopped back fault rest none is same halts tries
+      refuses = absurd cc

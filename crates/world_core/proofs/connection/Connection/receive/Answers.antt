@@ -1,0 +1,37 @@
+-- The replies that came in are read, and what follows them is told.
+use Rattle.std.proofs.Common.{◌∙◌, ap, refl, inl, inr}
+use Rattle.std.specs.Prelude.{is_none}
+use Rattle.world_core.proofs.Breaking.{none_told, reason_told}
+use Rattle.world_core.proofs.Following.{if_err}
+use Rattle.world_core.proofs.Handing.{if_err_map, on_ok_map}
+use Rattle.world_core.proofs.Receiving.{pair_received, pair_unread}
+use Rattle.world_core.proofs.connection.Connection.receive.Goals as goal
+
+pub returns-in_err-input-clause-err : goal.returns-in_err-input-clause-err
+returns-in_err-input-clause-err g c = λ id conn past pair.
+    if_err c.from_residual.result _ _ c.from_residual.ensures.1 (λ fault is.
+    inl (
+      is,
+      pair_unread id conn past c.args.self.now _ c.args.peer.now pair refl refl c.in_err-input.ensures.same_id
+          c.args.octets.now c.in_err-input.ensures.refused,
+    ))
+
+pub returns-clause-ok : goal.returns-clause-ok
+returns-clause-ok g c = λ id conn past pair.
+    let so = pair_received id conn past c.args.self.now _ c.args.peer.now pair refl refl c.in_ok-input.ensures.same_id
+    c.args.octets.now c.in_ok-input.ensures.received in
+    on_ok_map c.tell.result _ _
+    (c.tell.ensures.ok id (record { place = conn.place; unread = so.1; transcript = so.0 }) past conn.transcript
+    so.3
+    (none_told c.is_none-was_open.result c.closed.result c.is_none-was_open.ensures
+    ∙ ap is_none (reason_told past.conf conn c.args.self.now c.args.self.now.waiting c.closed.result pair.holds
+    c.closed.ensures)))
+    (λ followed. record { transcript = so.0; left = so.1; receives = so.2; followed = followed })
+
+pub returns-clause-err : goal.returns-clause-err
+returns-clause-err g c = λ id conn past pair.
+    let so = pair_received id conn past c.args.self.now _ c.args.peer.now pair refl refl c.in_ok-input.ensures.same_id
+    c.args.octets.now c.in_ok-input.ensures.received in
+    if_err_map c.tell.result _ _
+    (c.tell.ensures.err id (record { place = conn.place; unread = so.1; transcript = so.0 }) past so.3)
+    (λ fault followed. inr (so.0, so.1, so.2, followed))

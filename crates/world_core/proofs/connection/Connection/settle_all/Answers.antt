@@ -1,0 +1,44 @@
+-- Each outcome in turn, up to the last or one that is refused.
+use Rattle.std.proofs.Common.{subst, sym, []}
+use Rattle.world_core.specs.Exchange.{with_taken, with_transcript}
+use Rattle.world_core.specs.Pairs.{FollowedNot, SettledNext}
+use Rattle.world_core.proofs.Following.{if_err, settled_all, settled_more, settled_refused, settled_start}
+use Rattle.world_core.proofs.connection.Connection.settle_all.Goals as goal
+
+pub loop-init : goal.loop-init
+loop-init g c = λ id conn past pair.
+    ([], past, settled_start id c.args.now conn past c.args.self.now c.args.peer.now c.args.told.now.items pair)
+
+pub loop-preserved : goal.loop-preserved
+loop-preserved g c = λ id conn past pair.
+    let so = c.loop.invariant id conn past pair in
+    let at = with_transcript conn (with_taken so.0 conn.transcript) in
+    let one = subst (λ more.
+    SettledNext more id c.args.now at so.1 c.loop.told.items c.settle_next.new.self c.settle_next.new.peer
+    c.settle_next.new.told.items)
+    c.if-branch.true (c.in_ok-settle_next.ensures.ok id at so.1 so.2.stand) in
+    settled_more id c.args.now conn past c.args.told.now.items so.0 so.1 c.loop.self c.settle_next.new.self
+    c.loop.peer c.settle_next.new.peer
+    c.loop.told.items c.settle_next.new.told.items so.2 one
+
+pub returns-clause-ok : goal.returns-clause-ok
+returns-clause-ok g c = λ id conn past pair.
+    let so = c.loop.invariant id conn past pair in
+    let at = with_transcript conn (with_taken so.0 conn.transcript) in
+    let none = subst (λ more.
+    SettledNext more id c.args.now at so.1 c.loop.told.items c.settle_next.new.self c.settle_next.new.peer
+    c.settle_next.new.told.items)
+    c.if-branch.false (c.in_ok-settle_next.ensures.ok id at so.1 so.2.stand) in
+    settled_all id c.args.now conn past c.args.told.now.items so.0 so.1 c.loop.self c.settle_next.new.self c.loop.peer
+    c.settle_next.new.peer
+    c.loop.told.items c.settle_next.new.told.items so.2 none
+
+pub returns-in_err-settle_next-clause-err : goal.returns-in_err-settle_next-clause-err
+returns-in_err-settle_next-clause-err g c = λ id conn past pair.
+    let so = c.loop.invariant id conn past pair in
+    let at = with_transcript conn (with_taken so.0 conn.transcript) in
+    if_err c.from_residual.result _ _ c.from_residual.ensures.1 (λ fault is.
+    subst (λ f. FollowedNot id c.args.now conn past f c.settle_next.new.self c.settle_next.new.peer) (sym is)
+    (settled_refused id c.args.now conn past c.args.told.now.items so.0 so.1 c.loop.self c.settle_next.new.self
+    c.loop.peer c.settle_next.new.peer
+    c.loop.told.items _ so.2 (c.in_err-settle_next.ensures.err id at so.1 so.2.stand)))

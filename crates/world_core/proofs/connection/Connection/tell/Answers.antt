@@ -1,0 +1,33 @@
+-- Behind the outcomes comes what is told of the connection, and its output counts as sent.
+use Rattle.std.proofs.Common.{◌∙◌, ap, length, refl, sym}
+use Rattle.world_core.proofs.Following.{if_err}
+use Rattle.world_core.proofs.Telling.{followed, told_not}
+use Rattle.world_core.proofs.connection.Connection.tell.Goals as goal
+
+pub returns-in_err-tell_output-clause-err : goal.returns-in_err-tell_output-clause-err
+returns-in_err-tell_output-clause-err g c = λ id conn past pair.
+    if_err c.from_residual-in_err-tell_output.result _ _ c.from_residual-in_err-tell_output.ensures.1
+    (told_not id c.args.now conn past c.args.told.now.items _ _ _ (c.in_ok-settle_all.ensures.ok id conn past pair))
+
+pub returns-in_err-tell_need-clause-err : goal.returns-in_err-tell_need-clause-err
+returns-in_err-tell_need-clause-err g c = λ id conn past pair.
+    if_err c.from_residual-in_err-tell_need.result _ _ c.from_residual-in_err-tell_need.ensures.1
+    (told_not id c.args.now conn past c.args.told.now.items _ _ _ (c.in_ok-settle_all.ensures.ok id conn past pair))
+
+pub returns-in_err-tell_closed-clause-err : goal.returns-in_err-tell_closed-clause-err
+returns-in_err-tell_closed-clause-err g c = λ id conn past pair.
+    if_err c.from_residual-in_err-tell_closed.result _ _ c.from_residual-in_err-tell_closed.ensures.1
+    (told_not id c.args.now conn past c.args.told.now.items _ _ _ (c.in_ok-settle_all.ensures.ok id conn past pair))
+
+pub returns-clause-ok : goal.returns-clause-ok
+returns-clause-ok g c = λ id conn past was pair was_is.
+    followed id c.args.now conn past c.args.told.now.items c.settle_all.new.self c.settle_all.new.peer
+    c.settle_all.new.told.items
+    (c.in_ok-settle_all.ensures.ok id conn past pair) was _ c.tell_output.new.told.items c.tell_need.new.told.items
+    c.tell_closed.new.told.items
+    c.id-connection.result.0 _ c.args.was_open c.output.result.now c.need.result c.closed.result
+    (ap (λ i. i.0) c.id-connection.ensures)
+    c.output.ensures.stands c.need.ensures c.closed.ensures c.in_ok-tell_output.ensures c.in_ok-tell_need.ensures
+    c.in_ok-tell_closed.ensures
+    was_is (ap length (c.output-count.ensures.now ∙ sym c.output.ensures.now)) refl refl c.sent.ensures.same_id
+    c.sent.ensures.stands

@@ -1,0 +1,11 @@
+-- Its disks are those of its tape.
+use Rattle.std.proofs.Common.{refl}
+use Rattle.recovery.specs.Laws.{logs_of_disks}
+use Rattle.world_core.proofs.Halting.{peer_halted}
+use Rattle.world_core.proofs.halt.Peer+StopDisk.halt.Goals as goal
+
+pub returns : goal.returns
+returns c = λ past stands.
+    peer_halted past c.args.self _ stands refl
+    (logs_of_disks c.args.self.station.tape c.into_disks-disks.result c.into_disks-disks.ensures.disks)
+    c.into_disks-disks.ensures.told

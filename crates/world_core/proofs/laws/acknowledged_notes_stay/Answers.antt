@@ -1,0 +1,5 @@
+use Rattle.world_core.proofs.Keeping.{events_stay}
+use Rattle.world_core.proofs.laws.acknowledged_notes_stay.Goals as goal
+
+pub returns : goal.returns
+returns c = events_stay

@@ -1,0 +1,5 @@
+use Rattle.world_core.proofs.Recovering.{recover_all}
+use Rattle.world_core.proofs.laws.all_are_recovered.Goals as goal
+
+pub returns : goal.returns
+returns c = recover_all

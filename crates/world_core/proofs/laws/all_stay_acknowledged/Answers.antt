@@ -1,0 +1,5 @@
+use Rattle.world_core.proofs.Running.{all_stay}
+use Rattle.world_core.proofs.laws.all_stay_acknowledged.Goals as goal
+
+pub returns : goal.returns
+returns c = all_stay

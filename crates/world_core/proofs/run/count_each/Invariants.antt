@@ -1,0 +1,13 @@
+use Rattle.std.proofs.Common.{◌≡◌, map, take}
+use Rattle.world_core.specs.Stands.{counts_in}
+use Rattle.world_core.specs.declared.report.PeerTotals.{PeerTotals}
+use Rattle.world_core.proofs.Counting.{counted}
+use Rattle.world_core.proofs.run.count_each.Given as goal
+
+-- those so far are counted, and the names are as they were
+abbrev pub invariant-loop-place : goal.invariant-loop-place
+invariant-loop-place l = record {
+  names : map (λ (peer : PeerTotals). peer.name) l.totals ≡ map (λ (peer : PeerTotals). peer.name) l.initial.totals;
+  counts : map (λ (peer : PeerTotals). peer.name) l.initial.totals ≡ map (λ peer. peer.conf.name) l.peers
+      → take l.place (counts_in l.totals) ≡ take l.place (map counted l.peers);
+}

@@ -1,0 +1,55 @@
+-- What the line says decides.
+use Rattle.std.proofs.Common.{◌≡◌, ◌⊎◌, ◌∙◌, ◌+◌, ◌<◌, ◌^◌, ap, refl, rules, subst, sym}
+use Rattle.world_core.specs.Steps.{line_events}
+use Rattle.world_core.specs.Stands.{Stands}
+use Rattle.world_core.specs.Stepped.{Failed}
+use Rattle.world_core.specs.declared.fault.Fault.TheVariants.{NoMemory}
+use Rattle.world_core.proofs.Reading.{line_bad, line_failed, line_good, reads_bad}
+use Rattle.world_core.proofs.Stepping.{if_err, pushed}
+use Rattle.world_core.proofs.stations.Stations.line.Goals.{in-Ok+in_ok-peers-in-Ok, in-Err}
+use Rattle.world_core.proofs.stations.Stations.line.Goals as goal
+
+pub returns-in_err-peers-in-Ok-clause-err : goal.returns-in_err-peers-in-Ok-clause-err
+returns-in_err-peers-in-Ok-clause-err g c = λ past stands.
+    let numbered : c.in-Some.number ≡ c.args.self.now.last + 1 = search rules in
+    let fits : c.in-Some.number < 2 ^ 64 = search rules in
+    let line = c.in-Ok.line in
+    if_err c.from_residual-in_err-peers-in-Ok.result _ _ c.from_residual-in_err-peers-in-Ok.ensures.1
+    (λ fault same. line_failed c.args.text.now past c.args.self.now c.in-Some.number stands numbered fits line.token
+    line.id line.peers.items fault c.owe.new.self
+    c.in-Ok.ensures.good
+    (subst (λ f. ((f ≡ NoMemory) × Stands c.owe.new.self past)
+    ⊎ Failed past (line_events line.token line.id line.peers.items past) f c.owe.new.self) (sym same)
+    (c.in_err-peers-in-Ok.ensures.err past stands)))
+
+pub returns-clause-ok : goal.returns-clause-ok
+returns-clause-ok g c = λ past stands.
+    let numbered : c.in-Some.number ≡ c.args.self.now.last + 1 = search rules in
+    let fits : c.in-Some.number < 2 ^ 64 = search rules in
+    elim c.match-read_line.branch [
+      | in-Ok+in_ok-peers-in-Ok w ↦
+          line_good c.args.text.now past c.args.self.now c.in-Some.number stands numbered fits w.in-Ok.line.token
+          w.in-Ok.line.id w.in-Ok.line.peers.items
+          w.in_ok-peers-in-Ok.peers _ w.owe.new.self _ w.in-Ok.ensures.good
+          (w.in_ok-peers-in-Ok.ensures.ok past stands) w.owe.ensures.last
+          (record {
+            peers = ap (λ s. s.peers) w.self-is;
+            intake = ap (λ s. s.intake) w.self-is;
+            last = refl;
+            begun =
+                ap (λ s. s.begun) w.self-is;
+          })
+          (ap (λ v. v.items) w.told-is ∙ pushed _ _ _ w.push_reserved.ensures.items c.in_ok-told.ensures.items)
+      | in-Err w ↦
+          line_bad c.args.text.now past c.args.self.now c.in-Some.number stands numbered fits w.in-Err.fault _ _
+          (reads_bad c.args.text.now w.in-Err.fault w.in-Err.ensures.too_long w.in-Err.ensures.no_token
+          w.in-Err.ensures.bad_token w.in-Err.ensures.bad_id) (search rules)
+          (record {
+            peers = ap (λ s. s.peers) w.self-is;
+            intake = ap (λ s. s.intake) w.self-is;
+            last = refl;
+            begun =
+                ap (λ s. s.begun) w.self-is;
+          })
+          (ap (λ v. v.items) w.told-is ∙ pushed _ _ _ w.push_reserved-in-Err.ensures.items c.in_ok-told.ensures.items)
+    ]

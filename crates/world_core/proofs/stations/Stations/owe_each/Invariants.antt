@@ -1,0 +1,20 @@
+use Rattle.std.proofs.Common.{◌≡◌, ℕ, ◌+◌, ◌≤◌, ◌++◌, List, length, vec_capacity, vec_len}
+use Rattle.world_core.specs.Past.{Past}
+use Rattle.world_core.specs.Stands.{Stands}
+use Rattle.world_core.specs.Stepped.{AreFound, AreWithin}
+use Rattle.world_core.proofs.Lining.{OwedSome}
+use Rattle.world_core.proofs.stations.Stations.owe_each.Given as goal
+
+-- the line was owed at the first of the places, and there is room for what is told of the others
+abbrev pub invariant-loop-place : goal.invariant-loop-place
+invariant-loop-place g l = record {
+  can : (goal.iterator-loop-place g).can_next l.place-iterator;
+  finite : (goal.iterator-loop-place g).is_finite l.place-iterator;
+  split : l.fn.found.entries ≡ l.yielded ++ l.place-iterator;
+  owed : (past : Past) (named : List (List ℕ)) → Stands l.initial.self past → AreFound past named l.fn.found.entries
+      → OwedSome past l.token l.id named (length l.yielded) l.told.items l.self;
+  within : AreWithin (vec_len l.self.peers) l.place-iterator;
+  room : vec_len l.told + length l.place-iterator ≤ vec_capacity l.told;
+  last : l.self.last ≡ l.initial.self.last;
+  count : vec_len l.self.peers ≡ vec_len l.initial.self.peers;
+}

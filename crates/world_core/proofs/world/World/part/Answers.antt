@@ -1,0 +1,46 @@
+-- The stations take the step, or a stop is met.
+use Rattle.std.proofs.Common.{refl, sym, ◌∙◌}
+use Rattle.world_core.specs.Steps.{RefusesPart, TakesPart}
+use Rattle.world_core.specs.declared.step.Step.TheVariants.{Part}
+use Rattle.world_core.proofs.Steady.{holds_part, holds_part_not}
+use Rattle.world_core.proofs.Stepping.{place_same}
+use Rattle.world_core.proofs.Taking.{part_fails, took_tapes, was_halted}
+use Rattle.world_core.proofs.world.World.part.Goals as goal
+
+pub returns-in-Ok-clause-ok : goal.returns-in-Ok-clause-ok
+returns-in-Ok-clause-ok c = λ life stands.
+    let name = c.args.name.now in
+    took_tapes c.args.self.now _ life c.in-Running.stations c.part.new.self c.in-Running.field-1 stands
+    c.in-Running.is refl refl refl refl
+    (Part name) (TakesPart name) c.in-Ok.told.items (λ told later t. t) (holds_part name)
+    (λ on. c.in-Ok.ensures.ok life.past on)
+
+pub returns-in-Err-clause-ok : goal.returns-in-Err-clause-ok
+returns-in-Err-clause-ok c = λ life stands.
+    let name = c.args.name.now in
+    c.settle.ensures.ok (Part name) life
+    (was_halted c.args.self.now _ life c.in-Running.stations c.part.new.self c.in-Running.field-1 stands
+    c.in-Running.is refl refl refl refl
+    (Part name) (RefusesPart name) (record { place = c.place_of-place.result; fault = c.in-Err.fault }) (λ later r. r)
+    (holds_part_not name)
+    (λ on.
+    let t = c.in-Err.ensures.err life.past on in (
+      t,
+      λ disk runs. part_fails life name _ t.later (place_same name life.past c.in-Running.stations on
+          ∙ sym c.place_of-place.ensures) runs t.refuses disk,
+    )))
+
+pub returns-in-Err-clause-err : goal.returns-in-Err-clause-err
+returns-in-Err-clause-err c = λ life stands.
+    let name = c.args.name.now in
+    c.settle.ensures.err (Part name) life
+    (was_halted c.args.self.now _ life c.in-Running.stations c.part.new.self c.in-Running.field-1 stands
+    c.in-Running.is refl refl refl refl
+    (Part name) (RefusesPart name) (record { place = c.place_of-place.result; fault = c.in-Err.fault }) (λ later r. r)
+    (holds_part_not name)
+    (λ on.
+    let t = c.in-Err.ensures.err life.past on in (
+      t,
+      λ disk runs. part_fails life name _ t.later (place_same name life.past c.in-Running.stations on
+          ∙ sym c.place_of-place.ensures) runs t.refuses disk,
+    )))

@@ -1,0 +1,20 @@
+-- It runs, and stops.
+use Rattle.std.proofs.Common.{map, refl, ap, ◌∙◌, inl}
+use Rattle.world_core.specs.Told.{said_of}
+use Rattle.world_core.proofs.Reopening.{runs_stage}
+use Rattle.world_core.proofs.Stepping.{pushed}
+use Rattle.world_core.proofs.world.World.rest.Goals as goal
+
+pub returns-clause-ok : goal.returns-clause-ok
+returns-clause-ok c = λ life stands.
+    let runs = runs_stage life c.args.self.now.stage stands.stage c.in_default.not-Stopped in
+    record {
+      later = _;
+      makes = (
+        runs,
+        ap (map said_of)
+            (pushed _ _ _ c.push_reserved.ensures.items (c.reserve.ensures.items ∙ c.requires)),
+        refl,
+      );
+      stands = c.in_ok-halt.ensures.ok life life life.past (inl (runs, refl)) stands;
+    }

@@ -1,0 +1,46 @@
+-- The stations take the step, or a stop is met.
+use Rattle.std.proofs.Common.{refl, sym, ◌∙◌}
+use Rattle.world_core.specs.Steps.{RefusesRotation, TakesRotate}
+use Rattle.world_core.specs.declared.step.Step.TheVariants.{Rotate}
+use Rattle.world_core.proofs.Steady.{holds_rotate, holds_rotate_not}
+use Rattle.world_core.proofs.Stepping.{place_same}
+use Rattle.world_core.proofs.Taking.{rotate_fails, took_tapes, was_halted}
+use Rattle.world_core.proofs.world.World.rotate.Goals as goal
+
+pub returns-in-Ok-clause-ok : goal.returns-in-Ok-clause-ok
+returns-in-Ok-clause-ok c = λ life stands.
+    let name = c.args.name.now in
+    took_tapes c.args.self.now _ life c.in-Running.stations c.rotate.new.self c.in-Running.field-1 stands
+    c.in-Running.is refl refl refl refl
+    (Rotate name) (TakesRotate name) c.in-Ok.told.items (λ told later t. t) (holds_rotate name)
+    (λ on. c.in-Ok.ensures.ok life.past on)
+
+pub returns-in-Err-clause-ok : goal.returns-in-Err-clause-ok
+returns-in-Err-clause-ok c = λ life stands.
+    let name = c.args.name.now in
+    c.settle.ensures.ok (Rotate name) life
+    (was_halted c.args.self.now _ life c.in-Running.stations c.rotate.new.self c.in-Running.field-1 stands
+    c.in-Running.is refl refl refl refl
+    (Rotate name) (RefusesRotation name) (record { place = c.place_of-place.result; fault = c.in-Err.fault })
+    (λ later r. r) (holds_rotate_not name)
+    (λ on.
+    let t = c.in-Err.ensures.err life.past on in (
+      t,
+      λ disk runs. rotate_fails life name _ t.later (place_same name life.past c.in-Running.stations on
+          ∙ sym c.place_of-place.ensures) runs t.refuses disk,
+    )))
+
+pub returns-in-Err-clause-err : goal.returns-in-Err-clause-err
+returns-in-Err-clause-err c = λ life stands.
+    let name = c.args.name.now in
+    c.settle.ensures.err (Rotate name) life
+    (was_halted c.args.self.now _ life c.in-Running.stations c.rotate.new.self c.in-Running.field-1 stands
+    c.in-Running.is refl refl refl refl
+    (Rotate name) (RefusesRotation name) (record { place = c.place_of-place.result; fault = c.in-Err.fault })
+    (λ later r. r) (holds_rotate_not name)
+    (λ on.
+    let t = c.in-Err.ensures.err life.past on in (
+      t,
+      λ disk runs. rotate_fails life name _ t.later (place_same name life.past c.in-Running.stations on
+          ∙ sym c.place_of-place.ensures) runs t.refuses disk,
+    )))

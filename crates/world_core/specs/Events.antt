@@ -1,0 +1,370 @@
+-- What happens to a world: events, each on one tape (profile). Each later state is an equation, so that all else stays.
+use Rattle.std.specs.Prelude.{
+  ◌≡◌,
+  ◌⊎◌,
+  ◌+◌,
+  ◌-◌,
+  ◌<◌,
+  ℕ,
+  zero,
+  suc,
+  true,
+  false,
+  nat_lt,
+  if◌then◌else◌,
+  Option,
+  None,
+  Some,
+  List,
+  [],
+  ◌∷◌,
+  ◌++◌,
+  length,
+  take,
+  slice_get,
+  Contains,
+}
+use Rattle.ledger_core.specs.declared.note.Note.TheVariants.{Drop, Final, Owe, Seen}
+use Rattle.ledger_core.specs.State.{Overflows, Owing}
+use Rattle.recovery.specs.Leaving.{pending_notes}
+use Rattle.recovery.specs.Notes.{most_pending, noted_all}
+use Rattle.recovery.specs.Words.{OneHasRisen}
+use Rattle.recovery.specs.declared.fault.TapeFault.TheVariants.{Broken, Disk}
+use Rattle.conn_core.specs.declared.outcome.Outcome.{Outcome}
+use Rattle.ledger_core.specs.State.{numbers}
+use Rattle.peer_queue.specs.Place.{
+  AreUnheld,
+  Held,
+  IsHeldBy,
+  Later as LaterPlace,
+  Ready,
+  all_gone,
+  all_ready,
+  gone,
+  least_candidate,
+  moved,
+}
+use Rattle.peer_queue.specs.Settled.{IsEnded, number_in, settled_by}
+use Rattle.peer_queue.specs.Shed.{IsShedSet, dropped}
+use Rattle.peer_queue.specs.declared.limits.Owed.{Owed}
+use Rattle.peer_queue.specs.declared.limits.Owed.TheVariants.{Already, New}
+use Rattle.peer_queue.specs.declared.settled.Settled.{Settled}
+use Rattle.peer_queue.specs.declared.settled.Settled.TheVariants.{Answered, Dropped, Later, Ready as Back}
+use Rattle.world_core.specs.Past.{
+  Past,
+  PeerPast,
+  TapePast,
+  ledger_at,
+  limits_of,
+  mark_at,
+  with_intake,
+  with_peer,
+  with_places,
+  with_tape,
+}
+use Rattle.world_core.specs.Safe.{IsSafe, KeepsLines, KeepsNotes}
+use Rattle.world_core.specs.Tapes.{
+  IsFlushed,
+  HasRoom,
+  IsReadTape,
+  IsReopened,
+  RefusesFlush,
+  RefusesNote,
+  RefusesOpen,
+  RefusesOwe,
+  RefusesRotate,
+  IsRotated,
+  noted_at,
+}
+use Rattle.world_core.specs.declared.fault.Fault.{Fault}
+use Rattle.world_core.specs.declared.fault.Fault.TheVariants.{NoMemory, Tape}
+
+-- One event.
+pub data Event : Type 0 where
+  Owes : (place : ℕ) (token id : List ℕ) → Event  -- the next line at a peer that it names
+  Parts : (place : ℕ) → Event  -- the flush of a peer
+  Rotates : (place generation : ℕ) → Event  -- what a peer is owed is written anew
+  Sheds : (place : ℕ) (numbers : List ℕ) → Event  -- these numbers of a peer's backlog are dropped
+  Claims : (place id now : ℕ) → Event  -- a connection claims a peer's least candidate
+  Returns : (place id number : ℕ) → Event  -- and gives it back
+  Settles : (place id now : ℕ) (outcome : Outcome) → Event  -- an outcome of a connection goes to its peer
+  Sees : (number : ℕ) → Event  -- a number is noted on the intake's tape
+  Acknowledges : Event  -- the flush of the intake's tape
+  Opens : (place : ℕ) → Event  -- a peer's tape is opened
+  OpensIntake : Event  -- the intake's tape is opened
+
+-- ---- what an event makes of a peer
+
+-- what a line of this number that names a peer is there: new where the number is above the mark
+abbrev pub owed_as : ℕ → PeerPast → Owed
+owed_as number peer = if nat_lt (mark_at peer.tape) number then New else Already
+
+-- one note more, and its number is ready; or nothing
+abbrev pub owing_as : Owed → ℕ → List ℕ → List ℕ → PeerPast → PeerPast
+owing_as New number token id peer = record peer {
+  tape = noted_at peer.tape (Owe number token id);
+  places = peer.places ++ (number, Ready) ∷ [];
+}
+owing_as Already number token id peer = peer
+
+-- a peer that was flushed
+abbrev pub parted : PeerPast → TapePast → PeerPast
+parted peer tape = record peer { tape = tape; parted = true }
+
+-- a peer whose tape was opened: all that it owes is ready
+abbrev pub opened_peer : PeerPast → TapePast → PeerPast
+opened_peer peer tape = record {
+  conf = peer.conf;
+  tape = tape;
+  places =
+      all_ready (numbers (ledger_at tape));
+  parted = false;
+}
+
+-- a peer whose tape was read, and of which this connection holds this number now
+abbrev pub claimed_peer : (id number : ℕ) → TapePast → PeerPast → PeerPast
+claimed_peer id number tape peer =
+    record { conf = peer.conf; tape = tape; places = moved peer.places number (Held id); parted = peer.parted }
+
+-- a peer without these debts, each dropped by a note
+abbrev pub shed_peer : List ℕ → PeerPast → PeerPast
+shed_peer numbers peer = record peer {
+  tape = record peer.tape { history = noted_all peer.tape.history (dropped numbers) };
+  places = all_gone peer.places numbers;
+}
+
+-- what has become of a debt of this number makes this of its peer: it ends by a note, or has another place
+abbrev pub settled_as : Settled → ℕ → PeerPast → PeerPast
+settled_as (Answered code) number peer =
+    record peer { tape = noted_at peer.tape (Final number code); places = gone peer.places number }
+settled_as (Dropped cause) number peer =
+    record peer { tape = noted_at peer.tape (Drop number cause); places = gone peer.places number }
+settled_as (Later moment) number peer = with_places peer (moved peer.places number (LaterPlace moment))
+settled_as Back number peer = with_places peer (moved peer.places number Ready)
+
+-- what becomes of the debt of an outcome that is told to its peer at this moment
+abbrev pub settling : PeerPast → ℕ → Outcome → Settled
+settling peer now outcome = settled_by (limits_of peer.conf) now outcome
+
+-- what an outcome makes of its peer
+abbrev pub settled : ℕ → Outcome → PeerPast → PeerPast
+settled now outcome peer = settled_as (settling peer now outcome) (number_in outcome) peer
+
+-- the mark of the intake rises to a number that is above it
+abbrev pub seen : ℕ → TapePast → TapePast
+seen number tape = if nat_lt (mark_at tape) number then noted_at tape (Seen number) else tape
+
+-- the debt that may be claimed at this moment
+pub record IsCandidate (now : ℕ) (peer : PeerPast) (debt : Owing) : Type 0 where
+  pub least : least_candidate now peer.places ≡ Some debt.0
+  pub owed : Contains (ledger_at peer.tape).debts debt
+
+-- what of a peer's backlog is dropped: the shed set, or so much of its front as there is room for; no connection
+-- holds any of it
+pub record IsShedAt (peer : PeerPast) (numbers : List ℕ) : Type 0 where
+  pub set : List ℕ
+  pub is_set : IsShedSet (limits_of peer.conf) (ledger_at peer.tape) peer.places set
+  pub numbers_are : numbers ≡ take (most_pending - length (pending_notes peer.tape.history)) set
+  pub free : AreUnheld peer.places numbers
+
+-- ---- events
+
+-- the line is owed at the peer of this place
+pub record DoesOwe (place : ℕ) (token id : List ℕ) (past later : Past) : Type 0 where
+  pub peer : PeerPast
+  pub here : slice_get past.peers place ≡ Some peer
+  pub works : peer.tape.broken ≡ false
+  pub room : owed_as (past.last + 1) peer ≡ New
+      → HasRoom peer.tape × (Overflows (ledger_at peer.tape) (Owe (past.last + 1) token id) → ⊥)
+  pub changed : later ≡ with_peer past place (owing_as (owed_as (past.last + 1) peer) (past.last + 1) token id peer)
+
+pub record DoesPart (place : ℕ) (past later : Past) : Type 0 where
+  pub peer : PeerPast
+  pub tape : TapePast
+  pub here : slice_get past.peers place ≡ Some peer
+  pub flushes : IsFlushed (KeepsNotes peer) peer.tape tape
+  pub changed : later ≡ with_peer past place (parted peer tape)
+
+pub record DoesRotate (place generation : ℕ) (past later : Past) : Type 0 where
+  pub peer : PeerPast
+  pub tape : TapePast
+  pub here : slice_get past.peers place ≡ Some peer
+  pub rotates : IsRotated (KeepsNotes peer) generation peer.tape tape
+  pub changed : later ≡ with_peer past place (with_tape peer tape)
+
+pub record DoesShed (place : ℕ) (numbers : List ℕ) (past later : Past) : Type 0 where
+  pub peer : PeerPast
+  pub here : slice_get past.peers place ≡ Some peer
+  pub works : peer.tape.broken ≡ false
+  pub sheds : IsShedAt peer numbers
+  pub changed : later ≡ with_peer past place (shed_peer numbers peer)
+
+-- the texts of the debt are read from the tape
+pub record DoesClaim (place id now : ℕ) (past later : Past) : Type 0 where
+  pub peer : PeerPast
+  pub debt : Owing
+  pub tape : TapePast
+  pub here : slice_get past.peers place ≡ Some peer
+  pub works : peer.tape.broken ≡ false
+  pub candidate : IsCandidate now peer debt
+  pub reads : IsReadTape peer.tape tape
+  pub changed : later ≡ with_peer past place (claimed_peer id debt.0 tape peer)
+
+pub record DoesReturn (place id number : ℕ) (past later : Past) : Type 0 where
+  pub peer : PeerPast
+  pub here : slice_get past.peers place ≡ Some peer
+  pub works : peer.tape.broken ≡ false
+  pub held : IsHeldBy peer.places id number
+  pub changed : later ≡ with_peer past place (with_places peer (moved peer.places number Ready))
+
+pub record DoesSettle (place id now : ℕ) (outcome : Outcome) (past later : Past) : Type 0 where
+  pub peer : PeerPast
+  pub here : slice_get past.peers place ≡ Some peer
+  pub works : peer.tape.broken ≡ false
+  pub held : IsHeldBy peer.places id (number_in outcome)
+  pub room : IsEnded (settling peer now outcome) → HasRoom peer.tape
+  pub changed : later ≡ with_peer past place (settled now outcome peer)
+
+pub record DoesSee (number : ℕ) (past later : Past) : Type 0 where
+  pub room : mark_at past.intake < number → (past.intake.broken ≡ false) × HasRoom past.intake
+  pub changed : later ≡ with_intake past (seen number past.intake)
+
+pub record DoesAcknowledge (past later : Past) : Type 0 where
+  pub tape : TapePast
+  pub flushes : IsFlushed (KeepsLines past.intake.history past.peers) past.intake tape
+  pub changed : later ≡ with_intake past tape
+
+pub record DoesOpen (place : ℕ) (past later : Past) : Type 0 where
+  pub peer : PeerPast
+  pub tape : TapePast
+  pub here : slice_get past.peers place ≡ Some peer
+  pub opens : IsReopened (KeepsNotes peer) peer.tape tape
+  pub changed : later ≡ with_peer past place (opened_peer peer tape)
+
+-- behind whose mark the lines go on
+pub record DoesOpenIntake (past later : Past) : Type 0 where
+  pub tape : TapePast
+  pub opens : IsReopened (KeepsLines past.intake.history past.peers) past.intake tape
+  pub changed : later ≡ record { peers = past.peers; intake = tape; last = mark_at tape; begun = None }
+
+-- what an event makes of all tapes
+abbrev pub Does : Event → Past → Past → Type 0
+Does (Owes place token id) past later = DoesOwe place token id past later
+Does (Parts place) past later = DoesPart place past later
+Does (Rotates place generation) past later = DoesRotate place generation past later
+Does (Sheds place numbers) past later = DoesShed place numbers past later
+Does (Claims place id now) past later = DoesClaim place id now past later
+Does (Returns place id number) past later = DoesReturn place id number past later
+Does (Settles place id now outcome) past later = DoesSettle place id now outcome past later
+Does (Sees number) past later = DoesSee number past later
+Does Acknowledges past later = DoesAcknowledge past later
+Does (Opens place) past later = DoesOpen place past later
+Does OpensIntake past later = DoesOpenIntake past later
+
+-- Events one after another, in this order; and behind each of them whatever a stop leaves is safe.
+pub data AllDo (begun : Past) : List Event → Past → Type 0 where
+  Start : AllDo begun [] begun
+  Next : (events : List Event) (event : Event) (past later : Past) → AllDo begun events past → Does event past later
+      → IsSafe later
+      → AllDo begun (events ++ event ∷ []) later
+
+-- ---- refusals
+
+-- the event at the peer of this place is refused so, and leaves this tape of it
+pub record RefusesAt (R : PeerPast → Fault → TapePast
+    → Type 0) (place : ℕ) (past : Past) (fault : Fault) (later : Past) : Type 0 where
+  pub peer : PeerPast
+  pub tape : TapePast
+  pub here : slice_get past.peers place ≡ Some peer
+  pub refused : R peer fault tape
+  pub changed : later ≡ with_peer past place (with_tape peer tape)
+
+-- the event at the intake's tape is refused so
+pub record RefusesIntake (R : TapePast → Fault → TapePast → Type 0) (past : Past) (fault : Fault) (later : Past) :
+    Type 0 where
+  pub tape : TapePast
+  pub refused : R past.intake fault tape
+  pub changed : later ≡ with_intake past tape
+
+-- a line that a peer is not owed yet; a broken tape refuses any
+abbrev pub RefusesLineAt : ℕ → List ℕ → List ℕ → PeerPast → Fault → TapePast → Type 0
+RefusesLineAt number token id peer fault tape =
+    (peer.tape.broken ≡ false → owed_as number peer ≡ New) × RefusesOwe peer.tape (Owe number token id) fault
+    × (tape ≡ peer.tape)
+
+-- an outcome: the tape is broken, or the debt would end, and its note is refused
+abbrev pub RefusesEnd : Settled → TapePast → Fault → Type 0
+RefusesEnd settled tape fault = ((fault ≡ Tape Broken) × (tape.broken ≡ true))
+    ⊎ (IsEnded settled × RefusesNote tape fault)
+
+-- a call that changes no tape is refused: the tape is broken, or memory is wanted
+abbrev pub RefusesCall : Type 0 → PeerPast → Fault → TapePast → Type 0
+RefusesCall Wants peer fault tape =
+    (((fault ≡ Tape Broken) × (peer.tape.broken ≡ true)) ⊎ ((fault ≡ NoMemory) × (peer.tape.broken ≡ false) × Wants))
+    × (tape ≡ peer.tape)
+
+-- a claim: the tape is broken; or there is a candidate, whose texts were read, and memory is wanted or a disk told a
+-- fault
+abbrev pub RefusesClaim : ℕ → PeerPast → Fault → TapePast → Type 0
+RefusesClaim now peer fault tape =
+    (((fault ≡ Tape Broken) × (peer.tape.broken ≡ true))
+    ⊎ ((peer.tape.broken ≡ false) × ((number : ℕ) × (least_candidate now peer.places ≡ Some number))
+    × ((fault ≡ NoMemory) ⊎ ((fault ≡ Tape Disk) × OneHasRisen peer.tape.faults tape.faults))))
+    × IsReadTape peer.tape tape
+
+-- An event is refused for this fault, and nothing of it has happened, but that a disk's fault breaks its tape.
+abbrev pub Refuses : Event → Past → Fault → Past → Type 0
+Refuses (Owes place token id) past fault later =
+    RefusesAt (RefusesLineAt (past.last + 1) token id) place past fault later
+Refuses (Parts place) past fault later =
+    RefusesAt (λ (peer : PeerPast) (f : Fault) (tape : TapePast). RefusesFlush (KeepsNotes peer) peer.tape f tape)
+    place past fault later
+Refuses (Rotates place generation) past fault later =
+    RefusesAt (λ (peer : PeerPast) (f : Fault) (tape : TapePast). RefusesRotate (KeepsNotes peer) peer.tape f tape)
+    place past fault later
+Refuses (Sheds place numbers) past fault later = RefusesAt (RefusesCall (Unit {0})) place past fault later
+Refuses (Claims place id now) past fault later = RefusesAt (RefusesClaim now) place past fault later
+Refuses (Returns place id number) past fault later = RefusesAt (RefusesCall ⊥) place past fault later
+Refuses (Settles place id now outcome) past fault later =
+    RefusesAt (λ (peer : PeerPast) (f : Fault) (tape : TapePast).
+    RefusesEnd (settling peer now outcome) peer.tape f × (tape ≡ peer.tape)) place past fault later
+Refuses (Sees number) past fault later =
+    RefusesIntake (λ (old : TapePast) (f : Fault) (new : TapePast). (mark_at old < number) × RefusesNote old f
+    × (new ≡ old)) past fault later
+Refuses Acknowledges past fault later =
+    RefusesIntake (RefusesFlush (KeepsLines past.intake.history past.peers)) past fault later
+Refuses (Opens place) past fault later =
+    RefusesAt (λ (peer : PeerPast). RefusesOpen (KeepsNotes peer) peer.tape) place past fault later
+Refuses OpensIntake past fault later =
+    RefusesIntake (RefusesOpen (KeepsLines past.intake.history past.peers)) past fault later
+
+-- of these events some were taken, from the first on, and the next was refused
+pub record Fails (begun : Past) (events : List Event) (fault : Fault) (later : Past) : Type 0 where
+  pub count : ℕ
+  pub mid : Past
+  pub event : Event
+  pub front : AllDo begun (take count events) mid
+  pub here : slice_get events count ≡ Some event
+  pub refused : Refuses event mid fault later
+  pub safe : IsSafe later
+
+-- ---- lists of events
+
+-- the event at each place below this one, in order
+abbrev pub each_place : (ℕ → Event) → ℕ → List Event
+each_place event zero = []
+each_place event (suc n) = each_place event n ++ event n ∷ []
+
+-- the tape whose disks an event calls: a peer's by its place, or the intake's
+abbrev pub calls_disk : Event → Option (Option ℕ)
+calls_disk (Owes place token id) = None
+calls_disk (Parts place) = Some (Some place)
+calls_disk (Rotates place generation) = Some (Some place)
+calls_disk (Sheds place numbers) = None
+calls_disk (Claims place id now) = None
+calls_disk (Returns place id number) = None
+calls_disk (Settles place id now outcome) = None
+calls_disk (Sees number) = None
+calls_disk Acknowledges = Some None
+calls_disk (Opens place) = Some (Some place)
+calls_disk OpensIntake = Some None

@@ -1,0 +1,323 @@
+-- The steps on connections (docs/FORMATS.md): each puts something into a transcript, and then its outcomes go to the
+-- peer's station, oldest first, each an event; its output counts as sent; and what it wants, and why it closed, is
+-- told.
+use Rattle.std.specs.Prelude.{
+  ◌≡◌,
+  ◌⊎◌,
+  ◌+◌,
+  ◌<◌,
+  ◌≤◌,
+  ◌^◌,
+  ℕ,
+  false,
+  None,
+  Some,
+  List,
+  [],
+  ◌∷◌,
+  ◌++◌,
+  length,
+  drop,
+  map,
+  take,
+  slice_get,
+}
+use Rattle.ledger_core.specs.State.{Owing}
+use Rattle.article_store.specs.declared.store.Found.{Found}
+use Rattle.conn_core.specs.Commands.{Handing}
+use Rattle.conn_core.specs.History.{
+  Event as Happening,
+  Broke,
+  Handed as HandedIn,
+  Offered,
+  Sent,
+  Taken,
+  Tick,
+  after,
+  need,
+  noted,
+  outcomes,
+  output,
+  outside,
+  reason,
+  taken,
+}
+use Rattle.conn_core.specs.Receipt.{IsHandedAs, Receives, ReceivesSome}
+use Rattle.conn_core.specs.Stands.{left_behind, ready_of}
+use Rattle.conn_core.specs.declared.options.Options.{Options}
+use Rattle.conn_core.specs.declared.outcome.Outcome.{Outcome}
+use Rattle.conn_core.specs.declared.ready.Ready.TheVariants.{Busy as NoRoom, Shut, Yes}
+use Rattle.peer_queue.specs.Place.{least_candidate}
+use Rattle.peer_queue.specs.Settled.{number_in, settled_by}
+use Rattle.peer_queue.specs.declared.limits.Limits.{Limits}
+use Rattle.world_core.specs.Past.{
+  ConnPast,
+  Life,
+  Past,
+  PeerPast,
+  TapePast,
+  conn_at,
+  limits_of,
+  options_of,
+  place_of,
+  with_conn,
+  with_past,
+  with_peer,
+  with_tape,
+}
+use Rattle.world_core.specs.Events.{AllDo, Claims, Event, Fails, IsCandidate, Refuses, Returns, Settles}
+use Rattle.world_core.specs.Tapes.{IsReadTape}
+use Rattle.world_core.specs.Told.{Connected, Handed, Output, Said, Settled, closed_said, lines_in, need_said}
+use Rattle.world_core.specs.declared.fault.Fault.{Fault}
+use Rattle.world_core.specs.declared.fault.Fault.TheVariants.{CountFull, NoConnection, NoMemory, NoPeer, NotNeeded}
+use Rattle.world_core.specs.declared.told.Handed.{Handed as Handover}
+use Rattle.world_core.specs.declared.told.Handed.TheVariants.{Busy, Closed, Nothing, Number}
+
+-- ---- what follows a step on a connection
+
+-- the outcomes that are still to be taken
+abbrev pub untold : Options → List Happening → List Outcome
+untold options h = drop (taken h) (outcomes options h)
+
+-- so many of them are taken
+abbrev pub with_taken : List Outcome → List Happening → List Happening
+with_taken [] h = h
+with_taken (outcome ∷ rest) h = with_taken rest (Taken ∷ h)
+
+-- the transcript once all are
+abbrev pub told_out : Options → List Happening → List Happening
+told_out options h = with_taken (untold options h) h
+
+-- and once all of the output counts as sent
+abbrev pub sent_out : Options → List Happening → List Happening
+sent_out options h = noted options (told_out options h) (Sent (length (output options (told_out options h))))
+
+-- each outcome goes to the peer at this place
+abbrev pub settle_events : (place id now : ℕ) → List Outcome → List Event
+settle_events place id now outcomes = map (λ (outcome : Outcome). Settles place id now outcome) outcomes
+
+-- what is told then, of a connection whose transcript was this before the step
+abbrev pub exchange_said : Limits → Options → (id now : ℕ) → (was h : List Happening) → List Said
+exchange_said limits options id now was h =
+    map (λ (outcome : Outcome). Settled id (number_in outcome) (settled_by limits now outcome)) (untold options h)
+    ++ (map (Output id) (lines_in (output options (told_out options h)))
+    ++ (need_said id (need options (told_out options h))
+    ++ closed_said id (reason options was) (reason options (told_out options h))))
+
+-- The connection has this transcript now, and had that one before the step: what follows has come about, and is told.
+pub record Follows (id : ℕ) (was : List Happening) (conn : ConnPast) (life : Life) (told : List Said) (later : Life) :
+    Type 0 where
+  pub peer : PeerPast
+  pub here : slice_get life.past.peers conn.place ≡ Some peer
+  pub past : Past
+  pub settles : AllDo life.past (settle_events conn.place id life.now (untold (options_of peer.conf) conn.transcript))
+      past
+  pub told_is : told ≡ exchange_said (limits_of peer.conf) (options_of peer.conf) id life.now was conn.transcript
+  pub changed : later ≡ with_conn (with_past life past) id (record {
+    place = conn.place;
+    unread = left_behind (options_of peer.conf) conn.unread (told_out (options_of peer.conf) conn.transcript);
+    transcript = sent_out (options_of peer.conf) conn.transcript;
+  })
+
+-- Why only so many outcomes are taken: the next is refused, or memory is, with which they are told.
+abbrev pub StopsAt : List Event → ℕ → Past → Fault → Type 0
+StopsAt events count past fault =
+    (fault ≡ NoMemory) ⊎ ((event : Event) × (slice_get events count ≡ Some event) × Refuses event past fault past)
+
+-- Only so many outcomes were taken, from the first on; the next is the first to be taken still, and no octet counts
+-- as sent.
+pub record FollowsNot (id : ℕ) (conn : ConnPast) (life : Life) (fault : Fault) (later : Life) : Type 0 where
+  pub peer : PeerPast
+  pub here : slice_get life.past.peers conn.place ≡ Some peer
+  pub count : ℕ
+  pub within : count ≤ length (untold (options_of peer.conf) conn.transcript)
+  pub past : Past
+  pub settles : AllDo life.past
+      (take count (settle_events conn.place id life.now (untold (options_of peer.conf) conn.transcript))) past
+  pub why : StopsAt (settle_events conn.place id life.now (untold (options_of peer.conf) conn.transcript)) count past
+      fault
+  pub changed : later ≡ with_conn (with_past life past) id (record {
+    place = conn.place;
+    unread = left_behind (options_of peer.conf) conn.unread conn.transcript;
+    transcript = with_taken (take count (untold (options_of peer.conf) conn.transcript)) conn.transcript;
+  })
+
+-- ---- a connection is made
+
+pub record TakesConnect (name : List ℕ) (life : Life) (told : List Said) (later : Life) : Type 0 where
+  pub place : ℕ
+  pub here : place_of life.past name ≡ Some place
+  pub fits : life.connected + 1 < 2 ^ 64
+  pub told_is : told ≡ Connected (life.connected + 1) name ∷ []
+  pub changed : later ≡ record life {
+    conns = life.conns ++ (life.connected + 1, record { place = place; unread = []; transcript = [] }) ∷ [];
+    connected = life.connected + 1;
+  }
+
+-- refused, it leaves its number to the next one
+abbrev pub RefusesConnect : List ℕ → Life → Fault → Life → Type 0
+RefusesConnect name life fault later =
+    (((fault ≡ NoPeer) × (place_of life.past name ≡ None))
+    ⊎ (((place : ℕ) × (place_of life.past name ≡ Some place))
+    × (((fault ≡ CountFull) × (life.connected + 1 ≡ 2 ^ 64)) ⊎ ((fault ≡ NoMemory) × (life.connected + 1 < 2 ^ 64)))))
+    × (later ≡ life)
+
+-- ---- the least candidate is handed over
+
+-- What became of it: none where there is no candidate, which may be read from the tape; else the least is claimed,
+-- and offered, or given back where the connection has no room or is closed. Then the connection has this transcript,
+-- and all tapes are so.
+pub data HandsOver (id now : ℕ) (conn : ConnPast) (peer : PeerPast) (past : Past) : Handover → List Happening → Past
+    → Type 0 where
+  None_there : (tape : TapePast) → peer.tape.broken ≡ false → least_candidate now peer.places ≡ None
+      → IsReadTape peer.tape tape
+      → HandsOver id now conn peer past Nothing conn.transcript (with_peer past conn.place (with_tape peer tape))
+  Taken_over : (debt : Owing) (later : Past) → IsCandidate now peer debt
+      → ready_of (options_of peer.conf) conn.transcript ≡ Yes
+      → AllDo past (Claims conn.place id now ∷ []) later
+      → HandsOver id now conn peer past (Number debt.0) (after (options_of peer.conf) conn.transcript (Offered debt))
+      later
+  Has_no_room : (debt : Owing) (later : Past) → IsCandidate now peer debt
+      → ready_of (options_of peer.conf) conn.transcript ≡ NoRoom
+      → AllDo past (Claims conn.place id now ∷ Returns conn.place id debt.0 ∷ []) later
+      → HandsOver id now conn peer past Busy conn.transcript later
+  Is_shut : (debt : Owing) (later : Past) → IsCandidate now peer debt
+      → ready_of (options_of peer.conf) conn.transcript ≡ Shut
+      → AllDo past (Claims conn.place id now ∷ Returns conn.place id debt.0 ∷ []) later
+      → HandsOver id now conn peer past Closed conn.transcript later
+
+-- the connection of this number, and its peer
+pub record IsConn (id : ℕ) (life : Life) (conn : ConnPast) (peer : PeerPast) : Type 0 where
+  pub conn_is : conn_at life.conns id ≡ Some conn
+  pub peer_is : slice_get life.past.peers conn.place ≡ Some peer
+
+-- a connection with this transcript
+abbrev pub with_transcript : ConnPast → List Happening → ConnPast
+with_transcript conn h = record conn { transcript = h }
+
+pub record TakesHand (id : ℕ) (life : Life) (told : List Said) (later : Life) : Type 0 where
+  pub conn : ConnPast
+  pub peer : PeerPast
+  pub is : IsConn id life conn peer
+  pub handed : Handover
+  pub transcript : List Happening
+  pub past : Past
+  pub hands : HandsOver id life.now conn peer life.past handed transcript past
+  pub behind : List Said
+  pub follows : Follows id conn.transcript (with_transcript conn transcript) (with_past life past) behind later
+  pub told_is : told ≡ Handed id handed ∷ behind
+
+-- Memory was refused for what it tells; or the claim was; or the offer was refused memory, and the debt is given
+-- back; or what follows was refused.
+abbrev pub FailsToHand : ℕ → Life → ConnPast → PeerPast → Fault → Life → Type 0
+FailsToHand id life conn peer fault later =
+    ((fault ≡ NoMemory) × (later ≡ life))
+    ⊎ ((past : Past) × Fails life.past (Claims conn.place id life.now ∷ []) fault past × (later ≡ with_past life past))
+    ⊎ ((fault ≡ NoMemory) × (ready_of (options_of peer.conf) conn.transcript ≡ Yes)
+    × ((debt : Owing) × (past : Past) × IsCandidate life.now peer debt
+    × AllDo life.past (Claims conn.place id life.now ∷ Returns conn.place id debt.0 ∷ []) past
+    × (later ≡ with_past life past)))
+    ⊎ ((handed : Handover) × (transcript : List Happening) × (past : Past)
+    × HandsOver id life.now conn peer life.past handed transcript past
+    × FollowsNot id (with_transcript conn transcript) (with_past life past) fault later)
+
+-- ---- octets come in
+
+pub record TakesBytes (id : ℕ) (octets : List ℕ) (life : Life) (told : List Said) (later : Life) : Type 0 where
+  pub conn : ConnPast
+  pub peer : PeerPast
+  pub is : IsConn id life conn peer
+  pub transcript : List Happening
+  pub left : List ℕ
+  pub receives : Receives (options_of peer.conf) (conn.unread ++ octets) conn.transcript transcript left
+  pub follows : Follows id conn.transcript (record { place = conn.place; unread = left; transcript = transcript })
+      life told later
+
+-- Memory was refused to the reader: some of the whole replies were taken, and the connection is broken, of which no
+-- outcome is taken; or what follows was refused.
+abbrev pub FailsToRead : ℕ → List ℕ → Life → ConnPast → PeerPast → Fault → Life → Type 0
+FailsToRead id octets life conn peer fault later =
+    ((fault ≡ NoMemory) × ((mid : List Happening)
+    × ReceivesSome (options_of peer.conf) (conn.unread ++ octets) conn.transcript mid
+    × (later ≡ with_conn life id
+    (record { place = conn.place; unread = []; transcript = after (options_of peer.conf) mid Broke }))))
+    ⊎ ((transcript : List Happening) × (left : List ℕ)
+    × Receives (options_of peer.conf) (conn.unread ++ octets) conn.transcript transcript left
+    × FollowsNot id (record { place = conn.place; unread = left; transcript = transcript }) life fault later)
+
+-- ---- an article is handed in
+
+pub record TakesArticle (id : ℕ) (found : Found) (life : Life) (told : List Said) (later : Life) : Type 0 where
+  pub conn : ConnPast
+  pub peer : PeerPast
+  pub is : IsConn id life conn peer
+  pub number : ℕ
+  pub handing : Handing
+  pub wanted : need (options_of peer.conf) conn.transcript ≡ Some number
+  pub handed : IsHandedAs found handing
+  pub follows : Follows id conn.transcript
+      (with_transcript conn (after (options_of peer.conf) conn.transcript (HandedIn number handing))) life told later
+
+abbrev pub FailsToSupply : ℕ → Found → Life → ConnPast → PeerPast → Fault → Life → Type 0
+FailsToSupply id found life conn peer fault later =
+    ((fault ≡ NotNeeded) × (need (options_of peer.conf) conn.transcript ≡ None) × (later ≡ life))
+    ⊎ ((number : ℕ) × (need (options_of peer.conf) conn.transcript ≡ Some number)
+    × (((fault ≡ NoMemory) × (later ≡ life))
+    ⊎ ((handing : Handing) × IsHandedAs found handing
+    × FollowsNot id (with_transcript conn (after (options_of peer.conf) conn.transcript (HandedIn number handing)))
+    life fault later)))
+
+-- ---- a connection breaks
+
+pub record TakesBreak (id : ℕ) (life : Life) (told : List Said) (later : Life) : Type 0 where
+  pub conn : ConnPast
+  pub peer : PeerPast
+  pub is : IsConn id life conn peer
+  pub follows : Follows id conn.transcript
+      (with_transcript conn (outside (options_of peer.conf) conn.transcript Broke)) life told later
+
+abbrev pub FailsToBreak : ℕ → Life → ConnPast → PeerPast → Fault → Life → Type 0
+FailsToBreak id life conn peer fault later =
+    FollowsNot id (with_transcript conn (outside (options_of peer.conf) conn.transcript Broke)) life fault later
+
+-- a step on a connection that is not there is refused, and any other so
+abbrev pub RefusesOn : ℕ → Life → (ConnPast → PeerPast → Fault → Life → Type 0) → Fault → Life → Type 0
+RefusesOn id life Fails fault later =
+    ((fault ≡ NoConnection) × (conn_at life.conns id ≡ None) × (later ≡ life))
+    ⊎ ((conn : ConnPast) × (peer : PeerPast) × IsConn id life conn peer × Fails conn peer fault later)
+
+-- ---- the moment
+
+-- the moment is the world's, from the step's start on
+abbrev pub at_moment : ℕ → Life → Life
+at_moment now life = record life { now = now }
+
+-- a connection to a peer of these settings, for which it is this moment
+abbrev pub ticked : Options → ℕ → ConnPast → ConnPast
+ticked options now conn = with_transcript conn (outside options conn.transcript (Tick now))
+
+-- so many connections were told the moment, in the order of their numbers, and what follows has come about of each in
+-- turn
+pub data TicksEach (begun : Life) : ℕ → List Said → Life → Type 0 where
+  Start : TicksEach begun 0 [] begun
+  Next : (count : ℕ) (told more : List Said) (mid later : Life) (id : ℕ) (conn : ConnPast) (peer : PeerPast)
+      → TicksEach begun count told mid → slice_get mid.conns count ≡ Some (id, conn)
+      → slice_get mid.past.peers conn.place ≡ Some peer
+      → Follows id conn.transcript (ticked (options_of peer.conf) mid.now conn) mid more later
+      → TicksEach begun (count + 1) (told ++ more) later
+
+abbrev pub TakesTick : ℕ → Life → List Said → Life → Type 0
+TakesTick now life told later = TicksEach (at_moment now life) (length life.conns) told later
+
+-- so many were, and what follows was refused of the next
+pub record RefusesTick (now : ℕ) (life : Life) (fault : Fault) (later : Life) : Type 0 where
+  pub count : ℕ
+  pub told : List Said
+  pub mid : Life
+  pub id : ℕ
+  pub conn : ConnPast
+  pub peer : PeerPast
+  pub front : TicksEach (at_moment now life) count told mid
+  pub next : slice_get mid.conns count ≡ Some (id, conn)
+  pub here : slice_get mid.past.peers conn.place ≡ Some peer
+  pub follows : FollowsNot id (ticked (options_of peer.conf) mid.now conn) mid fault later

@@ -1,0 +1,39 @@
+-- How the fault of a tape or a station is told as a step's (docs/FORMATS.md).
+use Rattle.recovery.specs.declared.fault.TapeFault.{TapeFault}
+use Rattle.recovery.specs.declared.fault.TapeFault.TheVariants.{
+  Damaged,
+  Disk,
+  Broken,
+  TapeFull,
+  GenerationFull,
+  PendingFull,
+  NoMemory,
+  Note,
+}
+use Rattle.peer_queue.specs.declared.fault.StationFault.{StationFault}
+use Rattle.peer_queue.specs.declared.fault.StationFault.TheVariants.{
+  NotHeld,
+  Broken as BrokenStation,
+  Tape as StationTape,
+  NoMemory as NoStationMemory,
+}
+use Rattle.world_core.specs.declared.fault.Fault.{Fault}
+use Rattle.world_core.specs.declared.fault.Fault.TheVariants.{NoConnection, Tape, NoMemory as NoStepMemory}
+
+-- want of memory is the step's own, and any other fault stands behind `Tape`
+abbrev pub fault_of : TapeFault → Fault
+fault_of (Damaged segment at) = Tape (Damaged segment at)
+fault_of Disk = Tape Disk
+fault_of Broken = Tape Broken
+fault_of TapeFull = Tape TapeFull
+fault_of GenerationFull = Tape GenerationFull
+fault_of PendingFull = Tape PendingFull
+fault_of NoMemory = NoStepMemory
+fault_of (Note fault) = Tape (Note fault)
+
+-- A broken station is told as its tape. No step has a station settle what is not held, so that its name is free here.
+abbrev pub fault_of_station : StationFault → Fault
+fault_of_station NotHeld = NoConnection
+fault_of_station BrokenStation = Tape Broken
+fault_of_station (StationTape fault) = fault_of fault
+fault_of_station NoStationMemory = NoStepMemory

@@ -1,0 +1,213 @@
+-- Stops and restarts (docs/FORMATS.md): what a stop makes of a world, what may be met in a step, and how all is
+-- opened again.
+use Rattle.std.specs.Prelude.{
+  ◌≡◌,
+  ◌⊎◌,
+  ℕ,
+  zero,
+  suc,
+  true,
+  false,
+  Option,
+  None,
+  Some,
+  List,
+  [],
+  ◌∷◌,
+  ◌++◌,
+  length,
+  map,
+  take,
+  slice_get,
+}
+use Rattle.disk_model.specs.declared.choice.Choice.{Choice}
+use Rattle.recovery.specs.Leaving.{left_by}
+use Rattle.recovery.specs.declared.fault.TapeFault.TheVariants.{Disk}
+use Rattle.world_core.specs.Past.{Armed, Life, Past, PeerPast, TapePast, place_of, with_past}
+use Rattle.world_core.specs.Safe.{IsSafe}
+use Rattle.world_core.specs.Events.{
+  AllDo,
+  Event,
+  Fails,
+  Opens,
+  OpensIntake,
+  Parts,
+  Refuses,
+  Rotates,
+  calls_disk,
+  each_place,
+}
+use Rattle.world_core.specs.Steps.{IsSealable, begun_at, flush_events, seal_events}
+use Rattle.world_core.specs.Told.{Said, Stopped, mark_said}
+use Rattle.world_core.specs.declared.fault.Fault.{Fault}
+use Rattle.world_core.specs.declared.fault.Fault.TheVariants.{NoMemory, NoPeer, Running, Stopped as HasStopped, Tape}
+use Rattle.world_core.specs.declared.step.Step.{Step}
+use Rattle.world_core.specs.declared.step.Step.TheVariants.{
+  Line,
+  Flush,
+  Begin,
+  Part,
+  Seal,
+  Connect,
+  Hand,
+  Bytes,
+  Article,
+  Break,
+  Tick,
+  Shed,
+}
+use Rattle.world_core.specs.declared.step.Step.TheVariants.{Rotate, Stop, Restart}
+
+-- ---- what a stop makes of a world
+
+-- A stop at rest leaves what has happened to each disk as it is; any other leaves of each disk what its choice does,
+-- on a new one.
+pub data Manner : Type 0 where
+  AtRest : Manner
+  ByChoice : (choice : Choice) → Manner
+
+-- a tape that has stopped: what pended lies on its disks or not
+abbrev pub left_tape : Manner → TapePast → TapePast
+left_tape AtRest tape = record tape { broken = false }
+left_tape (ByChoice choice) tape =
+    record { history = tape.history; log = left_by choice tape.log; faults = (0, 0); broken = false }
+
+abbrev pub left_peer : Manner → PeerPast → PeerPast
+left_peer manner peer = record { conf = peer.conf; tape = left_tape manner peer.tape; places = []; parted = false }
+
+-- all tapes, each left so; no number is kept
+abbrev pub left : Manner → Past → Past
+left manner past = record {
+  peers = map (left_peer manner) past.peers;
+  intake = left_tape manner past.intake;
+  last = past.last;
+  begun = None;
+}
+
+-- A world whose tapes were under way so has stopped: connections are gone and no stop is armed; numbers of
+-- connections and the moment go on.
+abbrev pub halted : Manner → Past → Life → Life
+halted manner under_way life = record {
+  past = left manner under_way;
+  conns = [];
+  connected = life.connected;
+  now = life.now;
+  armed = None;
+  running = false;
+}
+
+-- ---- a stop is armed
+
+-- the tape that a stop names: a peer's, which has this place, or the intake's
+abbrev pub IsTapeOf : Past → Option (List ℕ) → Option ℕ → Type 0
+IsTapeOf past None None = Unit {0}
+IsTapeOf past None (Some place) = ⊥
+IsTapeOf past (Some name) None = ⊥
+IsTapeOf past (Some name) (Some place) = place_of past name ≡ Some place
+
+-- in the place of any that was; all else stays
+abbrev pub armed_with : Armed → Life → Life
+armed_with stop life = record life { armed = Some stop }
+
+-- at call 0 all stops at rest; else a stop is armed
+abbrev pub TakesStop : Option (List ℕ) → ℕ → Choice → Life → List Said → Life → Type 0
+TakesStop peer zero choice life told later =
+    (life.running ≡ true) × (told ≡ Stopped ∷ []) × (later ≡ halted AtRest life.past life)
+TakesStop peer (suc calls) choice life told later =
+    (place : Option ℕ) × IsTapeOf life.past peer place × (told ≡ [])
+    × (later ≡ armed_with (record { place = place; call = suc calls; choice = choice }) life)
+
+-- all has stopped before, or there is no memory; or no peer has the name
+abbrev pub RefusesStop : Option (List ℕ) → ℕ → Life → Fault → Life → Type 0
+RefusesStop peer zero life fault later =
+    (((fault ≡ HasStopped) × (life.running ≡ false)) ⊎ ((fault ≡ NoMemory) × (life.running ≡ true))) × (later ≡ life)
+RefusesStop peer (suc calls) life fault later =
+    ((name : List ℕ) × (peer ≡ Some name) × (place_of life.past name ≡ None)) × (fault ≡ NoPeer) × (later ≡ life)
+
+-- ---- all is opened again
+
+-- the opening of each peer's tape by name, and then of the intake's
+abbrev pub restart_events : Past → List Event
+restart_events past = each_place Opens (length past.peers) ++ OpensIntake ∷ []
+
+pub record TakesRestart (life : Life) (told : List Said) (later : Life) : Type 0 where
+  pub stopped : life.running ≡ false
+  pub past : Past
+  pub opens : AllDo life.past (restart_events life.past) past
+  pub told_is : told ≡ map mark_said past.peers
+  pub changed : later ≡ record life { past = past; running = true }
+
+-- an opening was refused, those before it stand; or memory was, behind any of them
+abbrev pub FailsToOpen : Past → Fault → Past → Type 0
+FailsToOpen past fault under_way =
+    Fails past (restart_events past) fault under_way
+    ⊎ ((fault ≡ NoMemory) × ((count : ℕ) × AllDo past (take count (restart_events past)) under_way))
+
+-- Nothing has stopped; or the openings were refused, and all has stopped still, its disks as the openings left them.
+-- A stop that is armed stays so. No number of a line is read while all is stopped.
+abbrev pub RefusesRestart : Life → Fault → Life → Type 0
+RefusesRestart life fault later =
+    ((fault ≡ Running) × (life.running ≡ true) × (later ≡ life))
+    ⊎ ((life.running ≡ false)
+    × ((under_way : Past) × FailsToOpen life.past fault under_way × (later ≡ with_past life (left AtRest under_way))))
+
+-- ---- a stop is met
+
+-- The events of the steps that call disks, and the tapes at which they begin; each is what the step takes. No other
+-- step meets a stop.
+abbrev pub CallsDisks : Step → Life → Past → List Event → Type 0
+CallsDisks (Line text) life begun events = ⊥
+CallsDisks Flush life begun events =
+    (life.running ≡ true) × (begun ≡ begun_at life.past) × (events ≡ flush_events life.past)
+CallsDisks Begin life begun events = ⊥
+CallsDisks (Part name) life begun events =
+    (life.running ≡ true) × (begun ≡ life.past)
+    × ((place : ℕ) × (place_of life.past name ≡ Some place) × (events ≡ Parts place ∷ []))
+CallsDisks Seal life begun events =
+    (life.running ≡ true) × (begun ≡ life.past)
+    × ((number : ℕ) × IsSealable life.past number × (events ≡ seal_events number))
+CallsDisks (Connect name) life begun events = ⊥
+CallsDisks (Hand id) life begun events = ⊥
+CallsDisks (Bytes id octets) life begun events = ⊥
+CallsDisks (Article id found) life begun events = ⊥
+CallsDisks (Break id) life begun events = ⊥
+CallsDisks (Tick now) life begun events = ⊥
+CallsDisks (Shed name) life begun events = ⊥
+CallsDisks (Rotate name) life begun events =
+    (life.running ≡ true) × (begun ≡ life.past)
+    × ((place : ℕ) × (place_of life.past name ≡ Some place) × (events ≡ Rotates place 0 ∷ []))
+CallsDisks (Stop peer call choice) life begun events = ⊥
+CallsDisks Restart life begun events = (life.running ≡ false) × (begun ≡ life.past)
+    × (events ≡ restart_events life.past)
+
+-- An armed stop was met: of the step's events some were taken, from the first on, and in the next, at the tape that
+-- the stop names, a disk failed.
+pub record Meets (step : Step) (life : Life) (stop : Armed) (under_way : Past) : Type 0 where
+  pub armed : life.armed ≡ Some stop
+  pub begun : Past
+  pub events : List Event
+  pub calls : CallsDisks step life begun events
+  pub count : ℕ
+  pub mid : Past
+  pub event : Event
+  pub front : AllDo begun (take count events) mid
+  pub here : slice_get events count ≡ Some event
+  pub at_tape : calls_disk event ≡ Some stop.place
+  pub met : Refuses event mid (Tape Disk) under_way
+  pub before : IsSafe under_way
+
+-- then each disk, also of the tapes that were at rest, is left by the stop's choice, and the step tells that alone
+pub record Strikes (step : Step) (life : Life) (told : List Said) (later : Life) : Type 0 where
+  pub stop : Armed
+  pub under_way : Past
+  pub meets : Meets step life stop under_way
+  pub told_is : told ≡ Stopped ∷ []
+  pub changed : later ≡ halted (ByChoice stop.choice) under_way life
+
+-- or, where there is no memory for what the choice leaves, all has stopped as at rest
+pub record StrikesUntold (step : Step) (life : Life) (fault : Fault) (later : Life) : Type 0 where
+  pub stop : Armed
+  pub under_way : Past
+  pub meets : Meets step life stop under_way
+  pub refused : fault ≡ NoMemory
+  pub changed : later ≡ halted AtRest under_way life

@@ -1,0 +1,85 @@
+-- Stations and connections that stand for a world that runs, and what the steps on connections make of them.
+use Rattle.std.specs.Prelude.{◌≡◌, ℕ, true, Option, None, Some, List, slice_get}
+use Rattle.std.specs.List.{AllZip}
+use Rattle.disk_model.specs.declared.Disk.{Ghosts}
+use Rattle.world_core.specs.Past.{ConnPast, Life, PeerPast, conn_at, options_of}
+use Rattle.world_core.specs.Exchange.{Follows, FollowsNot, RefusesOn, TicksEach, ticked}
+use Rattle.world_core.specs.Pairs.{Tells}
+use Rattle.world_core.specs.Sound.{AreTied}
+use Rattle.world_core.specs.Stands.{ConnectionStands, Stands}
+use Rattle.world_core.specs.Told.{Said}
+use Rattle.world_core.specs.declared.connection.Connection.{Connection}
+use Rattle.world_core.specs.declared.fault.Fault.{Fault}
+use Rattle.world_core.specs.declared.stations.Stations.{Stations}
+use Rattle.world_core.specs.declared.told.Told.{Told}
+
+-- a step on the connection of this number is refused so
+abbrev pub RefusesAct : ℕ → (Life → ConnPast → PeerPast → Fault → Life → Type 0) → Life → Fault → Life → Type 0
+RefusesAct id R life fault later = RefusesOn id life (R life) fault later
+
+-- the connection of this number stands there, and its peer; or there is none
+abbrev pub FoundConn : Life → ℕ → Option (ℕ × ℕ) → Type 0
+FoundConn life id None = conn_at life.conns id ≡ None
+FoundConn life id (Some at) =
+    (conn : ConnPast) × (peer : PeerPast) × (slice_get life.conns at.0 ≡ Some (id, conn)) × (conn.place ≡ at.1)
+    × (slice_get life.past.peers at.1 ≡ Some peer)
+
+-- so many connections were told the moment
+abbrev pub TicksSome : ℕ → Life → List Said → Life → Type 0
+TicksSome count life told later = TicksEach life count told later
+
+-- the connection that stands there was
+pub record TicksOne (index : ℕ) (life : Life) (told : List Said) (later : Life) : Type 0 where
+  pub id : ℕ
+  pub conn : ConnPast
+  pub peer : PeerPast
+  pub next : slice_get life.conns index ≡ Some (id, conn)
+  pub here : slice_get life.past.peers conn.place ≡ Some peer
+  pub follows : Follows id conn.transcript (ticked (options_of peer.conf) life.now conn) life told later
+
+-- what follows of that was refused
+pub record TicksOneNot (index : ℕ) (life : Life) (fault : Fault) (later : Life) : Type 0 where
+  pub id : ℕ
+  pub conn : ConnPast
+  pub peer : PeerPast
+  pub next : slice_get life.conns index ≡ Some (id, conn)
+  pub here : slice_get life.past.peers conn.place ≡ Some peer
+  pub follows : FollowsNot id (ticked (options_of peer.conf) life.now conn) life fault later
+
+-- so many were, and what follows was refused of the next
+pub record TicksNot (life : Life) (fault : Fault) (later : Life) : Type 0 where
+  pub count : ℕ
+  pub told : List Said
+  pub mid : Life
+  pub front : TicksEach life count told mid
+  pub fails : TicksOneNot count mid fault later
+
+module _ {D : Type 0} {g : Ghosts D} where
+  -- they stand for a world that runs
+  pub record AreRunning (life : Life) (stations : Stations D g) (connections : List Connection) : Type 0 where
+    pub running : life.running ≡ true
+    pub stands : Stands stations life.past
+    pub conns : AllZip (ConnectionStands life.past.peers) life.conns connections
+    pub tied : AreTied life
+
+  -- a step makes this of the world, of whose connections this is the last number, and tells this
+  pub record MadeOn (T : Life → List Said → Life → Type 0) (connected : ℕ) (life : Life) (before told : List Told)
+      (stations : Stations D g) (connections : List Connection) : Type 0 where
+    pub later : Life
+    pub said : List Said
+    pub makes : T life said later
+    pub told_is : Tells before said told
+    pub stand : AreRunning later stations connections
+    pub armed : later.armed ≡ life.armed
+    pub connected_is : later.connected ≡ connected
+    pub now : later.now ≡ life.now
+
+  -- a step is refused so
+  pub record RefusedOn (R : Life → Fault → Life → Type 0) (life : Life) (fault : Fault) (stations : Stations D g)
+      (connections : List Connection) : Type 0 where
+    pub later : Life
+    pub refuses : R life fault later
+    pub stand : AreRunning later stations connections
+    pub armed : later.armed ≡ life.armed
+    pub connected_is : later.connected ≡ life.connected
+    pub now : later.now ≡ life.now

@@ -1,0 +1,353 @@
+-- A connection and its peer: what the steps on connections (specs/Exchange.antt) make of these two alone.
+use Rattle.std.specs.Prelude.{
+  ◌≡◌,
+  ◌⊎◌,
+  ◌↔◌,
+  ◌==◌,
+  ℕ,
+  Bool,
+  true,
+  false,
+  None,
+  Some,
+  option_to_list,
+  List,
+  [],
+  ◌∷◌,
+  ◌++◌,
+  map,
+  Contains,
+}
+use Rattle.std.specs.List.{IsDistinct}
+use Rattle.disk_model.specs.declared.Disk.{Ghosts}
+use Rattle.ledger_core.specs.State.{Owing}
+use Rattle.article_store.specs.declared.store.Found.{Found}
+use Rattle.conn_core.specs.Commands.{Handing}
+use Rattle.conn_core.specs.History.{
+  Broke,
+  Event as Happening,
+  Handed as HandedIn,
+  Offered,
+  Taken,
+  Tick,
+  after,
+  need,
+  outside,
+}
+use Rattle.conn_core.specs.Receipt.{IsHandedAs, Receives, ReceivesSome}
+use Rattle.conn_core.specs.Stands.{Arises, left_behind, ready_of}
+use Rattle.conn_core.specs.State.{untold_at}
+use Rattle.conn_core.specs.declared.outcome.Outcome.{Outcome}
+use Rattle.conn_core.specs.declared.ready.Ready.TheVariants.{Busy as NoRoom, Shut, Yes}
+use Rattle.peer_queue.specs.Place.{IsHeldBy, Ready, least_candidate, moved}
+use Rattle.peer_queue.specs.Settled.{IsEnded, number_in}
+use Rattle.world_core.specs.Past.{ConnPast, PeerPast, TapePast, limits_of, options_of, with_places, with_tape}
+use Rattle.world_core.specs.Tapes.{HasRoom, IsReadTape}
+use Rattle.world_core.specs.Events.{IsCandidate, RefusesClaim, RefusesEnd, claimed_peer, settled, settling}
+use Rattle.world_core.specs.Exchange.{exchange_said, sent_out, told_out, untold, with_taken, with_transcript}
+use Rattle.world_core.specs.Sound.{numbers_at}
+use Rattle.world_core.specs.Stands.{HoldsTranscript, PeerStands}
+use Rattle.world_core.specs.Told.{Handed as SaidHanded, Said, Settled, said_of}
+use Rattle.world_core.specs.declared.connection.Connection.{Connection}
+use Rattle.world_core.specs.declared.fault.Fault.{Fault}
+use Rattle.world_core.specs.declared.fault.Fault.TheVariants.{NoMemory, NotNeeded}
+use Rattle.world_core.specs.declared.peer.Peer.{Peer}
+use Rattle.world_core.specs.declared.told.Handed.{Handed as Handover}
+use Rattle.world_core.specs.declared.told.Handed.TheVariants.{Busy, Closed, Nothing, Number}
+use Rattle.world_core.specs.declared.told.Told.{Told}
+
+-- ---- a peer
+
+-- an outcome of the connection of this number goes to its peer
+pub record SettlesAt (id now : ℕ) (outcome : Outcome) (peer later : PeerPast) : Type 0 where
+  pub works : peer.tape.broken ≡ false
+  pub held : IsHeldBy peer.places id (number_in outcome)
+  pub room : IsEnded (settling peer now outcome) → HasRoom peer.tape
+  pub changed : later ≡ settled now outcome peer
+
+-- these outcomes do, one after another
+pub data AllSettleAt (id now : ℕ) (begun : PeerPast) : List Outcome → PeerPast → Type 0 where
+  Start : AllSettleAt id now begun [] begun
+  Next : (outcomes : List Outcome) (outcome : Outcome) (peer later : PeerPast) → AllSettleAt id now begun outcomes peer
+      → SettlesAt id now outcome peer later → AllSettleAt id now begun (outcomes ++ outcome ∷ []) later
+
+-- what is told of an outcome
+abbrev pub settled_said : ℕ → ℕ → PeerPast → Outcome → Said
+settled_said id now peer outcome = Settled id (number_in outcome) (settling peer now outcome)
+
+-- The numbers that the connection holds at its peer are exactly those that it has, and it has none twice.
+pub record IsTied (id : ℕ) (conn : ConnPast) (peer : PeerPast) : Type 0 where
+  pub held : (number : ℕ) → IsHeldBy peer.places id number
+      ↔ Contains (numbers_at (options_of peer.conf) conn.transcript) number
+  pub once : IsDistinct (λ one other. one == other) (numbers_at (options_of peer.conf) conn.transcript)
+
+-- ---- a debt is handed over
+
+-- the least candidate, which no connection holds, is claimed, and its texts are read
+pub record ClaimsAt (id now : ℕ) (debt : Owing) (peer later : PeerPast) : Type 0 where
+  pub tape : TapePast
+  pub works : peer.tape.broken ≡ false
+  pub candidate : IsCandidate now peer debt
+  pub free : (other : ℕ) → IsHeldBy peer.places other debt.0 → ⊥
+  pub reads : IsReadTape peer.tape tape
+  pub changed : later ≡ claimed_peer id debt.0 tape peer
+
+-- it is given back
+pub record ReturnsAt (id number : ℕ) (peer later : PeerPast) : Type 0 where
+  pub works : peer.tape.broken ≡ false
+  pub held : IsHeldBy peer.places id number
+  pub changed : later ≡ with_places peer (moved peer.places number Ready)
+
+-- it is claimed and given back
+pub record GivesBackAt (id now : ℕ) (debt : Owing) (peer later : PeerPast) : Type 0 where
+  pub mid : PeerPast
+  pub claims : ClaimsAt id now debt peer mid
+  pub returns : ReturnsAt id debt.0 mid later
+
+-- what became of the least candidate: then the connection has this transcript, and the peer is so
+pub data HandsOverAt (id now : ℕ) (conn : ConnPast) (peer : PeerPast) : Handover → List Happening → PeerPast
+    → Type 0 where
+  None_at : (tape : TapePast) → peer.tape.broken ≡ false → least_candidate now peer.places ≡ None
+      → IsReadTape peer.tape tape
+      → HandsOverAt id now conn peer Nothing conn.transcript (with_tape peer tape)
+  Taken_at : (debt : Owing) (later : PeerPast) → ready_of (options_of peer.conf) conn.transcript ≡ Yes
+      → ClaimsAt id now debt peer later
+      → HandsOverAt id now conn peer (Number debt.0) (after (options_of peer.conf) conn.transcript (Offered debt)) later
+  No_room_at : (debt : Owing) (later : PeerPast) → ready_of (options_of peer.conf) conn.transcript ≡ NoRoom
+      → GivesBackAt id now debt peer later
+      → HandsOverAt id now conn peer Busy conn.transcript later
+  Shut_at : (debt : Owing) (later : PeerPast) → ready_of (options_of peer.conf) conn.transcript ≡ Shut
+      → GivesBackAt id now debt peer later
+      → HandsOverAt id now conn peer Closed conn.transcript later
+
+-- the claim was refused; or the offer was refused memory, and the debt is given back
+abbrev pub FailsToOfferAt : (id now : ℕ) → ConnPast → PeerPast → Fault → PeerPast → Type 0
+FailsToOfferAt id now conn peer fault later =
+    ((tape : TapePast) × RefusesClaim now peer fault tape × (later ≡ with_tape peer tape))
+    ⊎ ((fault ≡ NoMemory) × (ready_of (options_of peer.conf) conn.transcript ≡ Yes)
+    × ((debt : Owing) × GivesBackAt id now debt peer later))
+
+-- ---- a connection and its peer
+
+-- this moment was told to the connection
+abbrev pub ticked_at : ℕ → PeerPast → ConnPast → ConnPast
+ticked_at now past conn = record {
+  place = conn.place;
+  unread = left_behind (options_of past.conf) conn.unread (outside (options_of past.conf) conn.transcript (Tick now));
+  transcript = outside (options_of past.conf) conn.transcript (Tick now);
+}
+
+-- the connection broke, and holds no octets back
+abbrev pub broken_off : PeerPast → ConnPast → ConnPast
+broken_off past conn = record {
+  place = conn.place;
+  unread = [];
+  transcript =
+      outside (options_of past.conf) conn.transcript Broke;
+}
+
+-- what follows a step on the connection, whose transcript was this before it, is this, and is told
+pub record FollowsAt (id now : ℕ) (was : List Happening) (conn : ConnPast) (past : PeerPast) (said : List Said)
+    (later_conn : ConnPast) (later : PeerPast) : Type 0 where
+  pub settles : AllSettleAt id now past (untold (options_of past.conf) conn.transcript) later
+  pub told_is : said ≡ exchange_said (limits_of past.conf) (options_of past.conf) id now was conn.transcript
+  pub changed : later_conn ≡ record {
+    place = conn.place;
+    unread = left_behind (options_of past.conf) conn.unread (told_out (options_of past.conf) conn.transcript);
+    transcript = sent_out (options_of past.conf) conn.transcript;
+  }
+
+-- it was refused: so many outcomes are taken, and of those that are left the first is refused, or memory is
+pub record FollowsNotAt (id now : ℕ) (conn : ConnPast) (past : PeerPast) (fault : Fault) (later_conn : ConnPast)
+    (later : PeerPast) : Type 0 where
+  pub done : List Outcome
+  pub left : List Outcome
+  pub split : untold (options_of past.conf) conn.transcript ≡ done ++ left
+  pub settles : AllSettleAt id now past done later
+  pub why : (fault ≡ NoMemory)
+      ⊎ ((outcome : Outcome) × (more : List Outcome) × (left ≡ outcome ∷ more)
+      × RefusesEnd (settling later now outcome) later.tape fault)
+  pub changed : later_conn ≡ with_transcript conn (with_taken done conn.transcript)
+
+-- memory was refused for what it tells; or nothing was handed over; or what follows was refused
+abbrev pub FailsToHandAt : (id now : ℕ) → ConnPast → PeerPast → Fault → ConnPast → PeerPast → Type 0
+FailsToHandAt id now conn past fault later_conn later =
+    ((fault ≡ NoMemory) × (later_conn ≡ conn) × (later ≡ past))
+    ⊎ (FailsToOfferAt id now conn past fault later × (later_conn ≡ conn))
+    ⊎ ((handed : Handover) × (transcript : List Happening) × (mid : PeerPast)
+    × HandsOverAt id now conn past handed transcript mid
+    × FollowsNotAt id now (with_transcript conn transcript) mid fault later_conn later)
+
+-- the outcomes that a connection has still to give, with the one that waits
+abbrev pub left_at : Connection → List Outcome
+left_at connection = option_to_list connection.waiting ++ untold_at connection.conn
+
+-- more is told
+abbrev pub Tells : List Told → List Said → List Told → Type 0
+Tells was said told = map said_of told ≡ map said_of was ++ said
+
+module _ {D : Type 0} {g : Ghosts D} where
+  -- a connection of this number and its peer stand for these, and are tied
+  pub record PairStands (id : ℕ) (conn : ConnPast) (past : PeerPast) (connection : Connection) (peer : Peer D g) :
+      Type 0 where
+    pub id_is : connection.conn.id.0 ≡ id
+    pub place : connection.place ≡ conn.place
+    pub arises : Arises (options_of past.conf) conn.transcript
+    pub holds : HoldsTranscript past.conf conn connection connection.waiting
+    pub stands : PeerStands past peer
+    pub tied : IsTied id conn past
+
+  -- the next outcome went to the peer, and was told
+  pub record SettledOne (id now : ℕ) (conn : ConnPast) (past : PeerPast) (was : List Told) (connection : Connection)
+      (peer : Peer D g) (told : List Told) : Type 0 where
+    pub outcome : Outcome
+    pub next : untold (options_of past.conf) conn.transcript
+        ≡ outcome ∷ untold (options_of past.conf) (Taken ∷ conn.transcript)
+    pub later : PeerPast
+    pub settles : SettlesAt id now outcome past later
+    pub told_is : Tells was (settled_said id now past outcome ∷ []) told
+    pub stand : PairStands id (with_transcript conn (Taken ∷ conn.transcript)) later connection peer
+
+  -- there was none
+  pub record SettledNone (id : ℕ) (conn : ConnPast) (past : PeerPast) (was : List Told) (connection : Connection)
+      (peer : Peer D g) (told : List Told) : Type 0 where
+    pub none : untold (options_of past.conf) conn.transcript ≡ []
+    pub told_is : Tells was [] told
+    pub stand : PairStands id conn past connection peer
+    pub waits : connection.waiting ≡ None
+
+  abbrev pub SettledNext : (more : Bool) → (id now : ℕ) → ConnPast → PeerPast → List Told → Connection → Peer D g
+      → List Told → Type 0
+  SettledNext true id now conn past was connection peer told = SettledOne id now conn past was connection peer told
+  SettledNext false id now conn past was connection peer told = SettledNone id conn past was connection peer told
+
+  -- it was refused, and waits
+  pub record SettledNot (id now : ℕ) (conn : ConnPast) (past : PeerPast) (fault : Fault) (connection : Connection)
+      (peer : Peer D g) : Type 0 where
+    pub why : (fault ≡ NoMemory)
+        ⊎ ((outcome : Outcome) × (untold (options_of past.conf) conn.transcript
+        ≡ outcome ∷ untold (options_of past.conf) (Taken ∷ conn.transcript))
+        × RefusesEnd (settling past now outcome) past.tape fault)
+    pub stand : PairStands id conn past connection peer
+
+  -- so many outcomes, from the first on, went to the peer and were told
+  pub record SettledSome (id now : ℕ) (conn : ConnPast) (past : PeerPast) (was : List Told) (done : List Outcome)
+      (later : PeerPast)
+      (connection : Connection) (peer : Peer D g) (told : List Told) : Type 0 where
+    pub split : untold (options_of past.conf) conn.transcript
+        ≡ done ++ untold (options_of past.conf) (with_taken done conn.transcript)
+    pub settles : AllSettleAt id now past done later
+    pub same_conf : later.conf ≡ past.conf
+    pub told_is : Tells was (map (settled_said id now past) done) told
+    pub stand : PairStands id (with_transcript conn (with_taken done conn.transcript)) later connection peer
+
+  -- all did, and none waits
+  pub record SettledAll (id now : ℕ) (conn : ConnPast) (past : PeerPast) (was : List Told) (connection : Connection)
+      (peer : Peer D g) (told : List Told) : Type 0 where
+    pub later : PeerPast
+    pub some : SettledSome id now conn past was (untold (options_of past.conf) conn.transcript) later connection peer
+        told
+    pub waits : connection.waiting ≡ None
+
+  -- what follows has come about, and was told
+  pub record Followed (id now : ℕ) (was : List Happening) (conn : ConnPast) (past : PeerPast) (before : List Told)
+      (connection : Connection) (peer : Peer D g) (told : List Told) : Type 0 where
+    pub said : List Said
+    pub later_conn : ConnPast
+    pub later : PeerPast
+    pub follows : FollowsAt id now was conn past said later_conn later
+    pub told_is : Tells before said told
+    pub stand : PairStands id later_conn later connection peer
+
+  -- it was refused
+  pub record FollowedNot (id now : ℕ) (conn : ConnPast) (past : PeerPast) (fault : Fault) (connection : Connection)
+      (peer : Peer D g) : Type 0 where
+    pub later_conn : ConnPast
+    pub later : PeerPast
+    pub follows : FollowsNotAt id now conn past fault later_conn later
+    pub stand : PairStands id later_conn later connection peer
+
+  -- ---- a debt is handed over
+
+  pub record HandedOver (id now : ℕ) (conn : ConnPast) (past : PeerPast) (handed : Handover) (connection : Connection)
+      (peer : Peer D g) : Type 0 where
+    pub transcript : List Happening
+    pub later : PeerPast
+    pub hands : HandsOverAt id now conn past handed transcript later
+    pub stand : PairStands id (with_transcript conn transcript) later connection peer
+
+  pub record HandedNot (id now : ℕ) (conn : ConnPast) (past : PeerPast) (fault : Fault) (connection : Connection)
+      (peer : Peer D g) : Type 0 where
+    pub later : PeerPast
+    pub why : FailsToOfferAt id now conn past fault later
+    pub stand : PairStands id conn later connection peer
+
+  -- it was, and what follows has come about, and was told
+  pub record HandedOn (id now : ℕ) (conn : ConnPast) (past : PeerPast) (before : List Told) (connection : Connection)
+      (peer : Peer D g) (told : List Told) : Type 0 where
+    pub handed : Handover
+    pub transcript : List Happening
+    pub mid : PeerPast
+    pub hands : HandsOverAt id now conn past handed transcript mid
+    pub said : List Said
+    pub later_conn : ConnPast
+    pub later : PeerPast
+    pub follows : FollowsAt id now conn.transcript (with_transcript conn transcript) mid said later_conn later
+    pub told_is : Tells before (SaidHanded id handed ∷ said) told
+    pub stand : PairStands id later_conn later connection peer
+
+  pub record HandedOnNot (id now : ℕ) (conn : ConnPast) (past : PeerPast) (fault : Fault) (connection : Connection)
+      (peer : Peer D g) : Type 0 where
+    pub later_conn : ConnPast
+    pub later : PeerPast
+    pub why : FailsToHandAt id now conn past fault later_conn later
+    pub stand : PairStands id later_conn later connection peer
+
+  -- ---- octets come in
+
+  pub record Received (octets : List ℕ) (id now : ℕ) (conn : ConnPast) (past : PeerPast) (before : List Told)
+      (connection : Connection) (peer : Peer D g) (told : List Told) : Type 0 where
+    pub transcript : List Happening
+    pub left : List ℕ
+    pub receives : Receives (options_of past.conf) (conn.unread ++ octets) conn.transcript transcript left
+    pub followed : Followed id now conn.transcript
+        (record { place = conn.place; unread = left; transcript = transcript }) past before connection peer told
+
+  -- memory was refused to the reader, and the connection is broken; or what follows was refused
+  abbrev pub ReceivedNot : List ℕ → (id now : ℕ) → ConnPast → PeerPast → Fault → Connection → Peer D g → Type 0
+  ReceivedNot octets id now conn past fault connection peer =
+      ((fault ≡ NoMemory) × ((mid : List Happening)
+      × ReceivesSome (options_of past.conf) (conn.unread ++ octets) conn.transcript mid
+      × PairStands id (record {
+        place = conn.place;
+        unread = [];
+        transcript =
+            after (options_of past.conf) mid Broke;
+      }) past connection peer))
+      ⊎ ((transcript : List Happening) × (left : List ℕ)
+      × Receives (options_of past.conf) (conn.unread ++ octets) conn.transcript transcript left
+      × FollowedNot id now (record { place = conn.place; unread = left; transcript = transcript }) past fault
+      connection peer)
+
+  -- ---- an article is handed in
+
+  pub record Supplied (found : Found) (id now : ℕ) (conn : ConnPast) (past : PeerPast) (before : List Told)
+      (connection : Connection) (peer : Peer D g) (told : List Told) : Type 0 where
+    pub number : ℕ
+    pub handing : Handing
+    pub wanted : need (options_of past.conf) conn.transcript ≡ Some number
+    pub handed : IsHandedAs found handing
+    pub followed : Followed id now conn.transcript
+        (with_transcript conn (after (options_of past.conf) conn.transcript (HandedIn number handing))) past before
+        connection peer told
+
+  -- none is wanted; or memory is refused; or what follows was
+  abbrev pub SuppliedNot : Found → (id now : ℕ) → ConnPast → PeerPast → Fault → Connection → Peer D g → Type 0
+  SuppliedNot found id now conn past fault connection peer =
+      ((fault ≡ NotNeeded) × (need (options_of past.conf) conn.transcript ≡ None)
+      × PairStands id conn past connection peer)
+      ⊎ ((number : ℕ) × (need (options_of past.conf) conn.transcript ≡ Some number)
+      × (((fault ≡ NoMemory) × PairStands id conn past connection peer)
+      ⊎ ((handing : Handing) × IsHandedAs found handing
+      × FollowedNot id now (with_transcript conn
+      (after (options_of past.conf) conn.transcript (HandedIn number handing))) past fault connection peer)))

@@ -1,0 +1,117 @@
+-- What steps make of a world, tell, and are refused for (docs/FORMATS.md), and runs of them.
+use Rattle.std.specs.Prelude.{◌≡◌, ◌⊎◌, ℕ, true, false, List, [], ◌∷◌, ◌++◌}
+use Rattle.world_core.specs.Past.{ConnPast, Life, Past, PeerPast, with_past}
+use Rattle.world_core.specs.Safe.{IsSafe}
+use Rattle.world_core.specs.Steps.{RefusesFlushing, RefusesLine, RefusesPart, RefusesRotation, RefusesSeal, RefusesShed}
+use Rattle.world_core.specs.Steps.{TakesBegin, TakesFlush, TakesLine, TakesPart, TakesRotate, TakesSeal, TakesShed}
+use Rattle.world_core.specs.Exchange.{
+  FailsToBreak,
+  FailsToHand,
+  FailsToRead,
+  FailsToSupply,
+  RefusesConnect,
+  RefusesOn,
+  RefusesTick,
+}
+use Rattle.world_core.specs.Exchange.{TakesArticle, TakesBreak, TakesBytes, TakesConnect, TakesHand, TakesTick}
+use Rattle.world_core.specs.Halts.{RefusesRestart, RefusesStop, Strikes, StrikesUntold, TakesRestart, TakesStop}
+use Rattle.world_core.specs.Told.{Said}
+use Rattle.world_core.specs.declared.fault.Fault.{Fault}
+use Rattle.world_core.specs.declared.fault.Fault.TheVariants.{Stopped}
+use Rattle.world_core.specs.declared.step.Step.{Step}
+use Rattle.world_core.specs.declared.step.Step.TheVariants.{
+  Line,
+  Flush,
+  Begin,
+  Part,
+  Seal,
+  Connect,
+  Hand,
+  Bytes,
+  Article,
+  Break,
+  Tick,
+  Shed,
+}
+use Rattle.world_core.specs.declared.step.Step.TheVariants.{Rotate, Stop, Restart}
+
+-- the world runs, and the step makes this of all tapes; all else stays
+abbrev pub OnTapes : (Past → List Said → Past → Type 0) → Life → List Said → Life → Type 0
+OnTapes T life told later =
+    (life.running ≡ true) × ((past : Past) × T life.past told past × (later ≡ with_past life past))
+
+-- the world runs, and the step makes this of it
+abbrev pub OnWorld : (Life → List Said → Life → Type 0) → Life → List Said → Life → Type 0
+OnWorld T life told later = (life.running ≡ true) × T life told later
+
+-- what a step makes of a world, and tells, where no stop is met
+abbrev pub Does : Step → Life → List Said → Life → Type 0
+Does (Line text) life told later = OnTapes (TakesLine text.items) life told later
+Does Flush life told later = OnTapes TakesFlush life told later
+Does Begin life told later = OnTapes TakesBegin life told later
+Does (Part name) life told later = OnTapes (TakesPart name) life told later
+Does Seal life told later = OnTapes TakesSeal life told later
+Does (Connect name) life told later = OnWorld (TakesConnect name) life told later
+Does (Hand id) life told later = OnWorld (TakesHand id) life told later
+Does (Bytes id octets) life told later = OnWorld (TakesBytes id octets.items) life told later
+Does (Article id found) life told later = OnWorld (TakesArticle id found) life told later
+Does (Break id) life told later = OnWorld (TakesBreak id) life told later
+Does (Tick now) life told later = OnWorld (TakesTick now) life told later
+Does (Shed name) life told later = OnTapes (TakesShed name) life told later
+Does (Rotate name) life told later = OnTapes (TakesRotate name) life told later
+Does (Stop peer call choice) life told later = TakesStop peer call choice life told later
+Does Restart life told later = TakesRestart life told later
+
+-- what a step makes of a world, and tells: what it does, or a stop that is met in it
+abbrev pub Takes : Step → Life → List Said → Life → Type 0
+Takes step life told later = Does step life told later ⊎ Strikes step life told later
+
+-- ---- refusals
+
+-- all has stopped, before anything else is looked at; or the world runs, and the step is refused so
+abbrev pub RefusesWorld : (Life → Fault → Life → Type 0) → Life → Fault → Life → Type 0
+RefusesWorld R life fault later =
+    ((fault ≡ Stopped) × (life.running ≡ false) × (later ≡ life)) ⊎ ((life.running ≡ true) × R life fault later)
+
+-- the same of a step on tapes
+abbrev pub RefusesTapes : (Past → Fault → Past → Type 0) → Life → Fault → Life → Type 0
+RefusesTapes R life fault later =
+    RefusesWorld (λ (l : Life) (f : Fault) (m : Life). (past : Past) × R l.past f past × (m ≡ with_past l past)) life
+    fault later
+
+-- the same of a step on a connection
+abbrev pub RefusesConn : ℕ → (Life → ConnPast → PeerPast → Fault → Life → Type 0) → Life → Fault → Life → Type 0
+RefusesConn id R life fault later =
+    RefusesWorld (λ (l : Life) (f : Fault) (m : Life). RefusesOn id l (R l) f m) life fault later
+
+-- a step is refused for this fault, and leaves this, where no stop is met
+abbrev pub Refuses : Step → Life → Fault → Life → Type 0
+Refuses (Line text) life fault later = RefusesTapes (RefusesLine text.items) life fault later
+Refuses Flush life fault later = RefusesTapes RefusesFlushing life fault later
+Refuses Begin life fault later = RefusesWorld (λ (l : Life) (f : Fault) (m : Life). ⊥) life fault later
+Refuses (Part name) life fault later = RefusesTapes (RefusesPart name) life fault later
+Refuses Seal life fault later = RefusesTapes RefusesSeal life fault later
+Refuses (Connect name) life fault later = RefusesWorld (RefusesConnect name) life fault later
+Refuses (Hand id) life fault later = RefusesConn id (FailsToHand id) life fault later
+Refuses (Bytes id octets) life fault later = RefusesConn id (FailsToRead id octets.items) life fault later
+Refuses (Article id found) life fault later = RefusesConn id (FailsToSupply id found) life fault later
+Refuses (Break id) life fault later = RefusesConn id (FailsToBreak id) life fault later
+Refuses (Tick now) life fault later = RefusesWorld (RefusesTick now) life fault later
+Refuses (Shed name) life fault later = RefusesTapes (RefusesShed name) life fault later
+Refuses (Rotate name) life fault later = RefusesTapes (RefusesRotation name) life fault later
+Refuses (Stop peer call choice) life fault later = RefusesStop peer call life fault later
+Refuses Restart life fault later = RefusesRestart life fault later
+
+-- a step is refused: for its own reason, or for want of memory where a stop is met in it
+abbrev pub RefusesStep : Step → Life → Fault → Life → Type 0
+RefusesStep step life fault later = Refuses step life fault later ⊎ StrikesUntold step life fault later
+
+-- ---- runs
+
+-- These steps were taken, one after another, and this is what each told. Before and behind each, behind each event in
+-- it, and at each moment within an event, whatever a stop leaves is safe.
+pub data Runs (begun : Life) : List Step → List (List Said) → Life → Type 0 where
+  Start : IsSafe begun.past → Runs begun [] [] begun
+  Next : (steps : List Step) (step : Step) (lines : List (List Said)) (told : List Said) (life later : Life)
+      → Runs begun steps lines life
+      → Takes step life told later → IsSafe later.past → Runs begun (steps ++ step ∷ []) (lines ++ told ∷ []) later

@@ -1,0 +1,35 @@
+-- What holds of all tapes at each moment, within calls too: whatever a stop leaves then.
+use Rattle.std.specs.Prelude.{◌<◌, ℕ, List}
+use Rattle.std.specs.List.{AllByRecursion}
+use Rattle.ledger_core.specs.declared.note.Note.{Note}
+use Rattle.ledger_core.specs.declared.note.Note.TheVariants.{Owe, Final, Drop, Seen}
+use Rattle.ledger_core.specs.State.{State}
+use Rattle.recovery.specs.Leaving.{EachLedger, IsFront, pending_notes}
+use Rattle.recovery.specs.Notes.{History}
+use Rattle.world_core.specs.Past.{Past, PeerPast}
+
+-- the note was made by a line above this number, or by no line
+abbrev pub IsAbove : ℕ → Note → Type 0
+IsAbove mark (Owe number token id) = mark < number
+IsAbove mark (Final number code) = Unit {0}
+IsAbove mark (Drop number cause) = Unit {0}
+IsAbove mark (Seen number) = Unit {0}
+
+-- each note that a line up to this number made is acknowledged: none of those that pend is
+abbrev pub HasAcknowledged : ℕ → PeerPast → Type 0
+HasAcknowledged mark peer = AllByRecursion (IsAbove mark) (pending_notes peer.tape.history)
+
+-- a peer's tape is that of the first of its notes, every acknowledged one among them
+abbrev pub KeepsNotes : PeerPast → State → Type 0
+KeepsNotes peer state = IsFront peer.tape.history state
+
+-- The intake's tape is that of the first of its notes, every acknowledged one among them; and each note that a line
+-- up to its mark made is acknowledged at its peer.
+pub record KeepsLines (intake : History) (peers : List PeerPast) (state : State) : Type 0 where
+  pub front : IsFront intake state
+  pub lines : AllByRecursion (HasAcknowledged state.mark) peers
+
+-- so is whatever a stop leaves now of each tape
+pub record IsSafe (past : Past) : Type 0 where
+  pub peers : AllByRecursion (λ (peer : PeerPast). EachLedger (KeepsNotes peer) peer.tape.log) past.peers
+  pub intake : EachLedger (KeepsLines past.intake.history past.peers) past.intake.log

@@ -1,0 +1,321 @@
+-- What it is that a world, and what it is made of, stands for what it has been through.
+use Rattle.std.specs.Prelude.{
+  ◌≡◌,
+  ◌⊎◌,
+  ◌+◌,
+  ℕ,
+  Bool,
+  true,
+  false,
+  Option,
+  None,
+  Some,
+  option_map,
+  List,
+  [],
+  ◌∷◌,
+  map,
+  take,
+  slice_get,
+}
+use Rattle.std.specs.List.{AllZip}
+use Rattle.disk_model.specs.declared.Disk.{Ghosts}
+use Rattle.feed_conf.specs.declared.conf.PeerConf.{PeerConf}
+use Rattle.ledger_core.specs.Ledger.{totals_of}
+use Rattle.ledger_core.specs.declared.ledger.Totals.{Totals}
+use Rattle.ledger_core.specs.State.{Overflows, State}
+use Rattle.ledger_core.specs.declared.note.Note.TheVariants.{Owe}
+use Rattle.recovery.specs.Leaving.{EachLedger, broken_of}
+use Rattle.recovery.specs.Notes.{AreLegal, begun as begun_history}
+use Rattle.recovery.specs.Tape.{StandsFor}
+use Rattle.recovery.specs.Words.{log_of, told_of}
+use Rattle.recovery.specs.declared.fault.TapeFault.TheVariants.{Disk}
+use Rattle.recovery.specs.declared.tape.Tape.{Tape}
+use Rattle.conn_core.specs.History.{Taken, outcomes, taken}
+use Rattle.conn_core.specs.Stands.{Stands as ConnStands}
+use Rattle.conn_core.specs.declared.outcome.Outcome.{Outcome}
+use Rattle.peer_queue.specs.Words.{limits_of as station_limits, places_of}
+use Rattle.peer_queue.specs.declared.limits.Owed.{Owed}
+use Rattle.peer_queue.specs.declared.limits.Owed.TheVariants.{New}
+use Rattle.world_core.specs.Past.{
+  Armed,
+  ConnPast,
+  Life,
+  Past,
+  PeerPast,
+  TapePast,
+  ledger_at,
+  limits_of,
+  options_of,
+  with_tape,
+}
+use Rattle.world_core.specs.Safe.{IsSafe, KeepsLines, KeepsNotes}
+use Rattle.world_core.specs.Tapes.{HasRoom, IsFlushed, IsReopened, IsRotated, RefusesFlush, RefusesOpen, RefusesRotate}
+use Rattle.world_core.specs.Events.{
+  Does,
+  Event,
+  IsShedAt,
+  Owes,
+  Refuses,
+  RefusesCall,
+  RefusesLineAt,
+  opened_peer,
+  owed_as,
+  owing_as,
+  parted,
+  shed_peer,
+}
+use Rattle.world_core.specs.Runs.{RefusesStep, Runs}
+use Rattle.world_core.specs.Sound.{IsSound, IsSoundLife}
+use Rattle.world_core.specs.StopDisk.{all_faults, happened}
+use Rattle.world_core.specs.Told.{Said, said_by}
+use Rattle.world_core.specs.declared.connection.Connection.{Connection}
+use Rattle.world_core.specs.declared.fault.Fault.{Fault}
+use Rattle.world_core.specs.declared.fault.Fault.TheVariants.{NoMemory, Tape as TapeRefused}
+use Rattle.world_core.specs.declared.fault.WorldFault.{WorldFault}
+use Rattle.world_core.specs.declared.peer.Peer.{Peer}
+use Rattle.world_core.specs.declared.peer.StoppedPeer.{StoppedPeer}
+use Rattle.world_core.specs.declared.report.PeerTotals.{PeerTotals}
+use Rattle.world_core.specs.declared.stations.Stations.{Stations}
+use Rattle.world_core.specs.declared.step.Step.{Step}
+use Rattle.world_core.specs.declared.stop.StopDisk.{StopDisk}
+use Rattle.world_core.specs.declared.world.Arming.{Arming}
+use Rattle.world_core.specs.declared.world.Stage.{Stage}
+use Rattle.world_core.specs.declared.world.Stage.TheVariants.{Running, Stopped}
+use Rattle.world_core.specs.declared.world.World.{World}
+
+module _ {D : Type 0} {g : Ghosts D} where
+  -- ---- what is open
+
+  pub record TapeStands (past : TapePast) (tape : Tape D g) : Type 0 where
+    pub stands : StandsFor tape past.history
+    pub log : log_of tape ≡ past.log
+    pub faults : told_of tape ≡ past.faults
+    pub broken : broken_of tape ≡ past.broken
+
+  pub record PeerStands (past : PeerPast) (peer : Peer D g) : Type 0 where
+    pub conf : peer.conf ≡ past.conf
+    pub limits : station_limits peer.station ≡ limits_of past.conf
+    pub tape : TapeStands past.tape peer.station.tape
+    pub places : places_of peer.station ≡ past.places
+    pub parted : peer.parted ≡ past.parted
+
+  pub record Stands (stations : Stations D g) (past : Past) : Type 0 where
+    pub peers : AllZip PeerStands past.peers stations.peers.items
+    pub intake : TapeStands past.intake stations.intake
+    pub last : stations.last ≡ past.last
+    pub begun : stations.begun ≡ past.begun
+    pub sound : IsSound past
+
+  -- ---- what the calls of a peer make of it
+
+  -- a line is owed at the peer, and this came of it
+  pub record OwedTo (number : ℕ) (token id : List ℕ) (past : PeerPast) (owed : Owed) (peer : Peer D g) : Type 0 where
+    pub works : past.tape.broken ≡ false
+    pub owed_is : owed ≡ owed_as number past
+    pub room : owed ≡ New → HasRoom past.tape × (Overflows (ledger_at past.tape) (Owe number token id) → ⊥)
+    pub stands : PeerStands (owing_as owed number token id past) peer
+
+  pub record OwedNot (number : ℕ) (token id : List ℕ) (past : PeerPast) (fault : Fault) (peer : Peer D g) : Type 0 where
+    pub refused : RefusesLineAt number token id past fault past.tape
+    pub stands : PeerStands past peer
+
+  pub record FlushedPeer (past : PeerPast) (peer : Peer D g) : Type 0 where
+    pub later : TapePast
+    pub flushes : IsFlushed (KeepsNotes past) past.tape later
+    pub stands : PeerStands (parted past later) peer
+
+  pub record UnflushedPeer (past : PeerPast) (fault : Fault) (peer : Peer D g) : Type 0 where
+    pub later : TapePast
+    pub refused : RefusesFlush (KeepsNotes past) past.tape fault later
+    pub stands : PeerStands (with_tape past later) peer
+
+  pub record RotatedPeer (past : PeerPast) (generation : ℕ) (peer : Peer D g) : Type 0 where
+    pub later : TapePast
+    pub rotates : IsRotated (KeepsNotes past) generation past.tape later
+    pub stands : PeerStands (with_tape past later) peer
+
+  pub record UnrotatedPeer (past : PeerPast) (fault : Fault) (peer : Peer D g) : Type 0 where
+    pub later : TapePast
+    pub refused : RefusesRotate (KeepsNotes past) past.tape fault later
+    pub stands : PeerStands (with_tape past later) peer
+
+  pub record ShedPeer (past : PeerPast) (numbers : List ℕ) (peer : Peer D g) : Type 0 where
+    pub works : past.tape.broken ≡ false
+    pub sheds : IsShedAt past numbers
+    pub stands : PeerStands (shed_peer numbers past) peer
+
+  pub record UnshedPeer (past : PeerPast) (fault : Fault) (peer : Peer D g) : Type 0 where
+    pub refused : RefusesCall (Unit {0}) past fault past.tape
+    pub stands : PeerStands past peer
+
+  pub record OpenedAs (past : PeerPast) (peer : Peer D g) : Type 0 where
+    pub later : TapePast
+    pub opens : IsReopened (KeepsNotes past) past.tape later
+    pub stands : PeerStands (opened_peer past later) peer
+
+  -- ---- what the steps make of all stations
+
+  -- one event was taken
+  pub record DidOne (past : Past) (event : Event) (stations : Stations D g) : Type 0 where
+    pub later : Past
+    pub does : Does event past later
+    pub stands : Stands stations later
+
+  -- one event was refused
+  pub record FailedOne (past : Past) (event : Event) (fault : Fault) (stations : Stations D g) : Type 0 where
+    pub later : Past
+    pub refused : Refuses event past fault later
+    pub stands : Stands stations later
+
+  -- a line is owed at the peer of this place, and this came of it
+  pub record OwedOne (past : Past) (place : ℕ) (token id : List ℕ) (owed : Owed) (stations : Stations D g) :
+      Type 0 where
+    pub peer : PeerPast
+    pub here : slice_get past.peers place ≡ Some peer
+    pub owed_is : owed ≡ owed_as (past.last + 1) peer
+    pub did : DidOne past (Owes place token id) stations
+
+  -- a peer that was not flushed since a number was kept
+  abbrev pub unparted : Peer D g → Peer D g
+  unparted peer = record { conf = peer.conf; station = peer.station; parted = false }
+
+-- ---- what has stopped
+
+-- disks of a tape that has stopped: a stop leaves of them a tape whose ledger has P
+pub record DisksStand (P : State → Type 0) (past : TapePast) (disks : StopDisk × StopDisk) : Type 0 where
+  pub log : (happened disks.0, happened disks.1) ≡ past.log
+  pub faults : (all_faults disks.0, all_faults disks.1) ≡ past.faults
+  pub works : past.broken ≡ false
+  pub legal : AreLegal past.history.base past.history.notes
+  pub images : EachLedger P past.log
+
+pub record StoppedStands (past : PeerPast) (peer : StoppedPeer) : Type 0 where
+  pub conf : peer.conf ≡ past.conf
+  pub disks : DisksStand (KeepsNotes past) past.tape peer.disks
+
+pub record RefusedOpen (past : PeerPast) (fault : Fault) (peer : StoppedPeer) : Type 0 where
+  pub later : TapePast
+  pub refused : RefusesOpen (KeepsNotes past) past.tape fault later
+  pub stands : StoppedStands (with_tape past later) peer
+
+-- ---- worlds
+
+-- A connection stands for its transcript, and holds back these octets; an outcome that its peer's station refused
+-- waits as its first.
+abbrev pub HoldsTranscript : PeerConf → ConnPast → Connection → Option Outcome → Type 0
+HoldsTranscript conf past connection None = ConnStands (options_of conf) connection.conn past.unread past.transcript
+HoldsTranscript conf past connection (Some outcome) =
+    (slice_get (outcomes (options_of conf) past.transcript) (taken past.transcript) ≡ Some outcome)
+    × ConnStands (options_of conf) connection.conn past.unread (Taken ∷ past.transcript)
+
+pub record ConnectionStands (peers : List PeerPast) (past : ℕ × ConnPast) (connection : Connection) : Type 0 where
+  pub id : connection.conn.id.0 ≡ past.0
+  pub place : connection.place ≡ past.1.place
+  pub peer : PeerPast
+  pub here : slice_get peers past.1.place ≡ Some peer
+  pub holds : HoldsTranscript peer.conf past.1 connection connection.waiting
+
+abbrev pub StageStands : Life → Stage → Type 0
+StageStands life (Running stations connections) =
+    (life.running ≡ true) × Stands stations life.past
+    × AllZip (ConnectionStands life.past.peers) life.conns connections.items
+StageStands life (Stopped peers intake) =
+    (life.running ≡ false) × AllZip StoppedStands life.past.peers peers.items
+    × DisksStand (KeepsLines life.past.intake.history life.past.peers) life.past.intake intake
+    × (life.past.begun ≡ None)
+
+-- the stop that is armed
+abbrev pub armed_as : Arming → Armed
+armed_as arming = record { place = arming.place; call = arming.call; choice = arming.choice }
+
+pub record WorldStands (world : World) (life : Life) : Type 0 where
+  pub stage : StageStands life world.stage
+  pub armed : option_map armed_as world.armed ≡ life.armed
+  pub connected : world.connected ≡ life.connected
+  pub now : world.now ≡ life.now
+  pub sound : IsSoundLife life
+
+-- ---- what making a world and a run give
+
+-- a tape that was opened on empty disks
+pub record IsFreshTape (P : State → Type 0) (tape : TapePast) : Type 0 where
+  pub history : tape.history ≡ begun_history
+  pub faults : tape.faults ≡ (0, 0)
+  pub works : tape.broken ≡ false
+  pub safe : EachLedger P tape.log
+
+pub record IsFreshPeer (conf : PeerConf) (peer : PeerPast) : Type 0 where
+  pub conf_is : peer.conf ≡ conf
+  pub tape : IsFreshTape (KeepsNotes peer) peer.tape
+  pub places : peer.places ≡ []
+  pub parted : peer.parted ≡ false
+
+-- A world of these peers, in this order, whose tapes were opened on empty disks: nothing was noted, no number is
+-- kept, there is no connection, no stop is armed, the moment is 0, and it runs.
+pub record IsFresh (confs : List PeerConf) (life : Life) : Type 0 where
+  pub peers : AllZip IsFreshPeer confs life.past.peers
+  pub intake : IsFreshTape (KeepsLines life.past.intake.history life.past.peers) life.past.intake
+  pub rest : life ≡ record {
+    past = record { peers = life.past.peers; intake = life.past.intake; last = 0; begun = None };
+    conns = [];
+    connected = 0;
+    now = 0;
+    armed = None;
+    running = true;
+  }
+
+-- it was not made: the step told is none, and memory was refused, or a disk in memory was refused it
+pub record WasNotMade (fault : WorldFault) : Type 0 where
+  pub step : fault.step ≡ 0
+  pub lines : fault.lines.items ≡ []
+  pub kind : (fault.kind ≡ TapeRefused Disk) ⊎ (fault.kind ≡ NoMemory)
+
+-- the steps were taken, this is what each told, and the world stands for what they made
+pub record Ran (steps : List Step) (life : Life) (lines : List (List Said)) (world : World) : Type 0 where
+  pub later : Life
+  pub runs : Runs life steps lines later
+  pub stands : WorldStands world later
+
+-- The steps before one were taken, this is what each of them told, and that one was refused: the world stands for
+-- what it left.
+pub record WasRefused (steps : List Step) (life : Life) (fault : WorldFault) (world : World) : Type 0 where
+  pub index : ℕ
+  pub numbered : fault.step ≡ index + 1
+  pub step : Step
+  pub here : slice_get steps index ≡ Some step
+  pub mid : Life
+  pub runs : Runs life (take index steps) (said_by fault.lines.items) mid
+  pub later : Life
+  pub refuses : RefusesStep step mid fault.kind later
+  pub safe : IsSafe later.past
+  pub stands : WorldStands world later
+
+-- there was no memory for what the steps and the counts tell, and none was taken
+pub record HadNoRoom (life : Life) (fault : WorldFault) (world : World) : Type 0 where
+  pub numbered : fault.step ≡ 1
+  pub kind : fault.kind ≡ NoMemory
+  pub lines : fault.lines.items ≡ []
+  pub stands : WorldStands world life
+
+-- each peer's counts, by name; none while all is stopped
+abbrev pub counts_when : Bool → List PeerPast → List (List ℕ × Totals)
+counts_when true peers = map (λ (peer : PeerPast). (peer.conf.name, totals_of (ledger_at peer.tape))) peers
+counts_when false peers = []
+
+abbrev pub counts_of : Life → List (List ℕ × Totals)
+counts_of life = counts_when life.running life.past.peers
+
+abbrev pub counts_in : List PeerTotals → List (List ℕ × Totals)
+counts_in totals = map (λ (peer : PeerTotals). (peer.name, peer.totals)) totals
+
+-- ---- the contract of `World::run`: what a run answers
+
+-- it reported, and told these lines and counts; or a step was refused, or there was no room
+abbrev pub Reports : List Step → World → List (List Said) → List (List ℕ × Totals) → World → Type 0
+Reports steps old lines counts new = (life : Life) → WorldStands old life
+    → (ran : Ran steps life lines new) × (counts ≡ counts_of ran.later)
+
+abbrev pub Ends : List Step → World → WorldFault → World → Type 0
+Ends steps old fault new = (life : Life) → WorldStands old life
+    → WasRefused steps life fault new ⊎ HadNoRoom life fault new

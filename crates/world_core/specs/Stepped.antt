@@ -1,0 +1,124 @@
+-- What it is that the stations took a step on tapes, or refused it.
+use Rattle.std.specs.Prelude.{
+  ◌≡◌,
+  ◌+◌,
+  ◌<◌,
+  ℕ,
+  true,
+  false,
+  if◌then◌else◌,
+  Option,
+  None,
+  Some,
+  List,
+  [],
+  ◌∷◌,
+  length,
+  map,
+  take,
+  slice_get,
+}
+use Rattle.std.specs.List.{AllByRecursion}
+use Rattle.std.specs.Str.{bytes_eq}
+use Rattle.disk_model.specs.declared.Disk.{Ghosts}
+use Rattle.ledger_core.specs.State.{numbers}
+use Rattle.peer_queue.specs.Words.{ledger_of}
+use Rattle.world_core.specs.Past.{Past, PeerPast}
+use Rattle.recovery.specs.declared.fault.TapeFault.TheVariants.{Disk}
+use Rattle.world_core.specs.Opening.{FailsAt}
+use Rattle.world_core.specs.Events.{AllDo, Event, Fails, Parts, calls_disk, each_place}
+use Rattle.world_core.specs.Steps.{is_named, line_events, owed_there}
+use Rattle.world_core.specs.Stands.{Stands}
+use Rattle.world_core.specs.Told.{Mark, Said, said_of}
+use Rattle.world_core.specs.declared.fault.Fault.{Fault}
+use Rattle.world_core.specs.declared.fault.Fault.TheVariants.{Tape}
+use Rattle.world_core.specs.declared.fault.Halt.{Halt}
+use Rattle.world_core.specs.declared.peer.Peer.{Peer}
+use Rattle.world_core.specs.declared.stations.Stations.{Stations}
+use Rattle.world_core.specs.declared.told.OwedAt.{OwedAt}
+use Rattle.world_core.specs.declared.told.Told.{Told}
+
+-- ---- the peers that a line names
+
+-- each peer that is named, of those from this place on, with its place
+abbrev pub named_from : ℕ → List (List ℕ) → List PeerPast → List (ℕ × PeerPast)
+named_from place named [] = []
+named_from place named (peer ∷ peers) =
+    if is_named named peer then (place, peer) ∷ named_from (place + 1) named peers else named_from (place + 1) named
+    peers
+
+-- these are the places and the names of the peers that are named, in order
+abbrev pub AreFound : Past → List (List ℕ) → List (ℕ × List ℕ) → Type 0
+AreFound past named found =
+    found ≡ map (λ (entry : ℕ × PeerPast). (entry.0, entry.1.conf.name)) (named_from 0 named past.peers)
+
+-- there are so many peers that each of these places is one of theirs
+abbrev pub AreWithin : ℕ → List (ℕ × List ℕ) → Type 0
+AreWithin count found = AllByRecursion (λ (entry : ℕ × List ℕ). entry.0 < count) found
+
+-- the peer of this name stands there, or none has the name
+abbrev pub FoundAt : Past → List ℕ → Option ℕ → Type 0
+FoundAt past name None = AllByRecursion (λ (peer : PeerPast). bytes_eq name peer.conf.name ≡ false) past.peers
+FoundAt past name (Some place) = (peer : PeerPast) × (slice_get past.peers place ≡ Some peer) × (peer.conf.name ≡ name)
+
+module _ {D : Type 0} {g : Ghosts D} where
+  -- what is told of a peer whose tape was opened
+  abbrev pub opened_said : Peer D g → Said
+  opened_said peer = Mark peer.conf.name (ledger_of peer.station).mark (numbers (ledger_of peer.station))
+
+  -- ---- events
+
+  -- these events were taken, one after another
+  pub record Did (past : Past) (events : List Event) (stations : Stations D g) : Type 0 where
+    pub later : Past
+    pub does : AllDo past events later
+    pub stands : Stands stations later
+
+  -- some of these events were taken, from the first on, and the next was refused
+  pub record Failed (past : Past) (events : List Event) (fault : Fault) (stations : Stations D g) : Type 0 where
+    pub later : Past
+    pub fails : Fails past events fault later
+    pub stands : Stands stations later
+
+  -- some of these events were taken, from the first on, and the next was refused, at the tape of the halt
+  pub record FailedAt (past : Past) (events : List Event) (halt : Halt) (stations : Stations D g) : Type 0 where
+    pub failed : Failed past events halt.fault stations
+    pub at : calls_disk failed.fails.event ≡ Some halt.place
+
+  -- so many peers were flushed, from the first on
+  pub record PartedEach (past : Past) (count : ℕ) (stations : Stations D g) : Type 0 where
+    pub did : Did past (each_place Parts count) stations
+    pub begun : did.later.begun ≡ past.begun
+    pub all : length did.later.peers ≡ length past.peers
+    pub parted : AllByRecursion (λ (peer : PeerPast). peer.parted ≡ true) (take count did.later.peers)
+
+  -- a line is owed at each peer that it names, and this came of it
+  pub record OwedLine (past : Past) (token id : List ℕ) (named : List (List ℕ)) (told : List OwedAt)
+      (stations : Stations D g) : Type 0 where
+    pub did : Did past (line_events token id named past) stations
+    pub told_is : map (λ (at : OwedAt). (at.name, at.owed)) told ≡ owed_there (past.last + 1) named past.peers
+
+  -- ---- steps
+
+  -- the step was taken, and told this
+  pub record Took (T : Past → List Said → Past → Type 0) (past : Past) (told : List Told) (stations : Stations D g) :
+      Type 0 where
+    pub later : Past
+    pub takes : T past (map said_of told) later
+    pub stands : Stands stations later
+
+  -- the step was refused
+  pub record TookNot (R : Past → Fault → Past → Type 0) (past : Past) (fault : Fault) (stations : Stations D g) :
+      Type 0 where
+    pub later : Past
+    pub refuses : R past fault later
+    pub stands : Stands stations later
+
+  -- The step was refused; where a disk failed, it did in one of these events, at the tape of the halt.
+  pub record HaltedAs (R : Past → Fault → Past
+      → Type 0) (begun : Past) (events : List Event) (past : Past) (halt : Halt) (stations : Stations D g) :
+      Type 0 where
+    pub later : Past
+    pub refuses : R past halt.fault later
+    pub stands : Stands stations later
+    pub disk : halt.fault ≡ Tape Disk → FailsAt begun events halt later

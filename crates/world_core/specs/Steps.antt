@@ -1,0 +1,188 @@
+-- The steps on tapes (docs/FORMATS.md): each is a list of events, computed from the step and what stands before it.
+-- Room for what a step tells is made first, so that memory is refused before any of its events, or by one of them.
+use Rattle.std.specs.Prelude.{
+  ◌≡◌,
+  ◌≢◌,
+  ◌⊎◌,
+  ◌+◌,
+  ◌<◌,
+  ◌^◌,
+  ℕ,
+  true,
+  false,
+  if◌then◌else◌,
+  None,
+  Some,
+  List,
+  [],
+  ◌∷◌,
+  ◌++◌,
+  length,
+  map,
+}
+use Rattle.std.specs.Prelude.{Bool}
+use Rattle.std.specs.List.{AllByRecursion, list_any}
+use Rattle.std.specs.Str.{bytes_eq}
+use Rattle.funnel.specs.Line.{IsFunnelLine, HasFault}
+use Rattle.funnel.specs.declared.line.LineFault.{LineFault}
+use Rattle.funnel.specs.declared.line.LineFault.TheVariants.{NoMemory as NoLineMemory}
+use Rattle.peer_queue.specs.declared.limits.Owed.{Owed as Answer}
+use Rattle.world_core.specs.Past.{Past, PeerPast, mark_at, place_of, with_last}
+use Rattle.world_core.specs.Events.{
+  Acknowledges,
+  AllDo,
+  Event,
+  Fails,
+  Owes,
+  Parts,
+  Rotates,
+  Sees,
+  Sheds,
+  each_place,
+  owed_as,
+}
+use Rattle.world_core.specs.Told.{Bad, Owed, Rotated, Said, Shed, Taken}
+use Rattle.world_core.specs.declared.fault.Fault.{Fault}
+use Rattle.world_core.specs.declared.fault.Fault.TheVariants.{CountFull, NoMemory, NoPeer, NotFlushed}
+
+-- ---- lists of events
+
+-- a line names the peer
+abbrev pub is_named : List (List ℕ) → PeerPast → Bool
+is_named named peer = list_any (λ (name : List ℕ). bytes_eq name peer.conf.name) named
+
+-- the line at each peer that it names, of those from this place on
+abbrev pub owes_from : ℕ → List ℕ → List ℕ → List (List ℕ) → List PeerPast → List Event
+owes_from place token id named [] = []
+owes_from place token id named (peer ∷ peers) =
+    if is_named named peer then Owes place token id ∷ owes_from (place + 1) token id named peers
+    else owes_from (place + 1) token id named peers
+
+-- the line at each peer that it names, in byte order of their names
+abbrev pub line_events : List ℕ → List ℕ → List (List ℕ) → Past → List Event
+line_events token id named past = owes_from 0 token id named past.peers
+
+-- what comes of a line of this number at each of them
+abbrev pub owed_there : ℕ → List (List ℕ) → List PeerPast → List (List ℕ × Answer)
+owed_there number named [] = []
+owed_there number named (peer ∷ peers) =
+    if is_named named peer then (peer.conf.name, owed_as number peer) ∷ owed_there number named peers
+    else owed_there number named peers
+
+-- the note of a number, and the flush of the intake's tape
+abbrev pub seal_events : ℕ → List Event
+seal_events number = Sees number ∷ Acknowledges ∷ []
+
+-- the flush of each peer in turn, and then the seal of the last line's number
+abbrev pub flush_events : Past → List Event
+flush_events past = each_place Parts (length past.peers) ++ seal_events past.last
+
+-- ---- begin and seal
+
+-- the last line's number is kept, and no peer was flushed since
+abbrev pub begun_at : Past → Past
+begun_at past = record past {
+  peers = map (λ (peer : PeerPast). record peer { parted = false }) past.peers;
+  begun = Some past.last;
+}
+
+-- this number is kept, and each peer was flushed since
+abbrev pub IsSealable : Past → ℕ → Type 0
+IsSealable past number = (past.begun ≡ Some number)
+    × AllByRecursion (λ (peer : PeerPast). peer.parted ≡ true) past.peers
+
+-- ---- what a line says
+
+-- an article and the peers that are to have it, or why the line is not good
+pub data Reading : Type 0 where
+  Good : (token id : List ℕ) (named : List (List ℕ)) → Reading
+  NotGood : (fault : LineFault) → Reading
+
+abbrev pub IsReading : List ℕ → Reading → Type 0
+IsReading text (Good token id named) = IsFunnelLine text token id named
+IsReading text (NotGood fault) = HasFault text fault × (fault ≢ NoLineMemory)
+
+abbrev pub TakesReading : Reading → Past → List Said → Past → Type 0
+TakesReading (Good token id named) past told later =
+    (told ≡ Owed (past.last + 1) (owed_there (past.last + 1) named past.peers) ∷ [])
+    × ((mid : Past) × AllDo past (line_events token id named past) mid × (later ≡ with_last mid (past.last + 1)))
+TakesReading (NotGood fault) past told later = (told ≡ Bad (past.last + 1) fault ∷ [])
+    × (later ≡ with_last past (past.last + 1))
+
+-- ---- what each step makes of all tapes, and tells
+
+pub record TakesLine (text : List ℕ) (past : Past) (told : List Said) (later : Past) : Type 0 where
+  pub fits : past.last + 1 < 2 ^ 64
+  pub reading : Reading
+  pub reads : IsReading text reading
+  pub takes : TakesReading reading past told later
+
+abbrev pub TakesBegin : Past → List Said → Past → Type 0
+TakesBegin past told later = (told ≡ []) × (later ≡ begun_at past)
+
+abbrev pub TakesPart : List ℕ → Past → List Said → Past → Type 0
+TakesPart name past told later =
+    (place : ℕ) × (place_of past name ≡ Some place) × AllDo past (Parts place ∷ []) later × (told ≡ [])
+
+abbrev pub TakesSeal : Past → List Said → Past → Type 0
+TakesSeal past told later =
+    (number : ℕ) × IsSealable past number × AllDo past (seal_events number) later
+    × (told ≡ Taken (mark_at later.intake) ∷ [])
+
+abbrev pub TakesFlush : Past → List Said → Past → Type 0
+TakesFlush past told later = AllDo (begun_at past) (flush_events past) later
+    × (told ≡ Taken (mark_at later.intake) ∷ [])
+
+abbrev pub TakesShed : List ℕ → Past → List Said → Past → Type 0
+TakesShed name past told later =
+    (place : ℕ) × (numbers : List ℕ) × (place_of past name ≡ Some place) × AllDo past (Sheds place numbers ∷ []) later
+    × (told ≡ Shed name numbers ∷ [])
+
+abbrev pub TakesRotate : List ℕ → Past → List Said → Past → Type 0
+TakesRotate name past told later =
+    (place generation : ℕ) × (place_of past name ≡ Some place) × AllDo past (Rotates place generation ∷ []) later
+    × (told ≡ Rotated name generation ∷ [])
+
+-- ---- how each is refused
+
+-- The line has no number; or memory was refused before any event; or an event was refused, and those before it stand.
+abbrev pub RefusesLine : List ℕ → Past → Fault → Past → Type 0
+RefusesLine text past fault later =
+    ((fault ≡ CountFull) × (past.last + 1 ≡ 2 ^ 64) × (later ≡ past))
+    ⊎ ((fault ≡ NoMemory) × (past.last + 1 < 2 ^ 64) × (later ≡ past))
+    ⊎ ((past.last + 1 < 2 ^ 64) × ((token id : List ℕ) × (named : List (List ℕ)) × IsFunnelLine text token id named
+    × Fails past (line_events token id named past) fault later))
+
+-- no peer has this name, or it has this place and its step is refused
+abbrev pub RefusesNamed : List ℕ → Past → (ℕ → Type 0) → Fault → Past → Type 0
+RefusesNamed name past Fails fault later =
+    ((fault ≡ NoPeer) × (place_of past name ≡ None) × (later ≡ past))
+    ⊎ ((place : ℕ) × (place_of past name ≡ Some place) × Fails place)
+
+-- the same of a step that tells something, for which there may be no memory
+abbrev pub RefusesTelling : Type 0 → Past → Fault → Past → Type 0
+RefusesTelling Fails past fault later = ((fault ≡ NoMemory) × (later ≡ past)) ⊎ Fails
+
+abbrev pub RefusesPart : List ℕ → Past → Fault → Past → Type 0
+RefusesPart name past fault later =
+    RefusesNamed name past (λ place. Fails past (Parts place ∷ []) fault later) fault later
+
+abbrev pub RefusesSeal : Past → Fault → Past → Type 0
+RefusesSeal past fault later =
+    ((fault ≡ NotFlushed) × ((number : ℕ) → IsSealable past number → ⊥) × (later ≡ past))
+    ⊎ ((number : ℕ) × IsSealable past number
+    × RefusesTelling (Fails past (seal_events number) fault later) past fault later)
+
+abbrev pub RefusesFlushing : Past → Fault → Past → Type 0
+RefusesFlushing past fault later =
+    RefusesTelling (Fails (begun_at past) (flush_events past) fault later) past fault later
+
+abbrev pub RefusesShed : List ℕ → Past → Fault → Past → Type 0
+RefusesShed name past fault later =
+    RefusesNamed name past (λ place. RefusesTelling (Fails past (Sheds place [] ∷ []) fault later) past fault later)
+    fault later
+
+abbrev pub RefusesRotation : List ℕ → Past → Fault → Past → Type 0
+RefusesRotation name past fault later =
+    RefusesNamed name past (λ place. RefusesTelling (Fails past (Rotates place 0 ∷ []) fault later) past fault later)
+    fault later

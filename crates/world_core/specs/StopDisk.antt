@@ -1,0 +1,41 @@
+-- What a call of a disk that may be stopped does (profile).
+use Rattle.std.specs.Prelude.{◌≡◌, ◌⊎◌, ℕ, ◌+◌, ◌-◌, ◌^◌, min, List, ◌∷◌, Result, IsErr}
+use Rattle.disk_model.specs.Disk.{Event}
+use Rattle.disk_model.specs.InMemory.{events, faults_told, IsRefusedWhole}
+use Rattle.disk_model.specs.declared.DiskFault.{DiskFault}
+use Rattle.disk_model.specs.declared.memory.MemDisk.{MemDisk}
+use Rattle.world_core.specs.declared.stop.StopDisk.{StopDisk}
+
+-- the disk beneath
+abbrev pub beneath : StopDisk → MemDisk
+beneath disk = disk.disk
+
+-- what has happened to it
+abbrev pub happened : StopDisk → List Event
+happened disk = events (beneath disk)
+
+-- how many faults it told by itself
+abbrev pub own_faults : StopDisk → ℕ
+own_faults disk = disk.faults
+
+-- how many faults it told in all
+abbrev pub all_faults : StopDisk → ℕ
+all_faults disk = min (own_faults disk + faults_told (beneath disk)) (2 ^ 64 - 1)
+
+-- the call is passed on: it fails only where the disk beneath is refused memory, and then changes nothing
+pub record Passes (old new : StopDisk) (result : Result (Unit {0}) DiskFault) : Type 0 where
+  pub whole : IsRefusedWhole (beneath old) (beneath new) result
+  pub own : own_faults new ≡ own_faults old
+
+-- The call fails, and has happened to the disk beneath all the same, where no sync follows it. Where that disk is
+-- refused memory nothing has happened.
+pub record Reaches (event : Event) (old new : StopDisk) (result : Result (Unit {0}) DiskFault) : Type 0 where
+  pub fails : IsErr result
+  pub reached : (happened new ≡ event ∷ happened old)
+      ⊎ ((happened new ≡ happened old) × (faults_told (beneath new) ≡ min (faults_told (beneath old) + 1) (2 ^ 64 - 1)))
+
+-- the call fails, and the disk beneath is as it was
+pub record Refuses (old new : StopDisk) (result : Result (Unit {0}) DiskFault) : Type 0 where
+  pub fails : IsErr result
+  pub same : beneath new ≡ beneath old
+  pub own : own_faults new ≡ min (own_faults old + 1) (2 ^ 64 - 1)

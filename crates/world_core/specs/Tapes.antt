@@ -1,0 +1,141 @@
+-- What the calls on a tape make of it (profile): each later tape is an equation, and each refusal has its condition.
+-- P is what holds of the ledger of whatever a stop leaves at each moment of the call.
+use Rattle.std.specs.Prelude.{◌≡◌, ◌≢◌, ◌⊎◌, ◌+◌, ◌-◌, ◌≤◌, ◌^◌, ℕ, true, false, [], length}
+use Rattle.ledger_core.specs.declared.ledger.LedgerFault.TheVariants.{CountFull}
+use Rattle.ledger_core.specs.declared.note.Note.{Note}
+use Rattle.ledger_core.specs.State.{Overflows, State}
+use Rattle.recovery.specs.Leaving.{
+  HasSegment,
+  IsFullBy,
+  LedgersLeave,
+  LiesOn,
+  RotatesTooLongBy,
+  ledger_of_first,
+  pending_notes,
+}
+use Rattle.recovery.specs.Notes.{flushed, most_pending, noted, recovered}
+use Rattle.recovery.specs.Words.{OneHasRisen}
+use Rattle.recovery.specs.declared.fault.TapeFault.TheVariants.{
+  Broken,
+  Disk,
+  GenerationFull,
+  PendingFull,
+  TapeFull,
+  Note as RefusedNote,
+}
+use Rattle.world_core.specs.Past.{TapePast, ledger_at}
+use Rattle.world_core.specs.declared.fault.Fault.{Fault}
+use Rattle.world_core.specs.declared.fault.Fault.TheVariants.{NoMemory, Tape}
+
+-- ---- a note
+
+-- one note more, which pends
+abbrev pub noted_at : TapePast → Note → TapePast
+noted_at tape note = record tape { history = noted tape.history note }
+
+-- there is room for one more: not so many pend as may
+abbrev pub HasRoom : TapePast → Type 0
+HasRoom tape = length (pending_notes tape.history) ≢ most_pending
+
+-- a note that ends a debt or is seen is refused
+abbrev pub RefusesNote : TapePast → Fault → Type 0
+RefusesNote tape fault =
+    ((fault ≡ Tape Broken) × (tape.broken ≡ true))
+    ⊎ ((fault ≡ Tape PendingFull) × (tape.broken ≡ false) × (HasRoom tape → ⊥))
+    ⊎ ((fault ≡ NoMemory) × (tape.broken ≡ false) × HasRoom tape)
+
+-- a note that owes is refused: the station may want memory first, of its own
+abbrev pub RefusesOwe : TapePast → Note → Fault → Type 0
+RefusesOwe tape note fault =
+    ((fault ≡ Tape Broken) × (tape.broken ≡ true))
+    ⊎ ((fault ≡ Tape (RefusedNote CountFull)) × (tape.broken ≡ false) × Overflows (ledger_at tape) note)
+    ⊎ ((fault ≡ Tape PendingFull) × (tape.broken ≡ false) × (Overflows (ledger_at tape) note → ⊥) × (HasRoom tape → ⊥))
+    ⊎ ((fault ≡ NoMemory) × (tape.broken ≡ false))
+
+-- ---- a reading
+
+-- it was read: a disk may have told a fault, and nothing else has happened
+pub record IsReadTape (old new : TapePast) : Type 0 where
+  pub first : old.faults.0 ≤ new.faults.0
+  pub second : old.faults.1 ≤ new.faults.1
+  pub all : new ≡ record old { faults = new.faults }
+
+-- ---- a flush
+
+-- it answered Ok: all notes are acknowledged, and where none pended its disks were not called
+pub record IsFlushed (P : State → Type 0) (old new : TapePast) : Type 0 where
+  pub worked : old.broken ≡ false
+  pub fits : IsFullBy old.log old.history → ⊥
+  pub idle : pending_notes old.history ≡ [] → new.log ≡ old.log
+  pub moments : LedgersLeave P old.log new.log
+  pub all : new ≡ record { history = flushed old.history; log = new.log; faults = old.faults; broken = false }
+
+-- a disk told a fault, and the tape is broken from now on
+pub record Breaks (P : State → Type 0) (old new : TapePast) : Type 0 where
+  pub worked : old.broken ≡ false
+  pub cause : OneHasRisen old.faults new.faults
+  pub moments : LedgersLeave P old.log new.log
+  pub all : new ≡ record { history = old.history; log = new.log; faults = new.faults; broken = true }
+
+-- something pends, and there is room for it in the segment
+abbrev pub MayFlush : TapePast → Type 0
+MayFlush tape = (pending_notes tape.history ≢ []) × (IsFullBy tape.log tape.history → ⊥)
+
+abbrev pub RefusesFlush : (State → Type 0) → TapePast → Fault → TapePast → Type 0
+RefusesFlush P old fault new =
+    ((fault ≡ Tape Broken) × (old.broken ≡ true) × (new ≡ old))
+    ⊎ ((fault ≡ Tape TapeFull) × (old.broken ≡ false) × IsFullBy old.log old.history × (new ≡ old))
+    ⊎ ((fault ≡ NoMemory) × (old.broken ≡ false) × MayFlush old × (new ≡ old))
+    ⊎ ((fault ≡ Tape Disk) × MayFlush old × Breaks P old new)
+
+-- ---- a rotation
+
+-- what lies on the disks can be written anew behind this generation
+pub record MayRotate (tape : TapePast) (generation : ℕ) : Type 0 where
+  pub size : ℕ
+  pub lives : HasSegment tape.log generation size
+  pub greater : generation ≢ 2 ^ 64 - 1
+  pub fits : RotatesTooLongBy generation tape.history → ⊥
+
+-- It answered this generation, the one behind that which lay there, and that lies there now: all notes are
+-- acknowledged.
+pub record IsRotated (P : State → Type 0) (generation : ℕ) (old new : TapePast) : Type 0 where
+  pub worked : old.broken ≡ false
+  pub before : ℕ
+  pub may : MayRotate old before
+  pub next : generation ≡ before + 1
+  pub size : ℕ
+  pub lives : HasSegment new.log generation size
+  pub moments : LedgersLeave P old.log new.log
+  pub all : new ≡ record { history = flushed old.history; log = new.log; faults = old.faults; broken = false }
+
+-- Where it changes nothing else, what it writes anew was read.
+abbrev pub RefusesRotate : (State → Type 0) → TapePast → Fault → TapePast → Type 0
+RefusesRotate P old fault new =
+    ((fault ≡ Tape Broken) × (old.broken ≡ true) × IsReadTape old new)
+    ⊎ ((fault ≡ Tape GenerationFull) × (old.broken ≡ false) × ((size : ℕ) × HasSegment old.log (2 ^ 64 - 1) size)
+    × IsReadTape old new)
+    ⊎ ((fault ≡ Tape TapeFull) × (old.broken ≡ false)
+    × ((generation size : ℕ) × HasSegment old.log generation size × (generation ≢ 2 ^ 64 - 1)
+    × RotatesTooLongBy generation old.history)
+    × IsReadTape old new)
+    ⊎ ((fault ≡ NoMemory) × (old.broken ≡ false) × ((generation : ℕ) × MayRotate old generation) × IsReadTape old new)
+    ⊎ ((fault ≡ Tape Disk) × ((generation : ℕ) × MayRotate old generation) × Breaks P old new)
+
+-- ---- an opening
+
+-- What lay there was the ledger after the first of its notes, every acknowledged one among them; these are its notes
+-- now, all of them acknowledged.
+pub record IsReopened (P : State → Type 0) (old new : TapePast) : Type 0 where
+  pub count : ℕ
+  pub enough : old.history.kept ≤ count
+  pub within : count ≤ length old.history.notes
+  pub found : LiesOn old.log (ledger_of_first old.history count)
+  pub moments : LedgersLeave P old.log new.log
+  pub all : new ≡ record { history = recovered old.history count; log = new.log; faults = old.faults; broken = false }
+
+-- It was refused, and stays as it was but for what has happened to its disks. It is never damaged.
+pub record RefusesOpen (P : State → Type 0) (old : TapePast) (fault : Fault) (new : TapePast) : Type 0 where
+  pub why : ((fault ≡ Tape Disk) × OneHasRisen old.faults new.faults) ⊎ (fault ≡ NoMemory)
+  pub moments : LedgersLeave P old.log new.log
+  pub all : new ≡ record { history = old.history; log = new.log; faults = new.faults; broken = false }

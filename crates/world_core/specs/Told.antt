@@ -1,0 +1,95 @@
+-- What steps tell, as values; docs/FORMATS.md has the line of each.
+use Rattle.std.specs.Prelude.{◌==◌, ℕ, if◌then◌else◌, Option, None, Some, List, [], ◌∷◌, ◌++◌, map}
+use Rattle.std.specs.Global.{Vec}
+use Rattle.funnel.specs.Line.{without_cr}
+use Rattle.funnel.specs.declared.line.LineFault.{LineFault}
+use Rattle.ledger_core.specs.State.{numbers}
+use Rattle.conn_core.specs.declared.reason.Reason.{Reason}
+use Rattle.peer_queue.specs.declared.limits.Owed.{Owed as Answer}
+use Rattle.peer_queue.specs.declared.settled.Settled.{Settled as Settling}
+use Rattle.world_core.specs.Past.{PeerPast, ledger_at, mark_at}
+use Rattle.world_core.specs.declared.told.Handed.{Handed as Handing}
+use Rattle.world_core.specs.declared.told.OwedAt.{OwedAt}
+use Rattle.world_core.specs.declared.told.Told.{Told}
+use Rattle.world_core.specs.declared.told.Told.TheVariants.{
+  Owed as ToldOwed,
+  Bad as ToldBad,
+  Taken as ToldTaken,
+  Connected as ToldConnected,
+}
+use Rattle.world_core.specs.declared.told.Told.TheVariants.{
+  Handed as ToldHanded,
+  Settled as ToldSettled,
+  Output as ToldOutput,
+  Need as ToldNeed,
+}
+use Rattle.world_core.specs.declared.told.Told.TheVariants.{
+  Closed as ToldClosed,
+  Shed as ToldShed,
+  Rotated as ToldRotated,
+  Stopped as ToldStopped,
+}
+use Rattle.world_core.specs.declared.told.Told.TheVariants.{Mark as ToldMark}
+
+-- One thing that a step tells.
+pub data Said : Type 0 where
+  -- a good line, and what came of it at each peer that it names
+  Owed : (number : ℕ) (peers : List (List ℕ × Answer)) → Said
+  Bad : (number : ℕ) (fault : LineFault) → Said  -- a line that is not good
+  Taken : (mark : ℕ) → Said  -- the lines up to this one are acknowledged
+  Connected : (connection : ℕ) (name : List ℕ) → Said  -- a connection was made
+  Handed : (connection : ℕ) (handed : Handing) → Said  -- what came of the least candidate
+  Settled : (connection number : ℕ) (settled : Settling) → Said  -- what came of the debt of this number, which it had
+  Output : (connection : ℕ) (line : List ℕ) → Said  -- a line went out
+  Need : (connection : ℕ) (number : ℕ) → Said  -- an article is wanted
+  Closed : (connection : ℕ) (reason : Reason) → Said  -- a connection closed
+  Shed : (name : List ℕ) (numbers : List ℕ) → Said  -- what of a peer's backlog was dropped
+  Rotated : (name : List ℕ) (generation : ℕ) → Said  -- what a peer is owed was written anew
+  Stopped : Said  -- all has stopped
+  Mark : (name : List ℕ) (mark : ℕ) (owes : List ℕ) → Said  -- a peer's tape was opened
+
+-- the value that is told
+abbrev pub said_of : Told → Said
+said_of (ToldOwed number peers) = Owed number (map (λ (at : OwedAt). (at.name, at.owed)) peers.items)
+said_of (ToldBad number fault) = Bad number fault
+said_of (ToldTaken mark) = Taken mark
+said_of (ToldConnected connection name) = Connected connection name
+said_of (ToldHanded connection handed) = Handed connection handed
+said_of (ToldSettled connection number settled) = Settled connection number settled
+said_of (ToldOutput connection line) = Output connection line.items
+said_of (ToldNeed connection number) = Need connection number
+said_of (ToldClosed connection reason) = Closed connection reason
+said_of (ToldShed name numbers) = Shed name numbers.items
+said_of (ToldRotated name generation) = Rotated name generation
+said_of ToldStopped = Stopped
+said_of (ToldMark name mark owes) = Mark name mark owes.items
+
+-- what each step tells
+abbrev pub said_by : List (Vec Told) → List (List Said)
+said_by lines = map (λ (told : Vec Told). map said_of told.items) lines
+
+-- ---- what is told of output, of a peer
+
+-- Each line up to an LF, without the one CR before it. What stands behind the last LF is no line.
+abbrev pub lines_from : List ℕ → List ℕ → List (List ℕ)
+lines_from line [] = []
+lines_from line (octet ∷ rest) =
+    if octet == 10 then without_cr line ∷ lines_from [] rest else lines_from (line ++ octet ∷ []) rest
+
+abbrev pub lines_in : List ℕ → List (List ℕ)
+lines_in octets = lines_from [] octets
+
+-- the article that is wanted
+abbrev pub need_said : ℕ → Option ℕ → List Said
+need_said id None = []
+need_said id (Some number) = Need id number ∷ []
+
+-- why a connection closed, where it was open before
+abbrev pub closed_said : ℕ → (was now : Option Reason) → List Said
+closed_said id None None = []
+closed_said id None (Some reason) = Closed id reason ∷ []
+closed_said id (Some before) now = []
+
+-- a peer whose tape was opened
+abbrev pub mark_said : PeerPast → Said
+mark_said peer = Mark peer.conf.name (mark_at peer.tape) (numbers (ledger_at peer.tape))

@@ -1,0 +1,109 @@
+-- What a call that takes one step answers.
+use Rattle.std.specs.Prelude.{◌≡◌, ◌⊎◌, ℕ, true, false, List, [], ◌∷◌, map, option_map}
+use Rattle.disk_model.specs.declared.choice.Choice.{Choice}
+use Rattle.recovery.specs.declared.fault.TapeFault.TheVariants.{Disk}
+use Rattle.world_core.specs.Past.{Life, Past, with_past}
+use Rattle.world_core.specs.Events.{Event}
+use Rattle.world_core.specs.Halts.{AtRest, ByChoice, CallsDisks, halted, left}
+use Rattle.world_core.specs.Opening.{FailsAt}
+use Rattle.world_core.specs.Runs.{Does, Refuses, RefusesStep, Takes}
+use Rattle.world_core.specs.Sound.{IsSoundLife}
+use Rattle.world_core.specs.Stands.{WorldStands, armed_as}
+use Rattle.world_core.specs.Told.{Said, Stopped as SaidStopped, said_of}
+use Rattle.world_core.specs.declared.fault.Fault.{Fault}
+use Rattle.world_core.specs.declared.fault.Fault.TheVariants.{NoMemory, Stopped as HasStopped, Tape}
+use Rattle.world_core.specs.declared.fault.Halt.{Halt}
+use Rattle.world_core.specs.declared.peer.StoppedPeer.{StoppedPeer}
+use Rattle.world_core.specs.declared.step.Step.{Step}
+use Rattle.world_core.specs.declared.told.Told.{Told}
+use Rattle.world_core.specs.declared.world.Stage.{Stage}
+use Rattle.world_core.specs.declared.world.Stage.TheVariants.{Running, Stopped}
+use Rattle.world_core.specs.declared.world.World.{World}
+
+-- the step was taken, and told this
+pub record Took (step : Step) (life : Life) (told : List Told) (world : World) : Type 0 where
+  pub later : Life
+  pub takes : Takes step life (map said_of told) later
+  pub stands : WorldStands world later
+
+-- the step was refused
+pub record WasNotTaken (step : Step) (life : Life) (fault : Fault) (world : World) : Type 0 where
+  pub later : Life
+  pub refuses : RefusesStep step life fault later
+  pub stands : WorldStands world later
+
+-- the step was taken, and told this; no stop was met
+pub record Did (step : Step) (life : Life) (told : List Told) (world : World) : Type 0 where
+  pub later : Life
+  pub does : Does step life (map said_of told) later
+  pub stands : WorldStands world later
+
+-- the names of a world's peers, in order
+abbrev pub names_at : Stage → List (List ℕ)
+names_at (Running stations connections) = map (λ peer. peer.conf.name) stations.peers.items
+names_at (Stopped peers intake) = map (λ (peer : StoppedPeer). peer.conf.name) peers.items
+
+-- a step makes this of the world, and tells this
+pub record Made (T : Life → List Said → Life → Type 0) (life : Life) (told : List Told) (world : World) : Type 0 where
+  pub later : Life
+  pub makes : T life (map said_of told) later
+  pub stands : WorldStands world later
+
+-- a step is refused so
+pub record Refused (R : Life → Fault → Life → Type 0) (life : Life) (fault : Fault) (world : World) : Type 0 where
+  pub later : Life
+  pub refuses : R life fault later
+  pub stands : WorldStands world later
+
+-- what a stop at rest is, and how it is refused
+abbrev pub TakesRest : Life → List Said → Life → Type 0
+TakesRest life told later = (life.running ≡ true) × (told ≡ SaidStopped ∷ []) × (later ≡ halted AtRest life.past life)
+
+abbrev pub RefusesRest : Life → Fault → Life → Type 0
+RefusesRest life fault later =
+    (((fault ≡ HasStopped) × (life.running ≡ false)) ⊎ ((fault ≡ NoMemory) × (life.running ≡ true))) × (later ≡ life)
+
+-- ---- a step that may meet a stop
+
+-- What a refused step leaves of a world, whose tapes were under way so: it runs on, or has stopped still.
+abbrev pub GoesOn : Life → Past → Life → Type 0
+GoesOn life under_way now =
+    ((life.running ≡ true) × (now ≡ with_past life under_way))
+    ⊎ ((life.running ≡ false) × (now ≡ with_past life (left AtRest under_way)))
+
+-- a disk failed in one of the step's events, at the tape of the halt
+pub record DiskFails (step : Step) (life : Life) (halt : Halt) (under_way : Past) : Type 0 where
+  pub begun : Past
+  pub events : List Event
+  pub calls : CallsDisks step life begun events
+  pub fails : FailsAt begun events halt under_way
+
+-- the step was refused, and no stop was looked for yet
+pub record WasHalted (step : Step) (life : Life) (halt : Halt) (world : World) : Type 0 where
+  pub under_way : Past
+  pub now : Life
+  pub goes_on : GoesOn life under_way now
+  pub refuses : Refuses step life halt.fault now
+  pub stands : WorldStands world now
+  pub disk : halt.fault ≡ Tape Disk → DiskFails step life halt under_way
+
+-- a stop was met, and told
+pub record WasStruck (life : Life) (under_way : Past) (choice : Choice) (told : List Told) (world : World) :
+    Type 0 where
+  pub told_is : map said_of told ≡ SaidStopped ∷ []
+  pub stands : WorldStands world (halted (ByChoice choice) under_way life)
+
+-- Or there was no memory for what its choice leaves, and all has stopped as at rest; or none to stop, and the step is
+-- refused.
+abbrev pub WasStruckUntold : (life : Life) → (under_way : Past) → (now : Life) → (refused fault : Fault) → World
+    → Type 0
+WasStruckUntold life under_way now refused fault world =
+    ((fault ≡ refused) × WorldStands world now)
+    ⊎ ((fault ≡ NoMemory) × WorldStands world (halted AtRest under_way life))
+
+-- the world, but for its tapes and connections
+pub record Awaits (world : World) (life : Life) : Type 0 where
+  pub armed : option_map armed_as world.armed ≡ life.armed
+  pub connected : world.connected ≡ life.connected
+  pub now : world.now ≡ life.now
+  pub sound : IsSoundLife life

@@ -1,0 +1,398 @@
+// The connections of a world: what comes of each step on one, at its peer's station and in what is told.
+ghost use Rattle.std.specs.Prelude.{◌≡◌, ◌==◌, ◌<◌, ◌++◌, ◌∷◌, [], ℕ, List, None, Option, true};
+ghost use Rattle.std.specs.Prelude.{is_none, length, map, option_to_list, position, IfErr, IfOk, IfSome, MatchOption};
+ghost use Rattle.std.specs.Prelude.{OnOk};
+ghost use Rattle.conn_core.specs.History.{Event, reason};
+ghost use Rattle.conn_core.specs.Stands.{Stands, Takes};
+ghost use Rattle.conn_core.specs.declared.reason.Reason.{Reason};
+ghost use Rattle.world_core.specs.Past.{ConnPast, PeerPast, options_of};
+ghost use Rattle.world_core.specs.Pairs.{Tells, broken_off, left_at};
+ghost use Rattle.world_core.specs.Stands.{HoldsTranscript};
+ghost use Rattle.world_core.specs.Told.{Output, closed_said, lines_in, need_said};
+
+use crate::fault::Fault;
+use crate::peer::Peer;
+use crate::told::{Handed, Told};
+use article_store::Found;
+use conn_core::{ArticleFault, Conn, CxnId, OfferFault, Options, Outcome, Reason};
+use disk_model::Disk;
+use feed_conf::PeerConf;
+use funnel::without_cr;
+use peer_queue::{each_number_has_one_place, number_in};
+use std::alloc::{AllocError, Global};
+
+/// A connection of a world.
+#[derive(Drop)]
+pub(crate) struct Connection {
+    // The place of its peer among the peers.
+    pub(crate) place: usize,
+    pub(crate) conn: Conn,
+    // An outcome that was taken from it and that its peer's station refused: it is the first to be taken still.
+    pub(crate) waiting: Option<Outcome>,
+}
+
+impl Connection {
+    ghost use Rattle.feed_conf.specs.declared.conf.PeerConf.{PeerConf};
+    ghost use Rattle.world_core.specs.Pairs.{PairStands, SettledAll, SettledNext, SettledNot};
+    ghost use Rattle.world_core.specs.Pairs.{Followed, FollowedNot};
+    ghost use Rattle.world_core.specs.Pairs.{HandedNot, HandedOn, HandedOnNot, HandedOver};
+    ghost use Rattle.world_core.specs.Pairs.{Received, ReceivedNot, Supplied, SuppliedNot, ticked_at};
+
+    /// A connection of this number to the peer of these settings at this place.
+    ///
+    /// # Errors
+    /// Memory was refused.
+    pub(crate) fn new(
+        alloc: Global,
+        number: u64,
+        place: usize,
+        conf: &PeerConf,
+    ) -> Result<Connection, AllocError>
+        ensures stands { IfOk result
+            (λ connection. Stands (options_of conf.now) connection.conn [] []) }
+        ensures number { IfOk result (λ connection. connection.conn.id.0 ≡ number) }
+        ensures place { IfOk result (λ connection. connection.place ≡ place) }
+        ensures waits { IfOk result (λ connection. connection.waiting ≡ None) }
+    {
+        let conn = Conn::new(alloc, CxnId(number), options_of(conf))?;
+        Ok(Connection {
+            place,
+            conn,
+            waiting: None,
+        })
+    }
+
+    // The outcome that waits, or the next.
+    fn next_outcome(&mut self) -> Option<Outcome>
+        ensures takes { (conf : PeerConf) (past : ConnPast)
+            → HoldsTranscript conf past self.old self.old.waiting
+            → Takes (options_of conf) past.unread past.transcript result self.new.conn }
+        ensures waits { self.new.waiting ≡ None }
+        ensures left { left_at self.old ≡ option_to_list result ++ left_at self.new }
+        ensures place { self.new.place ≡ self.old.place }
+        ensures id { self.new.conn.id ≡ self.old.conn.id }
+    {
+        match self.waiting.take() {
+            Some(outcome) => Some(outcome),
+            None => self.conn.outcome(),
+        }
+    }
+
+    // Takes the next outcome to the station of its peer, and tells what became of its debt; `false` where there is
+    // none. One that is refused waits.
+    fn settle_next<D: Disk>(
+        &mut self,
+        peer: &mut Peer<D>,
+        now: u64,
+        told: &mut Vec<Told>,
+    ) -> Result<bool, Fault>
+        ensures ok { (id : ℕ) (conn : ConnPast) (past : PeerPast)
+            → PairStands id conn past self.old peer.old
+            → IfOk result (λ more.
+            SettledNext more id now conn past told.old.items self.new peer.new told.new.items) }
+        ensures err { (id : ℕ) (conn : ConnPast) (past : PeerPast)
+            → PairStands id conn past self.old peer.old
+            → IfErr result (λ fault. SettledNot id now conn past fault self.new peer.new) }
+        ensures fewer { IfOk result (λ more.
+            more ≡ true → length (left_at self.new) < length (left_at self.old)) }
+    {
+        told.reserve(1)?;
+        let Some(outcome) = self.next_outcome() else {
+            return Ok(false);
+        };
+        let id = self.conn.id();
+        let number = number_in(&outcome);
+        match peer.station.finish(id, outcome, now) {
+            Ok(settled) => {
+                told.push_reserved(Told::Settled {
+                    connection: id.0,
+                    number,
+                    settled,
+                });
+                Ok(true)
+            }
+            Err((outcome, fault)) => {
+                self.waiting = Some(outcome);
+                Err(Fault::from_station(fault))
+            }
+        }
+    }
+
+    // Takes each outcome to the station of its peer, oldest first, and tells what became of its debt.
+    fn settle_all<D: Disk>(
+        &mut self,
+        peer: &mut Peer<D>,
+        now: u64,
+        told: &mut Vec<Told>,
+    ) -> Result<(), Fault>
+        ensures ok { (id : ℕ) (conn : ConnPast) (past : PeerPast)
+            → PairStands id conn past self.old peer.old
+            → OnOk result
+            (SettledAll id now conn past told.old.items self.new peer.new told.new.items) }
+        ensures err { (id : ℕ) (conn : ConnPast) (past : PeerPast)
+            → PairStands id conn past self.old peer.old
+            → IfErr result (λ fault. FollowedNot id now conn past fault self.new peer.new) }
+    {
+        while self.settle_next(peer, now, told)? {}
+        Ok(())
+    }
+
+    // Claims the least candidate and offers it, and tells what became of it. One that is not taken is given back.
+    pub(crate) fn hand<D: Disk>(
+        &mut self,
+        peer: &mut Peer<D>,
+        now: u64,
+        told: &mut Vec<Told>,
+    ) -> Result<(), Fault>
+        ensures ok { (id : ℕ) (conn : ConnPast) (past : PeerPast)
+            → PairStands id conn past self.old peer.old → OnOk result
+            (HandedOn id now conn past told.old.items self.new peer.new told.new.items) }
+        ensures err { (id : ℕ) (conn : ConnPast) (past : PeerPast)
+            → PairStands id conn past self.old peer.old
+            → IfErr result (λ fault. HandedOnNot id now conn past fault self.new peer.new) }
+    {
+        told.reserve(1)?;
+        let was_open = self.conn.closed().is_none();
+        let handed = self.offer_next(peer, now)?;
+        told.push_reserved(Told::Handed {
+            connection: self.conn.id().0,
+            handed,
+        });
+        self.tell(peer, was_open, now, told)
+    }
+
+    // Claims the least candidate and offers it. One that is not taken is given back.
+    fn offer_next<D: Disk>(&mut self, peer: &mut Peer<D>, now: u64) -> Result<Handed, Fault>
+        ensures ok { (id : ℕ) (conn : ConnPast) (past : PeerPast)
+            → PairStands id conn past self.old peer.old
+            → IfOk result (λ handed. HandedOver id now conn past handed self.new peer.new) }
+        ensures err { (id : ℕ) (conn : ConnPast) (past : PeerPast)
+            → PairStands id conn past self.old peer.old
+            → IfErr result (λ fault. HandedNot id now conn past fault self.new peer.new) }
+    {
+        let id = self.conn.id();
+        // proof: no candidate is held.
+        each_number_has_one_place(&peer.station);
+        let claimed = match peer.station.claim(id, now) {
+            Ok(claimed) => claimed,
+            Err(fault) => return Err(Fault::from_station(fault)),
+        };
+        let Some(debt) = claimed else {
+            return Ok(Handed::Nothing);
+        };
+        let number = debt.number();
+        let Err(refused) = self.conn.offer(debt) else {
+            return Ok(Handed::Number(number));
+        };
+        if let Err((_, fault)) = peer.station.back(id, refused.debt) {
+            return Err(Fault::from_station(fault));
+        }
+        match refused.fault {
+            OfferFault::Busy => Ok(Handed::Busy),
+            OfferFault::Closed => Ok(Handed::Closed),
+            OfferFault::NoMemory => Err(Fault::NoMemory),
+        }
+    }
+
+    // Octets come in from the peer's server.
+    pub(crate) fn receive<D: Disk>(
+        &mut self,
+        peer: &mut Peer<D>,
+        octets: &[u8],
+        now: u64,
+        told: &mut Vec<Told>,
+    ) -> Result<(), Fault>
+        ensures ok { (id : ℕ) (conn : ConnPast) (past : PeerPast)
+            → PairStands id conn past self.old peer.old → OnOk result
+            (Received octets.now id now conn past
+            told.old.items self.new peer.new told.new.items) }
+        ensures err { (id : ℕ) (conn : ConnPast) (past : PeerPast)
+            → PairStands id conn past self.old peer.old → IfErr result
+            (λ fault. ReceivedNot octets.now id now conn past fault self.new peer.new) }
+    {
+        let was_open = self.conn.closed().is_none();
+        self.conn.input(octets)?;
+        self.tell(peer, was_open, now, told)
+    }
+
+    // What was found of the article that is wanted is handed in.
+    pub(crate) fn supply<D: Disk>(
+        &mut self,
+        peer: &mut Peer<D>,
+        found: &Found,
+        now: u64,
+        told: &mut Vec<Told>,
+    ) -> Result<(), Fault>
+        ensures ok { (id : ℕ) (conn : ConnPast) (past : PeerPast)
+            → PairStands id conn past self.old peer.old → OnOk result
+            (Supplied found.now id now conn past
+            told.old.items self.new peer.new told.new.items) }
+        ensures err { (id : ℕ) (conn : ConnPast) (past : PeerPast)
+            → PairStands id conn past self.old peer.old → IfErr result
+            (λ fault. SuppliedNot found.now id now conn past fault self.new peer.new) }
+    {
+        let was_open = self.conn.closed().is_none();
+        let Some(number) = self.conn.need() else {
+            return Err(Fault::NotNeeded);
+        };
+        let found = copy_of(found)?;
+        match self.conn.article(number, found) {
+            Ok(()) => self.tell(peer, was_open, now, told),
+            Err((_, ArticleFault::NotNeeded)) => Err(Fault::NotNeeded),
+            Err((_, ArticleFault::NoMemory)) => Err(Fault::NoMemory),
+        }
+    }
+
+    // The moment is this: it closes where an answer is late.
+    pub(crate) fn tick<D: Disk>(
+        &mut self,
+        peer: &mut Peer<D>,
+        now: u64,
+        told: &mut Vec<Told>,
+    ) -> Result<(), Fault>
+        ensures ok { (id : ℕ) (conn : ConnPast) (past : PeerPast)
+            → PairStands id conn past self.old peer.old → OnOk result
+            (Followed id now conn.transcript (ticked_at now past conn) past
+            told.old.items self.new peer.new told.new.items) }
+        ensures err { (id : ℕ) (conn : ConnPast) (past : PeerPast)
+            → PairStands id conn past self.old peer.old → IfErr result
+            (λ fault. FollowedNot id now (ticked_at now past conn) past fault
+            self.new peer.new) }
+    {
+        let was_open = self.conn.closed().is_none();
+        self.conn.tick(now);
+        self.tell(peer, was_open, now, told)
+    }
+
+    // What follows each step: the outcomes go to the station, the output is told and counts as sent, and what is wanted
+    // is told, and why the step closed it, where it was open before.
+    fn tell<D: Disk>(
+        &mut self,
+        peer: &mut Peer<D>,
+        was_open: bool,
+        now: u64,
+        told: &mut Vec<Told>,
+    ) -> Result<(), Fault>
+        ensures ok { (id : ℕ) (conn : ConnPast) (past : PeerPast) (was : List Event)
+            → PairStands id conn past self.old peer.old
+            → was_open ≡ is_none (reason (options_of past.conf) was) → OnOk result
+            (Followed id now was conn past told.old.items self.new peer.new told.new.items) }
+        ensures err { (id : ℕ) (conn : ConnPast) (past : PeerPast)
+            → PairStands id conn past self.old peer.old
+            → IfErr result (λ fault. FollowedNot id now conn past fault self.new peer.new) }
+    {
+        self.settle_all(peer, now, told)?;
+        let connection = self.conn.id().0;
+        tell_output(told, connection, self.conn.output())?;
+        tell_need(told, connection, self.conn.need())?;
+        tell_closed(told, connection, was_open, self.conn.closed())?;
+        let count = self.conn.output().len();
+        self.conn.sent(count);
+        Ok(())
+    }
+
+    // The connection breaks.
+    pub(crate) fn break_off<D: Disk>(
+        &mut self,
+        peer: &mut Peer<D>,
+        now: u64,
+        told: &mut Vec<Told>,
+    ) -> Result<(), Fault>
+        ensures ok { (id : ℕ) (conn : ConnPast) (past : PeerPast)
+            → PairStands id conn past self.old peer.old → OnOk result
+            (Followed id now conn.transcript (broken_off past conn) past
+            told.old.items self.new peer.new told.new.items) }
+        ensures err { (id : ℕ) (conn : ConnPast) (past : PeerPast)
+            → PairStands id conn past self.old peer.old → IfErr result
+            (λ fault. FollowedNot id now (broken_off past conn) past fault self.new peer.new) }
+    {
+        let was_open = self.conn.closed().is_none();
+        self.conn.broken();
+        self.tell(peer, was_open, now, told)
+    }
+}
+
+// How a connection to a peer of these settings works.
+fn options_of(conf: &PeerConf) -> Options
+    ensures { result ≡ options_of conf.now }
+{
+    Options {
+        streaming: conf.streaming,
+        max_queue: conf.max_queue,
+        check_high: conf.check_high,
+        check_low: conf.check_low,
+        check_filter: conf.check_filter,
+        response_timeout: conf.response_timeout,
+    }
+}
+
+// The same once more.
+fn copy_of(found: &Found) -> Result<Found, AllocError>
+    ensures { IfOk result (λ copy. copy ≡ found.now) }
+{
+    match found {
+        Found::Article(text) => Ok(Found::Article(text.clone()?)),
+        Found::Gone => Ok(Found::Gone),
+        Found::Unsendable => Ok(Found::Unsendable),
+    }
+}
+
+// Tells each line of the output.
+fn tell_output(told: &mut Vec<Told>, connection: u64, output: &[u8]) -> Result<(), AllocError>
+    ensures { OnOk result (Tells told.old.items
+        (map (Output connection) (lines_in output.now)) told.new.items) }
+{
+    let alloc = *told.allocator();
+    let mut rest = output;
+    while let Some((line, behind)) = first_line(rest) {
+        let line = Vec::from_slice(alloc, line)?;
+        told.push(Told::Output { connection, line })?;
+        rest = behind;
+    }
+    Ok(())
+}
+
+// The first line without its CR LF, and what stands behind it; nothing where no LF is left.
+fn first_line(text: &[u8]) -> Option<(&[u8], &[u8])>
+    ensures lines { MatchOption result (lines_in text.now ≡ [])
+        (λ parts. lines_in text.now ≡ parts.0.now ∷ lines_in parts.1.now) }
+    ensures shorter { IfSome result (λ parts. length parts.1.now < length text.now) }
+{
+    match line_end(text) {
+        Some(end) => Some((without_cr(&text[..end]), &text[end + 1..])),
+        None => None,
+    }
+}
+
+// Where the first LF stands.
+fn line_end(text: &[u8]) -> Option<usize>
+    ensures { result ≡ position (λ octet. octet == 10) text.now }
+{
+    text.iter().position(|octet| *octet == b'\n')
+}
+
+// Tells which article is wanted.
+fn tell_need(told: &mut Vec<Told>, connection: u64, need: Option<u64>) -> Result<(), AllocError>
+    ensures { OnOk result (Tells told.old.items (need_said connection need) told.new.items) }
+{
+    if let Some(number) = need {
+        told.push(Told::Need { connection, number })?;
+    }
+    Ok(())
+}
+
+// Tells why a connection closed, where it was open before.
+fn tell_closed(
+    told: &mut Vec<Told>,
+    connection: u64,
+    was_open: bool,
+    closed: Option<Reason>,
+) -> Result<(), AllocError>
+    ensures { (was : Option Reason) → was_open ≡ is_none was → OnOk result
+        (Tells told.old.items (closed_said connection was closed) told.new.items) }
+{
+    if was_open && let Some(reason) = closed {
+        told.push(Told::Closed { connection, reason })?;
+    }
+    Ok(())
+}

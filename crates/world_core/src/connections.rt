@@ -1,0 +1,350 @@
+// The steps of a world on its connections: each finds the connection and its peer, and tells what comes of it.
+ghost use Rattle.std.specs.Prelude.{◌≡◌, ◌≢◌, ◌+◌, ◌<◌, ◌^◌, [], Some, length, map, slice_get, IfErr, IfNone, IfOk};
+ghost use Rattle.std.specs.Prelude.{IfSome, OnOk, vec_len};
+ghost use Rattle.std.specs.List.{AllByRecursion};
+ghost use Rattle.std.specs.List.Sorted.{IsStrictlyIncreasing};
+ghost use Rattle.world_core.specs.Exchange.{FailsToBreak, FailsToHand, FailsToRead, FailsToSupply, RefusesConnect};
+ghost use Rattle.world_core.specs.Exchange.{RefusesTick, TakesArticle, TakesBreak, TakesBytes, TakesConnect};
+ghost use Rattle.world_core.specs.Exchange.{TakesHand, TakesTick};
+ghost use Rattle.world_core.specs.Past.{Life};
+ghost use Rattle.world_core.specs.declared.connection.Connection.{Connection};
+
+use crate::connection::Connection;
+use crate::fault::Fault;
+use crate::stations::Stations;
+use crate::told::Told;
+use crate::world::{Stage, World};
+use article_store::Found;
+use disk_model::Disk;
+use funnel::PeerName;
+
+impl World {
+    ghost use Rattle.world_core.specs.Runs.{OnWorld, RefusesConn, RefusesWorld};
+    ghost use Rattle.world_core.specs.Stands.{WorldStands};
+    ghost use Rattle.world_core.specs.Turn.{Made, Refused};
+
+    /// A connection to the peer of this name is made, with the number behind the last.
+    ///
+    /// # Errors
+    /// `Stopped`; `NoPeer` where none has this name; `CountFull`; `NoMemory`.
+    pub(crate) fn connect(&mut self, name: &PeerName, out: &mut Vec<Told>) -> Result<(), Fault>
+        requires { out.old.items ≡ [] }
+        ensures ok { (life : Life) → WorldStands self.old life → OnOk result
+            (Made (OnWorld (TakesConnect name.now)) life out.new.items self.new) }
+        ensures err { (life : Life) → WorldStands self.old life → IfErr result
+            (λ fault. Refused (RefusesWorld (RefusesConnect name.now)) life fault self.new) }
+    {
+        let Stage::Running(stations, connections) = &mut self.stage else {
+            return Err(Fault::Stopped);
+        };
+        self.connected = stations.connect(connections, self.connected, name, out)?;
+        Ok(())
+    }
+
+    /// The least candidate of the peer of this connection is claimed and offered.
+    ///
+    /// # Errors
+    /// `Stopped`; `NoConnection`; `NoMemory`; the station's.
+    pub(crate) fn hand(&mut self, id: u64, out: &mut Vec<Told>) -> Result<(), Fault>
+        requires { out.old.items ≡ [] }
+        ensures ok { (life : Life) → WorldStands self.old life → OnOk result
+            (Made (OnWorld (TakesHand id)) life out.new.items self.new) }
+        ensures err { (life : Life) → WorldStands self.old life → IfErr result
+            (λ fault. Refused (RefusesConn id (FailsToHand id)) life fault self.new) }
+    {
+        let Stage::Running(stations, connections) = &mut self.stage else {
+            return Err(Fault::Stopped);
+        };
+        stations.hand(connections, id, self.now, out)
+    }
+
+    /// These octets come in on this connection.
+    ///
+    /// # Errors
+    /// `Stopped`; `NoConnection`; `NoMemory`; the station's.
+    pub(crate) fn bytes(&mut self, id: u64, octets: &[u8], out: &mut Vec<Told>) -> Result<(), Fault>
+        requires { out.old.items ≡ [] }
+        ensures ok { (life : Life) → WorldStands self.old life → OnOk result
+            (Made (OnWorld (TakesBytes id octets.now)) life out.new.items self.new) }
+        ensures err { (life : Life) → WorldStands self.old life → IfErr result
+            (λ fault. Refused (RefusesConn id (FailsToRead id octets.now)) life fault self.new) }
+    {
+        let Stage::Running(stations, connections) = &mut self.stage else {
+            return Err(Fault::Stopped);
+        };
+        stations.bytes(connections, id, octets, self.now, out)
+    }
+
+    /// This was found of the article that this connection wants.
+    ///
+    /// # Errors
+    /// `Stopped`; `NoConnection`; `NotNeeded` where it wants none; `NoMemory`; the station's.
+    pub(crate) fn article(
+        &mut self,
+        id: u64,
+        found: &Found,
+        out: &mut Vec<Told>,
+    ) -> Result<(), Fault>
+        requires { out.old.items ≡ [] }
+        ensures ok { (life : Life) → WorldStands self.old life → OnOk result
+            (Made (OnWorld (TakesArticle id found.now)) life out.new.items self.new) }
+        ensures err { (life : Life) → WorldStands self.old life → IfErr result
+            (λ fault. Refused (RefusesConn id (FailsToSupply id found.now)) life fault self.new) }
+    {
+        let Stage::Running(stations, connections) = &mut self.stage else {
+            return Err(Fault::Stopped);
+        };
+        stations.article(connections, id, found, self.now, out)
+    }
+
+    /// This connection breaks.
+    ///
+    /// # Errors
+    /// `Stopped`; `NoConnection`; `NoMemory`; the station's.
+    pub(crate) fn break_off(&mut self, id: u64, out: &mut Vec<Told>) -> Result<(), Fault>
+        requires { out.old.items ≡ [] }
+        ensures ok { (life : Life) → WorldStands self.old life → OnOk result
+            (Made (OnWorld (TakesBreak id)) life out.new.items self.new) }
+        ensures err { (life : Life) → WorldStands self.old life → IfErr result
+            (λ fault. Refused (RefusesConn id (FailsToBreak id)) life fault self.new) }
+    {
+        let Stage::Running(stations, connections) = &mut self.stage else {
+            return Err(Fault::Stopped);
+        };
+        stations.break_off(connections, id, self.now, out)
+    }
+
+    /// The moment is this for all connections, in the order of their numbers.
+    ///
+    /// # Errors
+    /// `Stopped`; `NoMemory`; the stations'.
+    pub(crate) fn tick(&mut self, now: u64, out: &mut Vec<Told>) -> Result<(), Fault>
+        requires { out.old.items ≡ [] }
+        ensures ok { (life : Life) → WorldStands self.old life → OnOk result
+            (Made (OnWorld (TakesTick now)) life out.new.items self.new) }
+        ensures err { (life : Life) → WorldStands self.old life → IfErr result
+            (λ fault. Refused (RefusesWorld (RefusesTick now)) life fault self.new) }
+    {
+        let Stage::Running(stations, connections) = &mut self.stage else {
+            return Err(Fault::Stopped);
+        };
+        self.now = now;
+        stations.tick(connections, now, out)
+    }
+}
+
+impl<D: Disk> Stations<D> {
+    ghost use Rattle.world_core.specs.Joined.{AreRunning, FoundConn, MadeOn, RefusedOn, RefusesAct};
+    ghost use Rattle.world_core.specs.Joined.{TicksNot, TicksOne, TicksOneNot, TicksSome};
+
+    // A connection to the peer of this name is made, with the number behind the last, which is told.
+    fn connect(
+        &mut self,
+        connections: &mut Vec<Connection>,
+        last: u64,
+        name: &PeerName,
+        told: &mut Vec<Told>,
+    ) -> Result<u64, Fault>
+        ensures ok { (life : Life) → AreRunning life self.old connections.old.items
+            → life.connected ≡ last → IfOk result (λ number.
+            MadeOn (TakesConnect name.now) number life told.old.items told.new.items
+            self.new connections.new.items) }
+        ensures err { (life : Life) → AreRunning life self.old connections.old.items
+            → life.connected ≡ last → IfErr result (λ fault.
+            RefusedOn (RefusesConnect name.now) life fault self.new connections.new.items) }
+    {
+        let Some(place) = self.place_of(name) else {
+            return Err(Fault::NoPeer);
+        };
+        let Some(number) = last.checked_add(1) else {
+            return Err(Fault::CountFull);
+        };
+        told.reserve(1)?;
+        connections.reserve(1)?;
+        let name = name.clone()?;
+        let connection = Connection::new(self.alloc, number, place, &self.peers[place].conf)?;
+        connections.push_reserved(connection);
+        told.push_reserved(Told::Connected {
+            connection: number,
+            name,
+        });
+        Ok(number)
+    }
+
+    // The least candidate of the peer of this connection is claimed and offered.
+    fn hand(
+        &mut self,
+        connections: &mut Vec<Connection>,
+        id: u64,
+        now: u64,
+        told: &mut Vec<Told>,
+    ) -> Result<(), Fault>
+        ensures ok { (life : Life) → AreRunning life self.old connections.old.items
+            → life.now ≡ now → OnOk result
+            (MadeOn (TakesHand id) life.connected life told.old.items told.new.items
+            self.new connections.new.items) }
+        ensures err { (life : Life) → AreRunning life self.old connections.old.items
+            → life.now ≡ now → IfErr result (λ fault. RefusedOn
+            (RefusesAct id (FailsToHand id)) life fault self.new connections.new.items) }
+    {
+        let Some((index, place)) = self.find_conn(connections, id) else {
+            return Err(Fault::NoConnection);
+        };
+        let connection = &mut connections[index];
+        let peer = &mut self.peers[place];
+        connection.hand(peer, now, told)
+    }
+
+    // These octets come in on this connection.
+    fn bytes(
+        &mut self,
+        connections: &mut Vec<Connection>,
+        id: u64,
+        octets: &[u8],
+        now: u64,
+        told: &mut Vec<Told>,
+    ) -> Result<(), Fault>
+        ensures ok { (life : Life) → AreRunning life self.old connections.old.items
+            → life.now ≡ now → OnOk result
+            (MadeOn (TakesBytes id octets.now) life.connected life told.old.items
+            told.new.items self.new connections.new.items) }
+        ensures err { (life : Life) → AreRunning life self.old connections.old.items
+            → life.now ≡ now → IfErr result (λ fault. RefusedOn
+            (RefusesAct id (FailsToRead id octets.now)) life fault
+            self.new connections.new.items) }
+    {
+        let Some((index, place)) = self.find_conn(connections, id) else {
+            return Err(Fault::NoConnection);
+        };
+        let connection = &mut connections[index];
+        let peer = &mut self.peers[place];
+        connection.receive(peer, octets, now, told)
+    }
+
+    // This was found of the article that this connection wants.
+    fn article(
+        &mut self,
+        connections: &mut Vec<Connection>,
+        id: u64,
+        found: &Found,
+        now: u64,
+        told: &mut Vec<Told>,
+    ) -> Result<(), Fault>
+        ensures ok { (life : Life) → AreRunning life self.old connections.old.items
+            → life.now ≡ now → OnOk result
+            (MadeOn (TakesArticle id found.now) life.connected life told.old.items
+            told.new.items self.new connections.new.items) }
+        ensures err { (life : Life) → AreRunning life self.old connections.old.items
+            → life.now ≡ now → IfErr result (λ fault. RefusedOn
+            (RefusesAct id (FailsToSupply id found.now)) life fault
+            self.new connections.new.items) }
+    {
+        let Some((index, place)) = self.find_conn(connections, id) else {
+            return Err(Fault::NoConnection);
+        };
+        let connection = &mut connections[index];
+        let peer = &mut self.peers[place];
+        connection.supply(peer, found, now, told)
+    }
+
+    // This connection breaks.
+    fn break_off(
+        &mut self,
+        connections: &mut Vec<Connection>,
+        id: u64,
+        now: u64,
+        told: &mut Vec<Told>,
+    ) -> Result<(), Fault>
+        ensures ok { (life : Life) → AreRunning life self.old connections.old.items
+            → life.now ≡ now → OnOk result
+            (MadeOn (TakesBreak id) life.connected life told.old.items told.new.items
+            self.new connections.new.items) }
+        ensures err { (life : Life) → AreRunning life self.old connections.old.items
+            → life.now ≡ now → IfErr result (λ fault. RefusedOn
+            (RefusesAct id (FailsToBreak id)) life fault self.new connections.new.items) }
+    {
+        let Some((index, place)) = self.find_conn(connections, id) else {
+            return Err(Fault::NoConnection);
+        };
+        let connection = &mut connections[index];
+        let peer = &mut self.peers[place];
+        connection.break_off(peer, now, told)
+    }
+
+    // The moment is this for each connection, in the order of their numbers.
+    fn tick(
+        &mut self,
+        connections: &mut Vec<Connection>,
+        now: u64,
+        told: &mut Vec<Told>,
+    ) -> Result<(), Fault>
+        ensures ok { (life : Life) → AreRunning life self.old connections.old.items
+            → life.now ≡ now → OnOk result
+            (MadeOn (TicksSome (length life.conns)) life.connected life told.old.items
+            told.new.items self.new connections.new.items) }
+        ensures err { (life : Life) → AreRunning life self.old connections.old.items
+            → life.now ≡ now → IfErr result (λ fault. RefusedOn TicksNot life fault
+            self.new connections.new.items) }
+    {
+        for index in 0..connections.len() {
+            self.tick_at(connections, index, now, told)?;
+        }
+        Ok(())
+    }
+
+    // The moment is this for the connection that stands there.
+    fn tick_at(
+        &mut self,
+        connections: &mut Vec<Connection>,
+        index: usize,
+        now: u64,
+        told: &mut Vec<Told>,
+    ) -> Result<(), Fault>
+        requires { index < vec_len connections.old }
+        ensures ok { (life : Life) → AreRunning life self.old connections.old.items
+            → life.now ≡ now → OnOk result
+            (MadeOn (TicksOne index) life.connected life told.old.items told.new.items
+            self.new connections.new.items) }
+        ensures err { (life : Life) → AreRunning life self.old connections.old.items
+            → life.now ≡ now → IfErr result (λ fault. RefusedOn (TicksOneNot index) life fault
+            self.new connections.new.items) }
+        ensures count { vec_len connections.new ≡ vec_len connections.old }
+    {
+        let connection = &mut connections[index];
+        let place = connection.place;
+        if place >= self.peers.len() {
+            return Err(Fault::NoPeer);
+        }
+        let peer = &mut self.peers[place];
+        connection.tick(peer, now, told)
+    }
+
+    // Where the connection of this number stands, and its peer.
+    fn find_conn(&self, connections: &[Connection], id: u64) -> Option<(usize, usize)>
+        ensures found { (life : Life) → AreRunning life self.now connections.now
+            → FoundConn life id result }
+        ensures within { IfSome result (λ at.
+            (at.0 < length connections.now) × (at.1 < vec_len self.now.peers)) }
+    {
+        let index = index_of(connections, id)?;
+        let place = connections[index].place;
+        if place < self.peers.len() {
+            Some((index, place))
+        } else {
+            None
+        }
+    }
+}
+
+// Where the connection of this number stands, by halves: the numbers rise.
+fn index_of(connections: &[Connection], id: u64) -> Option<usize>
+    ensures some { IfSome result (λ index. (index < length connections.now)
+        × ((c : Connection) → slice_get connections.now index ≡ Some c → c.conn.id.0 ≡ id)) }
+    ensures none { IsStrictlyIncreasing (map (λ (c : Connection). c.conn.id.0) connections.now)
+        → IfNone result
+        (AllByRecursion (λ (c : Connection). c.conn.id.0 ≢ id) connections.now) }
+{
+    connections
+        .binary_search_by(|connection| connection.conn.id().0.cmp(&id))
+        .ok()
+}

@@ -1,0 +1,112 @@
+// Why a step of a world is refused.
+ghost use Rattle.std.specs.Prelude.{◌≡◌};
+ghost use Rattle.world_core.specs.Fault.{fault_of, fault_of_station};
+ghost use Rattle.world_core.specs.declared.fault.Fault.TheVariants.{NoMemory};
+
+use crate::told::Told;
+use peer_queue::StationFault;
+use recovery::TapeFault;
+use std::alloc::{AllocError, AllocFailed};
+use thiserror::Error;
+
+/// Why a step is refused.
+#[derive(Clone, Copy, Debug, PartialEq, Eq, Error)]
+pub enum Fault {
+    /// No peer has this name.
+    #[error("NoPeer")]
+    NoPeer,
+    /// There is no connection of this number: none was made, or a stop ended it.
+    #[error("NoConnection")]
+    NoConnection,
+    /// All is stopped, and only `Restart` and the arming of a stop are steps.
+    #[error("Stopped")]
+    Stopped,
+    /// Nothing is stopped, so there is nothing to restart.
+    #[error("Running")]
+    Running,
+    /// The connection wants no article.
+    #[error("NotNeeded")]
+    NotNeeded,
+    /// A tape refused; its `NoMemory` is the step's own.
+    #[error("Tape {0}")]
+    Tape(TapeFault),
+    /// A number would pass the greatest that there is.
+    #[error("CountFull")]
+    CountFull,
+    /// Memory was refused.
+    #[error("NoMemory")]
+    NoMemory,
+    /// No number is kept, or some peer was not flushed since.
+    #[error("NotFlushed")]
+    NotFlushed,
+}
+
+impl Fault {
+    // A tape's fault, as a step tells it.
+    pub(crate) fn from_tape(fault: TapeFault) -> Fault
+        ensures { result ≡ fault_of fault }
+    {
+        match fault {
+            TapeFault::NoMemory => Fault::NoMemory,
+            other => Fault::Tape(other),
+        }
+    }
+
+    // A station's fault, as a step tells it. No step has a station settle what it does not hold.
+    pub(crate) fn from_station(fault: StationFault) -> Fault
+        ensures { result ≡ fault_of_station fault }
+    {
+        match fault {
+            StationFault::NotHeld => Fault::NoConnection,
+            StationFault::Broken => Fault::Tape(TapeFault::Broken),
+            StationFault::Tape(fault) => Fault::from_tape(fault),
+            StationFault::NoMemory => Fault::NoMemory,
+        }
+    }
+}
+
+/// At which tape a step was refused, a peer's by its place or the intake's, and why. The tape is of weight only where
+/// a disk failed.
+#[derive(Clone, Copy, Debug, PartialEq, Eq)]
+pub(crate) struct Halt {
+    pub(crate) place: Option<usize>,
+    pub(crate) fault: Fault,
+}
+
+/// A run that ended at a refused step.
+#[derive(Debug, Drop)]
+pub struct WorldFault {
+    /// Which step it was, from 1 on; 0 where the world was not made.
+    pub step: usize,
+    /// Why it was refused.
+    pub kind: Fault,
+    /// What each step before it told.
+    pub lines: Vec<Vec<Told>>,
+}
+
+impl From<AllocError> for Fault {
+    ghost from_gives = { λ _ fault. fault ≡ NoMemory };
+
+    fn from(_: AllocError) -> Self {
+        Fault::NoMemory
+    }
+}
+
+impl From<AllocError> for Halt {
+    ghost from_gives = { λ _ halt. halt.fault ≡ NoMemory };
+
+    fn from(_: AllocError) -> Self {
+        Halt {
+            place: None,
+            fault: Fault::NoMemory,
+        }
+    }
+}
+
+impl<T: Drop> From<AllocFailed<T>> for Fault {
+    ghost from_gives = { λ _ fault. fault ≡ NoMemory };
+
+    fn from(_: AllocFailed<T>) -> Self {
+        Fault::NoMemory
+    }
+}

@@ -1,0 +1,43 @@
+//! Laws of worlds, each the contract of a function that does nothing.
+ghost use Rattle.std.specs.Prelude.{List};
+ghost use Rattle.world_core.specs.Events.{AllDo, Event};
+ghost use Rattle.world_core.specs.Keeping.{PeersStay};
+ghost use Rattle.world_core.specs.Laws.{AllAreRecovered, AllFinalsAreRight, AllStayAcknowledged};
+ghost use Rattle.world_core.specs.Laws.{LinesAreAcknowledged, OverRuns};
+ghost use Rattle.world_core.specs.Past.{Past};
+ghost use Rattle.world_core.specs.Safe.{IsSafe};
+
+use conn_laws::verdicts_are_right;
+
+/// As soon as a stop may leave the intake's tape with a mark at or above a line's number, each note that the line made
+/// is acknowledged at its peer.
+pub fn acknowledged_lines_stand()
+    ensures { (past : Past) → IsSafe past → LinesAreAcknowledged past }
+{}
+
+/// Whatever events happen to all tapes, one after another, what was acknowledged of each peer's notes stays so.
+pub fn acknowledged_notes_stay()
+    ensures { (begun later : Past) (events : List Event) → AllDo begun events later
+        → PeersStay begun later }
+{}
+
+/// Over any run of steps, stops and restarts among them, what was acknowledged of each peer's notes stays so.
+pub fn all_stay_acknowledged()
+    ensures { OverRuns AllStayAcknowledged }
+{}
+
+/// Over any run of steps, stops and restarts among them: whatever a stop may leave of a peer's tape is recovered as
+/// the debts after the first of its notes, every acknowledged one among them; and a debt that was acknowledged is owed
+/// there, unless the peer has a final answer or a noted drop of it.
+pub fn all_are_recovered()
+    ensures { OverRuns AllAreRecovered }
+{}
+
+/// Over any run of steps, each final answer among a peer's notes that was not there before has a verdict that is right
+/// by the transcript of its connection: of the replies that came one is the final answer to a command about that very
+/// debt.
+pub fn all_finals_are_right()
+    ensures { OverRuns AllFinalsAreRight }
+{
+    verdicts_are_right()
+}

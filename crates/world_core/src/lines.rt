@@ -1,0 +1,262 @@
+// What steps tell, as the lines of the script's format (docs/FORMATS.md).
+ghost use Rattle.std.specs.Prelude.{◌≡◌, [], ◌∷◌, ◌++◌, decimal as digits_of, flat_map, map, IfOk, OnOk};
+ghost use Rattle.world_core.specs.Lines.{bad_text, cause_text, handed_text, line_text, numbers_text, owed_text};
+ghost use Rattle.world_core.specs.Lines.{reason_text, reply_fault_text, settled_text, told_text};
+ghost use Rattle.world_core.specs.Told.{said_of};
+ghost use Rattle.world_core.specs.declared.told.OwedAt.{OwedAt};
+
+use crate::told::{Handed, OwedAt, Told};
+use conn_core::Reason;
+use funnel::LineFault;
+use ledger_core::Cause;
+use peer_queue::{Owed, Settled};
+use reply_reader::ReplyFault;
+use std::alloc::{AllocError, Global};
+
+impl Told {
+    /// Its line in the script's format, with its LF.
+    ///
+    /// # Errors
+    /// Memory was refused.
+    pub fn line(&self, alloc: Global) -> Result<Vec<u8>, AllocError>
+        ensures { IfOk result (λ line. line.items ≡ line_text (said_of self.now)) }
+    {
+        let mut line = Vec::new(alloc);
+        add_told(&mut line, self)?;
+        line.push(b'\n')?;
+        Ok(line)
+    }
+}
+
+// What is told, without its LF.
+fn add_told(out: &mut Vec<u8>, told: &Told) -> Result<(), AllocError>
+    ensures { OnOk result (out.new.items ≡ out.old.items ++ told_text (said_of told.now)) }
+{
+    match told {
+        Told::Owed { number, peers } => {
+            add_number(out, *number)?;
+            add_owed(out, peers)
+        }
+        Told::Bad { number, fault } => {
+            add_number(out, *number)?;
+            out.extend_from_slice(bad_text(*fault))
+        }
+        Told::Taken { mark } => {
+            out.extend_from_slice(b"taken ")?;
+            add_number(out, *mark)
+        }
+        Told::Connected { connection, name } => {
+            add_connection(out, *connection)?;
+            out.push(b' ')?;
+            out.extend_from_slice(name.bytes())
+        }
+        Told::Handed { connection, handed } => {
+            add_connection(out, *connection)?;
+            add_handed(out, *handed)
+        }
+        Told::Settled {
+            connection,
+            number,
+            settled,
+        } => {
+            add_connection(out, *connection)?;
+            add_settled(out, *number, *settled)
+        }
+        Told::Output { connection, line } => {
+            add_connection(out, *connection)?;
+            out.push(b'>')?;
+            out.extend_from_slice(line)
+        }
+        Told::Need { connection, number } => {
+            add_connection(out, *connection)?;
+            out.extend_from_slice(b" need ")?;
+            add_number(out, *number)
+        }
+        Told::Closed { connection, reason } => {
+            add_connection(out, *connection)?;
+            out.extend_from_slice(b" closed ")?;
+            add_reason(out, *reason)
+        }
+        Told::Shed { name, numbers } => {
+            out.extend_from_slice(name.bytes())?;
+            out.extend_from_slice(b" shed")?;
+            add_numbers(out, numbers)
+        }
+        Told::Rotated { name, generation } => {
+            out.extend_from_slice(name.bytes())?;
+            out.extend_from_slice(b" rotated ")?;
+            add_number(out, *generation)
+        }
+        Told::Stopped => out.extend_from_slice(b"stopped"),
+        Told::Mark { name, mark, owes } => {
+            out.extend_from_slice(name.bytes())?;
+            out.extend_from_slice(b" mark ")?;
+            add_number(out, *mark)?;
+            out.extend_from_slice(b" owes")?;
+            add_numbers(out, owes)
+        }
+    }
+}
+
+// A number in decimal digits.
+fn add_number(out: &mut Vec<u8>, number: u64) -> Result<(), AllocError>
+    ensures { OnOk result (out.new.items ≡ out.old.items ++ digits_of number) }
+{
+    out.extend_from_slice(itoa::Buffer::new().format(number).as_bytes())
+}
+
+// A connection: c and its number.
+fn add_connection(out: &mut Vec<u8>, connection: u64) -> Result<(), AllocError>
+    ensures { OnOk result (out.new.items ≡ out.old.items ++ (99 ∷ digits_of connection)) }
+{
+    out.push(b'c')?;
+    add_number(out, connection)
+}
+
+// Each peer that a line names, and what came of it there.
+fn add_owed(out: &mut Vec<u8>, peers: &[OwedAt]) -> Result<(), AllocError>
+    ensures { OnOk result (out.new.items ≡ out.old.items
+        ++ flat_map owed_text (map (λ (at : OwedAt). (at.name, at.owed)) peers.now)) }
+{
+    for at in peers {
+        add_owed_at(out, at)?;
+    }
+    Ok(())
+}
+
+// A peer that a line names, and what came of it there.
+fn add_owed_at(out: &mut Vec<u8>, at: &OwedAt) -> Result<(), AllocError>
+    ensures { OnOk result (out.new.items ≡ out.old.items ++ owed_text (at.now.name, at.now.owed)) }
+{
+    out.push(b' ')?;
+    out.extend_from_slice(at.name.bytes())?;
+    match at.owed {
+        Owed::New => out.extend_from_slice(b" new"),
+        Owed::Already => out.extend_from_slice(b" already"),
+    }
+}
+
+// What became of the candidate that was to be handed over.
+fn add_handed(out: &mut Vec<u8>, handed: Handed) -> Result<(), AllocError>
+    ensures { OnOk result (out.new.items ≡ out.old.items ++ handed_text handed) }
+{
+    match handed {
+        Handed::Number(number) => {
+            out.extend_from_slice(b" hand ")?;
+            add_number(out, number)
+        }
+        Handed::Nothing => out.extend_from_slice(b" none"),
+        Handed::Busy => out.extend_from_slice(b" busy"),
+        Handed::Closed => out.extend_from_slice(b" closed"),
+    }
+}
+
+// What became of the debt of this number.
+fn add_settled(out: &mut Vec<u8>, number: u64, settled: Settled) -> Result<(), AllocError>
+    ensures { OnOk result (out.new.items ≡ out.old.items ++ settled_text number settled) }
+{
+    match settled {
+        Settled::Answered(code) => {
+            add_pair(out, b" final ", number)?;
+            add_number(out, u64::from(code.number()))
+        }
+        Settled::Later(moment) => {
+            add_pair(out, b" later ", number)?;
+            add_number(out, moment)
+        }
+        Settled::Dropped(cause) => {
+            add_pair(out, b" drop ", number)?;
+            out.extend_from_slice(cause_text(cause))
+        }
+        Settled::Ready => {
+            out.extend_from_slice(b" back ")?;
+            add_number(out, number)
+        }
+    }
+}
+
+// A word, a number, and a space before what follows.
+fn add_pair(out: &mut Vec<u8>, word: &[u8], number: u64) -> Result<(), AllocError>
+    ensures { OnOk result (out.new.items
+        ≡ out.old.items ++ (word.now ++ (digits_of number ++ 32 ∷ []))) }
+{
+    out.extend_from_slice(word)?;
+    add_number(out, number)?;
+    out.push(b' ')?;
+    Ok(())
+}
+
+// Why a line is not good.
+fn bad_text(fault: LineFault) -> &'static [u8]
+    ensures { result.now ≡ bad_text fault }
+{
+    match fault {
+        LineFault::NoToken => b" bad NoToken",
+        LineFault::BadToken => b" bad BadToken",
+        LineFault::BadId => b" bad BadId",
+        LineFault::TooLong => b" bad TooLong",
+        LineFault::NoMemory => b" bad NoMemory",
+    }
+}
+
+// The name of a cause.
+fn cause_text(cause: Cause) -> &'static [u8]
+    ensures { result.now ≡ cause_text cause }
+{
+    match cause {
+        Cause::Limit => b"Limit",
+        Cause::Deferred => b"Deferred",
+        Cause::Missing => b"Missing",
+        Cause::Unsendable => b"Unsendable",
+    }
+}
+
+// Why a connection closed.
+fn add_reason(out: &mut Vec<u8>, reason: Reason) -> Result<(), AllocError>
+    ensures { OnOk result (out.new.items ≡ out.old.items ++ reason_text reason) }
+{
+    match reason {
+        Reason::Greeting(code) => {
+            out.extend_from_slice(b"Greeting ")?;
+            add_number(out, u64::from(code))
+        }
+        Reason::Reader(fault) => {
+            out.extend_from_slice(b"Reader ")?;
+            out.extend_from_slice(reply_fault_text(fault))
+        }
+        Reason::Unmatched => out.extend_from_slice(b"Unmatched"),
+        Reason::Ended(code) => {
+            out.extend_from_slice(b"Ended ")?;
+            add_number(out, u64::from(code))
+        }
+        Reason::Timeout => out.extend_from_slice(b"Timeout"),
+        Reason::Broken => out.extend_from_slice(b"Broken"),
+        Reason::Quit => out.extend_from_slice(b"Quit"),
+    }
+}
+
+// The name of a fault of a reader of replies.
+fn reply_fault_text(fault: ReplyFault) -> &'static [u8]
+    ensures { result.now ≡ reply_fault_text fault }
+{
+    match fault {
+        ReplyFault::TooLong => b"TooLong",
+        ReplyFault::NoCode => b"NoCode",
+        ReplyFault::NoMemory => b"NoMemory",
+        ReplyFault::Failed => b"Failed",
+    }
+}
+
+// A space and each number, or ` -` where there is none.
+fn add_numbers(out: &mut Vec<u8>, numbers: &[u64]) -> Result<(), AllocError>
+    ensures { OnOk result (out.new.items ≡ out.old.items ++ numbers_text numbers.now) }
+{
+    if numbers.is_empty() {
+        return out.extend_from_slice(b" -");
+    }
+    for number in numbers {
+        out.push(b' ')?;
+        add_number(out, *number)?;
+    }
+    Ok(())
+}

@@ -1,0 +1,132 @@
+// One peer of a world.
+ghost use Rattle.std.specs.Prelude.{◌≡◌, IfErr, IfOk, OnOk};
+ghost use Rattle.world_core.specs.Past.{limits_of};
+
+use crate::fault::Fault;
+use crate::stop::StopDisk;
+use disk_model::Disk;
+use feed_conf::PeerConf;
+use funnel::{MsgId, Token};
+use peer_queue::{Limits, Owed, Station, each_number_has_one_place};
+use std::alloc::Global;
+
+/// A peer whose station is open.
+#[derive(Drop)]
+pub(crate) struct Peer<D: Disk> {
+    // Its name and settings.
+    pub(crate) conf: PeerConf,
+    // What it is owed.
+    pub(crate) station: Station<D>,
+    // Whether it was flushed since a number was kept.
+    pub(crate) parted: bool,
+}
+
+/// A peer that has stopped.
+#[derive(Drop)]
+pub(crate) struct StoppedPeer {
+    // Its name and settings.
+    pub(crate) conf: PeerConf,
+    // What was left of the first disk of its tape, and of the second.
+    pub(crate) disks: (StopDisk, StopDisk),
+}
+
+impl<D: Disk> Peer<D> {
+    ghost use Rattle.world_core.specs.Past.{PeerPast};
+    ghost use Rattle.world_core.specs.Stands.{FlushedPeer, OwedNot, OwedTo, PeerStands};
+    ghost use Rattle.world_core.specs.Stands.{RotatedPeer, ShedPeer, UnflushedPeer, UnrotatedPeer, UnshedPeer};
+
+    // Owes a line that names it, and tells what came of it.
+    pub(crate) fn owe(&mut self, number: u64, token: &Token, id: &MsgId) -> Result<Owed, Fault>
+        ensures ok { (past : PeerPast) → PeerStands past self.old
+            → IfOk result (λ owed. OwedTo number token.now id.now past owed self.new) }
+        ensures err { (past : PeerPast) → PeerStands past self.old
+            → IfErr result (λ fault. OwedNot number token.now id.now past fault self.new) }
+    {
+        match self.station.owe(number, token, id) {
+            Ok(owed) => Ok(owed),
+            Err(fault) => Err(Fault::from_station(fault)),
+        }
+    }
+
+    // Flushes its station.
+    pub(crate) fn flush(&mut self) -> Result<(), Fault>
+        ensures ok { (past : PeerPast) → PeerStands past self.old
+            → OnOk result (FlushedPeer past self.new) }
+        ensures err { (past : PeerPast) → PeerStands past self.old
+            → IfErr result (λ fault. UnflushedPeer past fault self.new) }
+    {
+        match self.station.flush() {
+            Ok(_) => {
+                self.parted = true;
+                Ok(())
+            }
+            Err(fault) => Err(Fault::from_station(fault)),
+        }
+    }
+
+    // Writes what it is owed anew, and tells the generation.
+    pub(crate) fn rotate(&mut self) -> Result<u64, Fault>
+        ensures ok { (past : PeerPast) → PeerStands past self.old
+            → IfOk result (λ generation. RotatedPeer past generation self.new) }
+        ensures err { (past : PeerPast) → PeerStands past self.old
+            → IfErr result (λ fault. UnrotatedPeer past fault self.new) }
+    {
+        match self.station.rotate() {
+            Ok(generation) => Ok(generation),
+            Err(fault) => Err(Fault::from_station(fault)),
+        }
+    }
+
+    // Drops what exceeds its backlog limit, and tells which numbers.
+    pub(crate) fn shed(&mut self) -> Result<Vec<u64>, Fault>
+        ensures ok { (past : PeerPast) → PeerStands past self.old
+            → IfOk result (λ numbers. ShedPeer past numbers.items self.new) }
+        ensures err { (past : PeerPast) → PeerStands past self.old
+            → IfErr result (λ fault. UnshedPeer past fault self.new) }
+    {
+        each_number_has_one_place(&self.station);
+        match self.station.shed() {
+            Ok(shed) => Ok(shed.numbers),
+            Err(fault) => Err(Fault::from_station(fault)),
+        }
+    }
+}
+
+impl StoppedPeer {
+    ghost use Rattle.world_core.specs.Past.{PeerPast};
+    ghost use Rattle.world_core.specs.Stands.{OpenedAs, RefusedOpen, StoppedStands};
+
+    // Opens its station on what a stop left of its disks. A refused one is handed back.
+    pub(crate) fn open(self, alloc: Global) -> Result<Peer<StopDisk>, (StoppedPeer, Fault)>
+        ensures ok { (past : PeerPast) → StoppedStands past self
+            → IfOk result (λ peer. OpenedAs past peer) }
+        ensures err { (past : PeerPast) → StoppedStands past self
+            → IfErr result (λ e. RefusedOpen past e.1 e.0) }
+    {
+        let StoppedPeer { conf, disks } = self;
+        let (a, b) = disks;
+        match Station::open(alloc, a, b, limits_of(&conf)) {
+            Ok(station) => Ok(Peer {
+                conf,
+                station,
+                parted: false,
+            }),
+            Err(refused) => {
+                let fault = Fault::from_tape(refused.fault);
+                let disks = (refused.a, refused.b);
+                Err((StoppedPeer { conf, disks }, fault))
+            }
+        }
+    }
+}
+
+// The limits of the backlog of a peer of these settings.
+fn limits_of(conf: &PeerConf) -> Limits
+    ensures { result ≡ limits_of conf.now }
+{
+    Limits {
+        backlog_limit: conf.backlog_limit,
+        backlog_high: conf.backlog_high,
+        drop_deferred: conf.drop_deferred,
+    }
+}

@@ -1,0 +1,271 @@
+// A stop that waits for a call of a disk, and the disks that it stops.
+ghost use Rattle.std.specs.Prelude.{◌≡◌, ◌+◌, ◌-◌, ◌^◌, ◌≤◌, length, min, ◌∷◌, [], IfOk, OnOk};
+
+use disk_model::{Choice, Disk, DiskFault, MemDisk};
+use std::alloc::AllocError;
+use std::cell::Cell;
+use std::rc::Rc;
+
+/// A stop that waits to be met.
+#[derive(Clone, Copy, Debug, PartialEq, Eq)]
+pub struct Stop {
+    /// The place of the tape at whose disks it comes: a peer's among the peers, and behind them the intake's.
+    pub place: usize,
+    /// How many counted calls of that disk there are up to it, the call that it stops among them.
+    pub calls: u64,
+    /// What it leaves of each disk.
+    pub choice: Choice,
+}
+
+/// Whether a stop waits. All disks of a drill share it, so there is one stop at most, and it stops them all.
+#[derive(Clone, Copy, Debug, PartialEq, Eq)]
+pub enum Trigger {
+    /// No stop is armed.
+    Idle,
+    /// This one is armed.
+    Armed(Stop),
+    /// A stop was met, which leaves this of each disk. No call of any disk completes.
+    Met(Choice),
+}
+
+// What becomes of a counted call.
+#[derive(Clone, Copy, Debug, PartialEq, Eq)]
+enum Fate {
+    // It completes.
+    Completes,
+    // It is the call that is stopped.
+    Stops(Choice),
+    // All stopped before.
+    Fails,
+}
+
+impl Trigger {
+    ghost use Rattle.world_core.specs.Trigger.{fate_of, counted, settled};
+
+    // What becomes of the next call of this peer's disk.
+    fn fate(self, place: usize) -> Fate
+        ensures { result ≡ fate_of self place }
+    {
+        match self {
+            Trigger::Armed(stop) if stop.place == place && stop.calls <= 1 => {
+                Fate::Stops(stop.choice)
+            }
+            Trigger::Idle | Trigger::Armed(_) => Fate::Completes,
+            Trigger::Met(_) => Fate::Fails,
+        }
+    }
+
+    // What waits behind a call of this peer's disk that completes.
+    fn count(self, place: usize) -> Trigger
+        ensures { result ≡ counted self place }
+    {
+        match self {
+            Trigger::Armed(stop) if stop.place == place => Trigger::Armed(Stop {
+                place,
+                calls: stop.calls.saturating_sub(1),
+                choice: stop.choice,
+            }),
+            other => other,
+        }
+    }
+
+    /// What waits behind a step, and what a stop that was met in it leaves: a stop that was met is armed no more.
+    pub fn settle(self) -> (Trigger, Option<Choice>)
+        ensures { result ≡ settled self }
+    {
+        match self {
+            Trigger::Met(choice) => (Trigger::Idle, Some(choice)),
+            other => (other, None),
+        }
+    }
+}
+
+/// A disk in memory whose calls of `write_at`, `cut` and `sync` are counted while a stop is armed at its peer. The
+/// call that is stopped does not complete: a write or a cut reaches the disk beneath, and no sync follows it; a
+/// sync does not reach it. That call and each later one, a read too, tells a fault.
+#[derive(Drop)]
+pub struct StopDisk {
+    disk: MemDisk,
+    // The place of its tape.
+    place: usize,
+    trigger: Rc<Cell<Trigger>>,
+    // How many faults it told by itself.
+    faults: u64,
+}
+
+impl StopDisk {
+    ghost use Rattle.std.specs.Prelude.{ℕ};
+    ghost use Rattle.disk_model.specs.declared.choice.Choice.{Choice};
+    ghost use Rattle.disk_model.specs.Disk.{Writes, Cuts, Syncs, CountsFaults, Image};
+    ghost use Rattle.disk_model.specs.Choice.{chosen_image};
+    ghost use Rattle.disk_model.specs.Disk.Event.{Made, Wrote, WasCut};
+    ghost use Rattle.disk_model.specs.InMemory.{held};
+    ghost use Rattle.world_core.specs.StopDisk.{beneath, happened, own_faults, all_faults, Passes, Reaches, Refuses};
+
+    /// A disk of the tape at this place.
+    pub fn new(disk: MemDisk, place: usize, trigger: Rc<Cell<Trigger>>) -> Self
+        ensures disk { beneath result ≡ disk }
+        ensures told { own_faults result ≡ 0 }
+    {
+        StopDisk {
+            disk,
+            place,
+            trigger,
+            faults: 0,
+        }
+    }
+
+    /// A disk that a stop leaves of this one by a choice, of the same tape. It has told no fault.
+    ///
+    /// # Errors
+    /// Memory was refused.
+    pub fn left(&self, choice: Choice) -> Result<StopDisk, AllocError>
+        ensures log { IfOk result
+            (λ left. happened left ≡ Made (chosen_image choice (happened self.now)) ∷ []) }
+        ensures image { Image (happened self.now) (chosen_image choice (happened self.now)) }
+        ensures told { IfOk result (λ left. all_faults left ≡ 0) }
+    {
+        let disk = self.disk.image(choice)?;
+        let trigger = self.trigger.clone()?;
+        Ok(StopDisk::new(disk, self.place, trigger))
+    }
+
+    // Counts a call that completes, and tells what becomes of it.
+    fn count(&self) -> Fate {
+        let trigger = self.trigger.get();
+        self.trigger.set(trigger.count(self.place));
+        trigger.fate(self.place)
+    }
+
+    // Stops all disks.
+    fn stop(&mut self, choice: Choice) -> DiskFault
+        ensures disk { beneath self.new ≡ beneath self.old }
+        ensures told { own_faults self.new ≡ min (own_faults self.old + 1) (2 ^ 64 - 1) }
+    {
+        self.trigger.set(Trigger::Met(choice));
+        self.refuse()
+    }
+
+    // Tells a fault of its own.
+    fn refuse(&mut self) -> DiskFault
+        ensures disk { beneath self.new ≡ beneath self.old }
+        ensures told { own_faults self.new ≡ min (own_faults self.old + 1) (2 ^ 64 - 1) }
+    {
+        self.faults = self.faults.saturating_add(1);
+        DiskFault
+    }
+
+    // A write of this fate.
+    fn write_as(&mut self, fate: Fate, at: u64, from: &[u8]) -> Result<(), DiskFault>
+        requires { at ≤ length (held (beneath self.old)) }
+        ensures log { Writes at from.now (happened self.old) result (happened self.new) }
+        ensures cause { CountsFaults (all_faults self.old) (all_faults self.new) result }
+        ensures quiet { OnOk result (all_faults self.new ≡ all_faults self.old) }
+        ensures completes { fate ≡ Fate.Completes → Passes self.old self.new result }
+        ensures stops { (choice : Choice) → fate ≡ Fate.Stops choice
+            → Reaches (Wrote at from.now) self.old self.new result }
+        ensures fails { fate ≡ Fate.Fails → Refuses self.old self.new result }
+    {
+        match fate {
+            Fate::Completes => self.disk.write_at(at, from),
+            Fate::Stops(choice) => {
+                self.disk.write_at(at, from)?;
+                Err(self.stop(choice))
+            }
+            Fate::Fails => Err(self.refuse()),
+        }
+    }
+
+    // A cut of this fate.
+    fn cut_as(&mut self, fate: Fate, len: u64) -> Result<(), DiskFault>
+        requires { len ≤ length (held (beneath self.old)) }
+        ensures log { Cuts len (happened self.old) result (happened self.new) }
+        ensures cause { CountsFaults (all_faults self.old) (all_faults self.new) result }
+        ensures quiet { OnOk result (all_faults self.new ≡ all_faults self.old) }
+        ensures completes { fate ≡ Fate.Completes → Passes self.old self.new result }
+        ensures stops { (choice : Choice) → fate ≡ Fate.Stops choice
+            → Reaches (WasCut len) self.old self.new result }
+        ensures fails { fate ≡ Fate.Fails → Refuses self.old self.new result }
+    {
+        match fate {
+            Fate::Completes => self.disk.cut(len),
+            Fate::Stops(choice) => {
+                self.disk.cut(len)?;
+                Err(self.stop(choice))
+            }
+            Fate::Fails => Err(self.refuse()),
+        }
+    }
+
+    // A sync of this fate.
+    fn sync_as(&mut self, fate: Fate) -> Result<(), DiskFault>
+        ensures log { Syncs (happened self.old) result (happened self.new) }
+        ensures cause { CountsFaults (all_faults self.old) (all_faults self.new) result }
+        ensures quiet { OnOk result (all_faults self.new ≡ all_faults self.old) }
+        ensures completes { fate ≡ Fate.Completes → Passes self.old self.new result }
+        ensures stops { (choice : Choice) → fate ≡ Fate.Stops choice
+            → Refuses self.old self.new result }
+        ensures fails { fate ≡ Fate.Fails → Refuses self.old self.new result }
+    {
+        match fate {
+            Fate::Completes => self.disk.sync(),
+            Fate::Stops(choice) => Err(self.stop(choice)),
+            Fate::Fails => Err(self.refuse()),
+        }
+    }
+
+    // Whether all has stopped.
+    fn has_stopped(&self) -> bool {
+        match self.trigger.get() {
+            Trigger::Met(_) => true,
+            Trigger::Idle | Trigger::Armed(_) => false,
+        }
+    }
+}
+
+/// Honest. What has happened to it is what has happened to the disk beneath.
+impl Disk for StopDisk {
+    ghost use Rattle.disk_model.specs.InMemory.{events, held, faults_told};
+    ghost use Rattle.disk_model.specs.MemoryLaws.{content_among_images};
+
+    ghost honest = { λ _. Unit {0} };
+
+    ghost log = { λ d. events d.disk };
+
+    ghost size = { λ d. length (held d.disk) };
+
+    ghost told = { λ d. min (d.faults + faults_told d.disk) (2 ^ 64 - 1) };
+
+    ghost content_is_image = { λ d _. content_among_images d.disk.moments.items };
+
+    fn len(&self) -> u64 {
+        self.disk.len()
+    }
+
+    /// Not counted. Fails once all has stopped.
+    fn read_at(&mut self, at: u64, into: &mut [u8]) -> Result<(), DiskFault> {
+        if self.has_stopped() {
+            return Err(self.refuse());
+        }
+        self.disk.read_at(at, into)
+    }
+
+    fn write_at(&mut self, at: u64, from: &[u8]) -> Result<(), DiskFault> {
+        let fate = self.count();
+        self.write_as(fate, at, from)
+    }
+
+    fn cut(&mut self, len: u64) -> Result<(), DiskFault> {
+        let fate = self.count();
+        self.cut_as(fate, len)
+    }
+
+    fn sync(&mut self) -> Result<(), DiskFault> {
+        let fate = self.count();
+        self.sync_as(fate)
+    }
+
+    fn faults(&self) -> u64 {
+        self.faults.saturating_add(self.disk.faults())
+    }
+}

@@ -1,0 +1,236 @@
+// Stops of a world, at rest or met, and its restart.
+ghost use Rattle.std.specs.Prelude.{◌≡◌, ◌<◌, ℕ, [], true, false, List, Option, position, IfErr, IfOk, OnErr, OnOk};
+ghost use Rattle.std.specs.Str.{bytes_eq};
+
+use crate::fault::{Fault, Halt};
+use crate::halt::{left_disks, left_each, with_disks};
+use crate::peer::StoppedPeer;
+use crate::stop::{Stop, StopDisk, Trigger};
+use crate::told::Told;
+use crate::world::{Arming, Stage, World};
+use disk_model::{Choice, MemDisk};
+use funnel::PeerName;
+use recovery::TapeFault;
+use std::alloc::AllocError;
+use std::mem;
+
+impl World {
+    ghost use Rattle.world_core.specs.Halts.{AtRest, ByChoice, IsTapeOf, RefusesStop, TakesStop, halted, left};
+    ghost use Rattle.world_core.specs.Past.{Life, Past, place_of, with_past};
+    ghost use Rattle.world_core.specs.Stands.{WorldStands};
+    ghost use Rattle.world_core.specs.Turn.{GoesOn, Made, Refused, RefusesRest, TakesRest, Took, WasHalted};
+    ghost use Rattle.world_core.specs.Turn.{WasNotTaken, WasStruck, WasStruckUntold};
+    ghost use Rattle.world_core.specs.declared.step.Step.{Step};
+
+    // At call 0 all stops at rest; else a stop is armed.
+    pub(crate) fn stop(
+        &mut self,
+        peer: &Option<PeerName>,
+        call: u64,
+        choice: Choice,
+        out: &mut Vec<Told>,
+    ) -> Result<(), Fault>
+        requires { out.old.items ≡ [] }
+        ensures ok { (life : Life) → WorldStands self.old life
+            → OnOk result (Made (TakesStop peer.now call choice) life out.new.items self.new) }
+        ensures err { (life : Life) → WorldStands self.old life
+            → IfErr result (λ fault. Refused (RefusesStop peer.now call) life fault self.new) }
+    {
+        if call == 0 {
+            return self.rest(out);
+        }
+        self.arm(peer, call, choice)
+    }
+
+    // All stops at rest: what pends is gone, disks stay as they are, connections end, and no stop is armed.
+    fn rest(&mut self, out: &mut Vec<Told>) -> Result<(), Fault>
+        requires { out.old.items ≡ [] }
+        ensures ok { (life : Life) → WorldStands self.old life
+            → OnOk result (Made TakesRest life out.new.items self.new) }
+        ensures err { (life : Life) → WorldStands self.old life
+            → IfErr result (λ fault. Refused RefusesRest life fault self.new) }
+    {
+        if let Stage::Stopped(_, _) = &self.stage {
+            return Err(Fault::Stopped);
+        }
+        out.reserve(1)?;
+        self.halt()?;
+        out.push_reserved(Told::Stopped);
+        Ok(())
+    }
+
+    // What a refused step leaves: where a disk failed at the tape at which a stop is armed, and that was met, all
+    // stops.
+    pub(crate) fn settle(&mut self, halt: Halt, out: &mut Vec<Told>) -> Result<(), Fault>
+        requires { out.old.items ≡ [] }
+        ensures ok { (step : Step) (life : Life) → WasHalted step life halt self.old
+            → OnOk result (Took step life out.new.items self.new) }
+        ensures err { (step : Step) (life : Life) → WasHalted step life halt self.old
+            → IfErr result (λ fault. WasNotTaken step life fault self.new) }
+    {
+        let (waits, met) = self.trigger.get().settle();
+        self.trigger.set(waits);
+        let Some(arming) = self.armed else {
+            return Err(halt.fault);
+        };
+        if met.is_none() || !is_disk(halt.fault) || !is_one_tape(arming.place, halt.place) {
+            return Err(halt.fault);
+        }
+        self.strike(halt.fault, arming.choice, out)
+    }
+
+    // All stops, and a choice leaves of all disks what it does. Where there is no memory for that all stops as at
+    // rest, and where there is none to stop either, the step is refused as it was.
+    fn strike(&mut self, refused: Fault, choice: Choice, out: &mut Vec<Told>) -> Result<(), Fault>
+        requires { out.old.items ≡ [] }
+        ensures ok { (life now : Life) (under_way : Past) → GoesOn life under_way now
+            → WorldStands self.old now
+            → OnOk result (WasStruck life under_way choice out.new.items self.new) }
+        ensures err { (life now : Life) (under_way : Past) → GoesOn life under_way now
+            → WorldStands self.old now → IfErr result
+            (λ fault. WasStruckUntold life under_way now refused fault self.new) }
+    {
+        if let Err(_) = self.halt() {
+            return Err(refused);
+        }
+        out.reserve(1)?;
+        self.leave(choice)?;
+        out.push_reserved(Told::Stopped);
+        Ok(())
+    }
+
+    // All stations stop at rest, where they run, and no stop is armed. Refused memory, all is as it was.
+    fn halt(&mut self) -> Result<(), AllocError>
+        ensures ok { (life now : Life) (under_way : Past) → GoesOn life under_way now
+            → WorldStands self.old now
+            → OnOk result (WorldStands self.new (halted AtRest under_way life)) }
+        ensures err { (life : Life) → WorldStands self.old life
+            → OnErr result (WorldStands self.new life) }
+    {
+        let Stage::Running(stations, _) = &self.stage else {
+            self.trigger.set(Trigger::Idle);
+            self.armed = None;
+            return Ok(());
+        };
+        let room = Vec::with_capacity(self.alloc, stations.peers.len())?;
+        let none = self.no_stage()?;
+        let Stage::Running(stations, _) = mem::replace(&mut self.stage, none) else {
+            return Ok(());
+        };
+        let (peers, intake) = stations.halt(room);
+        self.stage = Stage::Stopped(peers, intake);
+        self.trigger.set(Trigger::Idle);
+        self.armed = None;
+        Ok(())
+    }
+
+    // The choice leaves of all disks what it does, where all has stopped. Refused memory, all is as it was.
+    fn leave(&mut self, choice: Choice) -> Result<(), AllocError>
+        ensures ok { (life : Life) → WorldStands self.old life → life.running ≡ false
+            → OnOk result (WorldStands self.new
+            (with_past life (left (ByChoice choice) life.past))) }
+        ensures err { (life : Life) → WorldStands self.old life
+            → OnErr result (WorldStands self.new life) }
+    {
+        let Stage::Stopped(peers, intake) = &mut self.stage else {
+            return Ok(());
+        };
+        let disks = left_each(self.alloc, peers, choice)?;
+        let room = Vec::with_capacity(self.alloc, peers.len())?;
+        *intake = left_disks(intake, choice)?;
+        let stopped = mem::replace(peers, Vec::new(self.alloc));
+        *peers = with_disks(stopped, disks, room);
+        Ok(())
+    }
+
+    // No tapes, in the place of those that are moved.
+    pub(crate) fn no_stage(&self) -> Result<Stage, AllocError> {
+        let first = StopDisk::new(MemDisk::new(self.alloc), 0, self.trigger.clone()?);
+        let second = StopDisk::new(MemDisk::new(self.alloc), 0, self.trigger.clone()?);
+        Ok(Stage::Stopped(Vec::new(self.alloc), (first, second)))
+    }
+
+    // Arms a stop in the place of any that is.
+    fn arm(&mut self, peer: &Option<PeerName>, call: u64, choice: Choice) -> Result<(), Fault>
+        requires { 0 < call }
+        ensures ok { (life : Life) → WorldStands self.old life
+            → OnOk result (Made (TakesStop peer.now call choice) life [] self.new) }
+        ensures err { (life : Life) → WorldStands self.old life
+            → IfErr result (λ fault. Refused (RefusesStop peer.now call) life fault self.new) }
+    {
+        let Some(name) = peer else {
+            self.arm_at(None, call, choice);
+            return Ok(());
+        };
+        let Some(place) = self.place_of(name) else {
+            return Err(Fault::NoPeer);
+        };
+        self.arm_at(Some(place), call, choice);
+        Ok(())
+    }
+
+    // Arms a stop at the tape of the peer at this place, or at the intake's.
+    fn arm_at(&mut self, place: Option<usize>, call: u64, choice: Choice)
+        requires { 0 < call }
+        ensures { (life : Life) → (peer : Option (List ℕ)) → WorldStands self.old life
+            → IsTapeOf life.past peer place → Made (TakesStop peer call choice) life [] self.new }
+    {
+        let last = self.count();
+        self.trigger.set(Trigger::Armed(Stop {
+            place: place.unwrap_or(last),
+            calls: call,
+            choice,
+        }));
+        self.armed = Some(Arming {
+            place,
+            call,
+            choice,
+        });
+    }
+
+    // How many peers there are.
+    fn count(&self) -> usize {
+        match &self.stage {
+            Stage::Running(stations, _) => stations.peers.len(),
+            Stage::Stopped(peers, _) => peers.len(),
+        }
+    }
+
+    // The place of the first peer of this name.
+    fn place_of(&self, name: &PeerName) -> Option<usize>
+        ensures { (life : Life) → WorldStands self.entry.now life
+            → result ≡ place_of life.past name.now }
+    {
+        match &self.stage {
+            Stage::Running(stations, _) => stations.place_of(name),
+            Stage::Stopped(peers, _) => place_among(peers, name),
+        }
+    }
+}
+
+// Whether a disk failed.
+fn is_disk(fault: Fault) -> bool
+    ensures { result ≡ true → fault ≡ Fault.Tape TapeFault.Disk }
+{
+    matches!(fault, Fault::Tape(TapeFault::Disk))
+}
+
+// Whether these are the places of one tape.
+fn is_one_tape(one: Option<usize>, other: Option<usize>) -> bool
+    ensures { result ≡ true → one ≡ other }
+{
+    match (one, other) {
+        (Some(one), Some(other)) => one == other,
+        (None, None) => true,
+        _ => false,
+    }
+}
+
+// The place of the first of these peers of this name.
+fn place_among(peers: &[StoppedPeer], name: &PeerName) -> Option<usize>
+    ensures { result ≡ position (λ peer. bytes_eq peer.conf.name name.now) peers.now }
+{
+    peers
+        .iter()
+        .position(|peer| peer.conf.name.bytes() == name.bytes())
+}

@@ -1,0 +1,271 @@
+// The steps on tapes: each is a list of events, and the room for what it tells is made first.
+ghost use Rattle.std.specs.Prelude.{◌≡◌, ◌≢◌, ◌⊎◌, ◌+◌, ◌<◌, ◌≤◌, ◌^◌, ℕ, [], List, length};
+ghost use Rattle.std.specs.Prelude.{IfErr, IfOk, MatchOption, OnOk, vec_capacity, vec_len};
+ghost use Rattle.world_core.specs.declared.fault.Fault.TheVariants.{NoMemory};
+
+use crate::fault::{Fault, Halt};
+use crate::stations::Stations;
+use crate::told::{OwedAt, Told};
+use disk_model::Disk;
+use funnel::{FunnelLine, LineFault, MsgId, PeerName, Token, read_line};
+use std::alloc::{AllocError, Global};
+use std::collections::BTreeMap;
+
+impl<D: Disk> Stations<D> {
+    ghost use Rattle.world_core.specs.Past.{Past};
+    ghost use Rattle.world_core.specs.Events.{Rotates, Sheds, each_place, Parts};
+    ghost use Rattle.world_core.specs.Steps.{IsSealable, RefusesFlushing, RefusesLine, RefusesPart, RefusesRotation};
+    ghost use Rattle.world_core.specs.Steps.{begun_at, flush_events};
+    ghost use Rattle.world_core.specs.Steps.{RefusesSeal, RefusesShed, TakesFlush, TakesLine, TakesPart, TakesRotate};
+    ghost use Rattle.world_core.specs.Steps.{TakesSeal, TakesShed, line_events, seal_events};
+    ghost use Rattle.world_core.specs.Stands.{DidOne, FailedOne, Stands};
+    ghost use Rattle.world_core.specs.Stepped.{AreFound, AreWithin, Did, Failed, FoundAt, OwedLine, PartedEach};
+    ghost use Rattle.world_core.specs.Stepped.{FailedAt, HaltedAs, Took, TookNot};
+
+    /// Takes a funnel line, without its LF: it is owed at each peer that it names, in byte order of their names.
+    ///
+    /// # Errors
+    /// Tried in this order: `CountFull`; `NoMemory`; the stations'.
+    pub(crate) fn line(&mut self, text: &[u8]) -> Result<Vec<Told>, Fault>
+        ensures ok { (past : Past) → Stands self.old past
+            → IfOk result (λ told. Took (TakesLine text.now) past told.items self.new) }
+        ensures err { (past : Past) → Stands self.old past
+            → IfErr result (λ fault. TookNot (RefusesLine text.now) past fault self.new) }
+    {
+        let Some(number) = self.last.checked_add(1) else {
+            return Err(Fault::CountFull);
+        };
+        let mut told = Vec::with_capacity(self.alloc, 1)?;
+        match read_line(self.alloc, text) {
+            Ok(line) => {
+                let peers = self.owe(line)?;
+                told.push_reserved(Told::Owed { number, peers });
+            }
+            Err(LineFault::NoMemory) => return Err(Fault::NoMemory),
+            Err(fault) => told.push_reserved(Told::Bad { number, fault }),
+        }
+        self.last = number;
+        Ok(told)
+    }
+
+    /// Flushes the station of this peer.
+    ///
+    /// # Errors
+    /// `NoPeer` where none has this name; the station's.
+    pub(crate) fn part(&mut self, name: &PeerName) -> Result<Vec<Told>, Fault>
+        ensures ok { (past : Past) → Stands self.old past
+            → IfOk result (λ told. Took (TakesPart name.now) past told.items self.new) }
+        ensures err { (past : Past) → Stands self.old past
+            → IfErr result (λ fault. TookNot (RefusesPart name.now) past fault self.new) }
+    {
+        let Some(place) = self.place_of(name) else {
+            return Err(Fault::NoPeer);
+        };
+        self.part_at(place)?;
+        Ok(Vec::new(self.alloc))
+    }
+
+    /// Notes the kept number on the intake's tape, and flushes that.
+    ///
+    /// # Errors
+    /// `NotFlushed` where no number is kept, or some peer was not flushed since; `NoMemory`; the tape's.
+    pub(crate) fn seal(&mut self) -> Result<Vec<Told>, Fault>
+        ensures ok { (past : Past) → Stands self.old past
+            → IfOk result (λ told. Took TakesSeal past told.items self.new) }
+        ensures err { (past : Past) → Stands self.old past
+            → IfErr result (λ fault. TookNot RefusesSeal past fault self.new) }
+    {
+        let Some(number) = self.sealable() else {
+            return Err(Fault::NotFlushed);
+        };
+        let mut told = Vec::with_capacity(self.alloc, 1)?;
+        self.seal_number(number)?;
+        let mark = self.intake.mark();
+        told.push_reserved(Told::Taken { mark });
+        Ok(told)
+    }
+
+    /// Keeps the last line's number, flushes each peer in byte order of their names, and seals the number.
+    ///
+    /// # Errors
+    /// `NoMemory`; the stations' and the tape's.
+    pub(crate) fn flush(&mut self) -> Result<Vec<Told>, Halt>
+        ensures ok { (past : Past) → Stands self.old past
+            → IfOk result (λ told. Took TakesFlush past told.items self.new) }
+        ensures err { (past : Past) → Stands self.old past → IfErr result (λ halt.
+            HaltedAs RefusesFlushing (begun_at past) (flush_events past) past halt self.new) }
+    {
+        let mut told = Vec::with_capacity(self.alloc, 1)?;
+        self.begin();
+        self.part_each()?;
+        if let Err(fault) = self.seal_number(self.last) {
+            return Err(Halt { place: None, fault });
+        }
+        let mark = self.intake.mark();
+        told.push_reserved(Told::Taken { mark });
+        Ok(told)
+    }
+
+    /// Drops what exceeds the backlog limit of this peer.
+    ///
+    /// # Errors
+    /// `NoPeer` where none has this name; `NoMemory`; the station's.
+    pub(crate) fn shed(&mut self, name: &PeerName) -> Result<Vec<Told>, Fault>
+        ensures ok { (past : Past) → Stands self.old past
+            → IfOk result (λ told. Took (TakesShed name.now) past told.items self.new) }
+        ensures err { (past : Past) → Stands self.old past
+            → IfErr result (λ fault. TookNot (RefusesShed name.now) past fault self.new) }
+    {
+        let Some(place) = self.place_of(name) else {
+            return Err(Fault::NoPeer);
+        };
+        let mut told = Vec::with_capacity(self.alloc, 1)?;
+        let name = name.clone()?;
+        let numbers = self.shed_at(place)?;
+        told.push_reserved(Told::Shed { name, numbers });
+        Ok(told)
+    }
+
+    /// Writes anew what this peer is owed.
+    ///
+    /// # Errors
+    /// `NoPeer` where none has this name; `NoMemory`; the station's.
+    pub(crate) fn rotate(&mut self, name: &PeerName) -> Result<Vec<Told>, Fault>
+        ensures ok { (past : Past) → Stands self.old past
+            → IfOk result (λ told. Took (TakesRotate name.now) past told.items self.new) }
+        ensures err { (past : Past) → Stands self.old past
+            → IfErr result (λ fault. TookNot (RefusesRotation name.now) past fault self.new) }
+    {
+        let Some(place) = self.place_of(name) else {
+            return Err(Fault::NoPeer);
+        };
+        let mut told = Vec::with_capacity(self.alloc, 1)?;
+        let name = name.clone()?;
+        let generation = self.rotate_at(place)?;
+        told.push_reserved(Told::Rotated { name, generation });
+        Ok(told)
+    }
+
+    // Sheds at the peer of this place.
+    fn shed_at(&mut self, place: usize) -> Result<Vec<u64>, Fault>
+        requires { place < vec_len self.old.peers }
+        ensures ok { (past : Past) → Stands self.old past
+            → IfOk result (λ numbers. DidOne past (Sheds place numbers.items) self.new) }
+        ensures err { (past : Past) → Stands self.old past
+            → IfErr result (λ fault. FailedOne past (Sheds place []) fault self.new) }
+    {
+        let peer = &mut self.peers[place];
+        peer.shed()
+    }
+
+    // Rotates the tape of the peer of this place.
+    fn rotate_at(&mut self, place: usize) -> Result<u64, Fault>
+        requires { place < vec_len self.old.peers }
+        ensures ok { (past : Past) → Stands self.old past
+            → IfOk result (λ generation. DidOne past (Rotates place generation) self.new) }
+        ensures err { (past : Past) → Stands self.old past
+            → IfErr result (λ fault. FailedOne past (Rotates place 0) fault self.new) }
+    {
+        let peer = &mut self.peers[place];
+        peer.rotate()
+    }
+
+    // Flushes each peer, in byte order of their names.
+    fn part_each(&mut self) -> Result<(), Halt>
+        ensures ok { (past : Past) → Stands self.old past
+            → OnOk result (PartedEach past (length past.peers) self.new) }
+        ensures err { (past : Past) → Stands self.old past
+            → IfErr result (λ halt.
+            FailedAt past (each_place Parts (length past.peers)) halt self.new) }
+        ensures last { self.new.last ≡ self.old.last }
+    {
+        for place in 0..self.peers.len() {
+            if let Err(fault) = self.part_at(place) {
+                let place = Some(place);
+                return Err(Halt { place, fault });
+            }
+        }
+        Ok(())
+    }
+
+    // Notes this number on the intake's tape, and flushes that.
+    fn seal_number(&mut self, number: u64) -> Result<(), Fault>
+        ensures ok { (past : Past) → Stands self.old past → IsSealable past number
+            → OnOk result (Did past (seal_events number) self.new) }
+        ensures err { (past : Past) → Stands self.old past → IsSealable past number
+            → IfErr result (λ fault. Failed past (seal_events number) fault self.new) }
+    {
+        self.see(number)?;
+        self.acknowledge()
+    }
+
+    // Owes a good line to each peer that it names, in byte order of their names, and tells what came of it.
+    fn owe(&mut self, line: FunnelLine) -> Result<Vec<OwedAt>, Fault>
+        requires numbered { self.old.last + 1 < 2 ^ 64 }
+        ensures ok { (past : Past) → Stands self.old past → IfOk result (λ told.
+            OwedLine past line.token line.id line.peers.items told.items self.new) }
+        ensures err { (past : Past) → Stands self.old past → IfErr result (λ fault.
+            ((fault ≡ NoMemory) × Stands self.new past)
+            ⊎ Failed past (line_events line.token line.id line.peers.items past) fault self.new) }
+        ensures last { self.new.last ≡ self.old.last }
+    {
+        let FunnelLine { token, id, peers } = line;
+        let found = self.find_each(peers)?;
+        let told = Vec::with_capacity(self.alloc, found.len())?;
+        self.owe_each(found, &token, &id, told)
+    }
+
+    // Owes a line to the peers at these places, and tells what came of it.
+    fn owe_each(
+        &mut self,
+        found: BTreeMap<usize, PeerName>,
+        token: &Token,
+        id: &MsgId,
+        told: Vec<OwedAt>,
+    ) -> Result<Vec<OwedAt>, Fault>
+        requires numbered { self.old.last + 1 < 2 ^ 64 }
+        requires within { AreWithin (vec_len self.old.peers) found.entries }
+        requires none { told.items ≡ [] }
+        requires room { length found.entries ≤ vec_capacity told }
+        ensures ok { (past : Past) (named : List (List ℕ)) → Stands self.old past
+            → AreFound past named found.entries
+            → IfOk result (λ told. OwedLine past token.now id.now named told.items self.new) }
+        ensures err { (past : Past) (named : List (List ℕ)) → Stands self.old past
+            → AreFound past named found.entries
+            → IfErr result (λ fault.
+            Failed past (line_events token.now id.now named past) fault self.new) }
+        ensures last { self.new.last ≡ self.old.last }
+    {
+        let mut told = told;
+        for (place, name) in found {
+            let owed = self.owe_at(place, token, id)?;
+            told.push_reserved(OwedAt { name, owed });
+        }
+        Ok(told)
+    }
+
+    // The places of the peers of these names.
+    fn find_each(&self, names: Vec<PeerName>) -> Result<BTreeMap<usize, PeerName>, AllocError>
+        ensures found { (past : Past) → Stands self.now past
+            → IfOk result (λ found. AreFound past names.items found.entries) }
+        ensures within { IfOk result (λ found. AreWithin (vec_len self.now.peers) found.entries) }
+    {
+        let mut found = BTreeMap::new(self.alloc);
+        for name in names {
+            if let Some(place) = self.find(&name) {
+                found.insert(place, name)?;
+            }
+        }
+        Ok(found)
+    }
+
+    // The place of the peer of this name, by halves: the names rise.
+    fn find(&self, name: &PeerName) -> Option<usize>
+        ensures found { (past : Past) → Stands self.now past → FoundAt past name.now result }
+        ensures within { MatchOption result (Unit {0}) (λ place. place < vec_len self.now.peers) }
+    {
+        self.peers
+            .binary_search_by(|peer| peer.conf.name.bytes().cmp(name.bytes()))
+            .ok()
+    }
+}

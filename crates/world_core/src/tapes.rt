@@ -1,0 +1,141 @@
+// The steps on tapes, as a world takes them: it runs, and where a step calls disks a stop may be met in it.
+ghost use Rattle.std.specs.Prelude.{◌≡◌, [], IfErr, OnOk};
+
+use crate::fault::{Fault, Halt};
+use crate::told::Told;
+use crate::world::{Stage, World};
+use funnel::PeerName;
+
+impl World {
+    ghost use Rattle.world_core.specs.Past.{Life};
+    ghost use Rattle.world_core.specs.Stands.{WorldStands};
+    ghost use Rattle.world_core.specs.Turn.{Took, WasNotTaken};
+    ghost use Rattle.world_core.specs.declared.step.Step.TheVariants.{Begin, Flush, Line, Part, Rotate, Seal, Shed};
+
+    // Takes a funnel line, without its LF.
+    pub(crate) fn line(&mut self, text: &Vec<u8>, out: &mut Vec<Told>) -> Result<(), Fault>
+        requires { out.old.items ≡ [] }
+        ensures ok { (life : Life) → WorldStands self.old life
+            → OnOk result (Took (Line text.now) life out.new.items self.new) }
+        ensures err { (life : Life) → WorldStands self.old life
+            → IfErr result (λ fault. WasNotTaken (Line text.now) life fault self.new) }
+    {
+        let Stage::Running(stations, _) = &mut self.stage else {
+            return Err(Fault::Stopped);
+        };
+        *out = stations.line(text)?;
+        Ok(())
+    }
+
+    // Keeps the last line's number.
+    pub(crate) fn begin(&mut self, out: &mut Vec<Told>) -> Result<(), Fault>
+        requires { out.old.items ≡ [] }
+        ensures ok { (life : Life) → WorldStands self.old life
+            → OnOk result (Took Begin life out.new.items self.new) }
+        ensures err { (life : Life) → WorldStands self.old life
+            → IfErr result (λ fault. WasNotTaken Begin life fault self.new) }
+    {
+        let Stage::Running(stations, _) = &mut self.stage else {
+            return Err(Fault::Stopped);
+        };
+        stations.begin();
+        Ok(())
+    }
+
+    // Flushes the station of this peer.
+    pub(crate) fn part(&mut self, name: &PeerName, out: &mut Vec<Told>) -> Result<(), Fault>
+        requires { out.old.items ≡ [] }
+        ensures ok { (life : Life) → WorldStands self.old life
+            → OnOk result (Took (Part name.now) life out.new.items self.new) }
+        ensures err { (life : Life) → WorldStands self.old life
+            → IfErr result (λ fault. WasNotTaken (Part name.now) life fault self.new) }
+    {
+        let Stage::Running(stations, _) = &mut self.stage else {
+            return Err(Fault::Stopped);
+        };
+        let place = stations.place_of(name);
+        match stations.part(name) {
+            Ok(told) => {
+                *out = told;
+                Ok(())
+            }
+            Err(fault) => self.settle(Halt { place, fault }, out),
+        }
+    }
+
+    // Notes the kept number on the intake's tape, and flushes that.
+    pub(crate) fn seal(&mut self, out: &mut Vec<Told>) -> Result<(), Fault>
+        requires { out.old.items ≡ [] }
+        ensures ok { (life : Life) → WorldStands self.old life
+            → OnOk result (Took Seal life out.new.items self.new) }
+        ensures err { (life : Life) → WorldStands self.old life
+            → IfErr result (λ fault. WasNotTaken Seal life fault self.new) }
+    {
+        let Stage::Running(stations, _) = &mut self.stage else {
+            return Err(Fault::Stopped);
+        };
+        match stations.seal() {
+            Ok(told) => {
+                *out = told;
+                Ok(())
+            }
+            Err(fault) => self.settle(Halt { place: None, fault }, out),
+        }
+    }
+
+    // Keeps the last line's number, flushes each peer, and seals the number.
+    pub(crate) fn flush(&mut self, out: &mut Vec<Told>) -> Result<(), Fault>
+        requires { out.old.items ≡ [] }
+        ensures ok { (life : Life) → WorldStands self.old life
+            → OnOk result (Took Flush life out.new.items self.new) }
+        ensures err { (life : Life) → WorldStands self.old life
+            → IfErr result (λ fault. WasNotTaken Flush life fault self.new) }
+    {
+        let Stage::Running(stations, _) = &mut self.stage else {
+            return Err(Fault::Stopped);
+        };
+        match stations.flush() {
+            Ok(told) => {
+                *out = told;
+                Ok(())
+            }
+            Err(halt) => self.settle(halt, out),
+        }
+    }
+
+    // Drops what exceeds the backlog limit of this peer.
+    pub(crate) fn shed(&mut self, name: &PeerName, out: &mut Vec<Told>) -> Result<(), Fault>
+        requires { out.old.items ≡ [] }
+        ensures ok { (life : Life) → WorldStands self.old life
+            → OnOk result (Took (Shed name.now) life out.new.items self.new) }
+        ensures err { (life : Life) → WorldStands self.old life
+            → IfErr result (λ fault. WasNotTaken (Shed name.now) life fault self.new) }
+    {
+        let Stage::Running(stations, _) = &mut self.stage else {
+            return Err(Fault::Stopped);
+        };
+        *out = stations.shed(name)?;
+        Ok(())
+    }
+
+    // Writes anew what this peer is owed.
+    pub(crate) fn rotate(&mut self, name: &PeerName, out: &mut Vec<Told>) -> Result<(), Fault>
+        requires { out.old.items ≡ [] }
+        ensures ok { (life : Life) → WorldStands self.old life
+            → OnOk result (Took (Rotate name.now) life out.new.items self.new) }
+        ensures err { (life : Life) → WorldStands self.old life
+            → IfErr result (λ fault. WasNotTaken (Rotate name.now) life fault self.new) }
+    {
+        let Stage::Running(stations, _) = &mut self.stage else {
+            return Err(Fault::Stopped);
+        };
+        let place = stations.place_of(name);
+        match stations.rotate(name) {
+            Ok(told) => {
+                *out = told;
+                Ok(())
+            }
+            Err(fault) => self.settle(Halt { place, fault }, out),
+        }
+    }
+}

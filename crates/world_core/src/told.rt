@@ -1,0 +1,94 @@
+// What steps tell.
+use conn_core::Reason;
+use funnel::{LineFault, PeerName};
+use peer_queue::{Owed, Settled};
+
+/// What became of a line at a peer that it names.
+#[derive(Debug, Drop)]
+pub struct OwedAt {
+    /// The peer.
+    pub name: PeerName,
+    /// Whether it is owed anew.
+    pub owed: Owed,
+}
+
+/// What became of the least candidate that was to be handed to a connection.
+#[derive(Clone, Copy, Debug, PartialEq, Eq)]
+pub enum Handed {
+    /// The connection has this number.
+    Number(u64),
+    /// There is no candidate.
+    Nothing,
+    /// The connection has no room.
+    Busy,
+    /// The connection is closed.
+    Closed,
+}
+
+/// One thing that a step tells.
+#[derive(Debug, Drop)]
+pub enum Told {
+    /// A good line has this number, and this came of it at the peers that it names, in byte order of their names.
+    Owed {
+        number: u64,
+        peers: Vec<OwedAt>,
+    },
+    /// A line that is not good has this number.
+    Bad {
+        number: u64,
+        fault: LineFault,
+    },
+    /// The lines up to this number are acknowledged.
+    Taken {
+        mark: u64,
+    },
+    /// A connection of this number was made to this peer.
+    Connected {
+        connection: u64,
+        name: PeerName,
+    },
+    /// What became of the candidate that was to be handed.
+    Handed {
+        connection: u64,
+        handed: Handed,
+    },
+    /// This became of the debt of this number, which the connection had.
+    Settled {
+        connection: u64,
+        number: u64,
+        settled: Settled,
+    },
+    /// A line that went out, without its CR LF.
+    Output {
+        connection: u64,
+        line: Vec<u8>,
+    },
+    /// The article of this number is wanted.
+    Need {
+        connection: u64,
+        number: u64,
+    },
+    /// The connection closed.
+    Closed {
+        connection: u64,
+        reason: Reason,
+    },
+    /// These numbers of a peer's backlog were dropped.
+    Shed {
+        name: PeerName,
+        numbers: Vec<u64>,
+    },
+    /// What a peer is owed was written anew, in this generation.
+    Rotated {
+        name: PeerName,
+        generation: u64,
+    },
+    /// All has stopped.
+    Stopped,
+    /// A peer's tape was opened: its mark, and the numbers that are owed, rising.
+    Mark {
+        name: PeerName,
+        mark: u64,
+        owes: Vec<u64>,
+    },
+}
