@@ -1,9 +1,11 @@
 -- What each order comes to: its exit status, what is on standard output, and the line on standard error, if any
 -- (docs/MANUAL.md).
-use Rattle.std.specs.Prelude.{◌≡◌, ◌⊎◌, ℕ, List, Option, None, Some, Result, Ok, Err, OnOk, string_bytes}
+use Rattle.std.specs.Prelude.{◌≡◌, ◌⊎◌, ℕ, List, Option, None, Some, Result, Ok, Err, OnOk, codes, string_bytes}
 use Rattle.std.specs.Io.KnownBytes.{Appends, Keeps}
 use Rattle.std.specs.declared.io.Error.{Error}
+use Rattle.drill.specs.Drill.{Drills}
 use Rattle.drill.specs.declared.ending.Ending.{Ending}
+use Rattle.drill.specs.declared.ending.Ending.TheVariants.{Done as AllTaken, Refused as LineRefused, NoMemory as WantsMemory}
 use Rattle.feed_conf.specs.Reading.{HaveTokens, lines_of}
 use Rattle.feed_conf.specs.Settings.{Outcome, meaning}
 use Rattle.feed_conf.specs.Tokens.{Token}
@@ -12,7 +14,7 @@ use Rattle.commands.specs.Check.{check_text}
 use Rattle.commands.specs.Exit.{exit_of}
 use Rattle.commands.specs.Feed.{exit_of_end}
 use Rattle.commands.specs.FeedLines.{end_text}
-use Rattle.commands.specs.Lines.{config_text, unread_text, input_text, output_text, mistake_text}
+use Rattle.commands.specs.Lines.{config_text, refusal_text, unread_text, input_text, output_text, mistake_text}
 use Rattle.commands.specs.declared.exit.Exit.{Exit}
 use Rattle.commands.specs.declared.exit.Exit.TheVariants.{Done, Refused, Usage, Unreadable, NoMemory}
 use Rattle.commands.specs.declared.feeds.FeedEnd.{FeedEnd}
@@ -46,10 +48,17 @@ Prints text old new exit line =
     ⊎ LosesOutput exit line
     ⊎ LacksMemory exit line
 
--- a drill was run, which says on standard output what became of it, or that could not be written
-abbrev pub Runs : Exit → Option (List ℕ) → Type 0
-Runs exit line =
-    ((ending : Ending) × (exit ≡ exit_of ending) × (line ≡ None))
+-- the line that tells of a drill's ending, of a script from here: which line was refused, and why
+abbrev pub line_of_ending : List ℕ → Ending → Option (List ℕ)
+line_of_ending source AllTaken = None
+line_of_ending source (LineRefused refusal) = Some (refusal_text source refusal)
+line_of_ending source WantsMemory = None
+
+-- The script was run: standard output gets what that prints, and the status and the line tell its ending; or standard output could
+-- not be written.
+abbrev pub Runs : (text source : List ℕ) → Option (List ℕ) → Option (List ℕ) → Exit → Option (List ℕ) → Type 0
+Runs text source old new exit line =
+    ((ending : Ending) × Drills (Some text) old new ending × (exit ≡ exit_of ending) × (line ≡ line_of_ending source ending))
     ⊎ LosesOutput exit line
     ⊎ LacksMemory exit line
 
@@ -86,21 +95,22 @@ Works says path old new exit line =
     ⊎ LacksMemory exit line
 
 -- A drill from standard input.
-abbrev pub DrillsInput : Exit → Option (List ℕ) → Type 0
-DrillsInput exit line = Runs exit line ⊎ LosesInput exit line
+abbrev pub DrillsInput : Option (List ℕ) → Option (List ℕ) → Exit → Option (List ℕ) → Type 0
+DrillsInput old new exit line =
+    ((text : List ℕ) × Runs text (codes "standard input") old new exit line) ⊎ LosesInput exit line
 
 -- A drill from a file.
 abbrev pub DrillsFile : (Option (List ℕ) → Type 0) → List ℕ →
     Option (List ℕ) → Option (List ℕ) → Exit → Option (List ℕ) → Type 0
 DrillsFile says path old new exit line =
-    ((text : List ℕ) × says (Some text) × Runs exit line)
+    ((text : List ℕ) × says (Some text) × Runs text path old new exit line)
     ⊎ (MissesFile says path exit line × Keeps old new)
     ⊎ LacksMemory exit line
 
 -- What an order comes to, where this is said of the files, and standard output had and has these octets.
 abbrev pub Does : (List ℕ → Option (List ℕ) → Type 0) → Option (List ℕ) → Option (List ℕ) → Order →
     Exit → Option (List ℕ) → Type 0
-Does says old new DrillFromInput exit line = DrillsInput exit line
+Does says old new DrillFromInput exit line = DrillsInput old new exit line
 Does says old new (Drill path) exit line = DrillsFile (says path.now) path.now old new exit line
 Does says old new (Check path) exit line = Checks (says path.now) path.now old new exit line
 Does says old new (Owed path) exit line = Works (says path.now) path.now old new exit line

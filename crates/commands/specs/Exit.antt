@@ -17,5 +17,5 @@ status_of NoMemory = 5
 -- how the program ends behind a drill
 abbrev pub exit_of : Ending → Exit
 exit_of DrillDone = Done
-exit_of DrillRefused = Refused
+exit_of (DrillRefused refusal) = Refused
 exit_of DrillNoMemory = NoMemory

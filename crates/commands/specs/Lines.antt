@@ -1,5 +1,7 @@
 -- The lines on standard error (docs/MANUAL.md).
 use Rattle.std.specs.Prelude.{ℕ, List, [], ◌∷◌, ◌++◌, codes, decimal}
+use Rattle.drill.specs.Words.{why_words}
+use Rattle.drill.specs.declared.ending.Refusal.{Refusal}
 use Rattle.feed_conf.specs.declared.fault.ConfFault.{ConfFault}
 use Rattle.feed_conf.specs.declared.fault.ConfFaultKind.{ConfFaultKind}
 use Rattle.feed_conf.specs.declared.fault.ConfFaultKind.TheVariants.{NoValue, BadNumber, BadBoolean, Unbalanced}
@@ -20,6 +22,11 @@ kind_text NoMemory = codes "NoMemory"
 -- a configuration's fault
 abbrev pub config_text : ConfFault → List ℕ
 config_text fault = codes "config line " ++ decimal fault.line ++ codes ": " ++ kind_text fault.kind ++ 10 ∷ []
+
+-- the line of a script that was refused, of a file or of standard input
+abbrev pub refusal_text : List ℕ → Refusal → List ℕ
+refusal_text source refusal =
+    source ++ codes ": line " ++ decimal refusal.line ++ codes ": " ++ why_words refusal.why ++ 10 ∷ []
 
 -- a file that cannot be read
 abbrev pub unread_text : List ℕ → List ℕ

@@ -46,7 +46,7 @@ impl From<Ending> for Exit {
     fn from(ending: Ending) -> Self {
         match ending {
             Ending::Done => Exit::Done,
-            Ending::Refused => Exit::Refused,
+            Ending::Refused(_) => Exit::Refused,
             Ending::NoMemory => Exit::NoMemory,
         }
     }

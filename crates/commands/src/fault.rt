@@ -1,12 +1,13 @@
 // Why an order did not end well, or how a feed ended, and what says so on standard error (docs/MANUAL.md).
 ghost use Rattle.std.specs.Prelude.{◌≡◌, ◌≢◌, ◌++◌, ◌∷◌, [], ℕ, List, IfOk, codes, option_map};
 ghost use Rattle.commands.specs.Fault.{exit_of_fault, IsFaultOf, IsLineOf};
-ghost use Rattle.commands.specs.Lines.{config_text, kind_text, mistake_text, unread_text};
+ghost use Rattle.commands.specs.Lines.{config_text, kind_text, mistake_text, refusal_text, unread_text};
 ghost use Rattle.commands.specs.declared.fault.Fault.TheVariants.{NoMemory};
 
 use crate::ending::end_lines;
 use crate::exit::Exit;
 use crate::feeds::FeedEnd;
+use drill::Refusal;
 use feed_conf::{ConfFault, ConfFaultKind};
 use std::alloc::{AllocError, Global};
 use std::io::{self, ErrorKind};
@@ -22,6 +23,8 @@ pub enum Fault<'a> {
     NoMemory,
     /// The configuration has this fault.
     Config(ConfFault),
+    /// A line of the script from here was refused.
+    Refused(&'a str, Refusal),
     /// The file at this path cannot be read.
     Unread(&'a str),
     /// Standard input cannot be read.
@@ -79,7 +82,7 @@ impl<'a> Fault<'a> {
     {
         match self {
             Fault::NoMemory => Exit::NoMemory,
-            Fault::Config(_) => Exit::Refused,
+            Fault::Config(_) | Fault::Refused(_, _) => Exit::Refused,
             Fault::Unread(_) | Fault::Input(_) | Fault::Output(_) => Exit::Unreadable,
             Fault::Mistake(_) => Exit::Usage,
             Fault::Fed(end) => end.exit(),
@@ -97,6 +100,7 @@ impl<'a> Fault<'a> {
         match self {
             Fault::NoMemory => Ok(None),
             Fault::Config(fault) => Ok(Some(config_line(alloc, fault)?)),
+            Fault::Refused(source, refusal) => Ok(Some(refusal_line(alloc, source, *refusal)?)),
             Fault::Unread(path) => Ok(Some(unread_line(alloc, path)?)),
             Fault::Input(error) => {
                 Ok(Some(stream_line(alloc, b"cannot read standard input", error)?))
@@ -137,6 +141,19 @@ fn kind_word(kind: ConfFaultKind) -> &'static str
         ConfFaultKind::Range => "Range",
         ConfFaultKind::NoMemory => "NoMemory",
     }
+}
+
+// `FILE: line N: REASON`.
+fn refusal_line(alloc: Global, source: &str, refusal: Refusal) -> Result<Vec<u8>, AllocError>
+    ensures { IfOk result (λ line. line.items ≡ refusal_text source.now refusal) }
+{
+    let mut line = Vec::from_slice(alloc, source.as_bytes())?;
+    line.extend_from_slice(b": line ")?;
+    line.extend_from_slice(itoa::Buffer::new().format(refusal.line).as_bytes())?;
+    line.extend_from_slice(b": ")?;
+    line.extend_from_slice(refusal.why.words().as_bytes())?;
+    line.push(b'\n')?;
+    Ok(line)
 }
 
 // `cannot read PATH`.

@@ -10,7 +10,7 @@ use crate::fault::Fault;
 use crate::feeds::{FeedEnd, Feeds};
 use crate::files::ReadFile;
 use crate::order::Order;
-use drill::run_script;
+use drill::{Ending, run_script};
 use feed_conf::Conf;
 use std::alloc::Global;
 use std::io::{self, Read, Write};
@@ -25,8 +25,7 @@ pub struct Ended {
 }
 
 /// Does what an order asks for, and writes one line on standard error where that does not end well, but none for want
-/// of memory and for a drill, which says on standard output what became of it. The status is the same whether that line
-/// could be written or not.
+/// of memory. The status is the same whether that line could be written or not.
 pub fn run<F: ReadFile, P: Feeds, S: Read, W: Write, E: Write>(
     alloc: Global,
     order: Order<'_>,
@@ -108,11 +107,11 @@ fn drill_input<'a, S: Read, W: Write>(
     input: &mut S,
     out: &mut W,
 ) -> Result<Exit, Fault<'a>>
-    ensures { Comes DrillsInput result }
+    ensures { Comes (DrillsInput (W.contents out.old) (W.contents out.new)) result }
 {
     let mut script = Vec::new(alloc);
     match input.read_to_end(&mut script) {
-        Ok(_) => drill(alloc, &script, out),
+        Ok(_) => drill(alloc, &script, "standard input", out),
         Err(error) => Err(Fault::of_input(error)),
     }
 }
@@ -128,17 +127,25 @@ fn drill_file<'a, F: ReadFile, W: Write>(
         result }
 {
     match files.read_file(alloc, path) {
-        Ok(script) => drill(alloc, &script, out),
+        Ok(script) => drill(alloc, &script, path, out),
         Err(error) => Err(Fault::of_file(path, error)),
     }
 }
 
-// Runs a drill script, which says on standard output what became of it.
-fn drill<'a, W: Write>(alloc: Global, script: &[u8], out: &mut W) -> Result<Exit, Fault<'a>>
-    ensures { Comes Runs result }
+// Runs a drill script, which is told as from this source.
+fn drill<'a, W: Write>(
+    alloc: Global,
+    script: &[u8],
+    source: &'a str,
+    out: &mut W,
+) -> Result<Exit, Fault<'a>>
+    ensures { Comes
+        (Runs script.now source.now (W.contents out.old) (W.contents out.new))
+        result }
 {
     let mut script = script;
     match run_script(alloc, &mut script, out) {
+        Ok(Ending::Refused(refusal)) => Err(Fault::Refused(source, refusal)),
         Ok(ending) => Ok(Exit::from(ending)),
         Err(error) => Err(Fault::of_output(error)),
     }

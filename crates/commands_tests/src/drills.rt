@@ -12,7 +12,7 @@ const TOLD: &[u8] = b"0\n1 p new q new\ntaken 1\nstopped\np mark 1 owes 1\nq mar
     q taken 1 answered 0 dropped 0 owed 1 bytes 10\nend 4\n--\n";
 
 // What is asked for, the file, standard input, and the status, standard output and standard error.
-const ROWS: [(Asked, OneFile, &[u8], &[u8]); 12] = [
+const ROWS: [(Asked, OneFile, &[u8], &[u8]); 13] = [
     (
         Asked::Input,
         OneFile("x", Err(ErrorKind::NotFound)),
@@ -24,20 +24,27 @@ const ROWS: [(Asked, OneFile, &[u8], &[u8]); 12] = [
         Asked::Input,
         OneFile("x", Ok(b"")),
         b"\nwhat\n",
-        b"1\nscript 2\n--\n",
+        b"1\nscript 2\n--\nstandard input: line 2: no step is written so\n",
     ),
     (
         Asked::Input,
         OneFile("x", Ok(b"")),
         b"restart\n",
-        b"1\nstep 1: Running\n--\n",
+        b"1\nstep 1: Running\n--\nstandard input: line 1: nothing has stopped\n",
     ),
     (Asked::Drill("x"), OneFile("x", Ok(SCRIPT)), b"what\n", TOLD),
     (
         Asked::Drill("x"),
         OneFile("x", Ok(b"peer p")),
         b"",
-        b"1\nscript 1\n--\n",
+        b"1\nscript 1\n--\nx: line 1: the last line has no end\n",
+    ),
+    (
+        Asked::Drill("x"),
+        OneFile("x", Ok(b"peer p\n\n# empty\nflush\nhand 7\n")),
+        b"",
+        b"1\ntaken 0\nstep 2: NoConnection\n--\n\
+            x: line 5: there is no connection of this number, or a stop ended it\n",
     ),
     (
         Asked::Drill("y"),

@@ -1,5 +1,1 @@
-pub mod Naming
-pub mod Owing
-pub mod Stopping
-pub mod Trying
-pub mod Zips
+pub mod Playing

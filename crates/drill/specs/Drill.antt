@@ -1,45 +1,102 @@
--- What a line does at the peers of a drill.
-use Rattle.std.specs.Prelude.{◌≡◌, ℕ, ◌<◌, ◌≤◌, List, [], ◌∷◌, ◌++◌, length, Contains, slice_index_or}
-use Rattle.disk_model.specs.declared.Disk.{Ghosts}
-use Rattle.funnel.specs.declared.line.FunnelLine.{FunnelLine}
-use Rattle.ledger_core.specs.declared.note.Note.{Note}
-use Rattle.ledger_core.specs.declared.note.Note.TheVariants.{Owe}
-use Rattle.peer_queue.specs.Place.{Ready}
-use Rattle.peer_queue.specs.Words.{Notes, ledger_of, places_of}
-use Rattle.peer_queue.specs.declared.limits.Owed.{Owed}
-use Rattle.peer_queue.specs.declared.limits.Owed.TheVariants.{New, Already}
-use Rattle.drill.specs.Report.{owed_text}
-use Rattle.drill.specs.declared.peer.Peer.{Peer}
+-- What a text comes to as a drill: what is printed, and how it ends (docs/FORMATS.md).
+use Rattle.std.specs.Prelude.{◌≡◌, ◌≢◌, ◌⊎◌, ◌+◌, slice_index_or, ℕ, zero, suc, Option, Some, List, [], ◌++◌, flat_map, length, map, slice_get, take, IfSome}
+use Rattle.std.specs.Io.KnownBytes.{Appends, Keeps}
+use Rattle.std.specs.List.Sorted.{IsPermutation}
+use Rattle.feed_conf.specs.declared.conf.PeerConf.{PeerConf}
+use Rattle.script.specs.Script.{BreaksAt, IsScript}
+use Rattle.script.specs.declared.fault.Reason.{Reason}
+use Rattle.script.specs.declared.read.Script.{Script}
+use Rattle.world_core.specs.Past.{Life}
+use Rattle.world_core.specs.Runs.{RefusesStep, Runs}
+use Rattle.world_core.specs.Safe.{IsSafe}
+use Rattle.world_core.specs.Sound.{NamesRise}
+use Rattle.world_core.specs.Stands.{IsFresh, counts_of}
+use Rattle.world_core.specs.Told.{Said}
+use Rattle.world_core.specs.declared.fault.Fault.{Fault}
+use Rattle.world_core.specs.declared.fault.Fault.TheVariants.{NoMemory}
+use Rattle.world_core.specs.declared.step.Step.{Step}
+use Rattle.drill.specs.Printed.{broken_text, end_text, refused_text, steps_text, totals_text}
+use Rattle.drill.specs.declared.ending.Ending.{Ending}
+use Rattle.drill.specs.declared.ending.Ending.TheVariants.{Done, Refused, NoMemory as NoMemoryLeft}
+use Rattle.drill.specs.declared.ending.Why.{Why}
+use Rattle.drill.specs.declared.ending.Why.TheVariants.{Script as ByScript, Step as ByStep}
 
--- the note of a line's debt
-abbrev pub debt_of : ℕ → FunnelLine → Note
-debt_of number line = Owe number line.token line.id
+-- a world of these peers as it is made, in byte order of their names: nothing was noted, and it runs
+pub record IsBegun (peers : List PeerConf) (life : Life) : Type 0 where
+  pub confs : List PeerConf
+  pub permuted : IsPermutation peers confs
+  pub rises : NamesRise (map (λ (conf : PeerConf). conf.name) confs)
+  pub fresh : IsFresh confs life
 
-module _ {D : Type 0} {g : Ghosts D} where
-  -- the line names the peer
-  abbrev pub IsNamed : FunnelLine → Peer D g → Type 0
-  IsNamed line peer = Contains line.peers.items peer.conf.name
+-- All steps were taken: the lines of what each told are printed, each peer's counts, and how many steps there were.
+pub record WasTaken (script : Script) (printed : List ℕ) : Type 0 where
+  pub begun : Life
+  pub begins : IsBegun script.peers.items begun
+  pub lines : List (List Said)
+  pub later : Life
+  pub runs : Runs begun script.steps.items lines later
+  pub prints : printed ≡ steps_text lines ++ (flat_map totals_text (counts_of later) ++ end_text (length script.steps.items))
 
-  -- the greatest number that the peer has noted
-  abbrev pub mark_of : Peer D g → ℕ
-  mark_of peer = (ledger_of peer.station).mark
+-- The step that this line says was refused for this fault: the lines of what those before it told are printed, and it.
+pub record WasRefused (script : Script) (printed : List ℕ) (line : ℕ) (fault : Fault) : Type 0 where
+  pub begun : Life
+  pub begins : IsBegun script.peers.items begun
+  pub index : ℕ
+  pub step : Step
+  pub here : slice_get script.steps.items index ≡ Some step
+  pub said : slice_get script.lines.items index ≡ Some line
+  pub lines : List (List Said)
+  pub mid : Life
+  pub runs : Runs begun (take index script.steps.items) lines mid
+  pub later : Life
+  pub refuses : RefusesStep step mid fault later
+  pub safe : IsSafe later.past
+  pub prints : printed ≡ steps_text lines ++ refused_text (index + 1) fault
 
-  -- A peer that a line names was owed it: anew and ready, where its number is above the mark, and else nothing changed.
-  abbrev pub TakesDebt : ℕ → FunnelLine → Peer D g → Peer D g → Owed → Type 0
-  TakesDebt number line old new New = (mark_of old < number) × (new.conf ≡ old.conf) × Notes old.station new.station (debt_of number line)
-      × (places_of new.station ≡ places_of old.station ++ (number, Ready) ∷ [])
-  TakesDebt number line old new Already = (number ≤ mark_of old) × (new ≡ old)
+-- no tape could be opened before the first step
+abbrev pub CouldNotBegin : (printed : List ℕ) → (line : ℕ) → Fault → Type 0
+CouldNotBegin printed line fault = (line ≡ 0) × (printed ≡ refused_text 0 fault)
 
-  -- What a good line does at one peer, and what is printed of it. A peer that it does not name stays as it is.
-  pub record Owes (number : ℕ) (line : FunnelLine) (old new : Peer D g) (before after : List ℕ) : Type 0 where
-    pub named : IsNamed line old → (owed : Owed) × TakesDebt number line old new owed × (after ≡ before ++ owed_text old.conf.name owed)
-    pub stranger : (IsNamed line old → ⊥) → (new ≡ old) × (after ≡ before)
+-- a step was refused, or none was taken
+abbrev pub Fails : Script → List ℕ → ℕ → Fault → Type 0
+Fails script printed line fault = WasRefused script printed line fault ⊎ CouldNotBegin printed line fault
 
-  -- what a good line does at a peer, whatever is printed
-  abbrev pub HasOwed : ℕ → FunnelLine → Peer D g → Peer D g → Type 0
-  HasOwed number line old new = (before after : List ℕ) × Owes number line old new before after
+-- there was no memory for a step, or for what all of them tell
+abbrev pub LacksMemory : Script → List ℕ → Type 0
+LacksMemory script printed = ((line : ℕ) × Fails script printed line NoMemory) ⊎ (printed ≡ refused_text 1 NoMemory)
 
-  -- what a good line does at all peers: the same to each
-  pub record AllOwe (number : ℕ) (line : FunnelLine) (old new : List (Peer D g)) : Type 0 where
-    pub count : length new ≡ length old
-    pub each : (k : ℕ) (d : Peer D g) → k < length old → HasOwed number line (slice_index_or old k d) (slice_index_or new k d)
+-- the step that this line says was refused, and not for want of memory
+abbrev pub EndsAt : Script → (printed : List ℕ) → (line : ℕ) → Why → Type 0
+EndsAt script printed line (ByScript reason) = ⊥
+EndsAt script printed line (ByStep fault) = (fault ≢ NoMemory) × Fails script printed line fault
+
+-- A script was played, which printed this and ended so.
+abbrev pub IsPlayed : Script → (printed : List ℕ) → Ending → Type 0
+IsPlayed script printed Done = WasTaken script printed
+IsPlayed script printed (Refused refusal) = EndsAt script printed refusal.line refusal.why
+IsPlayed script printed NoMemoryLeft = LacksMemory script printed
+
+-- The text is no script: the first line that breaks the rules of one is printed and told, and why it does.
+pub record IsNoScript (text printed : List ℕ) (ending : Ending) : Type 0 where
+  pub line : ℕ
+  pub reason : Reason
+  pub breaks : BreaksAt text line reason
+  pub prints : printed ≡ broken_text line
+  pub ends : ending ≡ Refused (record { line = line; why = ByScript reason })
+
+-- A text was played: it is a script, or none.
+abbrev pub IsDrill : (text printed : List ℕ) → Ending → Type 0
+IsDrill text printed ending =
+    ((script : Script) × IsScript text script × IsPlayed script printed ending) ⊎ IsNoScript text printed ending
+
+-- What a reader has left, where that is known, was played, and what that printed is all that the writer got; or there was no memory
+-- for the script or for what it prints, and the writer got nothing.
+abbrev pub Drills : (says old new : Option (List ℕ)) → Ending → Type 0
+Drills says old new ending =
+    ((text printed : List ℕ) × IfSome says (λ octets. text ≡ octets) × Appends old new printed × IsDrill text printed ending)
+    ⊎ ((ending ≡ NoMemoryLeft) × Keeps old new)
+
+-- the line of a step, from 1, among these; 0 where there is none
+abbrev pub line_of : List ℕ → ℕ → ℕ
+line_of lines zero = 0
+line_of lines (suc index) = slice_index_or lines index 0

@@ -1,4 +1,10 @@
 // How a drill ends.
+ghost use Rattle.std.specs.Prelude.{◌≡◌};
+ghost use Rattle.drill.specs.Words.{script_words, step_words, tape_words, why_words};
+
+use recovery::TapeFault;
+use script::Reason;
+use world_core::Fault;
 
 /// How a drill ends.
 #[derive(Clone, Copy, Debug, PartialEq, Eq)]
@@ -6,7 +12,83 @@ pub enum Ending {
     /// All its steps were taken.
     Done,
     /// The script breaks its rules, or a step of it was refused.
-    Refused,
+    Refused(Refusal),
     /// Memory was refused.
     NoMemory,
+}
+
+/// Which line of a script was refused, and why.
+#[derive(Clone, Copy, Debug, PartialEq, Eq)]
+pub struct Refusal {
+    /// The place of the line among all lines of the script, from 1; 0 where no tape could be opened before the first.
+    pub line: usize,
+    /// Why it was refused.
+    pub why: Why,
+}
+
+/// Why a line of a script was refused.
+#[derive(Clone, Copy, Debug, PartialEq, Eq)]
+pub enum Why {
+    /// It is the first that breaks the rules of a script.
+    Script(Reason),
+    /// Its step was refused.
+    Step(Fault),
+}
+
+impl Why {
+    /// The reason in words.
+    pub fn words(self) -> &'static str
+        ensures { result.now ≡ why_words self }
+    {
+        match self {
+            Why::Script(reason) => script_words(reason),
+            Why::Step(fault) => step_words(fault),
+        }
+    }
+}
+
+// Why a line breaks the rules of a script.
+fn script_words(reason: Reason) -> &'static str
+    ensures { result.now ≡ script_words reason }
+{
+    match reason {
+        Reason::NoStep => "no step is written so",
+        Reason::NoPeer => "the settings are not those of one peer",
+        Reason::PeerBehindStep => "a peer stands behind a step",
+        Reason::DeclaredTwice => "the peer is declared already",
+        Reason::Unended => "the last line has no end",
+    }
+}
+
+// Why a step is refused.
+fn step_words(fault: Fault) -> &'static str
+    ensures { result.now ≡ step_words fault }
+{
+    match fault {
+        Fault::NoPeer => "no peer of this name is declared",
+        Fault::NoConnection => "there is no connection of this number, or a stop ended it",
+        Fault::Stopped => "all has stopped: only restart and the arming of a stop are steps",
+        Fault::Running => "nothing has stopped",
+        Fault::NotNeeded => "the connection wants no article",
+        Fault::Tape(fault) => tape_words(fault),
+        Fault::CountFull => "the number would pass the greatest that there is",
+        Fault::NoMemory => "memory was refused",
+        Fault::NotFlushed => "no number is kept, or a peer was not flushed since",
+    }
+}
+
+// Why a tape refused.
+fn tape_words(fault: TapeFault) -> &'static str
+    ensures { result.now ≡ tape_words fault }
+{
+    match fault {
+        TapeFault::Damaged { .. } => "a tape is damaged",
+        TapeFault::Disk => "a disk failed",
+        TapeFault::Broken => "a tape broke before",
+        TapeFault::TapeFull => "a tape would be too long",
+        TapeFault::GenerationFull => "a tape has the greatest generation that there is",
+        TapeFault::PendingFull => "too many notes pend: a flush before this step is the cure",
+        TapeFault::NoMemory => "memory was refused",
+        TapeFault::Note(_) => "a ledger refused what was to be noted",
+    }
 }

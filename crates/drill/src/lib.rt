@@ -1,22 +1,16 @@
-//! Drills: scripts of steps over stations whose disks are in memory, which may be stopped at any call and opened again.
+//! Drills: a script's steps, taken by a world whose disks are in memory, and the lines that tell of them.
 //!
-//! May touch the reader and the writer that it is given and nothing else; it stands on `script` for what is read, on
-//! `peer_queue` and `conn_core` for what is owed and sent, on `disk_model` for what a stop leaves. The crates above use
-//! `run_script` (docs/FORMATS.md); what a line, an outcome, a stop and an opening make of each peer is said in
-//! `specs/`.
+//! May touch the reader and the writer that it is given and nothing else; it stands on `script` for what is read and on
+//! `world_core` for what is run. The crates above use `run_script` (docs/FORMATS.md): what is printed and how a drill
+//! ends is said of the script that the text is and of the run of its steps (`specs/Drill.antt`).
 #![tactic(auto)]
 
-mod connection;
 mod ending;
-mod fault;
-mod lines;
-mod numbers;
-mod peer;
-mod report;
+mod play;
+mod print;
 mod runner;
-mod stage;
-mod stop;
-mod told;
 
-pub use ending::Ending;
+pub use ending::{Ending, Refusal, Why};
 pub use runner::run_script;
+pub use script::Reason;
+pub use world_core::Fault;

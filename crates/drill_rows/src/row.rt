@@ -24,6 +24,35 @@ impl Form {
     }
 }
 
+/// How the scripts of a row end, whatever line is refused.
+#[derive(Clone, Copy, Debug, PartialEq, Eq)]
+pub enum End {
+    Done,
+    Refused,
+    NoMemory,
+}
+
+impl End {
+    /// The end of a drill that ended so.
+    pub fn of(ending: Ending) -> End {
+        match ending {
+            Ending::Done => End::Done,
+            Ending::Refused(_) => End::Refused,
+            Ending::NoMemory => End::NoMemory,
+        }
+    }
+
+    // Reads the word for an end.
+    fn read(word: &str) -> Option<End> {
+        match word {
+            "done" => Some(End::Done),
+            "refused" => Some(End::Refused),
+            "no_memory" => Some(End::NoMemory),
+            _ => None,
+        }
+    }
+}
+
 /// A row.
 #[derive(Clone, Copy)]
 pub struct Row<'a> {
@@ -33,28 +62,19 @@ pub struct Row<'a> {
     pub name: &'a str,
     pub form: Form,
     /// How each script ends.
-    pub ending: Ending,
+    pub end: End,
 }
 
 impl<'a> Row<'a> {
     /// Reads a line of the index: the row's file, one space, and how its scripts end.
     pub fn read(line: &'a str) -> Option<Row<'a>> {
-        let (file, ending) = line.split_once(' ')?;
+        let (file, end) = line.split_once(' ')?;
         let (name, form) = file.split_once('.')?;
         Some(Row {
             file,
             name,
             form: Form::read(form)?,
-            ending: read_ending(ending)?,
+            end: End::read(end)?,
         })
-    }
-}
-
-fn read_ending(word: &str) -> Option<Ending> {
-    match word {
-        "done" => Some(Ending::Done),
-        "refused" => Some(Ending::Refused),
-        "no_memory" => Some(Ending::NoMemory),
-        _ => None,
     }
 }

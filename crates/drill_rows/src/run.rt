@@ -2,9 +2,9 @@
 use crate::fault::RowFault;
 use crate::long::write_out;
 use crate::outputs::{first_difference, read_outputs};
-use crate::row::{Form, Row};
+use crate::row::{End, Form, Row};
 use crate::template::Template;
-use drill::{Ending, run_script};
+use drill::run_script;
 use std::alloc::Global;
 use std::fs;
 use std::rt::Files;
@@ -14,7 +14,7 @@ use std::rt::Files;
 struct Wanted<'a> {
     // One of these is printed.
     outputs: &'a [String],
-    ending: Ending,
+    end: End,
 }
 
 /// Runs each script of a row, up to the first that prints or ends otherwise than it should; tells how many they are.
@@ -27,32 +27,27 @@ pub fn check_row<R: AllocGlobal + Files>(rt: &R, row: &Row) -> Result<u64, RowFa
     let text = fs::read_to_string(rt, row.file)?;
     let printed = fs::read_to_string(rt, &format!(in alloc; "{name}.out")?)?;
     match row.form {
-        Form::Script => check_one(alloc, &text, printed, row.ending),
+        Form::Script => check_one(alloc, &text, printed, row.end),
         Form::Long => {
             let printed = write_out(alloc, &printed)?;
-            check_one(alloc, &write_out(alloc, &text)?, printed, row.ending)
+            check_one(alloc, &write_out(alloc, &text)?, printed, row.end)
         }
         Form::Each => check_each(
             alloc,
             &Template::read(alloc, &text)?,
             &Wanted {
                 outputs: &read_outputs(alloc, &printed)?,
-                ending: row.ending,
+                end: row.end,
             },
         ),
     }
 }
 
 // A row of one script.
-fn check_one(
-    alloc: Global,
-    script: &str,
-    printed: String,
-    ending: Ending,
-) -> Result<u64, RowFault> {
+fn check_one(alloc: Global, script: &str, printed: String, end: End) -> Result<u64, RowFault> {
     let wanted = Wanted {
         outputs: &[printed],
-        ending,
+        end,
     };
     check_script(alloc, script, &wanted)?;
     Ok(1)
@@ -86,7 +81,7 @@ fn told_of(alloc: Global, what: &str, script: &str) -> RowFault {
 fn check_script(alloc: Global, script: &str, wanted: &Wanted) -> Result<(), RowFault> {
     let mut printed = Vec::new(alloc);
     let mut reader = script.as_bytes();
-    let ending = run_script(alloc, &mut reader, &mut printed)?;
+    let end = End::of(run_script(alloc, &mut reader, &mut printed)?);
     let Ok(printed) = String::from_utf8(printed) else {
         return Err(RowFault::NoText);
     };
@@ -94,8 +89,8 @@ fn check_script(alloc: Global, script: &str, wanted: &Wanted) -> Result<(), RowF
         let difference = first_difference(wanted.outputs, &printed);
         return Err(RowFault::Differs(difference.to_string(alloc)?));
     }
-    if ending != wanted.ending {
-        let told = format!(in alloc; "wanted {:?} as its end, not {ending:?}", wanted.ending)?;
+    if end != wanted.end {
+        let told = format!(in alloc; "wanted {:?} as its end, not {end:?}", wanted.end)?;
         return Err(RowFault::Differs(told));
     }
     Ok(())

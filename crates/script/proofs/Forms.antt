@@ -12,7 +12,7 @@ use Rattle.script.specs.Action.{ActionView, Hands, Receives, Supplies, Breaks}
 use Rattle.script.specs.Line.{SaysAction, SaysStep}
 use Rattle.script.specs.Numbers.{u64_of}
 use Rattle.script.specs.Parts.{ActionOf, StepOf}
-use Rattle.script.specs.Step.{StepView, Lines, Flushes, Connects, Acts, Ticks, Sheds, Rotates, Stops, Arms, Restarts}
+use Rattle.script.specs.Step.{StepView, Lines, Flushes, Connects, Acts, Ticks, Sheds, Rotates, Stops, Arms, Restarts, Unwritten}
 use Rattle.script.specs.Words.{IsCut, IsSolid}
 use Rattle.script.proofs.Cuts.{SameCut, cuts_once, is_solid, solid_from}
 
@@ -96,6 +96,8 @@ step_form line word None (Arms armed) cut says = absurd says
 step_form line word (Some rest) (Arms armed) cut says = (rest, cut ∙ ap (λ w. w ++ 32 ∷ rest) says.0, says.1)
 step_form line word None Restarts cut says = cut ∙ says
 step_form line word (Some rest) Restarts cut says = absurd says
+step_form line word None Unwritten cut says = absurd says
+step_form line word (Some rest) Unwritten cut says = absurd says
 
 -- A word that names a step, whichever way the line is cut.
 module _ (line word : List ℕ) (text : Option (List ℕ)) (solid : IsSolid word) (cut : IsCut line word text) where
@@ -159,3 +161,4 @@ module _ (line word : List ℕ) (text : Option (List ℕ)) (solid : IsSolid word
   step_parts Stops says = at_step (codes "stop") None Stops refl says refl
   step_parts (Arms armed) says = at_step (codes "stop") (Some says.0) (Arms armed) refl says.1 (refl, says.2)
   step_parts Restarts says = at_step (codes "restart") None Restarts refl says refl
+  step_parts Unwritten says = absurd says

@@ -1,5 +1,5 @@
 -- One line more.
-use Rattle.std.proofs.Common.{◌≡◌, ◌↔◌, ℕ, Bool, false, true, not, Option, None, Some, MatchOption, List, [], ◌∷◌}
+use Rattle.std.proofs.Common.{◌≡◌, ◌↔◌, ◌+◌, ℕ, Bool, false, true, not, Option, None, Some, MatchOption, List, [], ◌∷◌}
 use Rattle.std.proofs.Common.{◌++◌, length, map, inl, inr, refl, sym, subst, ap, ◌∙◌, append-nil, append_assoc}
 use Rattle.std.proofs.Common.{arith}
 use Rattle.std.specs.Prelude.{◌⊎◌, Contains}
@@ -13,13 +13,13 @@ use Rattle.funnel.specs.Stream.{BeginsWithLine, IsUnended}
 use Rattle.funnel.specs.StreamLaws.{ended_push}
 use Rattle.script.specs.Draft.{Drafts, Gains}
 use Rattle.script.specs.Line.{SentenceView, Blank, Declares, Takes, Says}
-use Rattle.script.specs.Script.{KeepsOrder, LineSays, MayFollow, Reads, names_of, peers_of, steps_of}
+use Rattle.script.specs.Script.{KeepsOrder, LineSays, MayFollow, Reads, names_of, peers_of, places_from, places_of, steps_of}
 use Rattle.script.specs.Step.{StepView, step_view}
 use Rattle.script.specs.Sentence.{sentence_view}
 use Rattle.script.specs.declared.draft.Draft.{Draft}
 use Rattle.script.specs.declared.sentence.Sentence.{Sentence}
-use Rattle.script.specs.declared.step.Step.{Step}
 use Rattle.feed_conf.specs.declared.conf.PeerConf.{PeerConf}
+use Rattle.world_core.specs.declared.step.Step.{Step}
 use Rattle.std.specs.BTreeMap.{is_at}
 use Rattle.std.specs.BTreeSet.{insert_key}
 use Rattle.std.specs.List.{list_any}
@@ -37,6 +37,22 @@ peers_of-append [] b = refl
 peers_of-append (Blank ∷ a) b = peers_of-append a b
 peers_of-append (Declares peer ∷ a) b = ap (λ (s : List Settings). peer ∷ s) (peers_of-append a b)
 peers_of-append (Takes step ∷ a) b = peers_of-append a b
+
+-- the places of some sentences go on behind those of others
+places_append : (place next : ℕ) (a b : List SentenceView) → next ≡ place + length a →
+    places_from place (a ++ b) ≡ places_from place a ++ places_from next b
+places_append place next [] b e =
+    let same : place ≡ next = omega (arith, e) in ap (λ (p : ℕ). places_from p b) same
+places_append place next (Blank ∷ a) b e = places_append (place + 1) next a b (omega (arith, e))
+places_append place next (Declares peer ∷ a) b e = places_append (place + 1) next a b (omega (arith, e))
+places_append place next (Takes step ∷ a) b e =
+    ap (λ (ps : List ℕ). place ∷ ps) (places_append (place + 1) next a b (omega (arith, e)))
+
+-- the names that some sentences declare stand in front of those of others
+pub names_of-append : (a b : List SentenceView) → names_of (a ++ b) ≡ names_of a ++ names_of b
+names_of-append a b =
+    ap (map (λ (p : Settings). p.name)) (peers_of-append a b) ∙ map-append (λ (p : Settings). p.name) (peers_of a)
+    (peers_of b)
 
 zip_push : (lines : List (List ℕ)) (sentences : List SentenceView) (line : List ℕ) (said : SentenceView) →
     AllZip LineSays lines sentences → LineSays line said →
@@ -80,12 +96,11 @@ gains : (old new : Draft) (before : List SentenceView) (said : SentenceView) →
     map settings_view new.peers.items ≡ peers_of before ++ peers_of (said ∷ []) →
     ((name : List ℕ) →
     Contains (map vec_items new.names.keys) name ↔ Contains (names_of before ++ names_of (said ∷ [])) name) →
-    map step_view new.steps.items ≡ steps_of before ++ steps_of (said ∷ []) → Gains old new before said
-gains old new before said may peers names steps =
+    map step_view new.steps.items ≡ steps_of before ++ steps_of (said ∷ []) →
+    new.lines.items ≡ places_of before ++ places_from (1 + length before) (said ∷ []) → Gains old new before said
+gains old new before said may peers names steps lines =
     let both = peers_of-append before (said ∷ []) in
-    let named : names_of (before ++ said ∷ []) ≡ names_of before ++ names_of (said ∷ []) =
-    ap (map (λ (p : Settings). p.name)) both ∙ map-append (λ (p : Settings). p.name) (peers_of before)
-    (peers_of (said ∷ [])) in
+    let named = names_of-append before (said ∷ []) in
     record {
       may = may;
       drafts = record {
@@ -94,6 +109,7 @@ gains old new before said may peers names steps =
             (λ (ns : List (List ℕ)). Contains (map vec_items new.names.keys) name ↔ Contains ns name) (sym named)
             (names name);
         steps = steps ∙ sym (steps_of-append before (said ∷ []));
+        lines = lines ∙ sym (places_append 1 (1 + length before) before (said ∷ []) refl);
       };
     }
 
@@ -102,12 +118,13 @@ gains_blank draft before d =
     gains draft draft before Blank tt (d.peers ∙ sym (append-nil (peers_of before)))
     (λ name. subst (λ (ns : List (List ℕ)). Contains (map vec_items draft.names.keys) name ↔ Contains ns name)
     (sym (append-nil (names_of before))) (d.names name))
-    (d.steps ∙ sym (append-nil (steps_of before)))
+    (d.steps ∙ sym (append-nil (steps_of before))) (d.lines ∙ sym (append-nil (places_of before)))
 
-pub gains_step : (old new : Draft) (step : Step) (before : List SentenceView) →
+pub gains_step : (old new : Draft) (step : Step) (place : ℕ) (before : List SentenceView) →
     new.peers.items ≡ old.peers.items → new.names.keys ≡ old.names.keys →
-    new.steps.items ≡ old.steps.items ++ step ∷ [] → Drafts old before → Gains old new before (Takes (step_view step))
-gains_step old new step before peers names steps d =
+    new.steps.items ≡ old.steps.items ++ step ∷ [] → new.lines.items ≡ old.lines.items ++ place ∷ [] →
+    place ≡ length before + 1 → Drafts old before → Gains old new before (Takes (step_view step))
+gains_step old new step place before peers names steps lines at d =
     gains old new before (Takes (step_view step)) tt (ap (map settings_view) peers ∙ d.peers
     ∙ sym (append-nil (peers_of before)))
     (λ name. subst (λ (ns : List (List ℕ)). Contains (map vec_items new.names.keys) name ↔ Contains ns name)
@@ -116,6 +133,9 @@ gains_step old new step before peers names steps d =
     (d.names name)))
     (ap (map step_view) steps ∙ map-append step_view old.steps.items (step ∷ [])
     ∙ ap (λ (s : List StepView). s ++ step_view step ∷ []) d.steps)
+    (let same : place ≡ 1 + length before = omega (arith, at) in
+    lines ∙ ap (λ (p : ℕ). old.lines.items ++ p ∷ []) same
+    ∙ ap (λ (ps : List ℕ). ps ++ (1 + length before) ∷ []) d.lines)
 
 -- no step is held
 no_steps : (steps : List Step) → length steps ≡ 0 → map step_view steps ≡ []
@@ -144,8 +164,8 @@ pub gains_peer : (old new : Draft) (conf : PeerConf) (key : Octets) (before : Li
     list_any (is_at (octets_cmp key)) old.names.keys ≡ false →
     new.names.keys ≡ insert_key octets_cmp old.names.keys key →
     new.peers.items ≡ old.peers.items ++ conf ∷ [] → new.steps.items ≡ old.steps.items →
-    Drafts old before → Gains old new before (Declares (settings_view conf))
-gains_peer old new conf key before none is absent keys peers steps d =
+    new.lines.items ≡ old.lines.items → Drafts old before → Gains old new before (Declares (settings_view conf))
+gains_peer old new conf key before none is absent keys peers steps lines d =
     let strange : Contains (names_of before) conf.name → ⊥ =
     λ h. unfound key old.names.keys absent (subst (λ (n : List ℕ). Contains (map vec_items old.names.keys) n)
     (sym is) ((d.names conf.name).1 h)) in
@@ -160,6 +180,7 @@ gains_peer old new conf key before none is absent keys peers steps d =
           (d.names name) (Contains-push_cases (names_of before) conf.name name h)),
     ))
     (ap (map step_view) steps ∙ d.steps ∙ sym (append-nil (steps_of before)))
+    (lines ∙ d.lines ∙ sym (append-nil (places_of before)))
 
 -- what was read of a line is what the line says
 pub said_of : (line : List ℕ) (read : Option Sentence) (s t : Sentence) → read ≡ Some s → s ≡ t →

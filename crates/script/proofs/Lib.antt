@@ -1,5 +1,6 @@
 pub mod Cuts
 pub mod Digits
+pub mod Distinct
 pub mod Ends
 pub mod Forms
 pub mod Growing

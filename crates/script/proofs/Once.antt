@@ -9,7 +9,7 @@ use Rattle.article_store.specs.declared.store.Found.TheVariants.{Article, Gone, 
 use Rattle.script.specs.Action.{ActionView, Hands, Receives, Supplies, Breaks}
 use Rattle.script.specs.Line.{SentenceView, Blank, Declares, Takes, Says, SaysStep}
 use Rattle.script.specs.Parts.{ActionOf, SaysOn, StepOf}
-use Rattle.script.specs.Step.{StepView, Lines, Flushes, Connects, Acts, Ticks, Sheds, Rotates, Stops, Arms, Restarts}
+use Rattle.script.specs.Step.{StepView, Lines, Flushes, Connects, Acts, Ticks, Sheds, Rotates, Stops, Arms, Restarts, Unwritten}
 use Rattle.script.specs.Words.{IsCut, IsSolid}
 use Rattle.script.proofs.Cuts.{cuts_once, cut_is, cut_longer, solid_from, solid_none}
 use Rattle.script.proofs.Forms.{number_solid, step_parts}
@@ -48,6 +48,7 @@ step_tag Stops = 7
 step_tag (Arms armed) = 8
 step_tag Restarts = 9
 step_tag (Acts number action) = 10
+step_tag Unwritten = 11
 
 tagged : (step : StepView) → step_tag step ≡ 0 → ⊥
 tagged (Lines text) e = apart 1 0 refl e
@@ -60,6 +61,7 @@ tagged Stops e = apart 7 0 refl e
 tagged (Arms armed) e = apart 8 0 refl e
 tagged Restarts e = apart 9 0 refl e
 tagged (Acts number action) e = apart 10 0 refl e
+tagged Unwritten e = apart 11 0 refl e
 
 -- an action's word
 action_tag_is : (word : List ℕ) (text : Option (List ℕ)) (action : ActionView) → ActionOf word text action →
@@ -89,6 +91,7 @@ tag_is word None Stops says = ap (λ w. tag_for w false) says
 tag_is word None (Arms armed) says = absurd says
 tag_is word None Restarts says = ap (λ w. tag_for w false) says
 tag_is word None (Acts number action) says = absurd says
+tag_is word None Unwritten says = absurd says
 tag_is word (Some rest) (Lines t) says = ap (λ w. tag_for w true) says.0
 tag_is word (Some rest) Flushes says = absurd says
 tag_is word (Some rest) (Connects name) says = ap (λ w. tag_for w true) says.0
@@ -99,6 +102,7 @@ tag_is word (Some rest) Stops says = absurd says
 tag_is word (Some rest) (Arms armed) says = ap (λ w. tag_for w true) says.0
 tag_is word (Some rest) Restarts says = absurd says
 tag_is word (Some rest) (Acts number action) says = action_tag_is word says.text action says.says
+tag_is word (Some rest) Unwritten says = absurd says
 
 -- words that begin with other octets
 differs : (v w : List ℕ) → (get_or v 0 0 == get_or w 0 0) ≡ false → (word : List ℕ) → word ≡ v → word ≡ w → ⊥
@@ -178,6 +182,7 @@ once_alone word (Ticks s) b p q e = absurd p
 once_alone word (Sheds s) b p q e = absurd p
 once_alone word (Rotates s) b p q e = absurd p
 once_alone word (Arms s) b p q e = absurd p
+once_alone word Unwritten b p q e = absurd p
 once_alone word a b p q e = absurd (apart (step_tag a) (step_tag b) refl e)
 
 once_behind : (word rest : List ℕ) (a b : StepView) → StepOf word (Some rest) a → StepOf word (Some rest) b →
@@ -192,6 +197,7 @@ once_behind word rest (Arms s) (Arms t) p q e = let same : s ≡ t = cc (p.1, q.
 once_behind word rest Flushes b p q e = absurd p
 once_behind word rest Stops b p q e = absurd p
 once_behind word rest Restarts b p q e = absurd p
+once_behind word rest Unwritten b p q e = absurd p
 once_behind word rest a b p q e = absurd (apart (step_tag a) (step_tag b) refl e)
 
 parts_once : (word : List ℕ) (text : Option (List ℕ)) (a b : StepView) → StepOf word text a → StepOf word text b →

@@ -1,12 +1,15 @@
 -- A whole script, up to where its reader came.
 use Rattle.std.proofs.Common.{◌≡◌, ◌≢◌, ◌+◌, ◌↔◌, ℕ, List, [], ◌∷◌, ◌++◌, length, Result, Ok, Err, refl, sym, subst}
-use Rattle.std.proofs.Common.{ap, ◌∙◌, arith, length-append}
+use Rattle.std.proofs.Common.{ap, ◌∙◌, arith, length-append, suc}
+use Rattle.std.proofs.lemmas.List.{length-map}
 use Rattle.std.specs.Prelude.{IfErr, IfOk, IsErrAnd, IsOk}
 use Rattle.funnel.specs.Line.{without_cr}
 use Rattle.funnel.specs.Stream.{BeginsWithLine}
 use Rattle.script.specs.Draft.{Drafts, Gains, HasRead, IsRefusal}
-use Rattle.script.specs.Line.{SentenceView, Says}
+use Rattle.script.specs.Line.{SentenceView, Blank, Declares, Says, Takes}
 use Rattle.script.specs.Script.{BreaksAt, Holds, IsFirstBroken, IsScript, IsToldOf, KeepsRules, NamesLine, Reads}
+use Rattle.script.specs.Script.{places_from, steps_of}
+use Rattle.script.specs.Step.{StepView, step_view}
 use Rattle.script.specs.declared.draft.Draft.{Draft}
 use Rattle.script.specs.declared.fault.Reason.{Reason}
 use Rattle.script.specs.declared.fault.Reason.TheVariants.{NoStep, NoPeer, PeerBehindStep, DeclaredTwice, Unended}
@@ -70,11 +73,11 @@ longer before said place at = simp length-append (omega (arith, at))
 -- a line more is read
 pub has_more : (text rest line more : List ℕ) (place : ℕ) (old new : Draft) → BeginsWithLine rest line more →
     HasRead text rest place old →
-    ((before : List SentenceView) → Drafts old before →
+    ((before : List SentenceView) → Drafts old before → place ≡ length before + 1 →
     (said : SentenceView) × Says (without_cr line) said × Gains old new before said) →
     HasRead text more (place + 1) new
 has_more text rest line more place old new begins has adds =
-    let said = adds has.sentences has.drafts in
+    let said = adds has.sentences has.drafts has.at in
     record {
       sentences = has.sentences ++ said.0 ∷ [];
       reads = reads_more text rest line more has.sentences said.0 has.reads begins said.1 said.2.may;
@@ -99,3 +102,16 @@ pub read_whole : (text rest : List ℕ) (place : ℕ) (draft : Draft) (script : 
     ((sentences : List SentenceView) → Drafts draft sentences → Holds script sentences) → IsScript text script
 read_whole text [] place draft script has none holds = (has.sentences, has.reads, holds has.sentences has.drafts)
 read_whole text (octet ∷ rest) place draft script has none holds = absurd (omega arith)
+
+-- each step has a place
+counted : (place : ℕ) (sentences : List SentenceView) → length (places_from place sentences) ≡ length (steps_of sentences)
+counted place [] = refl
+counted place (Blank ∷ sentences) = counted (place + 1) sentences
+counted place (Declares peer ∷ sentences) = counted (place + 1) sentences
+counted place (Takes step ∷ sentences) = ap suc (counted (place + 1) sentences)
+
+pub placed : (text : List ℕ) (script : Script) → IsScript text script →
+    length script.lines.items ≡ length script.steps.items
+placed text script is =
+    ap (λ (l : List ℕ). length l) is.2.lines ∙ counted 1 is.0
+    ∙ ap (λ (l : List StepView). length l) (sym is.2.steps) ∙ length-map script.steps.items step_view

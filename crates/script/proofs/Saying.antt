@@ -8,10 +8,10 @@ use Rattle.script.specs.Line.{SaysStep}
 use Rattle.script.specs.Numbers.{u64_of}
 use Rattle.script.specs.Parts.{ActionOf, SaysOn, StepOf}
 use Rattle.script.specs.Step.{StepView, Lines, Flushes, Connects, Acts, Ticks, Sheds, Rotates, Stops, Arms}
-use Rattle.script.specs.Step.{Restarts, step_view}
+use Rattle.script.specs.Step.{Restarts, Unwritten, step_view}
 use Rattle.script.specs.Words.{IsCut, IsSolid}
 use Rattle.script.specs.declared.action.Action.{Action}
-use Rattle.script.specs.declared.step.Step.{Step}
+use Rattle.world_core.specs.declared.step.Step.{Step}
 use Rattle.script.proofs.Cuts.{cuts_once}
 use Rattle.script.proofs.Forms.{number_solid, step_form, step_parts}
 
@@ -48,6 +48,7 @@ module _ (word : List ℕ) (line : word ≢ codes "line") (connect : word ≢ co
   says_no_step rest none Stops says = says
   says_no_step rest none (Arms arming) says = stop says.0
   says_no_step rest none Restarts says = says
+  says_no_step rest none Unwritten says = says
 
   pub says_step : {T E : Type 0} (view : T → List ℕ) (text : Option T) (rest : List ℕ)
       (made : Result (Option Step) E) →

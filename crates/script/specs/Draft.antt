@@ -4,7 +4,7 @@ use Rattle.std.specs.Vec.{vec_items}
 use Rattle.feed_conf.specs.PeerView.{settings_view}
 use Rattle.feed_conf.specs.Settings.{Settings}
 use Rattle.script.specs.Line.{SentenceView}
-use Rattle.script.specs.Script.{BeginsAsPeer, IsWhyLine, MayFollow, Reads, names_of, peers_of, steps_of}
+use Rattle.script.specs.Script.{BeginsAsPeer, IsWhyLine, MayFollow, Reads, names_of, peers_of, places_of, steps_of}
 use Rattle.script.specs.Step.{step_view}
 use Rattle.script.specs.declared.draft.Draft.{Draft}
 use Rattle.script.specs.declared.fault.Reason.{Reason}
@@ -17,6 +17,7 @@ pub record Drafts (draft : Draft) (sentences : List SentenceView) : Type 0 where
   pub peers : map settings_view draft.peers.items ≡ peers_of sentences
   pub names : (name : List ℕ) → Contains (map vec_items draft.names.keys) name ↔ Contains (names_of sentences) name
   pub steps : map step_view draft.steps.items ≡ steps_of sentences
+  pub lines : draft.lines.items ≡ places_of sentences
 
 -- a draft has taken in one sentence more, which may stand there
 pub record Gains (old new : Draft) (before : List SentenceView) (said : SentenceView) : Type 0 where

@@ -8,7 +8,7 @@ use Rattle.script.specs.Action.{ActionView, Hands, Receives, Supplies, Breaks, I
 use Rattle.script.specs.Arming.{arming_of}
 use Rattle.script.specs.Numbers.{u64_of}
 use Rattle.script.specs.Peer.{SaysPeer}
-use Rattle.script.specs.Step.{StepView, Lines, Flushes, Connects, Acts, Ticks, Sheds, Rotates, Stops, Arms, Restarts}
+use Rattle.script.specs.Step.{StepView, Lines, Flushes, Connects, Acts, Ticks, Sheds, Rotates, Stops, Arms, Restarts, Unwritten}
 
 -- a line asks this of the connection whose number is written so
 abbrev pub SaysAction : (line number : List ℕ) → ActionView → Type 0
@@ -38,6 +38,7 @@ SaysStep line (Arms armed) =
     (words : List ℕ) × (line ≡ codes "stop " ++ words)
     × (arming_of (slice_split (λ octet. octet == 32) words) ≡ Some armed)
 SaysStep line Restarts = line ≡ codes "restart"
+SaysStep line Unwritten = ⊥
 
 -- what one line says: nothing, a peer or a step
 pub data SentenceView : Type 0 where

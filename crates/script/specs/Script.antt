@@ -25,6 +25,17 @@ steps_of (Blank ∷ sentences) = steps_of sentences
 steps_of (Declares peer ∷ sentences) = steps_of sentences
 steps_of (Takes step ∷ sentences) = step ∷ steps_of sentences
 
+-- the places of the lines that say them, where the first sentence's line has this place
+abbrev pub places_from : ℕ → List SentenceView → List ℕ
+places_from place [] = []
+places_from place (Blank ∷ sentences) = places_from (place + 1) sentences
+places_from place (Declares peer ∷ sentences) = places_from (place + 1) sentences
+places_from place (Takes step ∷ sentences) = place ∷ places_from (place + 1) sentences
+
+-- the place of each step's line, from 1
+abbrev pub places_of : List SentenceView → List ℕ
+places_of sentences = places_from 1 sentences
+
 -- the peers that they declare
 abbrev pub peers_of : List SentenceView → List Settings
 peers_of [] = []
@@ -66,11 +77,12 @@ KeepsRules text = (sentences : List SentenceView) × Reads text sentences []
 abbrev pub IsInByteOrder : List PeerConf → Type 0
 IsInByteOrder peers = IsSortedBy (λ (a : PeerConf) (b : PeerConf). is_lt (slice_cmp nat_cmp a.name b.name)) peers
 
--- a script has the peers of these sentences, in byte order of their names, and their steps in order
+-- a script has the peers of these sentences, in byte order of their names, and their steps in order, with the places of their lines
 pub record Holds (script : Script) (sentences : List SentenceView) : Type 0 where
   pub peers : IsPermutation (peers_of sentences) (map settings_view script.peers.items)
   pub order : IsInByteOrder script.peers.items
   pub steps : map step_view script.steps.items ≡ steps_of sentences
+  pub lines : script.lines.items ≡ places_of sentences
 
 -- the whole text keeps the rules, and this is what it says
 abbrev pub IsScript : List ℕ → Script → Type 0

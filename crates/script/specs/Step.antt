@@ -1,10 +1,10 @@
 -- The steps of a script, by what they carry (docs/FORMATS.md).
-use Rattle.std.specs.Prelude.{ℕ, List}
-use Rattle.script.specs.Action.{ActionView, action_view}
-use Rattle.script.specs.Arming.{Armed, armed_by}
-use Rattle.script.specs.declared.step.Step.{Step}
-use Rattle.script.specs.declared.step.Step.TheVariants.{Line, Flush, Connect, On, Tick, Shed, Rotate, Stop, Arm}
-use Rattle.script.specs.declared.step.Step.TheVariants.{Restart}
+use Rattle.std.specs.Prelude.{ℕ, ◌==◌, if◌then◌else◌, List, None, Some}
+use Rattle.world_core.specs.declared.step.Step.{Step}
+use Rattle.world_core.specs.declared.step.Step.TheVariants.{Line, Flush, Begin, Part, Seal, Connect, Hand, Bytes, Article, Break}
+use Rattle.world_core.specs.declared.step.Step.TheVariants.{Tick, Shed, Rotate, Stop, Restart}
+use Rattle.script.specs.Action.{ActionView, Hands, Receives, Supplies, Breaks}
+use Rattle.script.specs.Arming.{Armed}
 
 pub data StepView : Type 0 where
   -- a funnel line
@@ -27,15 +27,24 @@ pub data StepView : Type 0 where
   Arms : Armed → StepView
   -- all tapes are opened again
   Restarts : StepView
+  -- a step of a world that no line says
+  Unwritten : StepView
 
+-- what a step of a world carries; of a stop at rest nothing is looked at
 abbrev pub step_view : Step → StepView
-step_view (Line text) = Lines text.now
+step_view (Line text) = Lines text.items
 step_view Flush = Flushes
+step_view Begin = Unwritten
+step_view (Part name) = Unwritten
+step_view Seal = Unwritten
 step_view (Connect name) = Connects name
-step_view (On number action) = Acts number (action_view action)
+step_view (Hand number) = Acts number Hands
+step_view (Bytes number octets) = Acts number (Receives octets.items)
+step_view (Article number found) = Acts number (Supplies found)
+step_view (Break number) = Acts number Breaks
 step_view (Tick moment) = Ticks moment
 step_view (Shed name) = Sheds name
 step_view (Rotate name) = Rotates name
-step_view Stop = Stops
-step_view (Arm arming) = Arms (armed_by arming)
+step_view (Stop None call choice) = if call == 0 then Stops else Unwritten
+step_view (Stop (Some name) call choice) = Arms (record { name = name; call = call; choice = choice })
 step_view Restart = Restarts

@@ -2,6 +2,7 @@
 ghost use Rattle.std.specs.Prelude.{◌≡◌, ◌≢◌, ◌<◌, ◌∷◌, [], ℕ, List, Some, codes, length, option_map};
 ghost use Rattle.std.specs.Prelude.{IfNone, IfOk, IfSome, MatchOption};
 ghost use Rattle.script.specs.Action.{ActionView, Escapes, IsWritten, Spells, Supplies, action_view, line_of};
+ghost use Rattle.script.specs.Step.{Acts, step_view};
 ghost use Rattle.script.specs.Parts.{ActionOf};
 ghost use Rattle.article_store.specs.declared.store.Found.{Found};
 
@@ -9,9 +10,10 @@ use article_store::Found;
 use bytes::Bytes;
 use hex::FromHexError;
 use std::alloc::{AllocError, Global};
+use world_core::Step;
 
 /// What a step does with a connection.
-#[derive(Debug, Drop)]
+#[derive(Drop)]
 pub enum Action {
     /// The least candidate of its peer is claimed, and offered.
     Hand,
@@ -51,6 +53,18 @@ impl Action {
                 None => Ok(None),
             },
             _ => Ok(None),
+        }
+    }
+
+    /// The step that does this with the connection of this number.
+    pub(crate) fn on(self, number: u64) -> Step
+        ensures { step_view result ≡ Acts number (action_view self) }
+    {
+        match self {
+            Action::Hand => Step::Hand(number),
+            Action::Receive(octets) => Step::Bytes(number, octets),
+            Action::Supply(found) => Step::Article(number, found),
+            Action::Break => Step::Break(number),
         }
     }
 }

@@ -6,9 +6,10 @@ use crate::numbers::read_number;
 use disk_model::Choice;
 use funnel::PeerName;
 use std::alloc::{AllocError, Global};
+use world_core::Step;
 
 /// A stop that is to be armed.
-#[derive(Debug, Drop)]
+#[derive(Drop)]
 pub struct Arming {
     /// The peer at whose disk it comes.
     pub name: PeerName,
@@ -19,7 +20,8 @@ pub struct Arming {
 }
 
 impl Arming {
-    ghost use Rattle.script.specs.Arming.{armed, arming_of, view_of};
+    ghost use Rattle.script.specs.Arming.{armed, armed_by, arming_of, view_of};
+    ghost use Rattle.script.specs.Step.{Arms, step_view};
 
     /// Reads `NAME CALL BITS` or `NAME CALL BITS FILL`, or nothing where the text is neither.
     ///
@@ -74,6 +76,18 @@ impl Arming {
             fill: fill as u8,
         };
         Ok(Some(Arming { name, call, choice }))
+    }
+
+    /// The step that arms it.
+    pub(crate) fn into_step(self) -> Step
+        ensures { step_view result ≡ Arms (armed_by self) }
+    {
+        let Arming { name, call, choice } = self;
+        Step::Stop {
+            peer: Some(name),
+            call,
+            choice,
+        }
     }
 }
 

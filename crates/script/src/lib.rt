@@ -1,7 +1,7 @@
 //! The reading of drill scripts: which peers a script declares and which step each line says, or its first broken line.
 //!
-//! May touch nothing but memory; it stands on `feed_conf` and `funnel` for the peers and their names, on
-//! `article_store` and `disk_model` for what a step carries.
+//! May touch nothing but memory; it stands on `feed_conf` and `funnel` for the peers and their names, on `world_core`
+//! for the steps, on `article_store` and `disk_model` for what they carry.
 //! The crates above use `read_script` (docs/FORMATS.md): what each line says stands form by form in
 //! `specs/Line.antt`, what a whole script is and which line is its first broken one in `specs/Script.antt`.
 #![tactic(auto)]
@@ -18,10 +18,7 @@ mod read;
 mod sentence;
 mod step;
 
-pub use action::Action;
-pub use arming::Arming;
 pub use fault::{Reason, ScriptFault};
 pub use read::{Script, read_script};
 /// Memory was refused.
 pub use std::alloc::AllocError as NoMemory;
-pub use step::Step;

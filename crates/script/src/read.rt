@@ -1,32 +1,43 @@
 // Drill scripts (docs/FORMATS.md).
-ghost use Rattle.std.specs.Prelude.{◌≡◌, ◌≢◌, ◌↔◌, ℕ, Err, IfErr, IfOk, IsOk};
+ghost use Rattle.std.specs.Prelude.{◌≡◌, ◌≢◌, ◌↔◌, ℕ, Err, IfErr, IfOk, IsOk, length, map};
+ghost use Rattle.std.specs.List.{IsDistinct};
+ghost use Rattle.std.specs.Str.{bytes_eq};
+ghost use Rattle.feed_conf.specs.declared.conf.PeerConf.{PeerConf};
 ghost use Rattle.script.specs.Script.{IsFirstBroken, IsScript, IsToldOf, KeepsRules, NamesLine};
 ghost use Rattle.script.specs.declared.fault.ScriptFault.TheVariants.{NoMemory};
 
 use crate::draft::Draft;
 use crate::fault::{Reason, ScriptFault};
 use crate::lines::first_line;
-use crate::step::Step;
 use feed_conf::PeerConf;
 use funnel::without_cr;
 use std::alloc::Global;
+use world_core::Step;
 
 /// A script that keeps its rules.
 #[derive(Drop)]
-pub struct Script<'a> {
+pub struct Script {
     /// What is declared of the peers, in byte order of their names.
     pub peers: Vec<PeerConf>,
     /// The steps, in order.
-    pub steps: Vec<Step<'a>>,
+    pub steps: Vec<Step>,
+    /// The place of each step's line among all lines, from 1.
+    pub lines: Vec<usize>,
 }
 
 /// Reads a script. Each of its lines ends with LF, and one CR before that is dropped.
 ///
 /// # Errors
 /// `Broken` at the first line that breaks the rules, the octets behind the last LF among the lines; `NoMemory`.
-pub fn read_script(alloc: Global, text: &[u8]) -> Result<Script<'_>, ScriptFault>
+pub fn read_script(alloc: Global, text: &[u8]) -> Result<Script, ScriptFault>
     // What a script says.
     ensures ok { IfOk result (IsScript text.now) }
+    // The names of its peers differ.
+    ensures distinct { IfOk result (λ script. IsDistinct bytes_eq
+        (map (λ (conf : PeerConf). conf.name) script.peers.items)) }
+    // Each step has its line.
+    ensures placed { IfOk result
+        (λ script. length script.lines.items ≡ length script.steps.items) }
     // Which line a fault names, and why.
     ensures broken { IfErr result (IsToldOf text.now) }
     // Memory aside, each of the two comes exactly where it should.

@@ -4,26 +4,27 @@ ghost use Rattle.script.specs.Line.{Says, SentenceView};
 ghost use Rattle.script.specs.Sentence.{sentence_view};
 
 use crate::peer::read_peer;
-use crate::step::Step;
+use crate::step::read_step;
 use feed_conf::PeerConf;
 use std::alloc::{AllocError, Global};
+use world_core::Step;
 
 /// What one line says.
 #[derive(Drop)]
-pub enum Sentence<'a> {
+pub enum Sentence {
     /// Nothing: it is empty or a comment.
     Nothing,
     /// A peer is declared.
     Peer(PeerConf),
     /// A step is taken.
-    Step(Step<'a>),
+    Step(Step),
 }
 
 /// What a line says, without its LF and the CR before that; nothing at all where it says none of these.
 ///
 /// # Errors
 /// Memory was refused.
-pub fn read_sentence(alloc: Global, line: &[u8]) -> Result<Option<Sentence<'_>>, AllocError>
+pub fn read_sentence(alloc: Global, line: &[u8]) -> Result<Option<Sentence>, AllocError>
     ensures { IfOk result (λ sentence. MatchOption sentence
         ((said : SentenceView) → Says line.now said → ⊥)
         (λ made. Says line.now (sentence_view made))) }
@@ -37,7 +38,7 @@ pub fn read_sentence(alloc: Global, line: &[u8]) -> Result<Option<Sentence<'_>>,
             None => Ok(None),
         };
     }
-    match Step::read(alloc, line)? {
+    match read_step(alloc, line)? {
         Some(step) => Ok(Some(Sentence::Step(step))),
         None => Ok(None),
     }

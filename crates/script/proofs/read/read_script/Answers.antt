@@ -1,4 +1,4 @@
-use Rattle.std.proofs.Common.{◌≡◌, ℕ, List, length, subst, arith, rules}
+use Rattle.std.proofs.Common.{◌≡◌, ◌+◌, ℕ, List, length, subst, arith, rules}
 use Rattle.std.proofs.lemmas.Grind.{common_steps}
 use Rattle.script.specs.Draft.{Drafts, Gains, IsRefusal}
 use Rattle.script.specs.Line.{Says, SentenceView}
@@ -6,7 +6,9 @@ use Rattle.script.specs.Script.{BreaksAt}
 use Rattle.script.specs.declared.fault.Reason.TheVariants.{Unended}
 use Rattle.script.specs.declared.fault.ScriptFault.TheVariants.{Broken}
 use Rattle.std.specs.Prelude.{Err, Ok}
-use Rattle.script.proofs.Reading.{fault_good, fault_told, first_both, has_more, keeps_both, read_whole, refusal_told}
+use Rattle.script.proofs.Reading.{fault_good, fault_told, first_both, has_more, keeps_both, placed, read_whole}
+use Rattle.script.proofs.Reading.{refusal_told}
+use Rattle.script.proofs.Distinct.{names_differ}
 use Rattle.script.proofs.read.read_script.Goals as goal
 
 pub returns-in_err-add-clause-broken : goal.returns-in_err-add-clause-broken
@@ -57,6 +59,7 @@ loop-line-preserved c =
           c.loop-line.draft c.add.new.self c.in-Some.ensures.line
           c.loop-line.invariant.read
           (subst (λ (l : List ℕ). (before : List SentenceView) → Drafts c.loop-line.draft before →
+          c.loop-line.place ≡ length before + 1 →
           (said : SentenceView) × Says l said × Gains c.loop-line.draft c.add.new.self before said)
           c.without_cr.ensures c.in_ok-add.ensures.ok);
       room = omega (arith, c.in-Some.ensures.shorter);
@@ -79,3 +82,19 @@ returns-clause-first c =
     read_whole c.args.text.now c.loop-line.rest.now c.loop-line.place c.loop-line.draft c.in_ok-script.script
     c.loop-line.invariant.read none c.in_ok-script.ensures in
     first_both c.args.text.now (Ok c.in_ok-script.script) good tt
+
+pub returns-clause-distinct : goal.returns-clause-distinct
+returns-clause-distinct c =
+    let none : length c.loop-line.rest.now ≡ 0 = grind (arith, common_steps) in
+    let good =
+    read_whole c.args.text.now c.loop-line.rest.now c.loop-line.place c.loop-line.draft c.in_ok-script.script
+    c.loop-line.invariant.read none c.in_ok-script.ensures in
+    names_differ c.args.text.now c.in_ok-script.script good
+
+pub returns-clause-placed : goal.returns-clause-placed
+returns-clause-placed c =
+    let none : length c.loop-line.rest.now ≡ 0 = grind (arith, common_steps) in
+    let good =
+    read_whole c.args.text.now c.loop-line.rest.now c.loop-line.place c.loop-line.draft c.in_ok-script.script
+    c.loop-line.invariant.read none c.in_ok-script.ensures in
+    placed c.args.text.now c.in_ok-script.script good

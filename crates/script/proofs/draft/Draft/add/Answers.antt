@@ -1,34 +1,22 @@
-use Rattle.std.proofs.Common.{refl}
 use Rattle.script.specs.Line.{Blank, Takes}
 use Rattle.script.specs.Step.{step_view}
-use Rattle.script.specs.declared.draft.Draft.{Draft}
 use Rattle.script.specs.declared.sentence.Sentence.TheVariants.{Nothing, Step}
-use Rattle.script.proofs.Growing.{gains_blank, gains_step, said_of}
+use Rattle.script.proofs.Growing.{gains_blank, said_of}
 use Rattle.script.proofs.draft.Draft.add.Goals as goal
 
 pub returns-in-Some-Nothing-clause-ok : goal.returns-in-Some-Nothing-clause-ok
-returns-in-Some-Nothing-clause-ok c = λ before drafts.
+returns-in-Some-Nothing-clause-ok c = λ before drafts at.
     let says =
     said_of c.args.line.now c.in_ok-read_sentence.field-0 c.in-Some-Nothing.field-0 Nothing
     c.in-Some-Nothing.is c.in-Some-Nothing.field-0-is
     (c.in_ok-read_sentence.ensures {u = tt}) in
     (Blank, says, gains_blank c.args.self.now before drafts)
 
-pub returns-in_ok-push-in-Some-Step-clause-ok : goal.returns-in_ok-push-in-Some-Step-clause-ok
-returns-in_ok-push-in-Some-Step-clause-ok c = λ before drafts.
+pub returns-in_ok-take-in-Some-Step-clause-ok : goal.returns-in_ok-take-in-Some-Step-clause-ok
+returns-in_ok-take-in-Some-Step-clause-ok c = λ before drafts at.
     let step = c.in-Some-Step.step in
     let says =
     said_of c.args.line.now c.in_ok-read_sentence.field-0 c.in-Some-Step.field-0
     (Step step) c.in-Some-Step.is c.in-Some-Step.field-0-is
     (c.in_ok-read_sentence.ensures {u = tt}) in
-    let new : Draft = record {
-      peers = c.args.self.now.peers;
-      names = c.args.self.now.names;
-      steps =
-          c.push.new.self;
-    } in (
-      Takes (step_view step),
-      says,
-      gains_step c.args.self.now new step before refl refl
-          c.in_ok-push-in-Some-Step.ensures.items drafts,
-    )
+    (Takes (step_view step), says, c.in_ok-take-in-Some-Step.ensures before drafts at)

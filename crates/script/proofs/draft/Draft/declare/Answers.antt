@@ -23,6 +23,7 @@ returns-clause-ok c = λ before drafts.
       peers = c.push.new.self;
       names = c.insert.new.self;
       steps = c.args.self.now.steps;
+      lines = c.args.self.now.lines;
     }) c.args.conf c.in_ok-name.name before none is
     (was_strange _ _ c.in_ok-insert.ensures.added c.if-not-branch.false) c.in_ok-insert.ensures.keys
-    c.in_ok-push.ensures.items refl drafts
+    c.in_ok-push.ensures.items refl refl drafts

@@ -16,4 +16,5 @@ returns c = λ sentences drafts. record {
   order = c.in_ok-sort_by.ensures.sorted _ (ranks_by nat_list_cmp_total (λ (peer : PeerConf). peer.name))
       (answers_always _ _ _ (λ f a r q k. search rules));
   steps = drafts.steps;
+  lines = drafts.lines;
 }

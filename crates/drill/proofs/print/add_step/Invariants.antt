@@ -1,0 +1,8 @@
+use Rattle.std.proofs.Common.{◌≡◌, ◌++◌, flat_map, map, take}
+use Rattle.world_core.specs.Lines.{line_text}
+use Rattle.world_core.specs.Told.{said_of}
+use Rattle.drill.proofs.print.add_step.Given as goal
+
+-- the lines so far were added
+abbrev pub invariant-loop-one : goal.invariant-loop-one
+invariant-loop-one l = l.out.items ≡ l.initial.out.items ++ flat_map line_text (map said_of (take l.one-index l.told))

@@ -1,0 +1,12 @@
+use Rattle.std.proofs.Common.{◌≡◌, ◌++◌, flat_map, map, take}
+use Rattle.std.specs.Global.{Vec}
+use Rattle.drill.specs.Printed.{step_text}
+use Rattle.world_core.specs.Told.{said_of}
+use Rattle.world_core.specs.declared.told.Told.{Told}
+use Rattle.drill.proofs.print.add_steps.Given as goal
+
+-- the steps so far were added
+abbrev pub invariant-loop-told : goal.invariant-loop-told
+invariant-loop-told l =
+    l.out.items ≡ l.initial.out.items
+    ++ flat_map step_text (map (λ (told : Vec Told). map said_of told.items) (take l.told-index l.lines))

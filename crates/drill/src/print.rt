@@ -1,0 +1,138 @@
+// The lines that a drill prints (docs/FORMATS.md).
+ghost use Rattle.std.specs.Prelude.{◌≡◌, ◌++◌, OnOk, decimal as digits_of, flat_map, map};
+ghost use Rattle.world_core.specs.Stands.{counts_in};
+ghost use Rattle.world_core.specs.Told.{said_by, said_of};
+ghost use Rattle.drill.specs.Printed.{broken_text, end_text, kind_text, refused_text, step_text, steps_text, tape_kind};
+ghost use Rattle.drill.specs.Printed.{totals_text};
+
+use ledger_core::{LedgerFault, Totals};
+use recovery::TapeFault;
+use std::alloc::AllocError;
+use world_core::{Fault, PeerTotals, Told};
+
+/// The lines of what each step told.
+pub fn add_steps(out: &mut Vec<u8>, lines: &[Vec<Told>]) -> Result<(), AllocError>
+    ensures { OnOk result (out.new.items ≡ out.old.items ++ steps_text (said_by lines.now)) }
+{
+    for told in lines {
+        add_step(out, told)?;
+    }
+    Ok(())
+}
+
+// The lines of what a step told.
+fn add_step(out: &mut Vec<u8>, told: &[Told]) -> Result<(), AllocError>
+    ensures { OnOk result (out.new.items ≡ out.old.items ++ step_text (map said_of told.now)) }
+{
+    let alloc = *out.allocator();
+    for one in told {
+        out.extend_from_slice(&one.line(alloc)?)?;
+    }
+    Ok(())
+}
+
+/// A line of each peer's counts.
+pub fn add_totals(out: &mut Vec<u8>, totals: &[PeerTotals]) -> Result<(), AllocError>
+    ensures { OnOk result
+        (out.new.items ≡ out.old.items ++ flat_map totals_text (counts_in totals.now)) }
+{
+    for peer in totals {
+        add_peer(out, peer)?;
+    }
+    Ok(())
+}
+
+// `NAME taken T answered A dropped D owed O bytes B`.
+fn add_peer(out: &mut Vec<u8>, peer: &PeerTotals) -> Result<(), AllocError>
+    ensures { OnOk result
+        (out.new.items ≡ out.old.items ++ totals_text (peer.now.name, peer.now.totals)) }
+{
+    let Totals {
+        taken,
+        answered,
+        dropped,
+        owed,
+        owed_bytes,
+    } = peer.totals;
+    out.extend_from_slice(peer.name.bytes())?;
+    add_count(out, b" taken ", taken)?;
+    add_count(out, b" answered ", answered)?;
+    add_count(out, b" dropped ", dropped)?;
+    add_count(out, b" owed ", owed)?;
+    add_count(out, b" bytes ", owed_bytes)?;
+    out.push(b'\n')?;
+    Ok(())
+}
+
+/// `end STEPS`.
+pub fn add_end(out: &mut Vec<u8>, steps: usize) -> Result<(), AllocError>
+    ensures { OnOk result (out.new.items ≡ out.old.items ++ end_text steps) }
+{
+    add_count(out, b"end ", steps as u64)?;
+    out.push(b'\n')?;
+    Ok(())
+}
+
+/// `script N`.
+pub fn add_broken(out: &mut Vec<u8>, line: usize) -> Result<(), AllocError>
+    ensures { OnOk result (out.new.items ≡ out.old.items ++ broken_text line) }
+{
+    add_count(out, b"script ", line as u64)?;
+    out.push(b'\n')?;
+    Ok(())
+}
+
+/// `step N: KIND`.
+pub fn add_refused(out: &mut Vec<u8>, step: usize, kind: Fault) -> Result<(), AllocError>
+    ensures { OnOk result (out.new.items ≡ out.old.items ++ refused_text step kind) }
+{
+    add_count(out, b"step ", step as u64)?;
+    out.extend_from_slice(b": ")?;
+    out.extend_from_slice(kind_text(kind))?;
+    out.push(b'\n')?;
+    Ok(())
+}
+
+// A word and a number.
+fn add_count(out: &mut Vec<u8>, word: &[u8], number: u64) -> Result<(), AllocError>
+    ensures { OnOk result (out.new.items ≡ out.old.items ++ (word.now ++ digits_of number)) }
+{
+    out.extend_from_slice(word)?;
+    out.extend_from_slice(itoa::Buffer::new().format(number).as_bytes())
+}
+
+// The name of why a step is refused, with that of a fault within.
+fn kind_text(kind: Fault) -> &'static [u8]
+    ensures { result.now ≡ kind_text kind }
+{
+    match kind {
+        Fault::NoPeer => b"NoPeer",
+        Fault::NoConnection => b"NoConnection",
+        Fault::Stopped => b"Stopped",
+        Fault::Running => b"Running",
+        Fault::NotNeeded => b"NotNeeded",
+        Fault::Tape(fault) => tape_kind(fault),
+        Fault::CountFull => b"CountFull",
+        Fault::NoMemory => b"NoMemory",
+        Fault::NotFlushed => b"NotFlushed",
+    }
+}
+
+// The name of why a tape refused.
+fn tape_kind(fault: TapeFault) -> &'static [u8]
+    ensures { result.now ≡ tape_kind fault }
+{
+    match fault {
+        TapeFault::Damaged { .. } => b"Tape Damaged",
+        TapeFault::Disk => b"Tape Disk",
+        TapeFault::Broken => b"Tape Broken",
+        TapeFault::TapeFull => b"Tape TapeFull",
+        TapeFault::GenerationFull => b"Tape GenerationFull",
+        TapeFault::PendingFull => b"Tape PendingFull",
+        TapeFault::NoMemory => b"Tape NoMemory",
+        TapeFault::Note(LedgerFault::OldNumber) => b"Tape Note OldNumber",
+        TapeFault::Note(LedgerFault::NotOwed) => b"Tape Note NotOwed",
+        TapeFault::Note(LedgerFault::CountFull) => b"Tape Note CountFull",
+        TapeFault::Note(LedgerFault::NoMemory) => b"Tape Note NoMemory",
+    }
+}

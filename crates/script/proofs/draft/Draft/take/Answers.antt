@@ -1,0 +1,12 @@
+use Rattle.std.proofs.Common.{refl}
+use Rattle.script.proofs.Growing.{gains_step}
+use Rattle.script.proofs.draft.Draft.take.Goals as goal
+
+pub returns : goal.returns
+returns c = λ before drafts at.
+    gains_step c.args.self.now (record {
+      peers = c.args.self.now.peers;
+      names = c.args.self.now.names;
+      steps = c.push-2.new.self;
+      lines = c.push.new.self;
+    }) c.args.step c.args.place before refl refl c.in_ok-push-2.ensures.items c.in_ok-push.ensures.items at drafts
