@@ -3,6 +3,7 @@ pub mod Head
 pub mod Journal
 pub mod Kept
 pub mod Open
+pub mod Read
 pub mod Renew
 pub mod Rewrite
 pub mod Segment

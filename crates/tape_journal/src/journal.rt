@@ -58,6 +58,7 @@ impl<D: Disk> Journal<D> {
     ghost use Rattle.tape_journal.specs.Words.{octets_of};
     ghost use Rattle.tape_journal.specs.Segment.{AllShort, IsRecord, records, longest_segment};
     ghost use Rattle.tape_journal.specs.Append.{Appends, Continues, RefusesAppend};
+    ghost use Rattle.tape_journal.specs.Read.{Keeps};
     ghost use Rattle.tape_journal.specs.Journal.{disk_of, end_of, IsBroken, Holds, IsOpened, IsRefused};
     ghost use Rattle.tape_journal.specs.Open.{HasCause, IsReturned};
     ghost use Rattle.tape_journal.specs.Renew.{Works};
@@ -203,15 +204,10 @@ impl<D: Disk> Journal<D> {
             (drop offset (content (D.log (disk_of self.old))))) }
 
         ensures broken { IsErrOf result ReadFault.Broken ↔ IsBroken self.old }
-        ensures stays { (all : List (List ℕ)) → Holds self.old all → Holds self.new all }
-        ensures log { D.honest (disk_of self.old)
-            → D.log (disk_of self.new) ≡ D.log (disk_of self.old) }
-        ensures end { end_of self.new ≡ end_of self.old }
-        ensures works { IsBroken self.old ↔ IsBroken self.new }
-        ensures honest { D.honest (disk_of self.old) ↔ D.honest (disk_of self.new) }
-        ensures quiet { OnOk result (D.told (disk_of self.new) ≡ D.told (disk_of self.old)) }
         ensures refused { IsErrOf result ReadFault.Broken → self.new ≡ self.old }
-        ensures later { D.told (disk_of self.old) ≤ D.told (disk_of self.new) }
+        ensures keeps { Keeps self.old self.new }
+        ensures continues { Continues self.old self.new }
+        ensures quiet { OnOk result (D.told (disk_of self.new) ≡ D.told (disk_of self.old)) }
     {
         if self.broken {
             return Err(ReadFault::Broken);

@@ -154,9 +154,10 @@ fn renew_on<D: Disk>(alloc: Global, disk: &mut D, payloads: &[Vec<u8>]) -> Resul
 }
 
 impl<D: Disk> Journal<D> {
-    ghost use Rattle.std.specs.Prelude.{IsErrAnd, MatchResult, OnErr};
-    ghost use Rattle.tape_journal.specs.Journal.{disk_of, end_of, IsBroken};
-    ghost use Rattle.tape_journal.specs.Renew.{IsHandedBack, IsNotRenewed, IsRenewed, Works};
+    ghost use Rattle.std.specs.Prelude.{MatchResult, OnErr};
+    ghost use Rattle.tape_journal.specs.Journal.{disk_of, end_of};
+    ghost use Rattle.tape_journal.specs.Renew.{IsHandedBack, IsNotRenewed, IsRenewed, RefusesMove, RefusesRenewal};
+    ghost use Rattle.tape_journal.specs.Renew.{Works};
 
     /// Writes a whole segment of these payloads in place of what the disk has. Its first gate opens
     /// last: a stop on the way leaves a disk from before the call, or one without a payload, or one
@@ -177,12 +178,7 @@ impl<D: Disk> Journal<D> {
         ensures err { D.honest disk
             → IfErr result (IsNotRenewed (D.log disk) (octets_of payloads.now)) }
 
-        ensures too_long { IsErrAnd result (λ e. e.fault ≡ RenewFault.PayloadTooLong)
-            ↔ (AllShort (octets_of payloads.now) → ⊥) }
-        ensures full { IsErrAnd result (λ e. e.fault ≡ RenewFault.TapeFull)
-            ↔ (AllShort (octets_of payloads.now)
-            × (longest_segment < 1 + length (records (octets_of payloads.now)))) }
-        ensures refused { IfErr result (λ e. e.fault ≢ RenewFault.Disk → e.disk ≡ disk) }
+        ensures refuses { RefusesRenewal (octets_of payloads.now) disk result }
         ensures cause { D.honest disk → IfErr result (λ e. e.fault ≡ RenewFault.Disk
             → min (D.told disk + 1) (2 ^ 64 - 1) ≤ D.told e.disk) }
 
@@ -219,13 +215,8 @@ impl<D: Disk> Journal<D> {
         ensures exchanged { MatchResult result (λ _. other.new ≡ disk_of self.old)
             (λ _. (disk_of self.new ≡ disk_of self.old) × (end_of self.new ≡ end_of self.old)) }
 
-        ensures too_long { IsErrOf result RenewFault.PayloadTooLong
-            ↔ (AllShort (octets_of payloads.now) → ⊥) }
-        ensures full { IsErrOf result RenewFault.TapeFull ↔ (AllShort (octets_of payloads.now)
-            × (longest_segment < 1 + length (records (octets_of payloads.now)))) }
-        ensures refused { IfErr result (λ e. e ≢ RenewFault.Disk
-            → (self.new ≡ self.old) × (other.new ≡ other.old)) }
-        ensures breaks { IsErrOf result RenewFault.Disk → IsBroken self.new }
+        ensures refuses { RefusesMove (octets_of payloads.now) self.old self.new other.old
+            other.new result }
         ensures cause { D.honest other.old → IsErrOf result RenewFault.Disk
             → min (D.told other.old + 1) (2 ^ 64 - 1) ≤ D.told other.new }
 

@@ -86,13 +86,13 @@ returns-in-Err-Disk-clause-err g c = λ h stands is.
       c.in-Err-Disk.ensures.works.0.0 stands.honest.1,
     )
     refl refl refl (returns-in-Err-Disk-clause-moments g c h stands is)
-    (λ works. absurd (works (c.in-Err-Disk.ensures.breaks (ap Err c.in-Err-Disk.field-0-is))))
+    (λ works. absurd (works (c.in-Err-Disk.ensures.refuses.breaks (ap Err c.in-Err-Disk.field-0-is))))
     (λ kept was. record { indexes = was.indexes; next = was.next })
 
 pub returns-in-Err-NoMemory-clause-moments : goal.returns-in-Err-NoMemory-clause-moments
 returns-in-Err-NoMemory-clause-moments g c = λ h stands is.
     let tape = c.args.self.now in
-    let same = c.in-Err-NoMemory.ensures.refused (λ disk. cc (disk, c.in-Err-NoMemory.field-0-is)) in
+    let same = c.in-Err-NoMemory.ensures.refuses.refused (λ disk. cc (disk, c.in-Err-NoMemory.field-0-is)) in
     subst (λ (s : Segments _ g.D.Disk). TapeLeaves (Survives h) (log_of tape)
     (placed s.second (g.D.Disk.log (journal_disk s.live)) (g.D.Disk.log s.other)))
     (sym (same_segments tape.segments c.move_to.new.self c.move_to.new.other same.0 same.1)) (at_start stands.images)
@@ -100,13 +100,13 @@ returns-in-Err-NoMemory-clause-moments g c = λ h stands is.
 pub returns-in-Err-NoMemory-clause-refused : goal.returns-in-Err-NoMemory-clause-refused
 returns-in-Err-NoMemory-clause-refused g c = λ others.
     let tape = c.args.self.now in
-    let same = c.in-Err-NoMemory.ensures.refused (λ disk. cc (disk, c.in-Err-NoMemory.field-0-is)) in
+    let same = c.in-Err-NoMemory.ensures.refuses.refused (λ disk. cc (disk, c.in-Err-NoMemory.field-0-is)) in
     same_tape tape _ (same_segments tape.segments c.move_to.new.self c.move_to.new.other same.0 same.1) _ _
 
 pub returns-in-Err-NoMemory-clause-err : goal.returns-in-Err-NoMemory-clause-err
 returns-in-Err-NoMemory-clause-err g c = λ h stands is.
     let tape = c.args.self.now in
-    let same = c.in-Err-NoMemory.ensures.refused (λ disk. cc (disk, c.in-Err-NoMemory.field-0-is)) in
+    let same = c.in-Err-NoMemory.ensures.refuses.refused (λ disk. cc (disk, c.in-Err-NoMemory.field-0-is)) in
     subst (λ (t : Tape _ g.D.Disk). StandsFor t h)
     (sym (same_tape tape _ (same_segments tape.segments c.move_to.new.self c.move_to.new.other same.0 same.1) _ _))
     stands
@@ -120,17 +120,17 @@ not_long tape h payloads stands is fits long = omega (arith, fits, long, ap leng
 pub returns-in-Err-TapeFull-clause-moments : goal.returns-in-Err-TapeFull-clause-moments
 returns-in-Err-TapeFull-clause-moments g c = λ h stands is.
     absurd (not_long c.args.self.now h (octets_of c.args.payloads.now) stands is c.requires.fits
-    (c.in-Err-TapeFull.ensures.full.0 (ap Err c.in-Err-TapeFull.field-0-is)).1)
+    (c.in-Err-TapeFull.ensures.refuses.full.0 (ap Err c.in-Err-TapeFull.field-0-is)).1)
 
 pub returns-in-Err-TapeFull-clause-err : goal.returns-in-Err-TapeFull-clause-err
 returns-in-Err-TapeFull-clause-err g c = λ h stands is.
     absurd (not_long c.args.self.now h (octets_of c.args.payloads.now) stands is c.requires.fits
-    (c.in-Err-TapeFull.ensures.full.0 (ap Err c.in-Err-TapeFull.field-0-is)).1)
+    (c.in-Err-TapeFull.ensures.refuses.full.0 (ap Err c.in-Err-TapeFull.field-0-is)).1)
 
 pub returns-in-Err-TapeFull-clause-cause : goal.returns-in-Err-TapeFull-clause-cause
 returns-in-Err-TapeFull-clause-cause g c = λ h stands is told.
     absurd (not_long c.args.self.now h (octets_of c.args.payloads.now) stands is c.requires.fits
-    (c.in-Err-TapeFull.ensures.full.0 (ap Err c.in-Err-TapeFull.field-0-is)).1)
+    (c.in-Err-TapeFull.ensures.refuses.full.0 (ap Err c.in-Err-TapeFull.field-0-is)).1)
 
 all_short : {D : Type 0} {g : Ghosts D} (tape : Tape D g) (h : History) (payloads : List (List ℕ)) → StandsFor tape h
     → payloads ≡ written (generation_of tape + 1) (ledger_of tape) → AllShort payloads
@@ -139,15 +139,15 @@ all_short tape h payloads stands is =
 
 pub returns-in-Err-PayloadTooLong-clause-moments : goal.returns-in-Err-PayloadTooLong-clause-moments
 returns-in-Err-PayloadTooLong-clause-moments g c = λ h stands is.
-    absurd (c.in-Err-PayloadTooLong.ensures.too_long.0 (ap Err c.in-Err-PayloadTooLong.field-0-is)
+    absurd (c.in-Err-PayloadTooLong.ensures.refuses.too_long.0 (ap Err c.in-Err-PayloadTooLong.field-0-is)
     (all_short c.args.self.now h (octets_of c.args.payloads.now) stands is))
 
 pub returns-in-Err-PayloadTooLong-clause-err : goal.returns-in-Err-PayloadTooLong-clause-err
 returns-in-Err-PayloadTooLong-clause-err g c = λ h stands is.
-    absurd (c.in-Err-PayloadTooLong.ensures.too_long.0 (ap Err c.in-Err-PayloadTooLong.field-0-is)
+    absurd (c.in-Err-PayloadTooLong.ensures.refuses.too_long.0 (ap Err c.in-Err-PayloadTooLong.field-0-is)
     (all_short c.args.self.now h (octets_of c.args.payloads.now) stands is))
 
 pub returns-in-Err-PayloadTooLong-clause-cause : goal.returns-in-Err-PayloadTooLong-clause-cause
 returns-in-Err-PayloadTooLong-clause-cause g c = λ h stands is told.
-    absurd (c.in-Err-PayloadTooLong.ensures.too_long.0 (ap Err c.in-Err-PayloadTooLong.field-0-is)
+    absurd (c.in-Err-PayloadTooLong.ensures.refuses.too_long.0 (ap Err c.in-Err-PayloadTooLong.field-0-is)
     (all_short c.args.self.now h (octets_of c.args.payloads.now) stands is))
