@@ -5,7 +5,8 @@ use Rattle.std.specs.Io.KnownBytes.{Appends, Keeps}
 use Rattle.std.specs.declared.io.Error.{Error}
 use Rattle.drill.specs.Drill.{Drills}
 use Rattle.drill.specs.declared.ending.Ending.{Ending}
-use Rattle.drill.specs.declared.ending.Ending.TheVariants.{Done as AllTaken, Refused as LineRefused, NoMemory as WantsMemory}
+use Rattle.drill.specs.declared.ending.Ending.TheVariants.{Done as AllTaken, Refused as LineRefused}
+use Rattle.drill.specs.declared.ending.Ending.TheVariants.{NoMemory as WantsMemory}
 use Rattle.feed_conf.specs.Reading.{HaveTokens, lines_of}
 use Rattle.feed_conf.specs.Settings.{Outcome, meaning}
 use Rattle.feed_conf.specs.Tokens.{Token}
@@ -54,11 +55,12 @@ line_of_ending source AllTaken = None
 line_of_ending source (LineRefused refusal) = Some (refusal_text source refusal)
 line_of_ending source WantsMemory = None
 
--- The script was run: standard output gets what that prints, and the status and the line tell its ending; or standard output could
--- not be written.
+-- The script was run: standard output gets what that prints, and the status and the line tell its ending; or standard
+-- output could not be written.
 abbrev pub Runs : (text source : List ℕ) → Option (List ℕ) → Option (List ℕ) → Exit → Option (List ℕ) → Type 0
 Runs text source old new exit line =
-    ((ending : Ending) × Drills (Some text) old new ending × (exit ≡ exit_of ending) × (line ≡ line_of_ending source ending))
+    ((ending : Ending) × Drills (Some text) old new ending × (exit ≡ exit_of ending)
+    × (line ≡ line_of_ending source ending))
     ⊎ LosesOutput exit line
     ⊎ LacksMemory exit line
 

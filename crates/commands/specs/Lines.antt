@@ -5,7 +5,8 @@ use Rattle.drill.specs.declared.ending.Refusal.{Refusal}
 use Rattle.feed_conf.specs.declared.fault.ConfFault.{ConfFault}
 use Rattle.feed_conf.specs.declared.fault.ConfFaultKind.{ConfFaultKind}
 use Rattle.feed_conf.specs.declared.fault.ConfFaultKind.TheVariants.{NoValue, BadNumber, BadBoolean, Unbalanced}
-use Rattle.feed_conf.specs.declared.fault.ConfFaultKind.TheVariants.{BadPeerName, SamePeer, LowAboveHigh, Range, NoMemory}
+use Rattle.feed_conf.specs.declared.fault.ConfFaultKind.TheVariants.{BadPeerName, SamePeer, LowAboveHigh, Range}
+use Rattle.feed_conf.specs.declared.fault.ConfFaultKind.TheVariants.{NoMemory}
 
 -- the word for what is wrong with a configuration
 abbrev pub kind_text : ConfFaultKind → List ℕ

@@ -11,7 +11,8 @@ use Rattle.world_core.specs.Making.{Begins}
 use Rattle.world_core.specs.Stands.{Ends, Reports, WasNotMade, HadNoRoom, WasRefused as RunRefused}
 use Rattle.world_core.specs.Told.{Said, said_by}
 use Rattle.world_core.specs.declared.fault.Fault.{Fault}
-use Rattle.world_core.specs.declared.fault.Fault.TheVariants.{NoPeer, NoConnection, Stopped, Running, NotNeeded, Tape, CountFull}
+use Rattle.world_core.specs.declared.fault.Fault.TheVariants.{NoPeer, NoConnection, Stopped, Running, NotNeeded, Tape}
+use Rattle.world_core.specs.declared.fault.Fault.TheVariants.{CountFull}
 use Rattle.world_core.specs.declared.fault.Fault.TheVariants.{NoMemory, NotFlushed}
 use Rattle.world_core.specs.declared.fault.WorldFault.{WorldFault}
 use Rattle.world_core.specs.declared.step.Step.{Step}
@@ -41,7 +42,8 @@ taken_played script world later lines counts printed ending b reports prints end
       later = told.0.later;
       runs = told.0.runs;
       prints = prints
-          ∙ ap (λ (c : List (List ℕ × Totals)). steps_text lines ++ (flat_map totals_text c ++ end_text (length script.steps.items)))
+          ∙ ap (λ (c : List (List ℕ × Totals)).
+          steps_text lines ++ (flat_map totals_text c ++ end_text (length script.steps.items)))
           told.1;
     } in
     subst (IsPlayed script printed) (sym ends) taken
@@ -61,11 +63,14 @@ fails_played : (script : Script) (printed : List ℕ) (line : ℕ) (kind : Fault
     Fails script printed line kind → EndsBy line kind ending → IsPlayed script printed ending
 fails_played script printed line NoMemory ending fails ends =
     subst (IsPlayed script printed) (sym (ends.0 refl)) (inl (line, fails))
-fails_played script printed line NoPeer ending fails ends = refused_played script printed line NoPeer ending (λ e. cc) fails ends
+fails_played script printed line NoPeer ending fails ends =
+    refused_played script printed line NoPeer ending (λ e. cc) fails ends
 fails_played script printed line NoConnection ending fails ends =
     refused_played script printed line NoConnection ending (λ e. cc) fails ends
-fails_played script printed line Stopped ending fails ends = refused_played script printed line Stopped ending (λ e. cc) fails ends
-fails_played script printed line Running ending fails ends = refused_played script printed line Running ending (λ e. cc) fails ends
+fails_played script printed line Stopped ending fails ends =
+    refused_played script printed line Stopped ending (λ e. cc) fails ends
+fails_played script printed line Running ending fails ends =
+    refused_played script printed line Running ending (λ e. cc) fails ends
 fails_played script printed line NotNeeded ending fails ends =
     refused_played script printed line NotNeeded ending (λ e. cc) fails ends
 fails_played script printed line (Tape fault) ending fails ends =
@@ -88,7 +93,8 @@ unmade_played script fault printed ending none prints ends =
     fails_played script printed (line_of script.lines.items fault.step) fault.kind ending (inr (line, text)) ends
 
 -- a step was refused
-module _ (script : Script) (world later : World) (fault : WorldFault) (printed : List ℕ) (b : Begins script.peers.items world)
+module _ (script : Script) (world later : World) (fault : WorldFault) (printed : List ℕ)
+    (b : Begins script.peers.items world)
     (placed : length script.lines.items ≡ length script.steps.items)
     (prints : printed ≡ steps_text (said_by fault.lines.items) ++ refused_text fault.step fault.kind) where
   line_told : (index : ℕ) → fault.step ≡ index + 1 →

@@ -1,5 +1,6 @@
 -- What a text comes to as a drill: what is printed, and how it ends (docs/FORMATS.md).
-use Rattle.std.specs.Prelude.{◌≡◌, ◌≢◌, ◌⊎◌, ◌+◌, slice_index_or, ℕ, zero, suc, Option, Some, List, [], ◌++◌, flat_map, length, map, slice_get, take, IfSome}
+use Rattle.std.specs.Prelude.{◌≡◌, ◌≢◌, ◌⊎◌, ◌+◌, slice_index_or, ℕ, zero, suc, Option, Some, List, [], ◌++◌}
+use Rattle.std.specs.Prelude.{flat_map, length, map, slice_get, take, IfSome}
 use Rattle.std.specs.Io.KnownBytes.{Appends, Keeps}
 use Rattle.std.specs.List.Sorted.{IsPermutation}
 use Rattle.feed_conf.specs.declared.conf.PeerConf.{PeerConf}
@@ -35,7 +36,8 @@ pub record WasTaken (script : Script) (printed : List ℕ) : Type 0 where
   pub lines : List (List Said)
   pub later : Life
   pub runs : Runs begun script.steps.items lines later
-  pub prints : printed ≡ steps_text lines ++ (flat_map totals_text (counts_of later) ++ end_text (length script.steps.items))
+  pub prints : printed
+      ≡ steps_text lines ++ (flat_map totals_text (counts_of later) ++ end_text (length script.steps.items))
 
 -- The step that this line says was refused for this fault: the lines of what those before it told are printed, and it.
 pub record WasRefused (script : Script) (printed : List ℕ) (line : ℕ) (fault : Fault) : Type 0 where
@@ -89,11 +91,12 @@ abbrev pub IsDrill : (text printed : List ℕ) → Ending → Type 0
 IsDrill text printed ending =
     ((script : Script) × IsScript text script × IsPlayed script printed ending) ⊎ IsNoScript text printed ending
 
--- What a reader has left, where that is known, was played, and what that printed is all that the writer got; or there was no memory
--- for the script or for what it prints, and the writer got nothing.
+-- What a reader has left, where that is known, was played, and what that printed is all that the writer got; or there
+-- was no memory for the script or for what it prints, and the writer got nothing.
 abbrev pub Drills : (says old new : Option (List ℕ)) → Ending → Type 0
 Drills says old new ending =
-    ((text printed : List ℕ) × IfSome says (λ octets. text ≡ octets) × Appends old new printed × IsDrill text printed ending)
+    ((text printed : List ℕ) × IfSome says (λ octets. text ≡ octets) × Appends old new printed
+    × IsDrill text printed ending)
     ⊎ ((ending ≡ NoMemoryLeft) × Keeps old new)
 
 -- the line of a step, from 1, among these; 0 where there is none

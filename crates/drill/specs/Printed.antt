@@ -1,15 +1,18 @@
 -- What a drill prints (docs/FORMATS.md): the lines of what its steps tell are those of the world.
 use Rattle.std.specs.Prelude.{ℕ, List, [], ◌∷◌, ◌++◌, codes, decimal, flat_map}
 use Rattle.ledger_core.specs.declared.ledger.LedgerFault.{LedgerFault}
-use Rattle.ledger_core.specs.declared.ledger.LedgerFault.TheVariants.{OldNumber, NotOwed, CountFull as FullLedger, NoMemory as NoLedgerMemory}
+use Rattle.ledger_core.specs.declared.ledger.LedgerFault.TheVariants.{OldNumber, NotOwed, CountFull as FullLedger}
+use Rattle.ledger_core.specs.declared.ledger.LedgerFault.TheVariants.{NoMemory as NoLedgerMemory}
 use Rattle.ledger_core.specs.declared.ledger.Totals.{Totals}
 use Rattle.recovery.specs.declared.fault.TapeFault.{TapeFault}
-use Rattle.recovery.specs.declared.fault.TapeFault.TheVariants.{Damaged, Disk, Broken, TapeFull, GenerationFull, PendingFull}
+use Rattle.recovery.specs.declared.fault.TapeFault.TheVariants.{Damaged, Disk, Broken, TapeFull, GenerationFull}
+use Rattle.recovery.specs.declared.fault.TapeFault.TheVariants.{PendingFull}
 use Rattle.recovery.specs.declared.fault.TapeFault.TheVariants.{NoMemory as NoTapeMemory, Note}
 use Rattle.world_core.specs.Lines.{line_text}
 use Rattle.world_core.specs.Told.{Said}
 use Rattle.world_core.specs.declared.fault.Fault.{Fault}
-use Rattle.world_core.specs.declared.fault.Fault.TheVariants.{NoPeer, NoConnection, Stopped, Running, NotNeeded, Tape, CountFull}
+use Rattle.world_core.specs.declared.fault.Fault.TheVariants.{NoPeer, NoConnection, Stopped, Running, NotNeeded, Tape}
+use Rattle.world_core.specs.declared.fault.Fault.TheVariants.{CountFull}
 use Rattle.world_core.specs.declared.fault.Fault.TheVariants.{NoMemory, NotFlushed}
 
 -- what a step tells, a line each

@@ -1,12 +1,15 @@
 -- Why a line of a script was refused, in words (docs/MANUAL.md).
 use Rattle.std.specs.Prelude.{ℕ, List, codes}
 use Rattle.recovery.specs.declared.fault.TapeFault.{TapeFault}
-use Rattle.recovery.specs.declared.fault.TapeFault.TheVariants.{Damaged, Disk, Broken, TapeFull, GenerationFull, PendingFull}
+use Rattle.recovery.specs.declared.fault.TapeFault.TheVariants.{Damaged, Disk, Broken, TapeFull, GenerationFull}
+use Rattle.recovery.specs.declared.fault.TapeFault.TheVariants.{PendingFull}
 use Rattle.recovery.specs.declared.fault.TapeFault.TheVariants.{NoMemory as NoTapeMemory, Note}
 use Rattle.script.specs.declared.fault.Reason.{Reason}
-use Rattle.script.specs.declared.fault.Reason.TheVariants.{NoStep, NoPeer as NoOnePeer, PeerBehindStep, DeclaredTwice, Unended}
+use Rattle.script.specs.declared.fault.Reason.TheVariants.{NoStep, NoPeer as NoOnePeer, PeerBehindStep, DeclaredTwice}
+use Rattle.script.specs.declared.fault.Reason.TheVariants.{Unended}
 use Rattle.world_core.specs.declared.fault.Fault.{Fault}
-use Rattle.world_core.specs.declared.fault.Fault.TheVariants.{NoPeer, NoConnection, Stopped, Running, NotNeeded, Tape, CountFull}
+use Rattle.world_core.specs.declared.fault.Fault.TheVariants.{NoPeer, NoConnection, Stopped, Running, NotNeeded, Tape}
+use Rattle.world_core.specs.declared.fault.Fault.TheVariants.{CountFull}
 use Rattle.world_core.specs.declared.fault.Fault.TheVariants.{NoMemory, NotFlushed}
 use Rattle.drill.specs.declared.ending.Why.{Why}
 use Rattle.drill.specs.declared.ending.Why.TheVariants.{Script, Step}

@@ -12,7 +12,8 @@ use Rattle.script.specs.Action.{ActionView, Hands, Receives, Supplies, Breaks}
 use Rattle.script.specs.Line.{SaysAction, SaysStep}
 use Rattle.script.specs.Numbers.{u64_of}
 use Rattle.script.specs.Parts.{ActionOf, StepOf}
-use Rattle.script.specs.Step.{StepView, Lines, Flushes, Connects, Acts, Ticks, Sheds, Rotates, Stops, Arms, Restarts, Unwritten}
+use Rattle.script.specs.Step.{StepView, Lines, Flushes, Connects, Acts, Ticks, Sheds, Rotates, Stops, Arms, Restarts}
+use Rattle.script.specs.Step.{Unwritten}
 use Rattle.script.specs.Words.{IsCut, IsSolid}
 use Rattle.script.proofs.Cuts.{SameCut, cuts_once, is_solid, solid_from}
 

@@ -13,7 +13,8 @@ use Rattle.funnel.specs.Stream.{BeginsWithLine, IsUnended}
 use Rattle.funnel.specs.StreamLaws.{ended_push}
 use Rattle.script.specs.Draft.{Drafts, Gains}
 use Rattle.script.specs.Line.{SentenceView, Blank, Declares, Takes, Says}
-use Rattle.script.specs.Script.{KeepsOrder, LineSays, MayFollow, Reads, names_of, peers_of, places_from, places_of, steps_of}
+use Rattle.script.specs.Script.{KeepsOrder, LineSays, MayFollow, Reads, names_of, peers_of, places_from, places_of}
+use Rattle.script.specs.Script.{steps_of}
 use Rattle.script.specs.Step.{StepView, step_view}
 use Rattle.script.specs.Sentence.{sentence_view}
 use Rattle.script.specs.declared.draft.Draft.{Draft}

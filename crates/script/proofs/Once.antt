@@ -9,7 +9,8 @@ use Rattle.article_store.specs.declared.store.Found.TheVariants.{Article, Gone, 
 use Rattle.script.specs.Action.{ActionView, Hands, Receives, Supplies, Breaks}
 use Rattle.script.specs.Line.{SentenceView, Blank, Declares, Takes, Says, SaysStep}
 use Rattle.script.specs.Parts.{ActionOf, SaysOn, StepOf}
-use Rattle.script.specs.Step.{StepView, Lines, Flushes, Connects, Acts, Ticks, Sheds, Rotates, Stops, Arms, Restarts, Unwritten}
+use Rattle.script.specs.Step.{StepView, Lines, Flushes, Connects, Acts, Ticks, Sheds, Rotates, Stops, Arms, Restarts}
+use Rattle.script.specs.Step.{Unwritten}
 use Rattle.script.specs.Words.{IsCut, IsSolid}
 use Rattle.script.proofs.Cuts.{cuts_once, cut_is, cut_longer, solid_from, solid_none}
 use Rattle.script.proofs.Forms.{number_solid, step_parts}

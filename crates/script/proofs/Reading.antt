@@ -104,7 +104,8 @@ read_whole text [] place draft script has none holds = (has.sentences, has.reads
 read_whole text (octet ∷ rest) place draft script has none holds = absurd (omega arith)
 
 -- each step has a place
-counted : (place : ℕ) (sentences : List SentenceView) → length (places_from place sentences) ≡ length (steps_of sentences)
+counted : (place : ℕ) (sentences : List SentenceView) →
+    length (places_from place sentences) ≡ length (steps_of sentences)
 counted place [] = refl
 counted place (Blank ∷ sentences) = counted (place + 1) sentences
 counted place (Declares peer ∷ sentences) = counted (place + 1) sentences

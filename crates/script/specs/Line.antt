@@ -8,7 +8,8 @@ use Rattle.script.specs.Action.{ActionView, Hands, Receives, Supplies, Breaks, I
 use Rattle.script.specs.Arming.{arming_of}
 use Rattle.script.specs.Numbers.{u64_of}
 use Rattle.script.specs.Peer.{SaysPeer}
-use Rattle.script.specs.Step.{StepView, Lines, Flushes, Connects, Acts, Ticks, Sheds, Rotates, Stops, Arms, Restarts, Unwritten}
+use Rattle.script.specs.Step.{StepView, Lines, Flushes, Connects, Acts, Ticks, Sheds, Rotates, Stops, Arms, Restarts}
+use Rattle.script.specs.Step.{Unwritten}
 
 -- a line asks this of the connection whose number is written so
 abbrev pub SaysAction : (line number : List ℕ) → ActionView → Type 0

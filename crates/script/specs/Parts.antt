@@ -6,7 +6,8 @@ use Rattle.funnel.specs.Names.{is_peer_name}
 use Rattle.script.specs.Action.{ActionView, Hands, Receives, Supplies, Breaks, IsWritten, Spells, line_of}
 use Rattle.script.specs.Arming.{arming_of}
 use Rattle.script.specs.Numbers.{u64_of}
-use Rattle.script.specs.Step.{StepView, Lines, Flushes, Connects, Acts, Ticks, Sheds, Rotates, Stops, Arms, Restarts, Unwritten}
+use Rattle.script.specs.Step.{StepView, Lines, Flushes, Connects, Acts, Ticks, Sheds, Rotates, Stops, Arms, Restarts}
+use Rattle.script.specs.Step.{Unwritten}
 use Rattle.script.specs.Words.{IsCut}
 
 -- a word with what stands behind the connection's number says this action

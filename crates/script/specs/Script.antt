@@ -77,7 +77,8 @@ KeepsRules text = (sentences : List SentenceView) × Reads text sentences []
 abbrev pub IsInByteOrder : List PeerConf → Type 0
 IsInByteOrder peers = IsSortedBy (λ (a : PeerConf) (b : PeerConf). is_lt (slice_cmp nat_cmp a.name b.name)) peers
 
--- a script has the peers of these sentences, in byte order of their names, and their steps in order, with the places of their lines
+-- a script has the peers of these sentences, in byte order of their names, and their steps in order, with the places of
+-- their lines
 pub record Holds (script : Script) (sentences : List SentenceView) : Type 0 where
   pub peers : IsPermutation (peers_of sentences) (map settings_view script.peers.items)
   pub order : IsInByteOrder script.peers.items

@@ -1,7 +1,8 @@
 -- The steps of a script, by what they carry (docs/FORMATS.md).
 use Rattle.std.specs.Prelude.{ℕ, ◌==◌, if◌then◌else◌, List, None, Some}
 use Rattle.world_core.specs.declared.step.Step.{Step}
-use Rattle.world_core.specs.declared.step.Step.TheVariants.{Line, Flush, Begin, Part, Seal, Connect, Hand, Bytes, Article, Break}
+use Rattle.world_core.specs.declared.step.Step.TheVariants.{Line, Flush, Begin, Part, Seal, Connect, Hand, Bytes}
+use Rattle.world_core.specs.declared.step.Step.TheVariants.{Article, Break}
 use Rattle.world_core.specs.declared.step.Step.TheVariants.{Tick, Shed, Rotate, Stop, Restart}
 use Rattle.script.specs.Action.{ActionView, Hands, Receives, Supplies, Breaks}
 use Rattle.script.specs.Arming.{Armed}

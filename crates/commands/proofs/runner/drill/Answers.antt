@@ -1,0 +1,18 @@
+-- A line that was refused is told.
+use Rattle.std.proofs.Common.{◌⊎◌, Some, inl, refl, subst}
+use Rattle.drill.specs.Drill.{Drills}
+use Rattle.drill.specs.declared.ending.Ending.{Ending}
+use Rattle.drill.specs.declared.ending.Ending.TheVariants.{Refused}
+use Rattle.commands.proofs.runner.drill.Goals as goal
+
+pub returns-in-Ok-Refused : goal.returns-in-Ok-Refused
+returns-in-Ok-Refused g c = λ line is.
+    let old = g.W.Write.contents c.args.out.now in
+    let new = g.W.Write.contents c.run_script.new.writer in
+    inl (
+      Refused c.in-Ok-Refused.refusal,
+      subst (λ (e : Ending). Drills (Some c.args.script.now) old new e) c.in-Ok-Refused.field-0-is
+          c.in-Ok-Refused.ensures,
+      refl,
+      is,
+    )
