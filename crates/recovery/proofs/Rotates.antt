@@ -6,7 +6,7 @@ use Rattle.disk_model.specs.Disk.{Event, EachImage, Image, Leaves, content}
 use Rattle.disk_model.specs.Moments.{Leaves-weaker}
 use Rattle.disk_model.specs.declared.Disk.{Ghosts}
 use Rattle.tape_journal.specs.Rewrite.{RenewedFrom}
-use Rattle.tape_journal.specs.Segment.{AllShort, Reads, gated, open_gate, records}
+use Rattle.tape_journal.specs.Segment.{Reads, gated, open_gate, records}
 use Rattle.tape_journal.specs.SegmentLaws.{length-sized, reads_rest}
 use Rattle.ledger_core.specs.Base.{Restores, base_spelling, owe, owes}
 use Rattle.ledger_core.specs.Note.{AreNotes, IsNumber}
@@ -21,7 +21,6 @@ use Rattle.recovery.specs.Pairs.{placed}
 use Rattle.recovery.specs.Tape.{GoesBefore, IsWorking, StandsFor, StaysBehind}
 use Rattle.recovery.specs.Words.{IsBroken, generation_of, ledger_of, live_log, log_of, other_log}
 use Rattle.recovery.specs.declared.tape.Tape.{Tape}
-use Rattle.recovery.proofs.Drops.{AllShort-notes}
 
 -- ---- how long it is
 
@@ -74,14 +73,6 @@ length-written generation state =
     (14 * length state.debts + octets_of_debts state.debts)
     (length-base generation state) (length-records-owes state.debts)
     ∙ omega arith
-
--- none of it is too long
-pub written-short : (generation : ℕ) (state : State) → AreNotes (owes state.debts) → AllShort (written generation state)
-written-short generation state are = (
-  omega (arith, length-base generation state),
-  AllShort-notes (owes state.debts)
-      are,
-)
 
 -- ---- the other lives
 

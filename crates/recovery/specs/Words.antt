@@ -2,15 +2,20 @@
 use Rattle.std.specs.Prelude.{◌≡◌, ◌≢◌, ◌⊎◌, ◌↔◌, ◌+◌, ◌*◌, ◌<◌, ◌≤◌, ℕ, [], List, length, Result, IsErrAnd}
 use Rattle.disk_model.specs.Disk.{Event, ToldFault}
 use Rattle.disk_model.specs.declared.Disk.{Ghosts}
+use Rattle.tape_journal.specs.Batch.{Gathers}
 use Rattle.tape_journal.specs.Journal.{disk_of as journal_disk, end_of as journal_end, IsBroken as IsBrokenJournal, appending}
 use Rattle.tape_journal.specs.Rewrite.{renewing}
 use Rattle.tape_journal.specs.Segment.{records, longest_segment}
 use Rattle.tape_journal.specs.Words.{octets_of}
+use Rattle.tape_journal.specs.declared.batch.Batch.{Batch}
 use Rattle.tape_journal.specs.declared.journal.Journal.{Journal}
 use Rattle.tape_journal.specs.declared.fault.OpenFault.{OpenFault}
 use Rattle.tape_journal.specs.declared.fault.OpenFault.TheVariants.{Damaged as JournalDamaged, Disk as JournalDisk, NoMemory as NoJournalMemory}
 use Rattle.tape_journal.specs.declared.fault.AppendFault.{AppendFault}
 use Rattle.tape_journal.specs.declared.fault.AppendFault.TheVariants.{Disk as AppendDisk, Broken as AppendBroken, TapeFull as AppendTapeFull, PayloadTooLong, NoMemory as NoAppendMemory}
+use Rattle.tape_journal.specs.declared.fault.BatchFault.{BatchFault}
+use Rattle.tape_journal.specs.declared.fault.BatchFault.TheVariants.{PayloadTooLong as BatchTooLong}
+use Rattle.tape_journal.specs.declared.fault.BatchFault.TheVariants.{NoMemory as NoBatchMemory}
 use Rattle.ledger_core.specs.declared.ledger.LedgerFault.{LedgerFault}
 use Rattle.ledger_core.specs.declared.ledger.LedgerFault.TheVariants.{OldNumber, NotOwed, CountFull, NoMemory}
 use Rattle.ledger_core.specs.declared.note.Note.{Note}
@@ -77,9 +82,9 @@ module _ {D : Type 0} {g : Ghosts D} where
   abbrev pub rotated_length : Tape D g → ℕ
   rotated_length tape = 1 + length (records (written (generation_of tape + 1) (ledger_of tape)))
 
-  -- these payloads are what a rotation writes
-  abbrev pub Writes : Tape D g → List (List ℕ) → Type 0
-  Writes tape payloads = payloads ≡ written (generation_of tape + 1) (ledger_of tape)
+  -- this batch is what a rotation writes
+  abbrev pub Writes : Tape D g → Batch → Type 0
+  Writes tape batch = Gathers batch (written (generation_of tape + 1) (ledger_of tape))
 
   -- what a rotation writes would be too long
   abbrev pub RotatesTooLong : Tape D g → Type 0
@@ -129,6 +134,11 @@ abbrev pub open_fault : ℕ → OpenFault → TapeFault
 open_fault segment (JournalDamaged at) = Damaged segment at
 open_fault segment JournalDisk = Disk
 open_fault segment NoJournalMemory = NoTapeMemory
+
+-- The fault of a batch that took no note, as a tape tells it. No note is too long.
+abbrev pub batch_fault : BatchFault → TapeFault
+batch_fault BatchTooLong = Disk
+batch_fault NoBatchMemory = NoTapeMemory
 
 -- The fault of a journal to which notes were not added, as a tape tells it. No note is too long.
 abbrev pub append_fault : AppendFault → TapeFault

@@ -1,11 +1,11 @@
 // Why a call of a tape was refused.
 ghost use Rattle.std.specs.Prelude.{◌≡◌};
 ghost use Rattle.recovery.specs.declared.fault.TapeFault.TheVariants.{NoMemory as NoTapeMemory};
-ghost use Rattle.recovery.specs.Words.{append_fault, open_fault};
+ghost use Rattle.recovery.specs.Words.{append_fault, batch_fault, open_fault};
 
 use ledger_core::LedgerFault;
 use std::alloc::{AllocError, AllocFailed};
-use tape_journal::{AppendFault, OpenFault};
+use tape_journal::{AppendFault, BatchFault, OpenFault};
 use thiserror::Error;
 
 /// Why a tape refuses a call. Each call tells which of these come, and in which order they are tried.
@@ -52,6 +52,18 @@ impl<T: Drop> From<AllocFailed<T>> for TapeFault {
 
     fn from(_: AllocFailed<T>) -> Self {
         TapeFault::NoMemory
+    }
+}
+
+impl From<BatchFault> for TapeFault {
+    ghost from_gives = { λ fault e. e ≡ batch_fault fault };
+
+    // A note is never too long, so that what is was read from a disk that doesn't give what was put there.
+    fn from(fault: BatchFault) -> Self {
+        match fault {
+            BatchFault::PayloadTooLong => TapeFault::Disk,
+            BatchFault::NoMemory => TapeFault::NoMemory,
+        }
     }
 }
 

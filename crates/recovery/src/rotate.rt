@@ -4,12 +4,11 @@ ghost use Rattle.std.specs.Prelude.{◌≡◌, ◌≢◌, ◌+◌, ◌-◌, ◌^
 use crate::TapeFault;
 use crate::tape::{Tape, end_of};
 use disk_model::Disk;
-use tape_journal::RenewFault;
+use tape_journal::{Batch, RenewFault};
 
 impl<D: Disk> Tape<D> {
-    ghost use Rattle.std.specs.Prelude.{[]};
+    ghost use Rattle.tape_journal.specs.Batch.{octets_in};
     ghost use Rattle.tape_journal.specs.Segment.{longest_segment};
-    ghost use Rattle.tape_journal.specs.Words.{octets_of};
     ghost use Rattle.recovery.specs.Image.{Survives, TapeLeaves};
     ghost use Rattle.recovery.specs.Notes.{History, flushed};
     ghost use Rattle.recovery.specs.Tape.{IsRead, StandsFor};
@@ -46,49 +45,45 @@ impl<D: Disk> Tape<D> {
             Err(_) => return Err(TapeFault::NoMemory),
         };
         match self.read_back(&spots) {
-            Ok(payloads) => self.go_on_in(&payloads),
+            Ok(batch) => self.go_on_in(batch),
             Err(TapeFault::Disk) => Err(self.give_up()),
             Err(_) => Err(TapeFault::NoMemory),
         }
     }
 
-    // Goes on in the segment that doesn't live, with these payloads, which its ledger writes where each disk gives what
-    // was put there.
-    fn go_on_in(&mut self, payloads: &[Vec<u8>]) -> Result<u64, TapeFault>
+    // Goes on in the segment that doesn't live, with this batch, which is what its ledger writes where each disk gives
+    // what was put there.
+    fn go_on_in(&mut self, batch: Batch) -> Result<u64, TapeFault>
         requires works { IsBroken self.old → ⊥ }
         requires room { generation_of self.old < 2 ^ 64 - 1 }
         requires fits { rotated_length self.old ≤ longest_segment }
-        requires some { payloads.now ≢ [] }
-        ensures ok { (h : History) → StandsFor self.old h → Writes self.old (octets_of payloads.now)
+        requires some { 0 < octets_in batch }
+        ensures ok { (h : History) → StandsFor self.old h → Writes self.old batch
             → OnOk result (StandsFor self.new (flushed h)) }
         ensures err { (h : History) → StandsFor self.old h
-            → Writes self.old (octets_of payloads.now)
+            → Writes self.old batch
             → OnErr result (StandsFor self.new h) }
         ensures generation { IfOk result (λ n. (n ≡ generation_of self.old + 1)
             × (generation_of self.new ≡ n)) }
         ensures moments { (h : History) → StandsFor self.old h
-            → Writes self.old (octets_of payloads.now)
+            → Writes self.old batch
             → TapeLeaves (Survives h) (log_of self.old) (log_of self.new) }
         ensures calls { (h : History) → StandsFor self.old h
-            → Writes self.old (octets_of payloads.now)
+            → Writes self.old batch
             → OnOk result (log_of self.new ≡ rotating self.old) }
         ensures none_pends { OnOk result (pending_of self.new ≡ 0) }
         ensures refused { IfErr result (λ e. e ≢ TapeFault.Disk → self.new ≡ self.old) }
         ensures breaks { IsErrOf result TapeFault.Disk → IsBroken self.new }
         ensures works { OnOk result (IsBroken self.new → ⊥) }
         ensures cause { (h : History) → StandsFor self.old h
-            → Writes self.old (octets_of payloads.now)
+            → Writes self.old batch
             → IsErrOf result TapeFault.Disk → OneHasRisen (told_of self.old) (told_of self.new) }
         ensures kinds { IfErr result IsReadFault }
         ensures ledger { ledger_of self.new ≡ ledger_of self.old }
         ensures continues { Continues self.old self.new }
         ensures quiet { OnOk result (told_of self.new ≡ told_of self.old) }
     {
-        match self
-            .segments
-            .live
-            .move_to(&mut self.segments.other, payloads)
-        {
+        match self.segments.live.move_to(&mut self.segments.other, batch) {
             Ok(()) => {
                 self.segments.second = !self.segments.second;
                 self.segments.generation += 1;
@@ -102,7 +97,6 @@ impl<D: Disk> Tape<D> {
             Err(RenewFault::Disk) => Err(TapeFault::Disk),
             // A ledger that fits is too long only where what was read back is not what was noted.
             Err(RenewFault::TapeFull) => Err(self.give_up()),
-            Err(RenewFault::PayloadTooLong) => Err(self.give_up()),
         }
     }
 

@@ -455,7 +455,7 @@ impl<D: Disk> Tape<D> {
     }
 
     // How long the segment is that a rotation writes, or more than any disk.
-    fn rotated_len(&self) -> u64
+    pub(crate) fn rotated_len(&self) -> u64
         ensures { result ≡ min (rotated_length self.now) (2 ^ 64 - 1) }
     {
         let totals = self.ledger.totals();

@@ -12,7 +12,7 @@ use crate::tape::{Tape, end_of};
 use disk_model::Disk;
 use ledger_core::{Debt, Note, Spot, decode, encode_base, spells_owe};
 use std::alloc::{AllocError, Global};
-use tape_journal::ReadFault;
+use tape_journal::{Batch, ReadFault};
 
 // The debt that a payload owes, where it is that of this number with texts of these lengths.
 fn debt_of(alloc: Global, number: u64, spot: Spot, payload: &[u8]) -> Result<Debt, TapeFault>
@@ -70,12 +70,13 @@ impl<D: Disk> Tape<D> {
     ghost use Rattle.ledger_core.specs.Ledger.{state_of};
     ghost use Rattle.std.specs.List.Sorted.{IsStrictlyIncreasing};
     ghost use Rattle.ledger_core.specs.State.{IsOwed, numbers};
-    ghost use Rattle.ledger_core.specs.Written.{written};
+    ghost use Rattle.tape_journal.specs.Batch.{octets_in};
     ghost use Rattle.tape_journal.specs.Words.{octets_of};
     ghost use Rattle.recovery.specs.Notes.{History};
     ghost use Rattle.recovery.specs.Tape.{IsRead, StandsFor};
     ghost use Rattle.recovery.specs.Texts.{HasLengths};
-    ghost use Rattle.recovery.specs.Words.{IsBroken, IsDebtFault, OneHasRisen, generation_of, ledger_of, told_of};
+    ghost use Rattle.recovery.specs.Words.{IsBroken, IsDebtFault, OneHasRisen, Writes, generation_of, ledger_of};
+    ghost use Rattle.recovery.specs.Words.{told_of};
 
     /// The debt of this number, where it is owed. Its note is read back from the disk, unless it pends. Logarithmic in
     /// what is owed, and one reading of the disk.
@@ -189,14 +190,14 @@ impl<D: Disk> Tape<D> {
 
     // Reads back the notes of all debts, whose spots are these, behind the Base of the next generation. The segment
     // that lives is read in pieces.
-    pub(crate) fn read_back(&mut self, spots: &[(u64, Spot)]) -> Result<Vec<Vec<u8>>, TapeFault>
+    pub(crate) fn read_back(&mut self, spots: &[(u64, Spot)]) -> Result<Batch, TapeFault>
         requires works { IsBroken self.old → ⊥ }
         requires room { generation_of self.old < 2 ^ 64 - 1 }
         requires spots { spots.now ≡ spots_of self.old.ledger }
         requires rising { IsStrictlyIncreasing (numbers (ledger_of self.old)) }
         ensures written { (h : History) → StandsFor self.old h → IfOk result
-            (λ v. octets_of v.items ≡ written (generation_of self.old + 1) (ledger_of self.old)) }
-        ensures some { IfOk result (λ v. v.items ≢ []) }
+            (Writes self.old) }
+        ensures some { IfOk result (λ batch. 0 < octets_in batch) }
         ensures cause { (h : History) → StandsFor self.old h
             → IsErrOf result TapeFault.Disk → OneHasRisen (told_of self.old) (told_of self.new) }
         ensures kinds { IfErr result IsReadFault }
@@ -226,31 +227,31 @@ impl<D: Disk> Tape<D> {
     }
 
     // Reads back the notes of all debts, whose spots are these, behind the Base of the next generation, one by one.
-    fn read_each(&mut self, spots: &[(u64, Spot)]) -> Result<Vec<Vec<u8>>, TapeFault>
+    fn read_each(&mut self, spots: &[(u64, Spot)]) -> Result<Batch, TapeFault>
         requires works { IsBroken self.old → ⊥ }
         requires room { generation_of self.old < 2 ^ 64 - 1 }
         requires spots { spots.now ≡ spots_of self.old.ledger }
         requires rising { IsStrictlyIncreasing (numbers (ledger_of self.old)) }
         ensures written { (h : History) → StandsFor self.old h → IfOk result
-            (λ v. octets_of v.items ≡ written (generation_of self.old + 1) (ledger_of self.old)) }
-        ensures some { IfOk result (λ v. v.items ≢ []) }
+            (Writes self.old) }
+        ensures some { IfOk result (λ batch. 0 < octets_in batch) }
         ensures cause { (h : History) → StandsFor self.old h
             → IsErrOf result TapeFault.Disk → OneHasRisen (told_of self.old) (told_of self.new) }
         ensures kinds { IfErr result IsReadFault }
         ensures reads { IsRead self.old self.new }
         ensures quiet { OnOk result (told_of self.new ≡ told_of self.old) }
     {
-        let mut payloads = Vec::with_capacity(self.alloc, spots.len().saturating_add(1))?;
+        let mut batch = Batch::with_room(self.alloc, self.rotated_len() as usize)?;
         let base = self.ledger.base(self.segments.generation + 1);
-        payloads.push(encode_base(self.alloc, &base)?)?;
+        batch.push(&encode_base(self.alloc, &base)?)?;
         for index in 0..spots.len() {
             let (number, spot) = spots[index];
             let payload = match self.note_at(number, spot) {
                 Ok(payload) => payload,
                 Err(fault) => return Err(fault),
             };
-            payloads.push(payload)?;
+            batch.push(&payload)?;
         }
-        Ok(payloads)
+        Ok(batch)
     }
 }

@@ -1,4 +1,5 @@
 pub mod Append
+pub mod Batch
 pub mod Head
 pub mod Journal
 pub mod Kept

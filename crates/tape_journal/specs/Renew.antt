@@ -1,12 +1,14 @@
 -- A journal that a whole segment was written for, and a disk that was handed back without one.
-use Rattle.std.specs.Prelude.{◌≡◌, ◌≢◌, ◌+◌, ◌<◌, ◌≤◌, ◌↔◌, ℕ, List, length, Result, IfErr, IsErrAnd, IsErrOf}
+use Rattle.std.specs.Prelude.{◌≡◌, ◌≢◌, ◌+◌, ◌<◌, ◌≤◌, ◌↔◌, ℕ, List, Result, IfErr, IsErrAnd, IsErrOf}
 use Rattle.disk_model.specs.Disk.{Event, Leaves}
 use Rattle.disk_model.specs.declared.Disk.{Ghosts}
 use Rattle.tape_journal.specs.Journal.{disk_of, IsBroken, Holds}
 use Rattle.tape_journal.specs.Rewrite.{RenewedFrom, renewing}
-use Rattle.tape_journal.specs.Segment.{AllShort, longest_segment, records}
+use Rattle.tape_journal.specs.Batch.{octets_in}
+use Rattle.tape_journal.specs.Segment.{longest_segment}
+use Rattle.tape_journal.specs.declared.batch.Batch.{Batch}
 use Rattle.tape_journal.specs.declared.fault.RenewFault.{RenewFault}
-use Rattle.tape_journal.specs.declared.fault.RenewFault.TheVariants.{Disk, PayloadTooLong, TapeFull}
+use Rattle.tape_journal.specs.declared.fault.RenewFault.TheVariants.{Disk, TapeFull}
 use Rattle.tape_journal.specs.declared.journal.Journal.{Journal}
 use Rattle.tape_journal.specs.declared.renew.NotRenewed.{NotRenewed}
 
@@ -37,21 +39,17 @@ module _ {D : Type 0} {g : Ghosts D} where
     pub honest : g.honest disk ↔ g.honest refused.disk
     pub later : g.told disk ≤ g.told refused.disk
 
-  -- When no whole segment is written, in the order in which it is tried, and what a refusal leaves.
-  pub record RefusesRenewal (payloads : List (List ℕ)) (disk : D)
+  -- When no whole segment is written, and what a refusal leaves.
+  pub record RefusesRenewal (batch : Batch) (disk : D)
       (result : Result (Journal D g) (NotRenewed D g)) : Type 0 where
-    pub too_long : IsErrAnd result (λ e. e.fault ≡ PayloadTooLong) ↔ (AllShort payloads → ⊥)
-    pub full : IsErrAnd result (λ e. e.fault ≡ TapeFull)
-        ↔ (AllShort payloads × (longest_segment < 1 + length (records payloads)))
+    pub full : IsErrAnd result (λ e. e.fault ≡ TapeFull) ↔ (longest_segment < 1 + octets_in batch)
     -- all but Disk leave the disk as it was
     pub refused : IfErr result (λ e. e.fault ≢ Disk → e.disk ≡ disk)
 
-  -- When a journal doesn't go on on another disk, in the order in which it is tried, and what a refusal leaves.
-  pub record RefusesMove (payloads : List (List ℕ)) (old new : Journal D g) (was is : D)
+  -- When a journal doesn't go on on another disk, and what a refusal leaves.
+  pub record RefusesMove (batch : Batch) (old new : Journal D g) (was is : D)
       (result : Result (Unit {0}) RenewFault) : Type 0 where
-    pub too_long : IsErrOf result PayloadTooLong ↔ (AllShort payloads → ⊥)
-    pub full : IsErrOf result TapeFull
-        ↔ (AllShort payloads × (longest_segment < 1 + length (records payloads)))
+    pub full : IsErrOf result TapeFull ↔ (longest_segment < 1 + octets_in batch)
     -- all but Disk change nothing
     pub refused : IfErr result (λ e. e ≢ Disk → (new ≡ old) × (is ≡ was))
     pub breaks : IsErrOf result Disk → IsBroken new

@@ -6,6 +6,7 @@
 #![tactic(auto)]
 
 mod append;
+mod batch;
 mod fault;
 mod journal;
 pub mod laws;
@@ -16,7 +17,8 @@ mod repair;
 mod unrepaired;
 mod window;
 
-pub use fault::{AppendFault, OpenFault, ReadFault, RenewFault};
+pub use batch::Batch;
+pub use fault::{AppendFault, BatchFault, OpenFault, ReadFault, RenewFault};
 pub use journal::{Journal, Refused};
 pub use read::peek_first;
 pub use renew::NotRenewed;

@@ -3,21 +3,18 @@ ghost use Rattle.std.specs.Prelude.{◌≡◌, ◌≢◌, ◌+◌, ◌-◌, ◌^
 ghost use Rattle.std.specs.Prelude.{length, drop, min, IfErr, IfOk, OnOk, IsErrOf};
 ghost use Rattle.disk_model.specs.Disk.{content, CountsFaults, Image, IsOnly, Leaves};
 ghost use Rattle.disk_model.specs.Disk.Event.{Wrote, Synced};
+ghost use Rattle.tape_journal.specs.Batch.{Gathers, octets_in};
 ghost use Rattle.tape_journal.specs.Kept.{AtRest};
 ghost use Rattle.tape_journal.specs.Rewrite.{EmptiedFrom, GatedAs, RenewedFrom, emptying, filling};
 ghost use Rattle.tape_journal.specs.Rewrite.{opened, renewing};
 ghost use Rattle.tape_journal.specs.Segment.{AllShort, at_rest, longest_segment, open_gate};
-ghost use Rattle.tape_journal.specs.Segment.{records};
-ghost use Rattle.tape_journal.specs.Words.{octets_of};
 
-use crate::append::{are_short, length_of};
-use crate::journal::MAX_LEN;
 use crate::put::put_synced;
 use crate::read::OPEN;
 use crate::window::Window;
-use crate::{Journal, RenewFault};
+use crate::{Batch, Journal, RenewFault};
 use disk_model::{Disk, DiskFault};
-use std::alloc::{AllocError, Global};
+use std::alloc::Global;
 use std::mem;
 
 /// A disk on which no whole segment was written, handed back as the call left it.
@@ -29,44 +26,6 @@ pub struct NotRenewed<D: Disk> {
     pub fault: RenewFault,
     // What a read gives, a stop may leave.
     ghost content: { ∥ (D.honest disk → Image (D.log disk) (content (D.log disk))) ∥₁ },
-}
-
-// A segment at rest of these payloads, in one allocation of its size, which is so many octets.
-fn segment_of(alloc: Global, payloads: &[Vec<u8>], len: usize) -> Result<Vec<u8>, AllocError>
-    requires { AllShort (octets_of payloads.now) }
-    ensures { IfOk result (λ v. v.items ≡ at_rest (octets_of payloads.now)) }
-{
-    let mut octets = Vec::with_capacity(alloc, len)?;
-    for payload in payloads {
-        let size = payload.len() as u32;
-        octets.push(OPEN)?;
-        octets.extend_from_slice(&size.to_be_bytes())?;
-        octets.extend_from_slice(payload)?;
-    }
-    octets.push(0)?;
-    Ok(octets)
-}
-
-// A segment at rest of these payloads, and where its end gate stands, unless it is refused.
-fn renewal_of(alloc: Global, payloads: &[Vec<u8>]) -> Result<(Vec<u8>, u64), RenewFault>
-    ensures too_long { IsErrOf result RenewFault.PayloadTooLong
-        ↔ (AllShort (octets_of payloads.now) → ⊥) }
-    ensures full { IsErrOf result RenewFault.TapeFull ↔ (AllShort (octets_of payloads.now)
-        × (longest_segment < 1 + length (records (octets_of payloads.now)))) }
-    ensures disk { IsErrOf result RenewFault.Disk → ⊥ }
-    ensures ok { IfOk result (λ r. AllShort (octets_of payloads.now)
-        × (r.0.items ≡ at_rest (octets_of payloads.now))
-        × (r.1 ≡ length (records (octets_of payloads.now))) × (r.1 < longest_segment)) }
-{
-    if !are_short(payloads) {
-        return Err(RenewFault::PayloadTooLong);
-    }
-    let end = length_of(payloads);
-    if end >= MAX_LEN {
-        return Err(RenewFault::TapeFull);
-    }
-    let octets = segment_of(alloc, payloads, end as usize + 1)?;
-    Ok((octets, end))
 }
 
 // Leaves a closed gate alone.
@@ -123,22 +82,17 @@ fn rewrite<D: Disk>(disk: &mut D, segment: &[u8]) -> Result<(), DiskFault>
     write_segment(disk, segment)
 }
 
-// Writes a whole segment of these payloads in place of what the disk has, and answers where its end gate stands.
-fn renew_on<D: Disk>(alloc: Global, disk: &mut D, payloads: &[Vec<u8>]) -> Result<u64, RenewFault>
-    requires some { payloads.now ≢ [] }
-    ensures end { IfOk result (λ end. (end ≡ length (records (octets_of payloads.now)))
-        × (end < longest_segment)) }
-    ensures done { D.honest disk.old
-        → OnOk result (AtRest (D.log disk.new) (octets_of payloads.now)) }
-    ensures calls { D.honest disk.old
-        → OnOk result (D.log disk.new ≡ renewing (octets_of payloads.now) (D.log disk.old)) }
-    ensures moments { D.honest disk.old
-        → Leaves (RenewedFrom (D.log disk.old) (octets_of payloads.now)) (D.log disk.old)
-        (D.log disk.new) }
-    ensures too_long { IsErrOf result RenewFault.PayloadTooLong
-        ↔ (AllShort (octets_of payloads.now) → ⊥) }
-    ensures full { IsErrOf result RenewFault.TapeFull ↔ (AllShort (octets_of payloads.now)
-        × (longest_segment < 1 + length (records (octets_of payloads.now)))) }
+// Writes a whole segment of a batch's payloads in place of what the disk has, and answers where its end gate stands.
+fn renew_on<D: Disk>(disk: &mut D, batch: Batch) -> Result<u64, RenewFault>
+    requires some { 0 < octets_in batch }
+    ensures end { IfOk result (λ end. (end ≡ octets_in batch) × (end < longest_segment)) }
+    ensures done { (payloads : List (List ℕ)) → Gathers batch payloads → D.honest disk.old
+        → OnOk result (AtRest (D.log disk.new) payloads) }
+    ensures calls { (payloads : List (List ℕ)) → Gathers batch payloads → D.honest disk.old
+        → OnOk result (D.log disk.new ≡ renewing payloads (D.log disk.old)) }
+    ensures moments { (payloads : List (List ℕ)) → Gathers batch payloads → D.honest disk.old
+        → Leaves (RenewedFrom (D.log disk.old) payloads) (D.log disk.old) (D.log disk.new) }
+    ensures full { IsErrOf result RenewFault.TapeFull ↔ (longest_segment < 1 + octets_in batch) }
     ensures refused { IfErr result (λ e. e ≢ RenewFault.Disk → disk.new ≡ disk.old) }
     ensures cause { D.honest disk.old → IsErrOf result RenewFault.Disk
         → min (D.told disk.old + 1) (2 ^ 64 - 1) ≤ D.told disk.new }
@@ -146,7 +100,7 @@ fn renew_on<D: Disk>(alloc: Global, disk: &mut D, payloads: &[Vec<u8>]) -> Resul
     ensures later { D.told disk.old ≤ D.told disk.new }
     ensures quiet { OnOk result (D.told disk.new ≡ D.told disk.old) }
 {
-    let (segment, end) = renewal_of(alloc, payloads)?;
+    let (segment, end) = batch.into_segment()?;
     match rewrite(disk, &segment) {
         Ok(()) => Ok(end),
         Err(_) => Err(RenewFault::Disk),
@@ -159,33 +113,28 @@ impl<D: Disk> Journal<D> {
     ghost use Rattle.tape_journal.specs.Renew.{IsHandedBack, IsNotRenewed, IsRenewed, RefusesMove, RefusesRenewal};
     ghost use Rattle.tape_journal.specs.Renew.{Works};
 
-    /// Writes a whole segment of these payloads in place of what the disk has. Its first gate opens
+    /// Writes a whole segment of a batch of payloads in place of what the disk has. Its first gate opens
     /// last: a stop on the way leaves a disk from before the call, or one without a payload, or one
     /// with all of them.
     ///
     /// # Errors
-    /// Tried in this order; the disk is handed back. `PayloadTooLong`, over 16,777,216 octets;
-    /// `TapeFull`, the length with the end gate would pass 4,294,967,296; `NoMemory`; these write
-    /// nothing. `Disk`: a call failed.
-    pub fn renew(
-        alloc: Global,
-        mut disk: D,
-        payloads: &[Vec<u8>],
-    ) -> Result<Journal<D>, NotRenewed<D>>
-        requires some { payloads.now ≢ [] }
-        ensures ok { D.honest disk
-            → IfOk result (λ j. IsRenewed (D.log disk) j (octets_of payloads.now)) }
-        ensures err { D.honest disk
-            → IfErr result (IsNotRenewed (D.log disk) (octets_of payloads.now)) }
+    /// Tried in this order; the disk is handed back. `TapeFull`, the length with the end gate would
+    /// pass 4,294,967,296; `NoMemory`; these write nothing. `Disk`: a call failed.
+    pub fn renew(alloc: Global, mut disk: D, batch: Batch) -> Result<Journal<D>, NotRenewed<D>>
+        requires some { 0 < octets_in batch }
+        ensures ok { (payloads : List (List ℕ)) → Gathers batch payloads → D.honest disk
+            → IfOk result (λ j. IsRenewed (D.log disk) j payloads) }
+        ensures err { (payloads : List (List ℕ)) → Gathers batch payloads → D.honest disk
+            → IfErr result (IsNotRenewed (D.log disk) payloads) }
 
-        ensures refuses { RefusesRenewal (octets_of payloads.now) disk result }
+        ensures refuses { RefusesRenewal batch disk result }
         ensures cause { D.honest disk → IfErr result (λ e. e.fault ≡ RenewFault.Disk
             → min (D.told disk + 1) (2 ^ 64 - 1) ≤ D.told e.disk) }
 
         ensures works { IfOk result (Works disk) }
         ensures handed_back { IfErr result (IsHandedBack disk) }
     {
-        match renew_on(alloc, &mut disk, payloads) {
+        match renew_on(&mut disk, batch) {
             Ok(end) => Ok(Journal {
                 alloc,
                 disk,
@@ -197,26 +146,25 @@ impl<D: Disk> Journal<D> {
         }
     }
 
-    /// Goes on in a whole new segment of these payloads on another disk, in place of what that has, and leaves there
-    /// the disk that the journal had. The first gate opens last, as in `renew`; nothing is written on the disk that
-    /// the journal leaves.
+    /// Goes on in a whole new segment of a batch of payloads on another disk, in place of what that has, and leaves
+    /// there the disk that the journal had. The first gate opens last, as in `renew`; nothing is written on the disk
+    /// that the journal leaves.
     ///
     /// # Errors
-    /// Tried in this order; the disks are not exchanged. `PayloadTooLong`, over 16,777,216 octets; `TapeFull`, the
-    /// length with the end gate would pass 4,294,967,296; `NoMemory`; these change nothing. `Disk`: a call failed on
-    /// the other disk, and the journal is broken.
-    pub fn move_to(&mut self, other: &mut D, payloads: &[Vec<u8>]) -> Result<(), RenewFault>
-        requires some { payloads.now ≢ [] }
-        ensures ok { D.honest other.old → OnOk result
-            (IsRenewed (D.log other.old) self.new (octets_of payloads.now)) }
-        ensures err { D.honest other.old → OnErr result
-            (Leaves (RenewedFrom (D.log other.old) (octets_of payloads.now)) (D.log other.old)
+    /// Tried in this order; the disks are not exchanged. `TapeFull`, the length with the end gate would pass
+    /// 4,294,967,296; `NoMemory`; these change nothing. `Disk`: a call failed on the other disk, and the journal is
+    /// broken.
+    pub fn move_to(&mut self, other: &mut D, batch: Batch) -> Result<(), RenewFault>
+        requires some { 0 < octets_in batch }
+        ensures ok { (payloads : List (List ℕ)) → Gathers batch payloads → D.honest other.old
+            → OnOk result (IsRenewed (D.log other.old) self.new payloads) }
+        ensures err { (payloads : List (List ℕ)) → Gathers batch payloads → D.honest other.old
+            → OnErr result (Leaves (RenewedFrom (D.log other.old) payloads) (D.log other.old)
             (D.log other.new)) }
         ensures exchanged { MatchResult result (λ _. other.new ≡ disk_of self.old)
             (λ _. (disk_of self.new ≡ disk_of self.old) × (end_of self.new ≡ end_of self.old)) }
 
-        ensures refuses { RefusesMove (octets_of payloads.now) self.old self.new other.old
-            other.new result }
+        ensures refuses { RefusesMove batch self.old self.new other.old other.new result }
         ensures cause { D.honest other.old → IsErrOf result RenewFault.Disk
             → min (D.told other.old + 1) (2 ^ 64 - 1) ≤ D.told other.new }
 
@@ -224,7 +172,7 @@ impl<D: Disk> Journal<D> {
             (λ _. (D.honest other.old ↔ D.honest other.new)
             × (D.told other.old ≤ D.told other.new)) }
     {
-        match renew_on(self.alloc, other, payloads) {
+        match renew_on(other, batch) {
             Ok(end) => {
                 self.window = Window::unbuffered(self.alloc);
                 mem::swap(&mut self.disk, other);

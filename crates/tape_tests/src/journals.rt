@@ -7,7 +7,8 @@ use std::alloc::Global;
 use std::process::Abort;
 use std::test::Fail;
 use tape_journal::{
-    AppendFault, Journal, NotRenewed, OpenFault, ReadFault, Refused, RenewFault, peek_first,
+    AppendFault, Batch, BatchFault, Journal, NotRenewed, OpenFault, ReadFault, Refused, RenewFault,
+    peek_first,
 };
 
 // A payload of 19 octets, and the segments that have it once and twice.
@@ -284,21 +285,22 @@ const RENEWED: [u8; 79] = [
     0, 0, 0, 0, 0, 0, 0, 1, 3, 0x61, 0x2f, 0x31, 5, 0x3c, 0x78, 0x40, 0x79, 0x3e, 0,
 ];
 
-// The journal of a whole segment of these payloads, or the disk handed back and why. There is at least one payload.
+// The journal of a whole segment of these payloads, or the disk handed back and why.
 fn renewed<D: Disk + Drop>(
     alloc: Global,
     disk: D,
     first: &[u8],
     others: &[&[u8]],
 ) -> Result<Result<Journal<D>, (RenewFault, D)>, Fail> {
-    let mut payloads = vec![in alloc; Vec::from_slice(alloc, first)?]?;
+    let mut batch = Batch::with_room(alloc, 0)?;
+    batch.push(first)?;
     for payload in others {
-        payloads.push(Vec::from_slice(alloc, payload)?)?;
+        batch.push(payload)?;
     }
-    if payloads.is_empty() {
+    if batch.is_empty() {
         return Err(Fail::from("a payload"));
     }
-    match Journal::renew(alloc, disk, &payloads) {
+    match Journal::renew(alloc, disk, batch) {
         Ok(journal) => Ok(Ok(journal)),
         Err(refused) => {
             let NotRenewed { disk, fault, .. } = refused;
@@ -366,16 +368,15 @@ fn no_whole_segment_is_written(rt: HostRuntime) -> Result<(), Fail> {
 }
 
 #[test]
-fn a_payload_too_long_writes_nothing(rt: HostRuntime) -> Result<(), Fail> {
+fn a_batch_takes_no_payload_too_long(rt: HostRuntime) -> Result<(), Fail> {
     let alloc = rt.alloc();
     let long = vec![in alloc; 0u8; 16777217]?;
-    let Err((fault, mut disk)) = renewed(alloc, ReadOnly::new(disk_of(alloc, &TWICE)?), &long, &[])?
-    else {
-        return Err(Fail::from("too long"));
-    };
-    assert_answer(&rt, 0, &fault, &RenewFault::PayloadTooLong);
-    assert_faults(&rt, 0, &disk, 0);
-    assert_octets(&rt, alloc, 0, &mut disk, &TWICE)
+    let mut batch = Batch::with_room(alloc, 0)?;
+    assert_answer(&rt, 0, &batch.push(&long), &Err(BatchFault::PayloadTooLong));
+    assert_answer(&rt, 0, &batch.is_empty(), &true);
+    assert_answer(&rt, 1, &batch.push(&long[1..]), &Ok(()));
+    assert_answer(&rt, 1, &batch.is_empty(), &false);
+    Ok(())
 }
 
 // The first payload where it is this one, or none, or why none was told.

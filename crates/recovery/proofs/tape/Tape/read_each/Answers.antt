@@ -1,21 +1,31 @@
 -- All notes of a ledger, read back.
-use Rattle.std.proofs.Common.{◌≡◌, ◌+◌, ◌<◌, ◌++◌, ◌∷◌, [], ℕ, List, length, get_or, take, Some, sym, ap, ◌∙◌, subst, arith}
+use Rattle.std.proofs.Common.{◌≡◌, ◌+◌, ◌<◌, ◌++◌, ◌∷◌, [], ℕ, zero, suc, Err, List, length, get_or, take, Some, refl, sym, ap, ◌∙◌, subst, arith}
 use Rattle.std.proofs.lemmas.List.{map_push, take_more}
+use Rattle.std.proofs.lemmas.Result.{err_from_is_err_and}
+use Rattle.std.specs.Prelude.{Result}
 use Rattle.std.specs.List.Sorted.{IsStrictlyIncreasing}
-use Rattle.tape_journal.specs.Words.{octets_of}
+use Rattle.tape_journal.specs.Batch.{Gathers}
+use Rattle.tape_journal.specs.Segment.{IsShort}
+use Rattle.tape_journal.specs.declared.batch.Batch.{Batch}
+use Rattle.tape_journal.specs.declared.fault.BatchFault.{BatchFault}
+use Rattle.tape_journal.specs.declared.fault.BatchFault.TheVariants.{NoMemory, PayloadTooLong}
 use Rattle.ledger_core.specs.declared.ledger.Ledger.{Ledger}
 use Rattle.ledger_core.specs.declared.spot.Spot.{Spot}
 use Rattle.ledger_core.specs.Base.{base_spelling, owe, owes}
 use Rattle.ledger_core.specs.Index.{IsSpotOf, debt_at, spots_of}
 use Rattle.ledger_core.specs.IndexLaws.{spots-at, spots-length}
 use Rattle.ledger_core.specs.Ledger.{state_of}
+use Rattle.ledger_core.specs.Note.{AreNotes, IsNote}
 use Rattle.ledger_core.specs.Spelling.{spelling, spellings}
 use Rattle.ledger_core.specs.SpellingLaws.{spellings-append}
 use Rattle.ledger_core.specs.State.{Owing, numbers}
 use Rattle.ledger_core.specs.Written.{base_of}
-use Rattle.recovery.specs.Words.{generation_of, ledger_of}
-use Rattle.recovery.proofs.Readings.{read_then}
-use Rattle.recovery.proofs.Stands.{octets_of-push}
+use Rattle.recovery.specs.Words.{batch_fault, generation_of, ledger_of}
+use Rattle.recovery.specs.declared.fault.TapeFault.{TapeFault}
+use Rattle.recovery.specs.declared.fault.TapeFault.TheVariants.{Disk}
+use Rattle.recovery.proofs.Readings.{read_none, read_then}
+use Rattle.recovery.proofs.Rotates.{owes_notes}
+use Rattle.recovery.proofs.Stands.{note_short}
 use Rattle.recovery.proofs.tape.Tape.read_each.Goals as goal
 
 -- the spot of the debt in its place
@@ -62,16 +72,64 @@ loop-index-preserved g c =
     record {
       reads = read_then tape loop.self c.note_at.new.self was.reads c.note_at.ensures.reads;
       quiet = c.in-Ok.ensures.quiet ∙ was.quiet;
-      count = omega (arith, was.count, c.in_ok-push-2.ensures.len);
+      some = omega (arith, was.some, c.in_ok-push-2.ensures.len);
       written = λ h stands.
           let found : debt_at (ledger_of loop.self) (get_or c.args.spots.now loop.index d).0 ≡ Some
           (get_or debts loop.index e) =
           subst (λ (l : Ledger). debt_at (state_of l) (get_or c.args.spots.now loop.index d).0 ≡ Some
           (get_or debts loop.index e)) (sym was.reads.ledger) here.1 in
           let read = c.in-Ok.ensures.note h (was.reads.stands h stands) (get_or debts loop.index e) found in
-          ap octets_of c.in_ok-push-2.ensures.items
-          ∙ (octets_of-push loop.payloads.items c.in-Ok.payload
-          ∙ (ap (λ (l : List (List ℕ)). l ++ c.in-Ok.payload.items ∷ []) (was.written h stands)
-          ∙ (ap (λ (p : List ℕ). (base ∷ spellings (owes (take loop.index debts))) ++ p ∷ []) read
-          ∙ sym (one_more base debts loop.index e within))));
+          let so_far = base ∷ spellings (owes (take loop.index debts)) in
+          subst (Gathers c.push-in-loop-index.new.self)
+          (ap (λ (p : List ℕ). so_far ++ p ∷ []) (c.deref-in-loop-index.ensures.value ∙ read)
+          ∙ sym (one_more base debts loop.index e within))
+          (c.in_ok-push-2.ensures.ok so_far (was.written h stands));
     }
+
+pub loop-index-init : goal.loop-index-init
+loop-index-init g c = record {
+  reads = read_none c.args.self.now;
+  quiet = refl;
+  some = omega (arith, c.in_ok-push.ensures.len);
+  written = λ h stands. subst (Gathers c.push.new.self)
+      (ap (λ (p : List ℕ). p ∷ []) (c.deref.ensures.value
+      ∙ (c.in_ok-encode_base.ensures.octets ∙ ap base_spelling c.base-base.ensures)))
+      (c.in_ok-push.ensures.ok [] c.in_ok-batch.ensures.ok);
+}
+
+notes_at : (debts : List Owing) (k : ℕ) (e : Owing) → AreNotes (owes debts) → k < length debts
+    → IsNote (owe (get_or debts k e))
+notes_at [] k e are within = absurd (omega arith)
+notes_at (debt ∷ debts) zero e are within = are.0
+notes_at (debt ∷ debts) (suc k) e are within = notes_at debts k e are.1 (omega arith)
+
+-- a batch that tells a fault of the disk was given a payload too long
+is_too_long : (fault : BatchFault) (e : TapeFault) (r : Result Batch TapeFault) → r ≡ Err e → e ≡ batch_fault fault
+    → r ≡ Err Disk → fault ≡ PayloadTooLong
+is_too_long PayloadTooLong e r is from told = refl
+is_too_long NoMemory e r is from told = absurd (cc (is, from, told))
+
+-- no note is too long
+pub returns-in_err-push-2-clause-cause : goal.returns-in_err-push-2-clause-cause
+returns-in_err-push-2-clause-cause g c = λ h stands told.
+    let tape = c.args.self.now in
+    let loop = c.loop-index in
+    let was = loop.invariant in
+    let d : ℕ × Spot = (0, record { at = 0; slot = 0; token_len = 0; id_len = 0 }) in
+    let e : Owing = (0, ([], [])) in
+    let debts = (ledger_of tape).debts in
+    let here = spot_here tape.ledger c.args.spots.now loop.index d e c.requires.spots c.requires.rising
+    c.loop-index-test.true in
+    let within : loop.index < length debts =
+    omega (arith, c.loop-index-test.true, ap length c.requires.spots, spots-length tape.ledger) in
+    let found : debt_at (ledger_of loop.self) (get_or c.args.spots.now loop.index d).0 ≡ Some
+    (get_or debts loop.index e) =
+    subst (λ (l : Ledger). debt_at (state_of l) (get_or c.args.spots.now loop.index d).0 ≡ Some
+    (get_or debts loop.index e)) (sym was.reads.ledger) here.1 in
+    let read = c.in-Ok.ensures.note h (was.reads.stands h stands) (get_or debts loop.index e) found in
+    let short : IsShort c.deref-in-loop-index.result.now =
+    subst IsShort (sym (c.deref-in-loop-index.ensures.value ∙ read))
+    (note_short (owe (get_or debts loop.index e)) (notes_at debts loop.index e (owes_notes tape h stands) within)) in
+    let from = err_from_is_err_and c.from_residual-in_err-push-2.result c.from_residual-in_err-push-2.ensures.1 in
+    absurd (c.in_err-push-2.ensures.too_long.0 (ap Err
+    (is_too_long c.in_err-push-2.field-0.0 from.0 c.from_residual-in_err-push-2.result from.1 from.2 told)) short)

@@ -2,7 +2,7 @@
 use Rattle.std.proofs.Common.{◌≡◌, ℕ, Err, sym, ap, ◌∙◌, subst}
 use Rattle.std.specs.Prelude.{OnOk}
 use Rattle.std.proofs.lemmas.Result.{IfErr-weaker}
-use Rattle.tape_journal.specs.Words.{octets_of}
+use Rattle.tape_journal.specs.Batch.{Gathers}
 use Rattle.recovery.specs.Image.{Log, Survives, TapeLeaves}
 use Rattle.recovery.specs.Pairs.LeavesPair.{at_start}
 use Rattle.recovery.specs.Tape.{IsRead}
@@ -17,15 +17,15 @@ pub returns-in-Ok-read_back-clause-ok : goal.returns-in-Ok-read_back-clause-ok
 returns-in-Ok-read_back-clause-ok g c = λ h stands.
     let read = c.in-Ok-read_back.ensures in
     c.go_on_in.ensures.ok h (read.reads.stands h stands)
-    (ap octets_of c.deref-in-Ok-read_back.ensures.value
-    ∙ (read.written h stands ∙ sym (read_written c.args.self.now c.read_back.new.self read.reads)))
+    (subst (Gathers c.in-Ok-read_back.batch) (sym (read_written c.args.self.now c.read_back.new.self read.reads))
+    (read.written h stands))
 
 pub returns-in-Ok-read_back-clause-err : goal.returns-in-Ok-read_back-clause-err
 returns-in-Ok-read_back-clause-err g c = λ h stands.
     let read = c.in-Ok-read_back.ensures in
     c.go_on_in.ensures.err h (read.reads.stands h stands)
-    (ap octets_of c.deref-in-Ok-read_back.ensures.value
-    ∙ (read.written h stands ∙ sym (read_written c.args.self.now c.read_back.new.self read.reads)))
+    (subst (Gathers c.in-Ok-read_back.batch) (sym (read_written c.args.self.now c.read_back.new.self read.reads))
+    (read.written h stands))
 
 pub returns-in-Ok-read_back-clause-moments : goal.returns-in-Ok-read_back-clause-moments
 returns-in-Ok-read_back-clause-moments g c = λ h stands.
@@ -33,8 +33,8 @@ returns-in-Ok-read_back-clause-moments g c = λ h stands.
     subst (λ (l : Log). TapeLeaves (Survives h) l (log_of c.go_on_in.new.self))
     (read_log c.args.self.now c.read_back.new.self read.reads stands.honest)
     (c.go_on_in.ensures.moments h (read.reads.stands h stands)
-    (ap octets_of c.deref-in-Ok-read_back.ensures.value
-    ∙ (read.written h stands ∙ sym (read_written c.args.self.now c.read_back.new.self read.reads))))
+    (subst (Gathers c.in-Ok-read_back.batch) (sym (read_written c.args.self.now c.read_back.new.self read.reads))
+    (read.written h stands)))
 
 pub returns-in-Ok-read_back-clause-calls : goal.returns-in-Ok-read_back-clause-calls
 returns-in-Ok-read_back-clause-calls g c = λ h stands.
@@ -42,8 +42,8 @@ returns-in-Ok-read_back-clause-calls g c = λ h stands.
     subst (λ (l : Log). OnOk c.go_on_in.result (log_of c.go_on_in.new.self ≡ l))
     (read_rotating c.args.self.now c.read_back.new.self read.reads stands.honest)
     (c.go_on_in.ensures.calls h (read.reads.stands h stands)
-    (ap octets_of c.deref-in-Ok-read_back.ensures.value
-    ∙ (read.written h stands ∙ sym (read_written c.args.self.now c.read_back.new.self read.reads))))
+    (subst (Gathers c.in-Ok-read_back.batch) (sym (read_written c.args.self.now c.read_back.new.self read.reads))
+    (read.written h stands)))
 
 pub returns-in-Ok-read_back-clause-refused : goal.returns-in-Ok-read_back-clause-refused
 returns-in-Ok-read_back-clause-refused g c =
@@ -56,8 +56,8 @@ returns-in-Ok-read_back-clause-cause g c = λ h stands told.
     let read = c.in-Ok-read_back.ensures in
     subst (λ (t : ℕ × ℕ). OneHasRisen t (told_of c.go_on_in.new.self)) read.quiet
     (c.go_on_in.ensures.cause h (read.reads.stands h stands)
-    (ap octets_of c.deref-in-Ok-read_back.ensures.value
-    ∙ (read.written h stands ∙ sym (read_written c.args.self.now c.read_back.new.self read.reads))) told)
+    (subst (Gathers c.in-Ok-read_back.batch) (sym (read_written c.args.self.now c.read_back.new.self read.reads))
+    (read.written h stands)) told)
 
 pub returns-in-Err-Disk-clause-moments : goal.returns-in-Err-Disk-clause-moments
 returns-in-Err-Disk-clause-moments g c = λ h stands.
