@@ -12,8 +12,8 @@ use Rattle.script.specs.Action.{ActionView, Hands, Receives, Supplies, Breaks}
 use Rattle.script.specs.Line.{SaysAction, SaysStep}
 use Rattle.script.specs.Numbers.{u64_of}
 use Rattle.script.specs.Parts.{ActionOf, StepOf}
-use Rattle.script.specs.Step.{StepView, Lines, Flushes, Connects, Acts, Ticks, Sheds, Rotates, Stops, Arms, Restarts}
-use Rattle.script.specs.Step.{Unwritten}
+use Rattle.script.specs.Step.{StepView, Lines, Flushes, Begins, Parts, Seals, Connects, Acts, Ticks, Sheds, Rotates}
+use Rattle.script.specs.Step.{Stops, Arms, Restarts}
 use Rattle.script.specs.Words.{IsCut, IsSolid}
 use Rattle.script.proofs.Cuts.{SameCut, cuts_once, is_solid, solid_from}
 
@@ -68,6 +68,16 @@ step_form line word (Some rest) (Lines t) cut says =
     inr (cut ∙ ap (λ w. w ++ 32 ∷ rest) says.0 ∙ ap (λ r. codes "line " ++ r) (sym says.1))
 step_form line word None Flushes cut says = cut ∙ says
 step_form line word (Some rest) Flushes cut says = absurd says
+step_form line word None Begins cut says = cut ∙ says
+step_form line word (Some rest) Begins cut says = absurd says
+step_form line word None (Parts name) cut says = absurd says
+step_form line word (Some rest) (Parts name) cut says = (
+  cut ∙ ap (λ w. w ++ 32 ∷ rest) says.0 ∙ ap (λ r. codes "part " ++ r) (sym says.2),
+  ap is_peer_name says.2
+      ∙ says.1,
+)
+step_form line word None Seals cut says = cut ∙ says
+step_form line word (Some rest) Seals cut says = absurd says
 step_form line word None (Connects name) cut says = absurd says
 step_form line word (Some rest) (Connects name) cut says = (
   cut ∙ ap (λ w. w ++ 32 ∷ rest) says.0 ∙ ap (λ r. codes "connect " ++ r) (sym says.2),
@@ -97,8 +107,6 @@ step_form line word None (Arms armed) cut says = absurd says
 step_form line word (Some rest) (Arms armed) cut says = (rest, cut ∙ ap (λ w. w ++ 32 ∷ rest) says.0, says.1)
 step_form line word None Restarts cut says = cut ∙ says
 step_form line word (Some rest) Restarts cut says = absurd says
-step_form line word None Unwritten cut says = absurd says
-step_form line word (Some rest) Unwritten cut says = absurd says
 
 -- A word that names a step, whichever way the line is cut.
 module _ (line word : List ℕ) (text : Option (List ℕ)) (solid : IsSolid word) (cut : IsCut line word text) where
@@ -152,6 +160,9 @@ module _ (line word : List ℕ) (text : Option (List ℕ)) (solid : IsSolid word
   step_parts (Lines t) (inl alone) = at_step (codes "line") None (Lines t) refl alone.0 (refl, alone.1)
   step_parts (Lines t) (inr behind) = at_step (codes "line") (Some t) (Lines t) refl behind (refl, refl)
   step_parts Flushes says = at_step (codes "flush") None Flushes refl says refl
+  step_parts Begins says = at_step (codes "begin") None Begins refl says refl
+  step_parts (Parts name) says = at_step (codes "part") (Some name) (Parts name) refl says.0 (refl, says.1, refl)
+  step_parts Seals says = at_step (codes "seal") None Seals refl says refl
   step_parts (Connects name) says =
       at_step (codes "connect") (Some name) (Connects name) refl says.0 (refl, says.1, refl)
   step_parts (Acts number action) says = acts_parts number action says.0 says.1 says.2
@@ -162,4 +173,3 @@ module _ (line word : List ℕ) (text : Option (List ℕ)) (solid : IsSolid word
   step_parts Stops says = at_step (codes "stop") None Stops refl says refl
   step_parts (Arms armed) says = at_step (codes "stop") (Some says.0) (Arms armed) refl says.1 (refl, says.2)
   step_parts Restarts says = at_step (codes "restart") None Restarts refl says refl
-  step_parts Unwritten says = absurd says

@@ -1,3 +1,4 @@
+pub mod Armed
 pub mod Cuts
 pub mod Digits
 pub mod Distinct

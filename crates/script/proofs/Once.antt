@@ -9,8 +9,8 @@ use Rattle.article_store.specs.declared.store.Found.TheVariants.{Article, Gone, 
 use Rattle.script.specs.Action.{ActionView, Hands, Receives, Supplies, Breaks}
 use Rattle.script.specs.Line.{SentenceView, Blank, Declares, Takes, Says, SaysStep}
 use Rattle.script.specs.Parts.{ActionOf, SaysOn, StepOf}
-use Rattle.script.specs.Step.{StepView, Lines, Flushes, Connects, Acts, Ticks, Sheds, Rotates, Stops, Arms, Restarts}
-use Rattle.script.specs.Step.{Unwritten}
+use Rattle.script.specs.Step.{StepView, Lines, Flushes, Begins, Parts, Seals, Connects, Acts, Ticks, Sheds, Rotates}
+use Rattle.script.specs.Step.{Stops, Arms, Restarts}
 use Rattle.script.specs.Words.{IsCut, IsSolid}
 use Rattle.script.proofs.Cuts.{cuts_once, cut_is, cut_longer, solid_from, solid_none}
 use Rattle.script.proofs.Forms.{number_solid, step_parts}
@@ -32,11 +32,14 @@ tag_for word behind =
     if bytes_eq word (codes "rotate") then 6 else (
     if bytes_eq word (codes "stop") then (if behind then 8 else 7) else (
     if bytes_eq word (codes "restart") then 9 else (
+    if bytes_eq word (codes "begin") then 11 else (
+    if bytes_eq word (codes "part") then 12 else (
+    if bytes_eq word (codes "seal") then 13 else (
     if bytes_eq word (codes "hand") then 10 else (
     if bytes_eq word (codes "say") then 10 else (
     if bytes_eq word (codes "raw") then 10 else (
     if bytes_eq word (codes "article") then 10 else (
-    if bytes_eq word (codes "break") then 10 else 0))))))))))))
+    if bytes_eq word (codes "break") then 10 else 0)))))))))))))))
 
 abbrev step_tag : StepView → ℕ
 step_tag (Lines text) = 1
@@ -49,7 +52,9 @@ step_tag Stops = 7
 step_tag (Arms armed) = 8
 step_tag Restarts = 9
 step_tag (Acts number action) = 10
-step_tag Unwritten = 11
+step_tag Begins = 11
+step_tag (Parts name) = 12
+step_tag Seals = 13
 
 tagged : (step : StepView) → step_tag step ≡ 0 → ⊥
 tagged (Lines text) e = apart 1 0 refl e
@@ -62,7 +67,9 @@ tagged Stops e = apart 7 0 refl e
 tagged (Arms armed) e = apart 8 0 refl e
 tagged Restarts e = apart 9 0 refl e
 tagged (Acts number action) e = apart 10 0 refl e
-tagged Unwritten e = apart 11 0 refl e
+tagged Begins e = apart 11 0 refl e
+tagged (Parts name) e = apart 12 0 refl e
+tagged Seals e = apart 13 0 refl e
 
 -- an action's word
 action_tag_is : (word : List ℕ) (text : Option (List ℕ)) (action : ActionView) → ActionOf word text action →
@@ -92,7 +99,9 @@ tag_is word None Stops says = ap (λ w. tag_for w false) says
 tag_is word None (Arms armed) says = absurd says
 tag_is word None Restarts says = ap (λ w. tag_for w false) says
 tag_is word None (Acts number action) says = absurd says
-tag_is word None Unwritten says = absurd says
+tag_is word None Begins says = ap (λ w. tag_for w false) says
+tag_is word None (Parts name) says = absurd says
+tag_is word None Seals says = ap (λ w. tag_for w false) says
 tag_is word (Some rest) (Lines t) says = ap (λ w. tag_for w true) says.0
 tag_is word (Some rest) Flushes says = absurd says
 tag_is word (Some rest) (Connects name) says = ap (λ w. tag_for w true) says.0
@@ -103,7 +112,9 @@ tag_is word (Some rest) Stops says = absurd says
 tag_is word (Some rest) (Arms armed) says = ap (λ w. tag_for w true) says.0
 tag_is word (Some rest) Restarts says = absurd says
 tag_is word (Some rest) (Acts number action) says = action_tag_is word says.text action says.says
-tag_is word (Some rest) Unwritten says = absurd says
+tag_is word (Some rest) Begins says = absurd says
+tag_is word (Some rest) (Parts name) says = ap (λ w. tag_for w true) says.0
+tag_is word (Some rest) Seals says = absurd says
 
 -- words that begin with other octets
 differs : (v w : List ℕ) → (get_or v 0 0 == get_or w 0 0) ≡ false → (word : List ℕ) → word ≡ v → word ≡ w → ⊥
@@ -175,6 +186,8 @@ once_alone : (word : List ℕ) (a b : StepView) → StepOf word None a → StepO
     step_tag a ≡ step_tag b → a ≡ b
 once_alone word (Lines s) (Lines t) p q e = ap Lines (p.1 ∙ sym q.1)
 once_alone word Flushes Flushes p q e = refl
+once_alone word Begins Begins p q e = refl
+once_alone word Seals Seals p q e = refl
 once_alone word Stops Stops p q e = refl
 once_alone word Restarts Restarts p q e = refl
 once_alone word (Connects s) b p q e = absurd p
@@ -183,12 +196,13 @@ once_alone word (Ticks s) b p q e = absurd p
 once_alone word (Sheds s) b p q e = absurd p
 once_alone word (Rotates s) b p q e = absurd p
 once_alone word (Arms s) b p q e = absurd p
-once_alone word Unwritten b p q e = absurd p
+once_alone word (Parts s) b p q e = absurd p
 once_alone word a b p q e = absurd (apart (step_tag a) (step_tag b) refl e)
 
 once_behind : (word rest : List ℕ) (a b : StepView) → StepOf word (Some rest) a → StepOf word (Some rest) b →
     step_tag a ≡ step_tag b → a ≡ b
 once_behind word rest (Lines s) (Lines t) p q e = ap Lines (p.1 ∙ sym q.1)
+once_behind word rest (Parts s) (Parts t) p q e = ap Parts (p.2 ∙ sym q.2)
 once_behind word rest (Connects s) (Connects t) p q e = ap Connects (p.2 ∙ sym q.2)
 once_behind word rest (Acts m a) (Acts n b) p q e = on_once word rest m n a b p q
 once_behind word rest (Ticks s) (Ticks t) p q e = let same : s ≡ t = cc (p.1, q.1) in ap Ticks same
@@ -198,7 +212,8 @@ once_behind word rest (Arms s) (Arms t) p q e = let same : s ≡ t = cc (p.1, q.
 once_behind word rest Flushes b p q e = absurd p
 once_behind word rest Stops b p q e = absurd p
 once_behind word rest Restarts b p q e = absurd p
-once_behind word rest Unwritten b p q e = absurd p
+once_behind word rest Begins b p q e = absurd p
+once_behind word rest Seals b p q e = absurd p
 once_behind word rest a b p q e = absurd (apart (step_tag a) (step_tag b) refl e)
 
 parts_once : (word : List ℕ) (text : Option (List ℕ)) (a b : StepView) → StepOf word text a → StepOf word text b →

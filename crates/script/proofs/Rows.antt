@@ -7,7 +7,7 @@ use Rattle.script.specs.Arming.{arming_of}
 use Rattle.script.specs.Line.{Blank, Says, SaysStep, Takes}
 use Rattle.script.specs.Numbers.{u64_of}
 use Rattle.script.specs.Script.{KeepsOrder}
-use Rattle.script.specs.Step.{Lines, Flushes, Connects, Acts, Ticks, Stops, Arms, Restarts}
+use Rattle.script.specs.Step.{Lines, Flushes, Begins, Parts, Seals, Connects, Acts, Ticks, Stops, Arms, Restarts}
 
 blank_line : Says [] Blank
 blank_line = inl refl
@@ -47,8 +47,21 @@ stop_line : SaysStep (codes "stop") Stops
 stop_line = refl
 
 armed_line : SaysStep (codes "stop p 3 5 165")
-    (Arms (record { name = codes "p"; call = 3; choice = record { happened = 5; fill = 165 } }))
+    (Arms (record { peer = Some (codes "p"); call = 3; choice = record { happened = 5; fill = 165 } }))
 armed_line = (codes "p 3 5 165", refl, refl)
+
+intake_line : SaysStep (codes "stop ~intake 1 0")
+    (Arms (record { peer = None; call = 1; choice = record { happened = 0; fill = 0 } }))
+intake_line = (codes "~intake 1 0", refl, refl)
+
+begin_line : SaysStep (codes "begin") Begins
+begin_line = refl
+
+part_line : SaysStep (codes "part p") (Parts (codes "p"))
+part_line = (refl, refl)
+
+seal_line : SaysStep (codes "seal") Seals
+seal_line = refl
 
 -- the numbers of a script: digits alone, of 64 bits
 greatest_number : u64_of (codes "18446744073709551615") ≡ Some 18446744073709551615

@@ -7,8 +7,8 @@ use Rattle.script.specs.Action.{ActionView, Hands, Receives, Supplies, Breaks, a
 use Rattle.script.specs.Line.{SaysStep}
 use Rattle.script.specs.Numbers.{u64_of}
 use Rattle.script.specs.Parts.{ActionOf, SaysOn, StepOf}
-use Rattle.script.specs.Step.{StepView, Lines, Flushes, Connects, Acts, Ticks, Sheds, Rotates, Stops, Arms}
-use Rattle.script.specs.Step.{Restarts, Unwritten, step_view}
+use Rattle.script.specs.Step.{StepView, Lines, Flushes, Begins, Parts, Seals, Connects, Acts, Ticks, Sheds, Rotates}
+use Rattle.script.specs.Step.{Stops, Arms, Restarts, step_view}
 use Rattle.script.specs.Words.{IsCut, IsSolid}
 use Rattle.script.specs.declared.action.Action.{Action}
 use Rattle.world_core.specs.declared.step.Step.{Step}
@@ -32,14 +32,34 @@ says_none view word (Some t) lone more (Supplies Gone) says = (more t refl).2 sa
 says_none view word (Some t) lone more (Supplies Unsendable) says = says
 says_none view word (Some t) lone more Breaks says = says
 
+-- a word that names no step that stands alone says none
+pub says_none_alone : (word : List ℕ) → word ≢ codes "line" → word ≢ codes "flush" → word ≢ codes "begin" →
+    word ≢ codes "seal" → word ≢ codes "stop" → word ≢ codes "restart" → (said : StepView) → StepOf word None said → ⊥
+says_none_alone word line flush begin seal stop restart (Lines text) says = line says.0
+says_none_alone word line flush begin seal stop restart Flushes says = flush says
+says_none_alone word line flush begin seal stop restart Begins says = begin says
+says_none_alone word line flush begin seal stop restart (Parts name) says = says
+says_none_alone word line flush begin seal stop restart Seals says = seal says
+says_none_alone word line flush begin seal stop restart (Connects name) says = says
+says_none_alone word line flush begin seal stop restart (Acts number action) says = says
+says_none_alone word line flush begin seal stop restart (Ticks moment) says = says
+says_none_alone word line flush begin seal stop restart (Sheds name) says = says
+says_none_alone word line flush begin seal stop restart (Rotates name) says = says
+says_none_alone word line flush begin seal stop restart Stops says = stop says
+says_none_alone word line flush begin seal stop restart (Arms arming) says = says
+says_none_alone word line flush begin seal stop restart Restarts says = restart says
+
 -- a word that names none of the other steps says a step on a connection, where one is said
-module _ (word : List ℕ) (line : word ≢ codes "line") (connect : word ≢ codes "connect")
+module _ (word : List ℕ) (line : word ≢ codes "line") (part : word ≢ codes "part") (connect : word ≢ codes "connect")
     (shed : word ≢ codes "shed") (rotate : word ≢ codes "rotate") (tick : word ≢ codes "tick")
     (stop : word ≢ codes "stop") where
   says_no_step : (rest : List ℕ) → ((number : ℕ) (said : ActionView) → SaysOn word rest number said → ⊥) →
       (said : StepView) → StepOf word (Some rest) said → ⊥
   says_no_step rest none (Lines text) says = line says.0
   says_no_step rest none Flushes says = says
+  says_no_step rest none Begins says = says
+  says_no_step rest none (Parts name) says = part says.0
+  says_no_step rest none Seals says = says
   says_no_step rest none (Connects name) says = connect says.0
   says_no_step rest none (Acts number action) says = none number action says
   says_no_step rest none (Ticks moment) says = tick says.0
@@ -48,7 +68,6 @@ module _ (word : List ℕ) (line : word ≢ codes "line") (connect : word ≢ co
   says_no_step rest none Stops says = says
   says_no_step rest none (Arms arming) says = stop says.0
   says_no_step rest none Restarts says = says
-  says_no_step rest none Unwritten says = says
 
   pub says_step : {T E : Type 0} (view : T → List ℕ) (text : Option T) (rest : List ℕ)
       (made : Result (Option Step) E) →

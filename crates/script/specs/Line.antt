@@ -8,8 +8,8 @@ use Rattle.script.specs.Action.{ActionView, Hands, Receives, Supplies, Breaks, I
 use Rattle.script.specs.Arming.{arming_of}
 use Rattle.script.specs.Numbers.{u64_of}
 use Rattle.script.specs.Peer.{SaysPeer}
-use Rattle.script.specs.Step.{StepView, Lines, Flushes, Connects, Acts, Ticks, Sheds, Rotates, Stops, Arms, Restarts}
-use Rattle.script.specs.Step.{Unwritten}
+use Rattle.script.specs.Step.{StepView, Lines, Flushes, Begins, Parts, Seals, Connects, Acts, Ticks, Sheds, Rotates}
+use Rattle.script.specs.Step.{Stops, Arms, Restarts}
 
 -- a line asks this of the connection whose number is written so
 abbrev pub SaysAction : (line number : List ℕ) → ActionView → Type 0
@@ -28,6 +28,9 @@ SaysAction line number Breaks = line ≡ codes "break " ++ number
 abbrev pub SaysStep : List ℕ → StepView → Type 0
 SaysStep line (Lines text) = ((line ≡ codes "line") × (text ≡ [])) ⊎ (line ≡ codes "line " ++ text)
 SaysStep line Flushes = line ≡ codes "flush"
+SaysStep line Begins = line ≡ codes "begin"
+SaysStep line (Parts name) = (line ≡ codes "part " ++ name) × IsTrue (is_peer_name name)
+SaysStep line Seals = line ≡ codes "seal"
 SaysStep line (Connects name) = (line ≡ codes "connect " ++ name) × IsTrue (is_peer_name name)
 SaysStep line (Acts number action) =
     (written : List ℕ) × (u64_of written ≡ Some number) × SaysAction line written action
@@ -39,7 +42,6 @@ SaysStep line (Arms armed) =
     (words : List ℕ) × (line ≡ codes "stop " ++ words)
     × (arming_of (slice_split (λ octet. octet == 32) words) ≡ Some armed)
 SaysStep line Restarts = line ≡ codes "restart"
-SaysStep line Unwritten = ⊥
 
 -- what one line says: nothing, a peer or a step
 pub data SentenceView : Type 0 where

@@ -6,8 +6,8 @@ use Rattle.funnel.specs.Names.{is_peer_name}
 use Rattle.script.specs.Action.{ActionView, Hands, Receives, Supplies, Breaks, IsWritten, Spells, line_of}
 use Rattle.script.specs.Arming.{arming_of}
 use Rattle.script.specs.Numbers.{u64_of}
-use Rattle.script.specs.Step.{StepView, Lines, Flushes, Connects, Acts, Ticks, Sheds, Rotates, Stops, Arms, Restarts}
-use Rattle.script.specs.Step.{Unwritten}
+use Rattle.script.specs.Step.{StepView, Lines, Flushes, Begins, Parts, Seals, Connects, Acts, Ticks, Sheds, Rotates}
+use Rattle.script.specs.Step.{Stops, Arms, Restarts}
 use Rattle.script.specs.Words.{IsCut}
 
 -- a word with what stands behind the connection's number says this action
@@ -39,6 +39,12 @@ StepOf word None (Lines text) = (word ≡ codes "line") × (text ≡ [])
 StepOf word (Some rest) (Lines text) = (word ≡ codes "line") × (text ≡ rest)
 StepOf word None Flushes = word ≡ codes "flush"
 StepOf word (Some rest) Flushes = ⊥
+StepOf word None Begins = word ≡ codes "begin"
+StepOf word (Some rest) Begins = ⊥
+StepOf word None (Parts name) = ⊥
+StepOf word (Some rest) (Parts name) = (word ≡ codes "part") × IsTrue (is_peer_name rest) × (name ≡ rest)
+StepOf word None Seals = word ≡ codes "seal"
+StepOf word (Some rest) Seals = ⊥
 StepOf word None (Connects name) = ⊥
 StepOf word (Some rest) (Connects name) = (word ≡ codes "connect") × IsTrue (is_peer_name rest) × (name ≡ rest)
 StepOf word None (Acts number action) = ⊥
@@ -56,5 +62,3 @@ StepOf word (Some rest) (Arms armed) =
     (word ≡ codes "stop") × (arming_of (slice_split (λ octet. octet == 32) rest) ≡ Some armed)
 StepOf word None Restarts = word ≡ codes "restart"
 StepOf word (Some rest) Restarts = ⊥
-StepOf word None Unwritten = ⊥
-StepOf word (Some rest) Unwritten = ⊥

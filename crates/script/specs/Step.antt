@@ -1,9 +1,8 @@
 -- The steps of a script, by what they carry (docs/FORMATS.md).
-use Rattle.std.specs.Prelude.{ℕ, ◌==◌, if◌then◌else◌, List, None, Some}
+use Rattle.std.specs.Prelude.{ℕ, ◌==◌, if◌then◌else◌, List}
 use Rattle.world_core.specs.declared.step.Step.{Step}
 use Rattle.world_core.specs.declared.step.Step.TheVariants.{Line, Flush, Begin, Part, Seal, Connect, Hand, Bytes}
-use Rattle.world_core.specs.declared.step.Step.TheVariants.{Article, Break}
-use Rattle.world_core.specs.declared.step.Step.TheVariants.{Tick, Shed, Rotate, Stop, Restart}
+use Rattle.world_core.specs.declared.step.Step.TheVariants.{Article, Break, Tick, Shed, Rotate, Stop, Restart}
 use Rattle.script.specs.Action.{ActionView, Hands, Receives, Supplies, Breaks}
 use Rattle.script.specs.Arming.{Armed}
 
@@ -12,6 +11,12 @@ pub data StepView : Type 0 where
   Lines : List ℕ → StepView
   -- all stations are flushed
   Flushes : StepView
+  -- the last line's number is kept
+  Begins : StepView
+  -- this peer's station is flushed
+  Parts : List ℕ → StepView
+  -- the kept number is noted on the intake's tape, and that is flushed
+  Seals : StepView
   -- a connection to this peer is made
   Connects : List ℕ → StepView
   -- the connection of this number does this
@@ -28,16 +33,14 @@ pub data StepView : Type 0 where
   Arms : Armed → StepView
   -- all tapes are opened again
   Restarts : StepView
-  -- a step of a world that no line says
-  Unwritten : StepView
 
 -- what a step of a world carries; of a stop at rest nothing is looked at
 abbrev pub step_view : Step → StepView
 step_view (Line text) = Lines text.items
 step_view Flush = Flushes
-step_view Begin = Unwritten
-step_view (Part name) = Unwritten
-step_view Seal = Unwritten
+step_view Begin = Begins
+step_view (Part name) = Parts name
+step_view Seal = Seals
 step_view (Connect name) = Connects name
 step_view (Hand number) = Acts number Hands
 step_view (Bytes number octets) = Acts number (Receives octets.items)
@@ -46,6 +49,6 @@ step_view (Break number) = Acts number Breaks
 step_view (Tick moment) = Ticks moment
 step_view (Shed name) = Sheds name
 step_view (Rotate name) = Rotates name
-step_view (Stop None call choice) = if call == 0 then Stops else Unwritten
-step_view (Stop (Some name) call choice) = Arms (record { name = name; call = call; choice = choice })
+step_view (Stop peer call choice) =
+    if call == 0 then Stops else Arms (record { peer = peer; call = call; choice = choice })
 step_view Restart = Restarts

@@ -1,5 +1,5 @@
-// What a script's `stop` line with a peer arms (docs/FORMATS.md).
-ghost use Rattle.std.specs.Prelude.{◌≡◌, ◌==◌, IfOk, map};
+// What a script's `stop` line with a tape arms (docs/FORMATS.md).
+ghost use Rattle.std.specs.Prelude.{◌≡◌, ◌==◌, ◌<◌, IfOk, map};
 ghost use Rattle.std.specs.List.{slice_split};
 
 use crate::numbers::read_number;
@@ -8,22 +8,27 @@ use funnel::PeerName;
 use std::alloc::{AllocError, Global};
 use world_core::Step;
 
+// What names the intake's tape.
+const INTAKE: &[u8] = b"~intake";
+
 /// A stop that is to be armed.
 #[derive(Drop)]
 pub struct Arming {
-    /// The peer at whose disk it comes.
-    pub name: PeerName,
+    /// The peer at whose tape it comes; none: it is the intake's.
+    pub peer: Option<PeerName>,
     /// How many counted calls there are up to it, itself among them: 1 or more.
     pub call: u64,
     /// What it leaves of each disk.
     pub choice: Choice,
+    ghost counted: { 0 < call },
 }
 
 impl Arming {
     ghost use Rattle.script.specs.Arming.{armed, armed_by, arming_of, view_of};
     ghost use Rattle.script.specs.Step.{Arms, step_view};
 
-    /// Reads `NAME CALL BITS` or `NAME CALL BITS FILL`, or nothing where the text is neither.
+    /// Reads `TAPE CALL BITS` or `TAPE CALL BITS FILL`, or nothing where the text is neither. TAPE is a peer's name,
+    /// or `~intake`.
     ///
     /// # Errors
     /// Memory was refused.
@@ -68,26 +73,27 @@ impl Arming {
         if call == 0 || fill > 255 {
             return Ok(None);
         }
-        let Some(name) = PeerName::read(alloc, name)? else {
-            return Ok(None);
+        let peer = if name == INTAKE {
+            None
+        } else {
+            let Some(name) = PeerName::read(alloc, name)? else {
+                return Ok(None);
+            };
+            Some(name)
         };
         let choice = Choice {
             happened,
             fill: fill as u8,
         };
-        Ok(Some(Arming { name, call, choice }))
+        Ok(Some(Arming { peer, call, choice }))
     }
 
     /// The step that arms it.
     pub(crate) fn into_step(self) -> Step
         ensures { step_view result ≡ Arms (armed_by self) }
     {
-        let Arming { name, call, choice } = self;
-        Step::Stop {
-            peer: Some(name),
-            call,
-            choice,
-        }
+        let Arming { peer, call, choice } = self;
+        Step::Stop { peer, call, choice }
     }
 }
 

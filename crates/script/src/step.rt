@@ -36,6 +36,10 @@ fn step_of(alloc: Global, word: &[u8], text: Option<&[u8]>) -> Result<Option<Ste
     match (word, text) {
         (word, None) => Ok(lone_step(alloc, word)),
         (b"line", Some(text)) => Ok(Some(Step::Line(Vec::from_slice(alloc, text)?))),
+        (b"part", Some(name)) => match PeerName::read(alloc, name)? {
+            Some(name) => Ok(Some(Step::Part(name))),
+            None => Ok(None),
+        },
         (b"connect", Some(name)) => match PeerName::read(alloc, name)? {
             Some(name) => Ok(Some(Step::Connect(name))),
             None => Ok(None),
@@ -68,6 +72,8 @@ fn lone_step(alloc: Global, word: &[u8]) -> Option<Step>
     match word {
         b"line" => Some(Step::Line(Vec::new(alloc))),
         b"flush" => Some(Step::Flush),
+        b"begin" => Some(Step::Begin),
+        b"seal" => Some(Step::Seal),
         b"stop" => Some(rest_now()),
         b"restart" => Some(Step::Restart),
         _ => None,

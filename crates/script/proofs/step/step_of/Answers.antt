@@ -7,6 +7,7 @@ use Rattle.script.proofs.step.step_of.Goals as goal
 pub returns-in_default-Some : goal.returns-in_default-Some
 returns-in_default-Some c =
     says_step c.args.word.now (λ (same : c.args.word.now ≡ codes "line"). grind arith)
+    (λ (same : c.args.word.now ≡ codes "part"). grind arith)
     (λ (same : c.args.word.now ≡ codes "connect"). grind arith)
     (λ (same : c.args.word.now ≡ codes "shed"). grind arith)
     (λ (same : c.args.word.now ≡ codes "rotate"). grind arith)
