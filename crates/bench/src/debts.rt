@@ -205,7 +205,8 @@ fn owing(alloc: Global, peer: &Peer, count: u64) -> Result<Station<MemDisk>> {
     Ok(station)
 }
 
-fn opened(alloc: Global) -> Result<Station<MemDisk>> {
+/// A station over empty disks in memory, without limits.
+pub fn opened(alloc: Global) -> Result<Station<MemDisk>> {
     let limits = Limits {
         backlog_limit: 0,
         backlog_high: 0,
@@ -226,8 +227,10 @@ fn owe_batch(station: &mut Station<MemDisk>, peer: &Peer, round: u64) -> Result<
     Ok(())
 }
 
+/// Flushes a station.
+//
 // proof: what a call of the station ensures is left behind here, so that its callers carry none of it.
-fn flush(station: &mut Station<MemDisk>) -> Result<()> {
+pub fn flush(station: &mut Station<MemDisk>) -> Result<()> {
     station.flush()?;
     Ok(())
 }

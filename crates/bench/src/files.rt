@@ -54,9 +54,7 @@ fn small<R: AllocGlobal + Print + Clock + Files<File = File>>(rt: &R) -> Result<
     rotated(rt, &mut tape_in(rt, ".")?, 3)?;
     let owed = tape_in(rt, ".")?.totals().owed;
     println!(rt; "disk_model: a tape in a file owes {owed}")?;
-    fs::remove_file(rt, FIRST)?;
-    fs::remove_file(rt, SECOND)?;
-    Ok(())
+    remove(rt, ".")
 }
 
 // The tape in this directory.
@@ -64,9 +62,7 @@ fn tape_in<R: AllocGlobal + Files<File = File>>(
     rt: &R,
     path: &str,
 ) -> Result<Tape<FileDisk<File>>> {
-    let directory = TapeDirectory::lock(rt, path)?;
-    let first = directory.open(rt, FIRST)?;
-    let second = directory.open(rt, SECOND)?;
+    let (first, second) = disks_in(rt, path)?;
     open(rt.alloc(), first, second)
 }
 
@@ -75,11 +71,28 @@ fn emptied<R: AllocGlobal + Files<File = File>>(
     rt: &R,
     path: &str,
 ) -> Result<Tape<FileDisk<File>>> {
+    remove(rt, path)?;
+    tape_in(rt, path)
+}
+
+/// The disks of the tape in this directory; where it has none, empty ones.
+pub fn disks_in<R: AllocGlobal + Files<File = File>>(
+    rt: &R,
+    path: &str,
+) -> Result<(FileDisk<File>, FileDisk<File>)> {
+    let directory = TapeDirectory::lock(rt, path)?;
+    let first = directory.open(rt, FIRST)?;
+    let second = directory.open(rt, SECOND)?;
+    Ok((first, second))
+}
+
+/// Removes the tape in this directory, where it has one.
+pub fn remove<R: AllocGlobal + Files<File = File>>(rt: &R, path: &str) -> Result<()> {
     for name in [FIRST, SECOND] {
         let file = format!(in rt.alloc(); "{path}/{name}")?;
         let _ = fs::remove_file(rt, file.as_str());
     }
-    tape_in(rt, path)
+    Ok(())
 }
 
 // Flushes so many batches, and gives the time that the flushes took.

@@ -20,6 +20,8 @@ mod peer;
 mod replies;
 mod texts;
 mod time;
+mod ways;
+mod worlds;
 
 use anyhow::{Result, bail};
 use std::env;
@@ -27,9 +29,10 @@ use std::fs::File;
 use std::rt::Files;
 use std::time::Clock;
 
-/// What is measured, each by the name of its crate.
-const NAMES: [&str; 9] = [
+/// What is measured, each by the name of its crate; `debt` is the way of one through several.
+const NAMES: [&str; 11] = [
     "conn_core",
+    "debt",
     "deferral",
     "disk_model",
     "dot_codec",
@@ -38,6 +41,7 @@ const NAMES: [&str; 9] = [
     "peer_queue",
     "recovery",
     "reply_reader",
+    "world_core",
 ];
 
 fn main(rt: HostRuntime) -> Result<()> {
@@ -62,6 +66,7 @@ fn run<R: AllocGlobal + Print + Clock + Files<File = File>>(
 ) -> Result<()> {
     match name {
         "conn_core" => articles::run(rt, words),
+        "debt" => ways::run(rt, words),
         "deferral" => moments::run(rt, words),
         "disk_model" => files::run(rt, words),
         "dot_codec" => blocks::run(rt, words),
@@ -70,6 +75,7 @@ fn run<R: AllocGlobal + Print + Clock + Files<File = File>>(
         "peer_queue" => debts::run(rt, words),
         "recovery" => openings::run(rt, words),
         "reply_reader" => replies::run(rt, words),
+        "world_core" => worlds::run(rt, words),
         _ => bail!("no benchmark {name}"),
     }
 }

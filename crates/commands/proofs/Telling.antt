@@ -6,17 +6,19 @@ use Rattle.std.specs.Prelude.{string_bytes}
 use Rattle.commands.specs.Ends.{Tells}
 use Rattle.commands.specs.Fault.{Comes, IsLineOf, exit_of_fault}
 use Rattle.commands.specs.FeedLines.{end_text}
-use Rattle.commands.specs.Lines.{config_text, refusal_text, unread_text, input_text, output_text, mistake_text}
+use Rattle.commands.specs.Lines.{config_text, refusal_text, no_tape_text, unread_text, input_text, output_text}
+use Rattle.commands.specs.Lines.{mistake_text}
 use Rattle.commands.specs.declared.exit.Exit.{Exit}
 use Rattle.commands.specs.declared.fault.Fault.{Fault}
-use Rattle.commands.specs.declared.fault.Fault.TheVariants.{NoMemory, Config, Refused, Unread, Input, Output, Mistake}
-use Rattle.commands.specs.declared.fault.Fault.TheVariants.{Fed}
+use Rattle.commands.specs.declared.fault.Fault.TheVariants.{NoMemory, Config, Refused, NoTape, Unread, Input}
+use Rattle.commands.specs.declared.fault.Fault.TheVariants.{Output, Mistake, Fed}
 
 -- each fault has a line, or none
 pub has_line : (fault : Fault) → (line : Option (List ℕ)) × IsLineOf fault line
 has_line NoMemory = (None, refl)
 has_line (Config fault) = (Some (config_text fault), refl)
 has_line (Refused source refusal) = (Some (refusal_text source.now refusal), refl)
+has_line (NoTape refusal) = (Some (no_tape_text refusal), refl)
 has_line (Unread path) = (Some (unread_text path.now), refl)
 has_line (Input error) = (Some (input_text []), ([], refl))
 has_line (Output error) = (Some (output_text []), ([], refl))

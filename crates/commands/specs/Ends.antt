@@ -6,7 +6,7 @@ use Rattle.std.specs.declared.io.Error.{Error}
 use Rattle.drill.specs.Drill.{Drills}
 use Rattle.drill.specs.declared.ending.Ending.{Ending}
 use Rattle.drill.specs.declared.ending.Ending.TheVariants.{Done as AllTaken, Refused as LineRefused}
-use Rattle.drill.specs.declared.ending.Ending.TheVariants.{NoMemory as WantsMemory}
+use Rattle.drill.specs.declared.ending.Ending.TheVariants.{NoTape as TapeRefused, NoMemory as WantsMemory}
 use Rattle.feed_conf.specs.Reading.{HaveTokens, lines_of}
 use Rattle.feed_conf.specs.Settings.{Outcome, meaning}
 use Rattle.feed_conf.specs.Tokens.{Token}
@@ -15,7 +15,8 @@ use Rattle.commands.specs.Check.{check_text}
 use Rattle.commands.specs.Exit.{exit_of}
 use Rattle.commands.specs.Feed.{exit_of_end}
 use Rattle.commands.specs.FeedLines.{end_text}
-use Rattle.commands.specs.Lines.{config_text, refusal_text, unread_text, input_text, output_text, mistake_text}
+use Rattle.commands.specs.Lines.{config_text, refusal_text, no_tape_text, unread_text, input_text, output_text}
+use Rattle.commands.specs.Lines.{mistake_text}
 use Rattle.commands.specs.declared.exit.Exit.{Exit}
 use Rattle.commands.specs.declared.exit.Exit.TheVariants.{Done, Refused, Usage, Unreadable, NoMemory}
 use Rattle.commands.specs.declared.feeds.FeedEnd.{FeedEnd}
@@ -49,10 +50,11 @@ Prints text old new exit line =
     ⊎ LosesOutput exit line
     ⊎ LacksMemory exit line
 
--- the line that tells of a drill's ending, of a script from here: which line was refused, and why
+-- the line that tells of a drill's ending, of a script from here: which line or which peer's tape was refused, and why
 abbrev pub line_of_ending : List ℕ → Ending → Option (List ℕ)
 line_of_ending source AllTaken = None
 line_of_ending source (LineRefused refusal) = Some (refusal_text source refusal)
+line_of_ending source (TapeRefused refusal) = Some (no_tape_text refusal)
 line_of_ending source WantsMemory = None
 
 -- The script was run: standard output gets what that prints, and the status and the line tell its ending; or standard

@@ -2,7 +2,7 @@
 use Rattle.std.specs.Prelude.{ℕ}
 use Rattle.drill.specs.declared.ending.Ending.{Ending}
 use Rattle.drill.specs.declared.ending.Ending.TheVariants.{Done as DrillDone, Refused as DrillRefused}
-use Rattle.drill.specs.declared.ending.Ending.TheVariants.{NoMemory as DrillNoMemory}
+use Rattle.drill.specs.declared.ending.Ending.TheVariants.{NoTape, NoMemory as DrillNoMemory}
 use Rattle.commands.specs.declared.exit.Exit.{Exit}
 use Rattle.commands.specs.declared.exit.Exit.TheVariants.{Done, Refused, Usage, Tape, Unreadable, NoMemory}
 
@@ -18,4 +18,5 @@ status_of NoMemory = 5
 abbrev pub exit_of : Ending → Exit
 exit_of DrillDone = Done
 exit_of (DrillRefused refusal) = Refused
+exit_of (NoTape refusal) = Tape
 exit_of DrillNoMemory = NoMemory

@@ -4,19 +4,21 @@ use Rattle.std.specs.IoError.{error_kind}
 use Rattle.std.specs.declared.io.Error.{Error}
 use Rattle.std.specs.declared.io.ErrorKind.TheVariants.{OutOfMemory}
 use Rattle.commands.specs.declared.exit.Exit.{Exit}
-use Rattle.commands.specs.declared.exit.Exit.TheVariants.{Refused, Usage, Unreadable, NoMemory as ExitNoMemory}
+use Rattle.commands.specs.declared.exit.Exit.TheVariants.{Refused, Tape, Usage, Unreadable, NoMemory as ExitNoMemory}
 use Rattle.commands.specs.declared.fault.Fault.{Fault}
-use Rattle.commands.specs.declared.fault.Fault.TheVariants.{NoMemory, Config, Refused as ScriptRefused}
+use Rattle.commands.specs.declared.fault.Fault.TheVariants.{NoMemory, Config, Refused as ScriptRefused, NoTape}
 use Rattle.commands.specs.declared.fault.Fault.TheVariants.{Unread, Input, Output, Mistake, Fed}
 use Rattle.commands.specs.Feed.{exit_of_end}
 use Rattle.commands.specs.FeedLines.{end_text}
-use Rattle.commands.specs.Lines.{config_text, refusal_text, unread_text, input_text, output_text, mistake_text}
+use Rattle.commands.specs.Lines.{config_text, refusal_text, no_tape_text, unread_text, input_text, output_text}
+use Rattle.commands.specs.Lines.{mistake_text}
 
 -- the status that tells of a fault
 abbrev pub exit_of_fault : Fault → Exit
 exit_of_fault NoMemory = ExitNoMemory
 exit_of_fault (Config fault) = Refused
 exit_of_fault (ScriptRefused source refusal) = Refused
+exit_of_fault (NoTape refusal) = Tape
 exit_of_fault (Unread path) = Unreadable
 exit_of_fault (Input error) = Unreadable
 exit_of_fault (Output error) = Unreadable
@@ -28,6 +30,7 @@ abbrev pub IsLineOf : Fault → Option (List ℕ) → Type 0
 IsLineOf NoMemory line = line ≡ None
 IsLineOf (Config fault) line = line ≡ Some (config_text fault)
 IsLineOf (ScriptRefused source refusal) line = line ≡ Some (refusal_text source.now refusal)
+IsLineOf (NoTape refusal) line = line ≡ Some (no_tape_text refusal)
 IsLineOf (Unread path) line = line ≡ Some (unread_text path.now)
 IsLineOf (Input error) line = (reason : List ℕ) × (line ≡ Some (input_text reason))
 IsLineOf (Output error) line = (reason : List ℕ) × (line ≡ Some (output_text reason))

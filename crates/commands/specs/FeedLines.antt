@@ -31,10 +31,14 @@ tape_kind PendingFull = codes "PendingFull"
 tape_kind NoMemory = codes "NoMemory"
 tape_kind (Note fault) = ledger_kind fault
 
+-- the tape of this name is refused, or failed
+abbrev pub failed_text : List ℕ → TapeFault → List ℕ
+failed_text name fault = codes "tape " ++ name ++ codes ": " ++ tape_kind fault ++ 10 ∷ []
+
 -- what is wrong with a tape
 abbrev pub tape_text : TapeTrouble → List ℕ
 tape_text (Taken directory) = codes "another innfeed works on " ++ string_bytes directory ++ 10 ∷ []
-tape_text (Failed name fault) = codes "tape " ++ name.items ++ codes ": " ++ tape_kind fault ++ 10 ∷ []
+tape_text (Failed name fault) = failed_text name.items fault
 
 -- what is wrong with another file
 abbrev pub file_text : FileTrouble → List ℕ

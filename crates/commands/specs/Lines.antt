@@ -2,11 +2,13 @@
 use Rattle.std.specs.Prelude.{ℕ, List, [], ◌∷◌, ◌++◌, codes, decimal}
 use Rattle.drill.specs.Words.{why_words}
 use Rattle.drill.specs.declared.ending.Refusal.{Refusal}
+use Rattle.drill.specs.declared.ending.TapeRefusal.{TapeRefusal}
 use Rattle.feed_conf.specs.declared.fault.ConfFault.{ConfFault}
 use Rattle.feed_conf.specs.declared.fault.ConfFaultKind.{ConfFaultKind}
 use Rattle.feed_conf.specs.declared.fault.ConfFaultKind.TheVariants.{NoValue, BadNumber, BadBoolean, Unbalanced}
 use Rattle.feed_conf.specs.declared.fault.ConfFaultKind.TheVariants.{BadPeerName, SamePeer, LowAboveHigh, Range}
 use Rattle.feed_conf.specs.declared.fault.ConfFaultKind.TheVariants.{NoMemory}
+use Rattle.commands.specs.FeedLines.{failed_text}
 
 -- the word for what is wrong with a configuration
 abbrev pub kind_text : ConfFaultKind → List ℕ
@@ -28,6 +30,10 @@ config_text fault = codes "config line " ++ decimal fault.line ++ codes ": " ++ 
 abbrev pub refusal_text : List ℕ → Refusal → List ℕ
 refusal_text source refusal =
     source ++ codes ": line " ++ decimal refusal.line ++ codes ": " ++ why_words refusal.why ++ 10 ∷ []
+
+-- the tape of a peer of a script that was refused
+abbrev pub no_tape_text : TapeRefusal → List ℕ
+no_tape_text refusal = failed_text refusal.peer refusal.fault
 
 -- a file that cannot be read
 abbrev pub unread_text : List ℕ → List ℕ

@@ -1,6 +1,7 @@
 // The lines that tell how a feed ended (docs/MANUAL.md).
 ghost use Rattle.std.specs.Prelude.{◌≡◌, ◌++◌, ◌∷◌, [], IfOk, OnOk, flat_map};
-ghost use Rattle.commands.specs.FeedLines.{end_text, file_text, owing_text, tape_kind, tape_text};
+ghost use Rattle.commands.specs.FeedLines.{end_text, failed_text, file_text, owing_text, tape_kind};
+ghost use Rattle.commands.specs.FeedLines.{tape_text};
 
 use crate::feeds::{FeedEnd, FileTrouble, Owing, TapeTrouble};
 use ledger_core::LedgerFault;
@@ -39,13 +40,23 @@ fn add_tape(lines: &mut Vec<u8>, trouble: &TapeTrouble) -> Result<(), AllocError
             lines.extend_from_slice(b"another innfeed works on ")?;
             lines.extend_from_slice(directory.as_bytes())?;
         }
-        TapeTrouble::Failed { name, fault } => {
-            lines.extend_from_slice(b"tape ")?;
-            lines.extend_from_slice(name)?;
-            lines.extend_from_slice(b": ")?;
-            lines.extend_from_slice(tape_word(*fault).as_bytes())?;
-        }
+        TapeTrouble::Failed { name, fault } => return add_tape_line(lines, name, *fault),
     }
+    lines.push(b'\n')?;
+    Ok(())
+}
+
+/// Adds `tape NAME: KIND`.
+///
+/// # Errors
+/// Memory was refused.
+pub fn add_tape_line(lines: &mut Vec<u8>, name: &[u8], fault: TapeFault) -> Result<(), AllocError>
+    ensures { OnOk result (lines.new.items ≡ lines.old.items ++ failed_text name.now fault) }
+{
+    lines.extend_from_slice(b"tape ")?;
+    lines.extend_from_slice(name)?;
+    lines.extend_from_slice(b": ")?;
+    lines.extend_from_slice(tape_word(fault).as_bytes())?;
     lines.push(b'\n')?;
     Ok(())
 }

@@ -47,6 +47,7 @@ impl From<Ending> for Exit {
         match ending {
             Ending::Done => Exit::Done,
             Ending::Refused(_) => Exit::Refused,
+            Ending::NoTape(_) => Exit::Tape,
             Ending::NoMemory => Exit::NoMemory,
         }
     }

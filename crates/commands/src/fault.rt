@@ -1,13 +1,14 @@
 // Why an order did not end well, or how a feed ended, and what says so on standard error (docs/MANUAL.md).
 ghost use Rattle.std.specs.Prelude.{◌≡◌, ◌≢◌, ◌++◌, ◌∷◌, [], ℕ, List, IfOk, codes, option_map};
 ghost use Rattle.commands.specs.Fault.{exit_of_fault, IsFaultOf, IsLineOf};
-ghost use Rattle.commands.specs.Lines.{config_text, kind_text, mistake_text, refusal_text, unread_text};
+ghost use Rattle.commands.specs.Lines.{config_text, kind_text, mistake_text, no_tape_text, refusal_text};
+ghost use Rattle.commands.specs.Lines.{unread_text};
 ghost use Rattle.commands.specs.declared.fault.Fault.TheVariants.{NoMemory};
 
-use crate::ending::end_lines;
+use crate::ending::{add_tape_line, end_lines};
 use crate::exit::Exit;
 use crate::feeds::FeedEnd;
-use drill::Refusal;
+use drill::{Refusal, TapeRefusal};
 use feed_conf::{ConfFault, ConfFaultKind};
 use std::alloc::{AllocError, Global};
 use std::io::{self, ErrorKind};
@@ -25,6 +26,8 @@ pub enum Fault<'a> {
     Config(ConfFault),
     /// A line of the script from here was refused.
     Refused(&'a str, Refusal),
+    /// The tape of a peer of a script was refused.
+    NoTape(TapeRefusal),
     /// The file at this path cannot be read.
     Unread(&'a str),
     /// Standard input cannot be read.
@@ -83,6 +86,7 @@ impl<'a> Fault<'a> {
         match self {
             Fault::NoMemory => Exit::NoMemory,
             Fault::Config(_) | Fault::Refused(_, _) => Exit::Refused,
+            Fault::NoTape(_) => Exit::Tape,
             Fault::Unread(_) | Fault::Input(_) | Fault::Output(_) => Exit::Unreadable,
             Fault::Mistake(_) => Exit::Usage,
             Fault::Fed(end) => end.exit(),
@@ -101,6 +105,7 @@ impl<'a> Fault<'a> {
             Fault::NoMemory => Ok(None),
             Fault::Config(fault) => Ok(Some(config_line(alloc, fault)?)),
             Fault::Refused(source, refusal) => Ok(Some(refusal_line(alloc, source, *refusal)?)),
+            Fault::NoTape(refusal) => Ok(Some(no_tape_line(alloc, refusal)?)),
             Fault::Unread(path) => Ok(Some(unread_line(alloc, path)?)),
             Fault::Input(error) => {
                 Ok(Some(stream_line(alloc, b"cannot read standard input", error)?))
@@ -153,6 +158,15 @@ fn refusal_line(alloc: Global, source: &str, refusal: Refusal) -> Result<Vec<u8>
     line.extend_from_slice(b": ")?;
     line.extend_from_slice(refusal.why.words().as_bytes())?;
     line.push(b'\n')?;
+    Ok(line)
+}
+
+// `tape NAME: KIND`.
+fn no_tape_line(alloc: Global, refusal: &TapeRefusal) -> Result<Vec<u8>, AllocError>
+    ensures { IfOk result (λ line. line.items ≡ no_tape_text refusal.now) }
+{
+    let mut line = Vec::new(alloc);
+    add_tape_line(&mut line, refusal.peer.bytes(), refusal.fault)?;
     Ok(line)
 }
 

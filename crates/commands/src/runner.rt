@@ -146,6 +146,7 @@ fn drill<'a, W: Write>(
     let mut script = script;
     match run_script(alloc, &mut script, out) {
         Ok(Ending::Refused(refusal)) => Err(Fault::Refused(source, refusal)),
+        Ok(Ending::NoTape(refusal)) => Err(Fault::NoTape(refusal)),
         Ok(ending) => Ok(Exit::from(ending)),
         Err(error) => Err(Fault::of_output(error)),
     }

@@ -2,6 +2,7 @@
 
 use crate::feeds::Ends;
 use crate::streams::{Asked, OneFile, told};
+use std::alloc::Global;
 use std::io::ErrorKind;
 use std::test::Fail;
 
@@ -12,7 +13,7 @@ const TOLD: &[u8] = b"0\n1 p new q new\ntaken 1\nstopped\np mark 1 owes 1\nq mar
     q taken 1 answered 0 dropped 0 owed 1 bytes 10\nend 4\n--\n";
 
 // What is asked for, the file, standard input, and the status, standard output and standard error.
-const ROWS: [(Asked, OneFile, &[u8], &[u8]); 13] = [
+const ROWS: [(Asked, OneFile, &[u8], &[u8]); 20] = [
     (
         Asked::Input,
         OneFile("x", Err(ErrorKind::NotFound)),
@@ -45,6 +46,49 @@ const ROWS: [(Asked, OneFile, &[u8], &[u8]); 13] = [
         b"",
         b"1\ntaken 0\nstep 2: NoConnection\n--\n\
             x: line 5: there is no connection of this number, or a stop ended it\n",
+    ),
+    // Of two refused tapes the first by name is told; a broken line goes before any.
+    (
+        Asked::Input,
+        OneFile("x", Ok(b"")),
+        b"peer q\npeer p\ntape q a500\ntape p a5000000\n",
+        b"3\n--\ntape p: Damaged\n",
+    ),
+    (
+        Asked::Drill("x"),
+        OneFile("x", Ok(b"peer p\ntape p a500\nflush\n")),
+        b"",
+        b"3\n--\ntape p: Damaged\n",
+    ),
+    (
+        Asked::Input,
+        OneFile("x", Ok(b"")),
+        b"peer p\ntape p a500\nflush \n",
+        b"1\nscript 3\n--\nstandard input: line 3: no step is written so\n",
+    ),
+    (
+        Asked::Input,
+        OneFile("x", Ok(b"")),
+        b"peer p\ntape p a\n",
+        b"1\nscript 2\n--\nstandard input: line 2: no tape is written so\n",
+    ),
+    (
+        Asked::Input,
+        OneFile("x", Ok(b"")),
+        b"peer p\nflush\ntape p a5\n",
+        b"1\nscript 3\n--\nstandard input: line 3: a tape stands behind a step\n",
+    ),
+    (
+        Asked::Input,
+        OneFile("x", Ok(b"")),
+        b"tape p a5\npeer p\n",
+        b"1\nscript 1\n--\nstandard input: line 1: the peer of the tape is not declared before it\n",
+    ),
+    (
+        Asked::Input,
+        OneFile("x", Ok(b"")),
+        b"peer p\ntape p a5\ntape p a5\n",
+        b"1\nscript 3\n--\nstandard input: line 3: the tape of the peer is given already\n",
     ),
     (
         Asked::Drill("y"),
@@ -90,6 +134,40 @@ fn orders_are_done(rt: HostRuntime) -> Result<(), Fail> {
     for (asked, file, input, wanted) in ROWS {
         let got = told(rt.alloc(), asked, Ends("T"), &file, input)?;
         assert_eq!(rt; got.as_slice(), wanted);
+    }
+    Ok(())
+}
+
+// The tape of one debt, in digits.
+const TAPE: [u8; 50] = *b"a50000001301000000000000000103612f31053c7840793e00";
+
+// What a drill tells to which the octets of these digits are given.
+fn told_of(alloc: Global, digits: &[u8]) -> Result<Vec<u8>, Fail> {
+    let mut script = Vec::from_slice(alloc, b"peer p\ntape p ")?;
+    script.extend_from_slice(digits)?;
+    script.push(b'\n')?;
+    let told = told(
+        alloc,
+        Asked::Input,
+        Ends("T"),
+        &OneFile("x", Ok(b"")),
+        &script,
+    )?;
+    Ok(told)
+}
+
+#[test]
+fn a_tape_that_is_cut_short_is_refused(rt: HostRuntime) -> Result<(), Fail> {
+    for octets in 1..26 {
+        let wanted: &[u8] = match octets {
+            1 => b"0\np taken 0 answered 0 dropped 0 owed 0 bytes 0\nend 0\n--\n",
+            25 => b"0\np taken 1 answered 0 dropped 0 owed 1 bytes 10\nend 0\n--\n",
+            _ => b"3\n--\ntape p: Damaged\n",
+        };
+        assert_eq!(rt;
+            told_of(rt.alloc(), &TAPE[..2 * octets])?.as_slice(),
+            wanted
+        );
     }
     Ok(())
 }

@@ -97,7 +97,7 @@ pub fn told(
     asked: Asked,
     feeds: Ends,
     file: &OneFile,
-    input: &'static [u8],
+    input: &[u8],
 ) -> Result<Vec<u8>, AllocError> {
     let order = order_of(alloc, asked)?;
     let mut feeds = feeds;

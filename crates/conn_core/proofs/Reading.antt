@@ -1,11 +1,12 @@
 -- Replies that are read one after another.
-use Rattle.std.proofs.Common.{◌≡◌, ℕ, suc, ◌+◌, ◌<◌, Bool, true, false, List, [], ◌∷◌, ◌++◌, length, refl, sym, ap, subst, ◌∙◌, Option, Some, None, arith}
+use Rattle.std.proofs.Common.{◌≡◌, ℕ, ◌<◌, Bool, true, false, List, [], ◌∷◌, ◌++◌, length, refl, sym, ap, subst, ◌∙◌, Option, Some, None, arith}
 use Rattle.std.proofs.Math.ListN.{length-append}
 use Rattle.std.specs.Prelude.{is_some, not, Result, Ok, Err, OnErr}
 use Rattle.reply_reader.specs.Stream.{Given, Held as Reading, Working, Broken, AtWork, BeginsWithReply, BeginsWithNoReply, IsShort, IsTooLong, after_feed}
+use Rattle.reply_reader.specs.Told.{GivesReply}
 use Rattle.reply_reader.specs.declared.fault.ReplyFault.{ReplyFault}
 use Rattle.reply_reader.specs.declared.fault.ReplyFault.TheVariants.{TooLong, NoCode, NoMemory, Failed}
-use Rattle.conn_core.specs.History.{Event, Came, Faulted, reason, after, outside}
+use Rattle.conn_core.specs.History.{Event, Came, Faulted, reason, after}
 use Rattle.conn_core.specs.Left.{IsAhead, IsLeftOpen, IsReading, ReadsOne, size_of}
 use Rattle.conn_core.specs.Machine.{came, faulted}
 use Rattle.conn_core.specs.Receipt.{BeginsWithFault, Receives, Is_closed, Waits, Reads, Fails, ReceivesSome, Stops, Reads_on}
@@ -94,9 +95,16 @@ pub at-work : (r : Reading) (waiting : List ℕ) (P : List ℕ → Type 0) → r
 at-work r waiting P e w = subst (λ s. AtWork s P) e w
 
 -- a reply makes what is left to read less
-pub shorter-reply : (r new : Reading) (reply : Given) → AtWork r (λ unread. (rest : List ℕ) × BeginsWithReply unread reply rest × (new ≡ Working rest)) → size_of new < size_of r
-shorter-reply (Working unread) new reply w = rw w.2 (size-rest unread w.0 reply w.1)
-shorter-reply Broken new reply w = absurd w
+pub shorter-reply : (r new : Reading) (reply : Given) → GivesReply r new reply → size_of new < size_of r
+shorter-reply r new reply g = rw (g.waited, g.waits) (size-rest g.unread g.rest reply g.begins)
+
+-- the reply that is given is the first of what waits
+pub begins-reply : (r new : Reading) (waiting : List ℕ) (reply : Given) (g : GivesReply r new reply) → r ≡ Working waiting
+    → BeginsWithReply waiting reply g.rest
+begins-reply r new waiting reply g e =
+    let both : Working g.unread ≡ Working waiting = sym g.waited ∙ e in
+    let same : g.unread ≡ waiting = cc in
+    subst (λ u. BeginsWithReply u reply g.rest) same g.begins
 
 -- which fault waits
 pub begins-fault : (r : Reading) (waiting : List ℕ) (fault : ReplyFault) → r ≡ Working waiting → (fault ≡ TooLong → AtWork r IsTooLong) → (fault ≡ NoCode → AtWork r BeginsWithNoReply)

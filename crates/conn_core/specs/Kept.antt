@@ -1,5 +1,5 @@
 -- What the private code says of what it keeps.
-use Rattle.std.specs.Prelude.{ℕ, ◌+◌, ◌++◌, ◌∷◌, [], Bool, true, false, Option, Some, None, List, find}
+use Rattle.std.specs.Prelude.{ℕ, ◌+◌, ◌++◌, ◌∷◌, [], Bool, Option, Some, None, List, find}
 use Rattle.reply_reader.specs.Stream.{Given}
 use Rattle.std.specs.Set.{remove_key}
 use Rattle.dot_codec.specs.Lines.{IsSendable}
@@ -12,16 +12,18 @@ use Rattle.conn_core.specs.declared.codes.Meaning.{Meaning}
 use Rattle.conn_core.specs.declared.codes.Meaning.TheVariants.{Wanted, SendBlock, Later, Final}
 use Rattle.conn_core.specs.declared.machine.articles.Loss.{Loss}
 use Rattle.conn_core.specs.declared.machine.articles.Loss.TheVariants.{Missing, Unfit}
+use Rattle.conn_core.specs.declared.mode.Mode.{Mode}
+use Rattle.conn_core.specs.declared.mode.Mode.TheVariants.{Streaming, Ihave}
 
 -- whether a reply can be the answer to an awaited command: in streaming mode it names the id too (RFC 4644, sections 2.4
 -- and 2.5)
-abbrev pub can_answer : (streaming : Bool) → Given → Awaited → Bool
-can_answer true reply = fits_awaited reply
-can_answer false reply = belongs_to_awaited reply
+abbrev pub can_answer : Mode → Given → Awaited → Bool
+can_answer Streaming reply = fits_awaited reply
+can_answer Ihave reply = belongs_to_awaited reply
 
 -- a reply in a mode
-abbrev pub answered_with : State → (streaming : Bool) → Given → State
-answered_with s streaming reply = answered_by s (can_answer streaming reply) reply.code (find (can_answer streaming reply) s.window)
+abbrev pub answered_with : State → Mode → Given → State
+answered_with s mode reply = answered_by s (can_answer mode reply) reply.code (find (can_answer mode reply) s.window)
 
 -- what an answer of this meaning makes of the debt at that place, where it is held
 abbrev pub parted_by : State → ℕ → Meaning → Option Held → State

@@ -10,6 +10,7 @@ ghost use Rattle.conn_core.specs.Kept.{can_answer};
 
 use crate::codes::meaning_of;
 use crate::kept::{AwaitedAsk, HeldDebt, WantedArticle};
+use crate::mode::Mode;
 use funnel::MsgId;
 use reply_reader::Reply;
 use std::collections::VecDeque;
@@ -26,23 +27,20 @@ fn names(named: &Option<MsgId>, id: &MsgId) -> bool
 
 // Whether a reply can be the answer to this command: in streaming mode it names the id too (RFC 4644, sections 2.4 and
 // 2.5).
-fn can_answer(reply: &Reply, ask: &AwaitedAsk, streaming: bool) -> bool
-    ensures { result ≡ can_answer streaming (given_of reply.now) ask.now }
+fn can_answer(reply: &Reply, ask: &AwaitedAsk, mode: Mode) -> bool
+    ensures { result ≡ can_answer mode (given_of reply.now) ask.now }
 {
     let belongs = meaning_of(ask.verb(), reply.code).is_some();
-    if streaming {
-        belongs && names(&reply.id, ask.id())
-    } else {
-        belongs
+    match mode {
+        Mode::Streaming => belongs && names(&reply.id, ask.id()),
+        Mode::Ihave => belongs,
     }
 }
 
-fn first_answered(window: &VecDeque<AwaitedAsk>, reply: &Reply, streaming: bool) -> Option<usize>
-    ensures { result ≡ position (can_answer streaming (given_of reply.now)) window.now.items }
+fn first_answered(window: &VecDeque<AwaitedAsk>, reply: &Reply, mode: Mode) -> Option<usize>
+    ensures { result ≡ position (can_answer mode (given_of reply.now)) window.now.items }
 {
-    window
-        .iter()
-        .position(|ask| can_answer(reply, ask, streaming))
+    window.iter().position(|ask| can_answer(reply, ask, mode))
 }
 
 fn first_at(held: &VecDeque<HeldDebt>, place: u64) -> Option<usize>
@@ -71,17 +69,17 @@ pub(crate) fn is_wanted(wanted: &VecDeque<WantedArticle>, number: u64) -> bool
 pub(crate) fn take_answered(
     window: &mut VecDeque<AwaitedAsk>,
     reply: &Reply,
-    streaming: bool,
+    mode: Mode,
 ) -> Option<AwaitedAsk>
-    ensures found { result ≡ find (can_answer streaming (given_of reply.now)) window.old.items }
+    ensures found { result ≡ find (can_answer mode (given_of reply.now)) window.old.items }
     ensures rest { window.new.items
-        ≡ remove_key (can_answer streaming (given_of reply.now)) window.old.items }
+        ≡ remove_key (can_answer mode (given_of reply.now)) window.old.items }
     ensures unchanged { IfNone result (window.new ≡ window.old) }
     ensures len { MatchOption result (deque_len window.new ≡ deque_len window.old)
         (λ _. deque_len window.new + 1 ≡ deque_len window.old) }
     ensures capacity { deque_capacity window.new ≡ deque_capacity window.old }
 {
-    match first_answered(window, reply, streaming) {
+    match first_answered(window, reply, mode) {
         Some(i) => window.remove(i),
         None => None,
     }

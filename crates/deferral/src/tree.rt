@@ -57,7 +57,7 @@ impl Model for Fork {
 
     ghost size = { λ halves. length halves.0 + length halves.1 };
 
-    ghost use Rattle.deferral.specs.TreeFalls.{sides_fall};
+    ghost use Rattle.deferral.specs.TreeLaws.{sides_fall};
 
     ghost size_decreases = { sides_fall };
 }

@@ -73,15 +73,25 @@ FirstSync P old new = (new ≡ old) ⊎ Leaves P (Synced ∷ old) new
 abbrev pub AfterSync : (List ℕ → Type 0) → List Event → List Event → Type 0
 AfterSync P old new = (new ≡ old) ⊎ ((event : Event) × ((new ≡ event ∷ old) ⊎ Leaves P (Synced ∷ event ∷ old) new))
 
+-- a write that fails has done nothing, or all of it, or it tore
+abbrev pub FailsToWrite : ℕ → List ℕ → List Event → List Event → Type 0
+FailsToWrite at octets old new =
+    (new ≡ old)
+    ⊎ (new ≡ Wrote at octets ∷ old)
+    ⊎ ((after : List ℕ) × Torn at (length octets) (content old) after × (new ≡ Tore at (length octets) after ∷ old))
+
 -- what a write does to an honest disk
 abbrev pub Writes : ℕ → List ℕ → List Event → Result (Unit {0}) DiskFault → List Event → Type 0
 Writes at octets old result new =
-    MatchResult result (λ _. new ≡ Wrote at octets ∷ old) (λ _. (new ≡ old) ⊎ (new ≡ Wrote at octets ∷ old) ⊎ ((after : List ℕ) × Torn at (length octets) (content old) after × (new ≡ Tore at (length octets) after ∷ old)))
+    MatchResult result (λ _. new ≡ Wrote at octets ∷ old) (λ _. FailsToWrite at octets old new)
+
+-- a cut that fails has done nothing, or all of it, or it is told as failed
+abbrev pub FailsToCut : ℕ → List Event → List Event → Type 0
+FailsToCut len old new = (new ≡ old) ⊎ (new ≡ WasCut len ∷ old) ⊎ (new ≡ FailedCut len ∷ old)
 
 -- what a cut does to an honest disk
 abbrev pub Cuts : ℕ → List Event → Result (Unit {0}) DiskFault → List Event → Type 0
-Cuts len old result new =
-    MatchResult result (λ _. new ≡ WasCut len ∷ old) (λ _. (new ≡ old) ⊎ (new ≡ WasCut len ∷ old) ⊎ (new ≡ FailedCut len ∷ old))
+Cuts len old result new = MatchResult result (λ _. new ≡ WasCut len ∷ old) (λ _. FailsToCut len old new)
 
 -- what a sync does to an honest disk
 abbrev pub Syncs : List Event → Result (Unit {0}) DiskFault → List Event → Type 0

@@ -6,6 +6,6 @@ pub mod Fuse
 pub mod InMemory
 pub mod Memory
 pub mod MemoryLaws
-pub mod Moments
+pub mod MomentLaws
 pub mod RawFile
 pub mod TornLaws

@@ -3,7 +3,7 @@
 //! Most of it may touch nothing but memory; `raw_file` and `directory` may touch files, each method by one call of the
 //! system.
 //! The crates above use the contract of [`Disk`] alone: content, images, moments, honesty, faults.
-//! The whole model is `specs/Disk.antt`; what proofs above it use is `specs/Moments.antt`.
+//! The whole model is `specs/Disk.antt`; what proofs above it use is `specs/MomentLaws.antt`.
 #![tactic(auto)]
 
 ghost use Rattle.std.specs.Prelude.{◌≡◌, ◌+◌, ◌≤◌, ◌↔◌, ℕ, List, length, OnOk, slice_range};

@@ -181,15 +181,18 @@ impl MemDisk {
         }
     }
 
-    // A disk with these octets, which are its only image.
-    fn holding(alloc: Global, octets: Vec<u8>) -> Result<Self, NoMemory>
-        ensures log { IfOk result (λ disk. ⟦<MemDisk as Disk>⟧.log disk ≡ Made octets.items ∷ []) }
+    /// A disk with these octets, which are its only image. Nothing else has happened to it.
+    ///
+    /// # Errors
+    /// `NoMemory` where memory for the new disk is refused.
+    pub fn holding(alloc: Global, octets: &[u8]) -> Result<Self, NoMemory>
+        ensures log { IfOk result (λ disk. ⟦<MemDisk as Disk>⟧.log disk ≡ Made octets.now ∷ []) }
         ensures told { IfOk result (λ disk. ⟦<MemDisk as Disk>⟧.told disk ≡ 0) }
     {
-        let first = Moment::Began(Vec::from_slice(alloc, &octets)?);
+        let first = Moment::Began(Vec::from_slice(alloc, octets)?);
         let mut disk = MemDisk::new(alloc);
         keep(&mut disk.moments, first)?;
-        disk.octets = octets;
+        disk.octets = Vec::from_slice(alloc, octets)?;
         Ok(disk)
     }
 
@@ -207,7 +210,7 @@ impl MemDisk {
         ensures told { IfOk result (λ left. ⟦<MemDisk as Disk>⟧.told left ≡ 0) }
     {
         let octets = image_after(self.alloc, &self.moments, choice)?;
-        MemDisk::holding(self.alloc, octets)
+        MemDisk::holding(self.alloc, &octets)
     }
 
     // Counts a fault.

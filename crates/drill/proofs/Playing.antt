@@ -1,5 +1,5 @@
 -- What a run of a script's steps tells is what the script was played to.
-use Rattle.std.proofs.Common.{◌≡◌, ◌≢◌, ◌+◌, ◌<◌, ◌++◌, ℕ, List, length, suc, Some, inl, inr, refl}
+use Rattle.std.proofs.Common.{◌≡◌, ◌≢◌, ◌+◌, ◌<◌, ◌++◌, ℕ, List, [], length, suc, Some, inl, inr, refl}
 use Rattle.std.proofs.Common.{sym, subst, ap, ◌∙◌, arith, Result, Ok, Err, IfOk}
 use Rattle.std.specs.Prelude.{flat_map, slice_index_or}
 use Rattle.std.proofs.lemmas.Option.{slice_get-get_or, slice_get_within}
@@ -7,29 +7,32 @@ use Rattle.feed_conf.specs.declared.conf.PeerConf.{PeerConf}
 use Rattle.ledger_core.specs.declared.ledger.Totals.{Totals}
 use Rattle.script.specs.Script.{IsScript}
 use Rattle.script.specs.declared.read.Script.{Script}
-use Rattle.world_core.specs.Making.{Begins}
-use Rattle.world_core.specs.Stands.{Ends, Reports, WasNotMade, HadNoRoom, WasRefused as RunRefused}
+use Rattle.world_core.specs.Given.{BeginsFrom, RefusesTapes}
+use Rattle.world_core.specs.Stands.{Ends, Reports, HadNoRoom, WasRefused as RunRefused}
 use Rattle.world_core.specs.Told.{Said, said_by}
 use Rattle.world_core.specs.declared.fault.Fault.{Fault}
 use Rattle.world_core.specs.declared.fault.Fault.TheVariants.{NoPeer, NoConnection, Stopped, Running, NotNeeded, Tape}
 use Rattle.world_core.specs.declared.fault.Fault.TheVariants.{CountFull}
 use Rattle.world_core.specs.declared.fault.Fault.TheVariants.{NoMemory, NotFlushed}
+use Rattle.world_core.specs.declared.fault.TapesFault.{TapesFault}
+use Rattle.world_core.specs.declared.fault.TapesFault.TheVariants.{Tape as TapeOf, NoMemory as NoTapesMemory}
 use Rattle.world_core.specs.declared.fault.WorldFault.{WorldFault}
 use Rattle.world_core.specs.declared.step.Step.{Step}
 use Rattle.world_core.specs.declared.world.World.{World}
-use Rattle.drill.specs.Drill.{Fails, IsBegun, IsDrill, IsPlayed, WasRefused, WasTaken, line_of}
+use Rattle.drill.specs.Drill.{IsBegun, IsDrill, IsPlayed, WasRefused, WasTaken, ending_without, line_of}
 use Rattle.drill.specs.Printed.{end_text, refused_text, steps_text, totals_text}
 use Rattle.drill.specs.declared.ending.Ending.{Ending}
 use Rattle.drill.specs.declared.ending.Ending.TheVariants.{Done, Refused, NoMemory as NoMemoryLeft}
 use Rattle.drill.specs.declared.ending.Why.TheVariants.{Step as ByStep}
 use Rattle.drill.specs.declared.play.Played.{Played}
 
-begun_of : (script : Script) (world : World) → (b : Begins script.peers.items world) → IsBegun script.peers.items b.life
-begun_of script world b = record { confs = b.confs; permuted = b.permuted; rises = b.rises; fresh = b.fresh }
+begun_of : (script : Script) (world : World) → (b : BeginsFrom script.peers.items world) →
+    IsBegun script.peers.items b.life
+begun_of script world b = record { ordered = b.ordered; permuted = b.permuted; rises = b.rises; fresh = b.fresh }
 
 -- all steps were taken
 pub taken_played : (script : Script) (world later : World) (lines : List (List Said)) (counts : List (List ℕ × Totals))
-    (printed : List ℕ) (ending : Ending) → Begins script.peers.items world →
+    (printed : List ℕ) (ending : Ending) → BeginsFrom script.peers.items world →
     Reports script.steps.items world lines counts later →
     printed ≡ steps_text lines ++ (flat_map totals_text counts ++ end_text (length script.steps.items)) →
     ending ≡ Done → IsPlayed script printed ending
@@ -55,12 +58,12 @@ EndsBy line kind ending =
     × (kind ≢ NoMemory → ending ≡ Refused (record { line = line; why = ByStep kind }))
 
 refused_played : (script : Script) (printed : List ℕ) (line : ℕ) (kind : Fault) (ending : Ending) → kind ≢ NoMemory →
-    Fails script printed line kind → EndsBy line kind ending → IsPlayed script printed ending
+    WasRefused script printed line kind → EndsBy line kind ending → IsPlayed script printed ending
 refused_played script printed line kind ending other fails ends =
     subst (IsPlayed script printed) (sym (ends.1 other)) (other, fails)
 
 fails_played : (script : Script) (printed : List ℕ) (line : ℕ) (kind : Fault) (ending : Ending) →
-    Fails script printed line kind → EndsBy line kind ending → IsPlayed script printed ending
+    WasRefused script printed line kind → EndsBy line kind ending → IsPlayed script printed ending
 fails_played script printed line NoMemory ending fails ends =
     subst (IsPlayed script printed) (sym (ends.0 refl)) (inl (line, fails))
 fails_played script printed line NoPeer ending fails ends =
@@ -80,21 +83,18 @@ fails_played script printed line CountFull ending fails ends =
 fails_played script printed line NotFlushed ending fails ends =
     refused_played script printed line NotFlushed ending (λ e. cc) fails ends
 
--- the world was not made
-pub unmade_played : (script : Script) (fault : WorldFault) (printed : List ℕ) (ending : Ending) → WasNotMade fault →
-    printed ≡ steps_text (said_by fault.lines.items) ++ refused_text fault.step fault.kind →
-    EndsBy (line_of script.lines.items fault.step) fault.kind ending → IsPlayed script printed ending
-unmade_played script fault printed ending none prints ends =
-    let line : line_of script.lines.items fault.step ≡ 0 =
-    ap (λ (s : ℕ). line_of script.lines.items s) none.step in
-    let text : printed ≡ refused_text 0 fault.kind =
-    prints ∙ ap (λ l. steps_text (said_by l) ++ refused_text fault.step fault.kind) none.lines
-    ∙ ap (λ (s : ℕ). refused_text s fault.kind) none.step in
-    fails_played script printed (line_of script.lines.items fault.step) fault.kind ending (inr (line, text)) ends
+-- no world was made
+pub unmade_played : (script : Script) (fault : TapesFault) (printed : List ℕ) (ending : Ending) →
+    RefusesTapes script.peers.items fault → printed ≡ [] → ending ≡ ending_without fault →
+    IsPlayed script printed ending
+unmade_played script (TapeOf peer fault) printed ending refused none ends =
+    subst (IsPlayed script printed) (sym ends) (none, refused)
+unmade_played script NoTapesMemory printed ending refused none ends =
+    subst (IsPlayed script printed) (sym ends) (inr (inr none))
 
 -- a step was refused
 module _ (script : Script) (world later : World) (fault : WorldFault) (printed : List ℕ)
-    (b : Begins script.peers.items world)
+    (b : BeginsFrom script.peers.items world)
     (placed : length script.lines.items ≡ length script.steps.items)
     (prints : printed ≡ steps_text (said_by fault.lines.items) ++ refused_text fault.step fault.kind) where
   line_told : (index : ℕ) → fault.step ≡ index + 1 →
@@ -132,21 +132,21 @@ module _ (script : Script) (world later : World) (fault : WorldFault) (printed :
       let text : printed ≡ refused_text 1 NoMemory =
       prints ∙ ap (λ l. steps_text (said_by l) ++ refused_text fault.step fault.kind) room.lines
       ∙ ap (λ (s : ℕ). refused_text s fault.kind) room.numbered ∙ ap (refused_text 1) room.kind in
-      subst (IsPlayed script printed) (sym (ends.0 room.kind)) (inr text)
+      subst (IsPlayed script printed) (sym (ends.0 room.kind)) (inr (inl text))
 
   pub stopped_played : Ends script.steps.items world fault later → (ending : Ending) →
       EndsBy (line_of script.lines.items fault.step) fault.kind ending → IsPlayed script printed ending
   stopped_played ran ending ends = elim (ran b.life b.stands) [
     | inl refused ↦
         fails_played script printed (line_of script.lines.items fault.step) fault.kind ending
-        (inl (step_refused refused)) ends
+        (step_refused refused) ends
     | inr room ↦ no_room room ending ends
   ]
 
 -- what is told of a step that was refused is what the script was played to
 pub stopped_told : {E : Type 0} (script : Script) (world later : World) (fault : WorldFault) (answer : Result Played E)
     (steps : List Step) (lines : List ℕ) → steps ≡ script.steps.items → lines ≡ script.lines.items →
-    Begins script.peers.items world → Ends steps world fault later →
+    BeginsFrom script.peers.items world → Ends steps world fault later →
     length script.lines.items ≡ length script.steps.items →
     IfOk answer (λ (p : Played). p.printed.items
     ≡ steps_text (said_by fault.lines.items) ++ refused_text fault.step fault.kind) →

@@ -1,33 +1,36 @@
 -- What a text comes to as a drill: what is printed, and how it ends (docs/FORMATS.md).
 use Rattle.std.specs.Prelude.{◌≡◌, ◌≢◌, ◌⊎◌, ◌+◌, slice_index_or, ℕ, zero, suc, Option, Some, List, [], ◌++◌}
-use Rattle.std.specs.Prelude.{flat_map, length, map, slice_get, take, IfSome}
+use Rattle.std.specs.Prelude.{flat_map, length, slice_get, take, IfSome}
 use Rattle.std.specs.Io.KnownBytes.{Appends, Keeps}
 use Rattle.std.specs.List.Sorted.{IsPermutation}
-use Rattle.feed_conf.specs.declared.conf.PeerConf.{PeerConf}
 use Rattle.script.specs.Script.{BreaksAt, IsScript}
 use Rattle.script.specs.declared.fault.Reason.{Reason}
 use Rattle.script.specs.declared.read.Script.{Script}
+use Rattle.world_core.specs.Given.{GivenPeer, IsGiven, RefusesFirst, given_names}
 use Rattle.world_core.specs.Past.{Life}
 use Rattle.world_core.specs.Runs.{RefusesStep, Runs}
 use Rattle.world_core.specs.Safe.{IsSafe}
 use Rattle.world_core.specs.Sound.{NamesRise}
-use Rattle.world_core.specs.Stands.{IsFresh, counts_of}
+use Rattle.world_core.specs.Stands.{counts_of}
 use Rattle.world_core.specs.Told.{Said}
 use Rattle.world_core.specs.declared.fault.Fault.{Fault}
 use Rattle.world_core.specs.declared.fault.Fault.TheVariants.{NoMemory}
+use Rattle.world_core.specs.declared.fault.TapesFault.{TapesFault}
+use Rattle.world_core.specs.declared.fault.TapesFault.TheVariants.{Tape as TapeOf, NoMemory as NoTapesMemory}
 use Rattle.world_core.specs.declared.step.Step.{Step}
 use Rattle.drill.specs.Printed.{broken_text, end_text, refused_text, steps_text, totals_text}
 use Rattle.drill.specs.declared.ending.Ending.{Ending}
-use Rattle.drill.specs.declared.ending.Ending.TheVariants.{Done, Refused, NoMemory as NoMemoryLeft}
+use Rattle.drill.specs.declared.ending.Ending.TheVariants.{Done, Refused, NoTape, NoMemory as NoMemoryLeft}
+use Rattle.drill.specs.declared.ending.TapeRefusal.{TapeRefusal}
 use Rattle.drill.specs.declared.ending.Why.{Why}
 use Rattle.drill.specs.declared.ending.Why.TheVariants.{Script as ByScript, Step as ByStep}
 
--- a world of these peers as it is made, in byte order of their names: nothing was noted, and it runs
-pub record IsBegun (peers : List PeerConf) (life : Life) : Type 0 where
-  pub confs : List PeerConf
-  pub permuted : IsPermutation peers confs
-  pub rises : NamesRise (map (λ (conf : PeerConf). conf.name) confs)
-  pub fresh : IsFresh confs life
+-- a world of these peers as it is made, in byte order of their names: it begins from their tapes, and it runs
+pub record IsBegun (peers : List GivenPeer) (life : Life) : Type 0 where
+  pub ordered : List GivenPeer
+  pub permuted : IsPermutation peers ordered
+  pub rises : NamesRise (given_names ordered)
+  pub fresh : IsGiven ordered life
 
 -- All steps were taken: the lines of what each told are printed, each peer's counts, and how many steps there were.
 pub record WasTaken (script : Script) (printed : List ℕ) : Type 0 where
@@ -55,27 +58,25 @@ pub record WasRefused (script : Script) (printed : List ℕ) (line : ℕ) (fault
   pub safe : IsSafe later.past
   pub prints : printed ≡ steps_text lines ++ refused_text (index + 1) fault
 
--- no tape could be opened before the first step
-abbrev pub CouldNotBegin : (printed : List ℕ) → (line : ℕ) → Fault → Type 0
-CouldNotBegin printed line fault = (line ≡ 0) × (printed ≡ refused_text 0 fault)
-
--- a step was refused, or none was taken
-abbrev pub Fails : Script → List ℕ → ℕ → Fault → Type 0
-Fails script printed line fault = WasRefused script printed line fault ⊎ CouldNotBegin printed line fault
-
--- there was no memory for a step, or for what all of them tell
+-- there was no memory for a step, for what all of them tell, or for the tapes, of which nothing is printed
 abbrev pub LacksMemory : Script → List ℕ → Type 0
-LacksMemory script printed = ((line : ℕ) × Fails script printed line NoMemory) ⊎ (printed ≡ refused_text 1 NoMemory)
+LacksMemory script printed =
+    ((line : ℕ) × WasRefused script printed line NoMemory) ⊎ ((printed ≡ refused_text 1 NoMemory) ⊎ (printed ≡ []))
 
 -- the step that this line says was refused, and not for want of memory
 abbrev pub EndsAt : Script → (printed : List ℕ) → (line : ℕ) → Why → Type 0
 EndsAt script printed line (ByScript reason) = ⊥
-EndsAt script printed line (ByStep fault) = (fault ≢ NoMemory) × Fails script printed line fault
+EndsAt script printed line (ByStep fault) = (fault ≢ NoMemory) × WasRefused script printed line fault
+
+-- Of the peers' tapes, in byte order of their names, this one is the first that was refused: nothing is printed.
+abbrev pub HasNoTape : Script → (printed : List ℕ) → TapeRefusal → Type 0
+HasNoTape script printed refusal = (printed ≡ []) × RefusesFirst script.peers.items refusal.peer refusal.fault
 
 -- A script was played, which printed this and ended so.
 abbrev pub IsPlayed : Script → (printed : List ℕ) → Ending → Type 0
 IsPlayed script printed Done = WasTaken script printed
 IsPlayed script printed (Refused refusal) = EndsAt script printed refusal.line refusal.why
+IsPlayed script printed (NoTape refusal) = HasNoTape script printed refusal
 IsPlayed script printed NoMemoryLeft = LacksMemory script printed
 
 -- The text is no script: the first line that breaks the rules of one is printed and told, and why it does.
@@ -98,6 +99,11 @@ Drills says old new ending =
     ((text printed : List ℕ) × IfSome says (λ octets. text ≡ octets) × Appends old new printed
     × IsDrill text printed ending)
     ⊎ ((ending ≡ NoMemoryLeft) × Keeps old new)
+
+-- how a drill ends for which no world was made
+abbrev pub ending_without : TapesFault → Ending
+ending_without (TapeOf peer fault) = NoTape (record { peer = peer; fault = fault })
+ending_without NoTapesMemory = NoMemoryLeft
 
 -- the line of a step, from 1, among these; 0 where there is none
 abbrev pub line_of : List ℕ → ℕ → ℕ

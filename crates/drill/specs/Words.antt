@@ -6,7 +6,7 @@ use Rattle.recovery.specs.declared.fault.TapeFault.TheVariants.{PendingFull}
 use Rattle.recovery.specs.declared.fault.TapeFault.TheVariants.{NoMemory as NoTapeMemory, Note}
 use Rattle.script.specs.declared.fault.Reason.{Reason}
 use Rattle.script.specs.declared.fault.Reason.TheVariants.{NoStep, NoPeer as NoOnePeer, PeerBehindStep, DeclaredTwice}
-use Rattle.script.specs.declared.fault.Reason.TheVariants.{Unended}
+use Rattle.script.specs.declared.fault.Reason.TheVariants.{NoTape, TapeBehindStep, NoPeerOfTape, TapeTwice, Unended}
 use Rattle.world_core.specs.declared.fault.Fault.{Fault}
 use Rattle.world_core.specs.declared.fault.Fault.TheVariants.{NoPeer, NoConnection, Stopped, Running, NotNeeded, Tape}
 use Rattle.world_core.specs.declared.fault.Fault.TheVariants.{CountFull}
@@ -20,6 +20,10 @@ script_words NoStep = codes "no step is written so"
 script_words NoOnePeer = codes "the settings are not those of one peer"
 script_words PeerBehindStep = codes "a peer stands behind a step"
 script_words DeclaredTwice = codes "the peer is declared already"
+script_words NoTape = codes "no tape is written so"
+script_words TapeBehindStep = codes "a tape stands behind a step"
+script_words NoPeerOfTape = codes "the peer of the tape is not declared before it"
+script_words TapeTwice = codes "the tape of the peer is given already"
 script_words Unended = codes "the last line has no end"
 
 -- why a tape refused

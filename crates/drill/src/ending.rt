@@ -2,25 +2,38 @@
 ghost use Rattle.std.specs.Prelude.{◌≡◌};
 ghost use Rattle.drill.specs.Words.{script_words, step_words, tape_words, why_words};
 
+use funnel::PeerName;
 use recovery::TapeFault;
 use script::Reason;
 use world_core::Fault;
 
 /// How a drill ends.
-#[derive(Clone, Copy, Debug, PartialEq, Eq)]
+#[derive(Drop)]
 pub enum Ending {
     /// All its steps were taken.
     Done,
     /// The script breaks its rules, or a step of it was refused.
     Refused(Refusal),
+    /// The tape of a peer was refused before the first step.
+    NoTape(TapeRefusal),
     /// Memory was refused.
     NoMemory,
+}
+
+/// Which peer's tape was refused, and why.
+#[derive(Drop)]
+pub struct TapeRefusal {
+    /// The peer, the first in byte order of the names whose tape is refused.
+    pub peer: PeerName,
+    /// Why it was refused: `Damaged` where what it is given is no tape, or `Disk` where a disk in memory was refused
+    /// memory.
+    pub fault: TapeFault,
 }
 
 /// Which line of a script was refused, and why.
 #[derive(Clone, Copy, Debug, PartialEq, Eq)]
 pub struct Refusal {
-    /// The place of the line among all lines of the script, from 1; 0 where no tape could be opened before the first.
+    /// The place of the line among all lines of the script, from 1.
     pub line: usize,
     /// Why it was refused.
     pub why: Why,
@@ -56,6 +69,10 @@ fn script_words(reason: Reason) -> &'static str
         Reason::NoPeer => "the settings are not those of one peer",
         Reason::PeerBehindStep => "a peer stands behind a step",
         Reason::DeclaredTwice => "the peer is declared already",
+        Reason::NoTape => "no tape is written so",
+        Reason::TapeBehindStep => "a tape stands behind a step",
+        Reason::NoPeerOfTape => "the peer of the tape is not declared before it",
+        Reason::TapeTwice => "the tape of the peer is given already",
         Reason::Unended => "the last line has no end",
     }
 }

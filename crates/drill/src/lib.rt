@@ -10,7 +10,7 @@ mod play;
 mod print;
 mod runner;
 
-pub use ending::{Ending, Refusal, Why};
+pub use ending::{Ending, Refusal, TapeRefusal, Why};
 pub use runner::run_script;
 pub use script::Reason;
 pub use world_core::Fault;

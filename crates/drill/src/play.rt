@@ -1,18 +1,18 @@
 // What a text comes to as a drill: what is printed, and how it ends.
-ghost use Rattle.std.specs.Prelude.{◌≡◌, ◌≢◌, ◌++◌, flat_map, length, map, IfOk};
+ghost use Rattle.std.specs.Prelude.{◌≡◌, ◌≢◌, ◌++◌, [], flat_map, length, IfOk};
 ghost use Rattle.std.specs.List.{IsDistinct};
 ghost use Rattle.std.specs.Str.{bytes_eq};
-ghost use Rattle.feed_conf.specs.declared.conf.PeerConf.{PeerConf};
+ghost use Rattle.world_core.specs.Given.{given_names};
 ghost use Rattle.world_core.specs.Stands.{counts_in};
 ghost use Rattle.world_core.specs.Told.{said_by};
-ghost use Rattle.drill.specs.Drill.{IsDrill, IsPlayed, line_of};
+ghost use Rattle.drill.specs.Drill.{IsDrill, IsPlayed, ending_without, line_of};
 ghost use Rattle.drill.specs.Printed.{end_text, refused_text, steps_text, totals_text};
 
-use crate::ending::{Ending, Refusal, Why};
+use crate::ending::{Ending, Refusal, TapeRefusal, Why};
 use crate::print::{add_broken, add_end, add_refused, add_steps, add_totals};
 use script::{Script, ScriptFault, read_script};
 use std::alloc::{AllocError, Global};
-use world_core::{Fault, Report, World, WorldFault};
+use world_core::{Fault, Report, TapesFault, World, WorldFault};
 
 /// What a drill prints, and how it ends.
 #[derive(Drop)]
@@ -45,10 +45,9 @@ pub fn play(alloc: Global, text: &[u8]) -> Result<Played, AllocError>
     }
 }
 
-// Takes a script's steps in a world of its peers.
+// Takes a script's steps in a world that begins from its peers' tapes.
 fn play_script(alloc: Global, script: Script) -> Result<Played, AllocError>
-    requires distinct { IsDistinct bytes_eq
-        (map (λ (conf : PeerConf). conf.name) script.peers.items) }
+    requires distinct { IsDistinct bytes_eq (given_names script.peers.items) }
     requires placed { length script.lines.items ≡ length script.steps.items }
     ensures { IfOk result (λ played. IsPlayed script played.printed.items played.ending) }
 {
@@ -57,13 +56,28 @@ fn play_script(alloc: Global, script: Script) -> Result<Played, AllocError>
         steps,
         lines,
     } = script;
-    let mut world = match World::new(alloc, peers) {
+    let mut world = match World::with_tapes(alloc, peers) {
         Ok(world) => world,
-        Err(fault) => return refused(alloc, &lines, &fault),
+        Err(fault) => return Ok(not_begun(alloc, fault)),
     };
     match world.run(&steps) {
         Ok(report) => done(alloc, &report, steps.len()),
         Err(fault) => refused(alloc, &lines, &fault),
+    }
+}
+
+// No world was made, of which nothing is printed.
+fn not_begun(alloc: Global, fault: TapesFault) -> Played
+    ensures prints { result.printed.items ≡ [] }
+    ensures ends { result.ending ≡ ending_without fault }
+{
+    let ending = match fault {
+        TapesFault::Tape { peer, fault } => Ending::NoTape(TapeRefusal { peer, fault }),
+        TapesFault::NoMemory => Ending::NoMemory,
+    };
+    Played {
+        printed: Vec::new(alloc),
+        ending,
     }
 }
 
@@ -84,7 +98,7 @@ fn done(alloc: Global, report: &Report, steps: usize) -> Result<Played, AllocErr
     })
 }
 
-// A step was refused, or the world was not made.
+// A step was refused.
 fn refused(alloc: Global, lines: &[usize], fault: &WorldFault) -> Result<Played, AllocError>
     ensures prints { IfOk result (λ played. played.printed.items
         ≡ steps_text (said_by fault.now.lines.items) ++ refused_text fault.now.step fault.now.kind) }

@@ -56,9 +56,13 @@ fn compare<'a>(wanted: &'a str, printed: &'a str) -> Difference<'a> {
     }
 }
 
-/// The outputs that a file allows, with an empty line between them.
+/// The outputs that a file allows, with an empty line between them; of an empty file that nothing is printed.
 pub fn read_outputs(alloc: Global, text: &str) -> Result<Vec<String>, AllocError> {
     let mut outputs = Vec::new(alloc);
+    if text.is_empty() {
+        outputs.push(String::new(alloc))?;
+        return Ok(outputs);
+    }
     for output in text.strip_suffix('\n').unwrap_or(text).split("\n\n") {
         outputs.push(format!(in alloc; "{output}\n")?)?;
     }

@@ -24,11 +24,12 @@ impl Form {
     }
 }
 
-/// How the scripts of a row end, whatever line is refused.
+/// How the scripts of a row end, whatever line or tape is refused.
 #[derive(Clone, Copy, Debug, PartialEq, Eq)]
 pub enum End {
     Done,
     Refused,
+    NoTape,
     NoMemory,
 }
 
@@ -38,6 +39,7 @@ impl End {
         match ending {
             Ending::Done => End::Done,
             Ending::Refused(_) => End::Refused,
+            Ending::NoTape(_) => End::NoTape,
             Ending::NoMemory => End::NoMemory,
         }
     }
@@ -47,6 +49,7 @@ impl End {
         match word {
             "done" => Some(End::Done),
             "refused" => Some(End::Refused),
+            "no_tape" => Some(End::NoTape),
             "no_memory" => Some(End::NoMemory),
             _ => None,
         }

@@ -1,6 +1,7 @@
 pub mod Scans
-pub mod Numbers
+pub mod Decimals
 pub mod Lines
+pub mod Firsts
 pub mod Names
 pub mod TokenLaws
 pub mod Tables

@@ -6,6 +6,7 @@ pub mod ValueView
 pub mod Items
 pub mod ItemView
 pub mod Keys
+pub mod KeyView
 pub mod Reading
 pub mod ReaderView
 pub mod Settings

@@ -1,7 +1,10 @@
 // The keys of the profile.
-ghost use Rattle.std.specs.Prelude.{◌≡◌, ◌==◌};
+ghost use Rattle.std.specs.Prelude.{◌≡◌, ◌==◌, false, true};
 ghost use Rattle.feed_conf.specs.Keys.{key_of, row_of};
+ghost use Rattle.feed_conf.specs.KeyView.{row_view};
 ghost use Rattle.feed_conf.specs.ValueView.{HasSmallBounds, value_view};
+ghost use Rattle.feed_conf.specs.Values.{NumberOf, SwitchOf, TextOf};
+ghost use Rattle.feed_conf.specs.declared.key.Kind.TheVariants.{AnyText, Switch};
 
 use crate::item::is_text;
 use crate::value::Value;
@@ -88,57 +91,132 @@ const KEYS: [Key; 18] = [
     Key::StatusFile,
 ];
 
+// What the profile says of a key.
+#[derive(Clone, Copy, Debug)]
+struct Row {
+    // Its place in the table of keys.
+    place: usize,
+    // How it is written in settings.
+    name: &'static [u8],
+    // How its value is written.
+    kind: Kind,
+    // Whether it stands in the scope of the file alone.
+    of_file: bool,
+    // Its value where it has no use that counts; none for the name of the peer.
+    default: Option<Value<'static>>,
+}
+
+// A time in seconds.
+const SECONDS: Kind = Kind::Number(1, 86_400);
+
+// A size in octets.
+const OCTETS: Kind = Kind::Number(0, 4_294_967_296);
+
+// A boolean of a peer.
+fn switch(place: usize, name: &'static [u8], default: bool) -> Row
+    ensures { row_view result
+        ≡ record {
+          place = place;
+          name = name.now;
+          kind = Switch;
+          of_file = false;
+          default = λ _. SwitchOf default;
+        } }
+{
+    Row {
+        place,
+        name,
+        kind: Kind::Switch,
+        of_file: false,
+        default: Some(Value::Switch(default)),
+    }
+}
+
+// A number of a peer.
+fn number(place: usize, name: &'static [u8], kind: Kind, default: u64) -> Row
+    ensures { row_view result
+        ≡ record {
+          place = place;
+          name = name.now;
+          kind = kind;
+          of_file = false;
+          default = λ _. NumberOf default;
+        } }
+{
+    Row {
+        place,
+        name,
+        kind,
+        of_file: false,
+        default: Some(Value::Number(default)),
+    }
+}
+
+// A text of the file.
+fn file_text(place: usize, name: &'static [u8], default: &'static [u8]) -> Row
+    ensures { row_view result
+        ≡ record {
+          place = place;
+          name = name.now;
+          kind = AnyText;
+          of_file = true;
+          default = λ _. TextOf default.now;
+        } }
+{
+    Row {
+        place,
+        name,
+        kind: Kind::AnyText,
+        of_file: true,
+        default: Some(Value::Text(default)),
+    }
+}
+
 impl Key {
+    // What the profile says of it.
+    fn row(self) -> Row
+        ensures { row_view result ≡ row_of self }
+    {
+        match self {
+            Key::IpName => Row {
+                place: 0,
+                name: b"ip-name",
+                kind: Kind::ShortText,
+                of_file: false,
+                default: None,
+            },
+            Key::PortNumber => number(1, b"port-number", Kind::Number(1, 65_535), 119),
+            Key::Streaming => switch(2, b"streaming", true),
+            Key::MaxConnections => number(3, b"max-connections", Kind::Connections, 2),
+            Key::MaxQueueSize => number(4, b"max-queue-size", Kind::Number(1, 1_000), 20),
+            Key::NoCheckHigh => number(5, b"no-check-high", Kind::Fraction(0, 10_000), 9_500),
+            Key::NoCheckLow => number(6, b"no-check-low", Kind::Fraction(0, 10_000), 9_000),
+            Key::NoCheckFilter => number(7, b"no-check-filter", Kind::Whole(1, 1_000), 50),
+            Key::ResponseTimeout => number(8, b"response-timeout", SECONDS, 300),
+            Key::InitialReconnectTime => number(9, b"initial-reconnect-time", SECONDS, 30),
+            Key::MaxReconnectTime => number(10, b"max-reconnect-time", SECONDS, 3_600),
+            Key::DropDeferred => switch(11, b"drop-deferred", false),
+            Key::BacklogLimit => number(12, b"backlog-limit", OCTETS, 0),
+            Key::BacklogLimitHighwater => number(13, b"backlog-limit-highwater", OCTETS, 0),
+            Key::BacklogFactor => number(14, b"backlog-factor", Kind::Fraction(100, 10_000), 110),
+            Key::NewsSpool => file_text(15, b"news-spool", b"articles"),
+            Key::BacklogDirectory => file_text(16, b"backlog-directory", b"innfeed"),
+            Key::StatusFile => file_text(17, b"status-file", b"innfeed.status"),
+        }
+    }
+
     /// Its place in the table of keys.
     pub(crate) fn place(self) -> usize
         ensures { result ≡ (row_of self).place }
     {
-        match self {
-            Key::IpName => 0,
-            Key::PortNumber => 1,
-            Key::Streaming => 2,
-            Key::MaxConnections => 3,
-            Key::MaxQueueSize => 4,
-            Key::NoCheckHigh => 5,
-            Key::NoCheckLow => 6,
-            Key::NoCheckFilter => 7,
-            Key::ResponseTimeout => 8,
-            Key::InitialReconnectTime => 9,
-            Key::MaxReconnectTime => 10,
-            Key::DropDeferred => 11,
-            Key::BacklogLimit => 12,
-            Key::BacklogLimitHighwater => 13,
-            Key::BacklogFactor => 14,
-            Key::NewsSpool => 15,
-            Key::BacklogDirectory => 16,
-            Key::StatusFile => 17,
-        }
+        self.row().place
     }
 
     /// How it is written in settings.
     pub(crate) fn name(self) -> &'static [u8]
         ensures { result.now ≡ (row_of self).name }
     {
-        match self {
-            Key::IpName => b"ip-name",
-            Key::PortNumber => b"port-number",
-            Key::Streaming => b"streaming",
-            Key::MaxConnections => b"max-connections",
-            Key::MaxQueueSize => b"max-queue-size",
-            Key::NoCheckHigh => b"no-check-high",
-            Key::NoCheckLow => b"no-check-low",
-            Key::NoCheckFilter => b"no-check-filter",
-            Key::ResponseTimeout => b"response-timeout",
-            Key::InitialReconnectTime => b"initial-reconnect-time",
-            Key::MaxReconnectTime => b"max-reconnect-time",
-            Key::DropDeferred => b"drop-deferred",
-            Key::BacklogLimit => b"backlog-limit",
-            Key::BacklogLimitHighwater => b"backlog-limit-highwater",
-            Key::BacklogFactor => b"backlog-factor",
-            Key::NewsSpool => b"news-spool",
-            Key::BacklogDirectory => b"backlog-directory",
-            Key::StatusFile => b"status-file",
-        }
+        self.row().name
     }
 
     /// How its value is written.
@@ -146,61 +224,23 @@ impl Key {
         ensures value { result ≡ (row_of self).kind }
         ensures small { HasSmallBounds result }
     {
-        match self {
-            Key::IpName => Kind::ShortText,
-            Key::PortNumber => Kind::Number(1, 65_535),
-            Key::Streaming => Kind::Switch,
-            Key::MaxConnections => Kind::Connections,
-            Key::MaxQueueSize => Kind::Number(1, 1_000),
-            Key::NoCheckHigh => Kind::Fraction(0, 10_000),
-            Key::NoCheckLow => Kind::Fraction(0, 10_000),
-            Key::NoCheckFilter => Kind::Whole(1, 1_000),
-            Key::ResponseTimeout => Kind::Number(1, 86_400),
-            Key::InitialReconnectTime => Kind::Number(1, 86_400),
-            Key::MaxReconnectTime => Kind::Number(1, 86_400),
-            Key::DropDeferred => Kind::Switch,
-            Key::BacklogLimit => Kind::Number(0, 4_294_967_296),
-            Key::BacklogLimitHighwater => Kind::Number(0, 4_294_967_296),
-            Key::BacklogFactor => Kind::Fraction(100, 10_000),
-            Key::NewsSpool => Kind::AnyText,
-            Key::BacklogDirectory => Kind::AnyText,
-            Key::StatusFile => Kind::AnyText,
-        }
+        self.row().kind
     }
 
     /// Whether it stands in the scope of the file alone.
     pub(crate) fn is_of_file(self) -> bool
         ensures { result ≡ (row_of self).of_file }
     {
-        match self {
-            Key::NewsSpool | Key::BacklogDirectory | Key::StatusFile => true,
-            _ => false,
-        }
+        self.row().of_file
     }
 
     /// Its value where it has no use that counts, at a peer of this name.
     pub(crate) fn default_value<'t>(self, peer: &'t [u8]) -> Value<'t>
         ensures { value_view result ≡ (row_of self).default peer.now }
     {
-        match self {
-            Key::IpName => Value::Text(peer),
-            Key::PortNumber => Value::Number(119),
-            Key::Streaming => Value::Switch(true),
-            Key::MaxConnections => Value::Number(2),
-            Key::MaxQueueSize => Value::Number(20),
-            Key::NoCheckHigh => Value::Number(9_500),
-            Key::NoCheckLow => Value::Number(9_000),
-            Key::NoCheckFilter => Value::Number(50),
-            Key::ResponseTimeout => Value::Number(300),
-            Key::InitialReconnectTime => Value::Number(30),
-            Key::MaxReconnectTime => Value::Number(3_600),
-            Key::DropDeferred => Value::Switch(false),
-            Key::BacklogLimit => Value::Number(0),
-            Key::BacklogLimitHighwater => Value::Number(0),
-            Key::BacklogFactor => Value::Number(110),
-            Key::NewsSpool => Value::Text(b"articles"),
-            Key::BacklogDirectory => Value::Text(b"innfeed"),
-            Key::StatusFile => Value::Text(b"innfeed.status"),
+        match self.row().default {
+            Some(value) => value,
+            None => Value::Text(peer),
         }
     }
 }

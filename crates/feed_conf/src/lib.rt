@@ -1,11 +1,13 @@
 //! The settings of the feed (innfeed.conf(5), this profile): reads a configuration and answers each peer's values.
 //!
-//! May touch nothing but memory; it stands on `funnel` for the names of peers. The crates above use `read_conf`, which
-//! gives what `specs/Settings.antt` has as the meaning of the text's tokens (`specs/Tokens.antt`, `specs/Items.antt`,
-//! `specs/Reading.antt`), or names its first fault, and what `Conf` answers of it.
+//! May touch nothing but memory; it stands on `funnel` for the names of peers, on `memchr` for the search for line
+//! ends. The crates above use `read_conf`, which gives what `specs/Settings.antt` has as the meaning of the text's
+//! tokens (`specs/Tokens.antt`, `specs/Items.antt`, `specs/Reading.antt`), or names its first fault, what `Conf`
+//! answers of it, and `read_digits`, which reads a number in digits.
 #![tactic(auto)]
 
 mod conf;
+mod digits;
 mod fault;
 mod item;
 mod key;
@@ -19,6 +21,7 @@ mod token;
 mod value;
 
 pub use conf::{Conf, Ignored, PeerConf};
+pub use digits::{DigitsFault, read_digits};
 pub use fault::{ConfFault, ConfFaultKind};
 pub use settings::read_conf;
 /// Memory was refused.

@@ -7,13 +7,14 @@ ghost use Rattle.feed_conf.specs.ReaderView.{IsNamed, Runs, reader_view};
 use crate::fault::{ConfFault, ConfFaultKind};
 use crate::item::next_item;
 use crate::reader::Reader;
+use memchr::memchr;
 use std::alloc::Global;
 
 // Where the first LF stands.
 fn line_end(text: &[u8]) -> Option<usize>
     ensures { result ≡ position (λ octet. octet == 10) text.now }
 {
-    text.iter().position(|octet| *octet == b'\n')
+    memchr(b'\n', text)
 }
 
 // The first line without its LF, and what stands behind that LF.

@@ -166,8 +166,8 @@ impl<'t> Reader<'t> {
 
     // The innermost block is closed.
     fn close(mut self) -> Result<Self, ConfFaultKind>
-        ensures state { Steps (close_block (innermost self.entry.around.items) (reader_view self.entry))
-            result }
+        ensures state { Steps
+            (close_block (innermost self.entry.around.items) (reader_view self.entry)) result }
         ensures kept { IfOk result
             (λ r. (r.names ≡ self.entry.names) × (r.peers ≡ self.entry.peers)) }
         ensures opened { IfOk result (λ r. r.opened ≡ self.entry.opened) }

@@ -2,12 +2,12 @@
 ghost use Rattle.std.specs.Prelude.{◌≡◌, ◌==◌, ◌<◌, ◌+◌, ◌*◌, ℕ, None, Some, true, MatchOption, MatchResult, Ok, Err};
 ghost use Rattle.std.specs.Prelude.{codes, length, position};
 ghost use Rattle.std.specs.Option.{option_map};
-ghost use Rattle.std.specs.List.{list_all};
-ghost use Rattle.feed_conf.specs.Values.{NumberOf, bounded, capped, connections, decimal, fraction_of, hundredths};
-ghost use Rattle.feed_conf.specs.Values.{hundredths_of, is_digit, is_number, number_of, parts_at, spells, spells_false};
-ghost use Rattle.feed_conf.specs.Values.{spells_true, switch_of, taken_of, whole_of};
+ghost use Rattle.feed_conf.specs.Values.{NumberOf, bounded, capped, connections, fraction_of, hundredths};
+ghost use Rattle.feed_conf.specs.Values.{hundredths_of, number_of, parts_at, spells, spells_false, spells_true};
+ghost use Rattle.feed_conf.specs.Values.{switch_of, taken_of, whole_of};
 ghost use Rattle.feed_conf.specs.ValueView.{taken_view, HasSmallBounds};
 
+use crate::digits::{DigitsFault, read_digits};
 use crate::fault::ConfFaultKind;
 use crate::key::Kind;
 
@@ -27,49 +27,14 @@ pub(crate) struct Taken<'t> {
     pub(crate) limited: bool,
 }
 
-// Whether the octet is a digit.
-fn is_digit(octet: u8) -> bool
-    ensures { result ≡ is_digit octet }
-{
-    b'0' <= octet && octet <= b'9'
-}
-
-// Whether each octet is a digit.
-fn all_digits(octets: &[u8]) -> bool
-    ensures { result ≡ list_all is_digit octets.now }
-{
-    octets.iter().all(|octet| is_digit(*octet))
-}
-
-// Whether there is one digit or more, and nothing besides.
-fn is_number(octets: &[u8]) -> bool
-    ensures { result ≡ is_number octets.now }
-{
-    !octets.is_empty() && all_digits(octets)
-}
-
-// The number that digits are, or the greatest u64 where that is passed.
-fn decimal(digits: &[u8]) -> u64
-    requires { list_all is_digit digits.now ≡ true }
-    ensures { result ≡ capped (decimal 0 digits.now) }
-{
-    let mut number: u64 = 0;
-    for digit in digits {
-        number = number
-            .saturating_mul(10)
-            .saturating_add(u64::from(digit.saturating_sub(b'0')));
-    }
-    number
-}
-
 // The number that is written, or the greatest u64 where that is passed.
 fn number(octets: &[u8]) -> Option<u64>
     ensures { result ≡ option_map capped (number_of octets.now) }
 {
-    if is_number(octets) {
-        Some(decimal(octets))
-    } else {
-        None
+    match read_digits(octets) {
+        Ok(number) => Some(number),
+        Err(DigitsFault::TooGreat) => Some(u64::MAX),
+        Err(DigitsFault::NoNumber) => None,
     }
 }
 
@@ -89,11 +54,9 @@ fn fraction_at(octets: &[u8], point: usize) -> Option<(u64, &[u8])>
 {
     let whole = octets.split_at(point).0;
     let decimals = octets.split_at(point + 1).1;
-    let numbers = is_number(whole) && is_number(decimals);
-    if numbers {
-        Some((decimal(whole), decimals))
-    } else {
-        None
+    match (number(whole), number(decimals)) {
+        (Some(whole), Some(_)) => Some((whole, decimals)),
+        _ => None,
     }
 }
 

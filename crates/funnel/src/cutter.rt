@@ -4,6 +4,7 @@ ghost use Rattle.std.specs.Prelude.{OnErr};
 ghost use Rattle.funnel.specs.Stream.{BeginsWithLine, IsUnended, Splits, StandsFor, clipped};
 
 use crate::NoMemory;
+use crate::line::LONGEST_LINE;
 use memchr::memchr;
 use std::alloc::Global;
 use std::collections::VecDeque;
@@ -11,7 +12,7 @@ use std::marker::Model;
 use std::mem;
 
 // The octets that are kept of a line, one more than a good line may have before its LF.
-const MOST_KEPT: usize = 8193;
+const MOST_KEPT: usize = LONGEST_LINE + 1;
 
 /// A cutter of a stream of octets into lines, fed in pieces of any size.
 ///
@@ -115,8 +116,8 @@ pub fn splits_once()
         → (a ≡ b) × (r ≡ s) }
 {}
 
-// The first line without its LF, and what stands behind that; `None` where there is no LF.
-fn first_line(octets: &[u8]) -> Option<(&[u8], &[u8])>
+/// The first line without its LF, and what stands behind that; `None` where there is no LF.
+pub fn first_line(octets: &[u8]) -> Option<(&[u8], &[u8])>
     ensures line { MatchOption result (IsUnended octets.now)
         (λ p. BeginsWithLine octets.now p.0.now p.1.now) }
     ensures shorter { IfSome result (λ p. length p.1.now < length octets.now) }

@@ -3,8 +3,8 @@
 //! May touch nothing but memory; it stands on `memchr` for the search for line ends. The crates above use the three
 //! names as lists of octets that keep their form (`specs/Names.antt`), `read_line`, which reads a line exactly where
 //! `specs/Line.antt` has it and else names the first fault, `LineCutter`, which gives the lines of what it was fed
-//! however that was cut (`specs/Stream.antt`), and `next_word`, which takes the words of any text one by one
-//! (`specs/Words.antt`).
+//! however that was cut, and `first_line`, which takes one (`specs/Stream.antt`), and `next_word`, which takes the
+//! words of any text one by one (`specs/Words.antt`).
 #![tactic(auto)]
 
 mod cutter;
@@ -12,8 +12,8 @@ mod line;
 mod names;
 mod words;
 
-pub use cutter::{LineCutter, splits_once};
-pub use line::{FunnelLine, LineFault, read_line, reads_once, without_cr};
+pub use cutter::{LineCutter, first_line, splits_once};
+pub use line::{FunnelLine, LONGEST_LINE, LineFault, read_line, reads_once, without_cr};
 pub use names::{MsgId, PeerName, Token};
 /// Memory was refused.
 pub use std::alloc::AllocError as NoMemory;

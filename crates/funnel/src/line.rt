@@ -85,8 +85,8 @@ pub fn reads_once()
         → (token ≡ token') × (id ≡ id') × (peers ≡ peers') }
 {}
 
-// The most octets before the LF.
-const LONGEST_LINE: usize = 8192;
+/// The most octets that a good line has before its LF.
+pub const LONGEST_LINE: usize = 8192;
 
 // A good line, cut where its parts end.
 #[derive(Clone, Copy)]

@@ -6,7 +6,7 @@ use Rattle.ledger_core.specs.declared.ledger.LedgerFault.{LedgerFault}
 use Rattle.ledger_core.specs.declared.ledger.LedgerFault.TheVariants.{OldNumber, NotOwed, CountFull}
 use Rattle.ledger_core.specs.declared.note.Note.{Note}
 use Rattle.ledger_core.specs.declared.note.Note.TheVariants.{Owe, Final, Drop, Seen}
-use Rattle.ledger_core.specs.Laws.{old-legal, lacks-legal, full-legal}
+use Rattle.ledger_core.specs.StateLaws.{old-legal, lacks-legal, full-legal}
 use Rattle.ledger_core.specs.Ledger.{IsJudged}
 use Rattle.ledger_core.specs.State.{State, IsLegal, IsOld, IsOwed, LacksDebt, Overflows, Owing}
 

@@ -3,11 +3,11 @@ use Rattle.std.proofs.Common.{◌≡◌, ℕ, ◌<◌, ◌+◌, List, [], ◌∷
 use Rattle.std.specs.Prelude.{Vec}
 use Rattle.std.specs.declared.alloc.Global.{Global}
 use Rattle.std.proofs.lemmas.List.{get_or-map, length-map, take_more}
-use Rattle.std.proofs.lemmas.Option.{get_or_from_slice_get}
+use Rattle.std.proofs.lemmas.Option.{slice_get-get_or}
 use Rattle.ledger_core.specs.declared.ledger.ReplayFault.{ReplayFault}
 use Rattle.ledger_core.specs.declared.ledger.ReplayFault.TheVariants.{Refused, NoMemory}
 use Rattle.ledger_core.specs.declared.note.Note.{Note}
-use Rattle.ledger_core.specs.Laws.{AllLegal-append, after-append}
+use Rattle.ledger_core.specs.StateLaws.{AllLegal-append, after-append}
 use Rattle.ledger_core.specs.Note.{IsNote}
 use Rattle.ledger_core.specs.Replay.{LeavesFrom, SpellsNoLegal, StopsFrom}
 use Rattle.ledger_core.specs.Spelling.{spelling, spellings}
@@ -54,17 +54,13 @@ leaves-one first payloads state other a b =
 pub stops : (first : State) (payloads : List (List ℕ)) (index : ℕ) (state : State)
     → index < length payloads → LeavesFrom first (take index payloads) state
     → SpellsNoLegal state (get_or payloads index []) → StopsFrom first payloads index
-stops first payloads index state within before none = (
-  within,
-  (
-    before.0,
-    before.1,
-    before.3,
-    before.2,
-    λ note is_note found legal. none note is_note (sym (get_or_from_slice_get payloads index (spelling note) [] found))
-        (subst (λ s. IsLegal s note) (sym before.4) legal),
-  ),
-)
+stops first payloads index state within before none = record {
+  state = state;
+  before = before;
+  octets = get_or payloads index [];
+  here = slice_get-get_or payloads index [] within;
+  stops = none;
+}
 
 pub err-apart : {T : Type 0} {fault other : ReplayFault}
     → ◌≡◌ {A = Result T ReplayFault} (Err fault) (Err other) → fault ≡ other

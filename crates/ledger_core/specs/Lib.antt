@@ -2,7 +2,7 @@ pub mod Base
 pub mod BaseLaws
 pub mod StopLaws
 pub mod Codes
-pub mod Laws
+pub mod StateLaws
 pub mod Index
 pub mod IndexLaws
 pub mod Ledger
@@ -17,3 +17,4 @@ pub mod Spots
 pub mod State
 pub mod Words
 pub mod Written
+pub mod WrittenLaws

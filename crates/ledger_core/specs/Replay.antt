@@ -21,13 +21,12 @@ SpellsNoLegal state octets = (note : Note) → IsNote note → spelling note ≡
 
 -- Behind this state the payloads before this index are a list of legal notes, and the one at it is no note that is
 -- legal behind them.
-abbrev pub StopsFrom : State → List (List ℕ) → ℕ → Type 0
-StopsFrom first payloads index =
-    (index < length payloads)
-    × ((notes : List Note) × AreNotes notes × AllLegal first notes
-    × (take index payloads ≡ spellings notes)
-    × ((note : Note) → IsNote note → slice_get payloads index ≡ Some (spelling note)
-    → IsLegal (after first notes) note → ⊥))
+pub record StopsFrom (first : State) (payloads : List (List ℕ)) (index : ℕ) : Type 0 where
+  pub state : State
+  pub before : LeavesFrom first (take index payloads) state
+  pub octets : List ℕ
+  pub here : slice_get payloads index ≡ Some octets
+  pub stops : SpellsNoLegal state octets
 
 -- the payloads before this index are a list of legal notes, and the one at it is no note that is legal behind them
 abbrev pub StopsAt : List (List ℕ) → ℕ → Type 0

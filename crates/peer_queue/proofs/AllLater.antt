@@ -10,7 +10,8 @@ use Rattle.std.proofs.lemmas.Bool.{eqb-true, eq-eqb, ne_eqb}
 use Rattle.std.proofs.lemmas.List.Elements.{All-nil, All-cons, All-head, All-tail}
 use Rattle.deferral.specs.Due.{Waiting, IsDue, IsRising, due_of}
 use Rattle.peer_queue.specs.Place.{IsLater, Place, Places}
-use Rattle.peer_queue.specs.Index.{Holders, place_by, place_until, places_by}
+use Rattle.peer_queue.specs.Index.{Holders, due_at, place_by, place_for, places_by}
+use Rattle.peer_queue.specs.declared.wait.Wait.TheVariants.{Ready, Until}
 use Rattle.peer_queue.proofs.Moves.{above_at, at_head, in_tail}
 
 -- each of them waits for a moment
@@ -31,16 +32,17 @@ due_tail x xs n d rising is =
     let above : x.0 < n = above_at x.0 n xs rising.0 (subst IsSome (sym is) refl) in
     ap (λ (b : Bool). cond b (Some x.1) (due_of xs n)) (ne_eqb x.0 n (omega arith)) ∙ is
 
--- where none is held and none is due at once, each waits
-pub are_later : (h : Holders) (agenda : Waiting) → IsRising agenda → ((n : ℕ) → due_of agenda n ≡ Some None → ⊥)
-    → ((n : ℕ) → IsDue agenda 0 n → ⊥) → AreLater (places_by h agenda)
-are_later h [] rising held ready = All-nil (λ (entry : ℕ × Place). IsLater entry.1)
-are_later h (x ∷ xs) rising held ready =
+-- where none is held and none is due now, each waits
+pub are_later : (h : Holders) (agenda : Waiting) (now : ℕ) → IsRising agenda
+    → ((n : ℕ) → due_of agenda n ≡ Some None → ⊥) → ((n : ℕ) → IsDue agenda now n → ⊥)
+    → AreLater (places_by h agenda)
+are_later h [] now rising held ready = All-nil (λ (entry : ℕ × Place). IsLater entry.1)
+are_later h (x ∷ xs) now rising held ready =
     All-cons (λ (entry : ℕ × Place). IsLater entry.1) (x.0, place_by (h x.0) x.1) (places_by h xs)
     (later_place (h x.0) x.1 (λ is. held x.0 (due_head x xs None is))
-    (λ is. ready x.0 (at_head 0 x xs 0 is (omega arith))))
-    (are_later h xs rising.1 (λ n is. held n (due_tail x xs n None rising is))
-    (λ n due. ready n (in_tail 0 n x xs rising due)))
+    (λ is. ready x.0 (at_head now x xs 0 is (omega arith))))
+    (are_later h xs now rising.1 (λ n is. held n (due_tail x xs n None rising is))
+    (λ n due. ready n (in_tail now n x xs rising due)))
 
 -- where each waits, this one does
 pub later_at : (h : Holders) (agenda : Waiting) (n : ℕ) (d : Option ℕ) → AreLater (places_by h agenda)
@@ -65,13 +67,15 @@ pub none_held : (h : Holders) (agenda : Waiting) (n : ℕ) → AreLater (places_
     → ⊥
 none_held h agenda n all is = later_at h agenda n None all is
 
-at_once : (due : ℕ) → due ≤ 0 → IsLater (place_until due) → ⊥
+at_once : (due : ℕ) → due ≤ 0 → IsLater (place_for (Until due)) → ⊥
 at_once zero low later = later
 at_once (suc due) low later = omega (arith, low)
 
--- and none is due at once
-pub none_due : (h : Holders) (agenda : Waiting) (n : ℕ) → AreLater (places_by h agenda) → IsDue agenda 0 n → ⊥
-none_due h agenda n all due = at_once due.0 due.2 (later_at h agenda n (Some due.0) all due.1)
+-- and none is due at 0, as what is ready is
+pub none_due : (h : Holders) (agenda : Waiting) (now n : ℕ) → now ≡ due_at Ready → AreLater (places_by h agenda)
+    → IsDue agenda now n → ⊥
+none_due h agenda now n ready all due =
+    at_once due.0 (subst (λ (m : ℕ). due.0 ≤ m) ready due.2) (later_at h agenda n (Some due.0) all due.1)
 
 -- ---- what the two tests tell
 

@@ -6,7 +6,7 @@ use Rattle.std.proofs.lemmas.Bool.{eqb-true}
 use Rattle.std.proofs.lemmas.List.Elements.{All-filter}
 use Rattle.ledger_core.specs.declared.note.Note.{Note}
 use Rattle.ledger_core.specs.declared.note.Note.TheVariants.{Owe, Final, Drop, Seen}
-use Rattle.ledger_core.specs.Laws.{numbers-without}
+use Rattle.ledger_core.specs.StateLaws.{numbers-without}
 use Rattle.ledger_core.specs.State.{State, numbers, step}
 use Rattle.peer_queue.specs.Place.{Place, Places, gone, moved, placed}
 use Rattle.peer_queue.specs.Words.{IsEnd}

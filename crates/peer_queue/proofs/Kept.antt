@@ -1,6 +1,6 @@
 -- What an index keeps, where a number is held or given up.
 use Rattle.std.proofs.Common.{◌≡◌, ◌==◌, ◌^◌, ℕ, zero, suc, ◌<◌, ◌≤◌, Bool, true, false, cond, Option, Some, None, [], ◌∷◌, refl, sym, ap, ◌∙◌, subst, arith}
-use Rattle.std.specs.Prelude.{IsSome, option_map, Result, Ok, Err, OnOk, OnErr}
+use Rattle.std.specs.Prelude.{◌↔◌, IsSome, option_map, Result, Ok, Err, OnOk, OnErr}
 use Rattle.std.specs.Result.{is_err}
 use Rattle.std.specs.Ordering.{is_eq, is_gt, nat_cmp, ordering_then}
 use Rattle.std.specs.declared.cmp.Ordering.{Ordering}
@@ -13,7 +13,8 @@ use Rattle.std.specs.declared.ops.Bound.TheVariants.{Included, Unbounded}
 use Rattle.std.proofs.lemmas.Cmp.{nat_cmp_total, tied_itself}
 use Rattle.deferral.specs.Due.{Waiting, IsRising, added, due_of}
 use Rattle.peer_queue.specs.Place.{Place, Held, place_at, is_held, IsHeldBy, IsUnheld}
-use Rattle.peer_queue.specs.Index.{Holders, IsKept, pair_cmp, place_by, place_until, places_by}
+use Rattle.peer_queue.specs.Index.{Holders, IsKept, pair_cmp, place_by, place_for, places_by}
+use Rattle.peer_queue.specs.declared.wait.Wait.TheVariants.{Until}
 
 -- ---- comparing numbers and pairs
 
@@ -35,6 +36,11 @@ pair_at c n d m e = let h = both_eq (nat_cmp c d) (nat_cmp n m) e in (nat_at c d
 
 pub pair_self : (c n : ℕ) → is_eq (pair_cmp (c, n) (c, n)) ≡ true
 pair_self c n = ap (λ (o : Ordering). is_eq (ordering_then o (nat_cmp n n))) (tied_itself nat_cmp_total c) ∙ ap is_eq (tied_itself nat_cmp_total n)
+
+pub pair_same : (c n b m : ℕ) → c ≡ b → n ≡ m → is_eq (pair_cmp (c, n) (b, m)) ≡ true
+pair_same c n b m who same =
+    subst (λ (x : ℕ). is_eq (pair_cmp (c, n) (x, m)) ≡ true) who
+    (subst (λ (x : ℕ). is_eq (pair_cmp (c, n) (c, x)) ≡ true) same (pair_self c n))
 
 not_true : (b : Bool) → (b ≡ true → ⊥) → b ≡ false
 not_true true h = absurd (h refl)
@@ -63,7 +69,7 @@ unheld_is q (Some (Some d)) e = (d, refl)
 pub unheld_due : (h : Holders) (agenda : Waiting) (n : ℕ) → IsUnheld (places_by h agenda) n → (d : ℕ) × (due_of agenda n ≡ Some (Some d))
 unheld_due h agenda n unheld = unheld_is (h n) (due_of agenda n) (sym (ap (option_map is_held) (place_of h agenda n)) ∙ unheld)
 
-until_held : (d c : ℕ) → place_until d ≡ Held c → ⊥
+until_held : (d c : ℕ) → place_for (Until d) ≡ Held c → ⊥
 until_held zero c e = cc
 until_held (suc d) c e = cc
 
@@ -71,17 +77,25 @@ held_is : (q : Option ℕ) (o : Option (Option ℕ)) (c : ℕ) → (o ≡ Some N
 held_is q None c f e = absurd (cc)
 held_is None (Some None) c f e = let bad : false ≡ true = f refl in absurd (cc)
 held_is (Some b) (Some None) c f e = let same : b ≡ c = cc in (ap Some same, refl)
-held_is q (Some (Some d)) c f e = let same : place_until d ≡ Held c = cc in absurd (until_held d c same)
+held_is q (Some (Some d)) c f e = let same : place_for (Until d) ≡ Held c = cc in absurd (until_held d c same)
 
 pub held_by : (h : Holders) (agenda : Waiting) (k : ℕ → ℕ → Bool) (n c : ℕ) → IsKept agenda h k → IsHeldBy (places_by h agenda) c n → (h n ≡ Some c) × (due_of agenda n ≡ Some None)
-held_by h agenda k n c kept held = held_is (h n) (due_of agenda n) c (kept.holder n) (sym (place_of h agenda n) ∙ held)
+held_by h agenda k n c kept held =
+    held_is (h n) (due_of agenda n) c (kept.held n).0 (sym (place_of h agenda n) ∙ held)
+
+-- a number that a connection holds is due at no moment
+pub held_due : (h : Holders) (agenda : Waiting) (k : ℕ → ℕ → Bool) (n c : ℕ) → IsKept agenda h k → h n ≡ Some c
+    → due_of agenda n ≡ Some None
+held_due h agenda k n c kept holder = (kept.held n).1 (subst IsSome (sym holder) refl)
 
 pub is_held_by : (h : Holders) (agenda : Waiting) (k : ℕ → ℕ → Bool) (n c : ℕ) → IsKept agenda h k → h n ≡ Some c → IsHeldBy (places_by h agenda) c n
-is_held_by h agenda k n c kept holder = place_of h agenda n ∙ (ap (option_map (place_by (h n))) (kept.held n c holder) ∙ ap (λ (q : Option ℕ). Some (place_by q None)) holder)
+is_held_by h agenda k n c kept holder =
+    place_of h agenda n ∙ (ap (option_map (place_by (h n))) (held_due h agenda k n c kept holder)
+    ∙ ap (λ (q : Option ℕ). Some (place_by q None)) holder)
 
 -- a number that waits for a moment is held by none
 pub free : (h : Holders) (agenda : Waiting) (k : ℕ → ℕ → Bool) (n c d : ℕ) → IsKept agenda h k → due_of agenda n ≡ Some (Some d) → h n ≡ Some c → ⊥
-free h agenda k n c d kept due holder = let none = kept.held n c holder in cc
+free h agenda k n c d kept due holder = let none = held_due h agenda k n c kept holder in cc
 
 -- ---- one number changes
 
@@ -104,29 +118,42 @@ split_false : {P : Type 0} (b c : Bool) → (b ≡ false → c ≡ true → P) �
 split_false true c f e = cc
 split_false false c f e = f refl e
 
+-- where a number is due at no moment exactly if one holds it, it is so of each, if it was so of the others
+held_all : (agenda agenda' : Waiting) (h h' : Holders) (k : ℕ → ℕ → Bool) (n : ℕ) → IsKept agenda h k
+    → ((m : ℕ) → (m ≡ n → ⊥) → due_of agenda' m ≡ due_of agenda m) → ((m : ℕ) → (m ≡ n → ⊥) → h' m ≡ h m)
+    → (due_of agenda' n ≡ Some None) ↔ IsSome (h' n)
+    → (m : ℕ) → (due_of agenda' m ≡ Some None) ↔ IsSome (h' m)
+held_all agenda agenda' h h' k n kept dues others here m = by_number n m
+    (λ same. subst (λ (x : ℕ). (due_of agenda' x ≡ Some None) ↔ IsSome (h' x)) (sym same) here)
+    (λ apart.
+    subst (λ (d : Option (Option ℕ)). (d ≡ Some None) ↔ IsSome (h' m)) (sym (dues m apart))
+    (subst (λ (o : Option ℕ). (due_of agenda m ≡ Some None) ↔ IsSome o) (sym (others m apart)) (kept.held m)))
+
+no_holder : (o : Option ℕ) → ((b : ℕ) → o ≡ Some b → ⊥) → IsSome o → ⊥
+no_holder None nobody has = cc
+no_holder (Some b) nobody has = nobody b refl
+
 module _ (agenda agenda' : Waiting) (h h' : Holders) (k k' : ℕ → ℕ → Bool) (c n : ℕ) (kept : IsKept agenda h k) (rising : IsRising agenda') (dues : (m : ℕ) → (m ≡ n → ⊥) → due_of agenda' m ≡ due_of agenda m) (others : (m : ℕ) → (m ≡ n → ⊥) → h' m ≡ h m) where
   -- this connection holds the number from now on
   pub kept_hold : (d : ℕ) → due_of agenda n ≡ Some (Some d) → due_of agenda' n ≡ Some None → h' n ≡ Some c → ((b m : ℕ) → k' b m ≡ cond (is_eq (pair_cmp (c, n) (b, m))) true (k b m)) → IsKept agenda' h' k'
   kept_hold d was due holder pairs = record {
     rising = rising;
-    held = λ m b e. by_number n m
-        (λ same. subst (λ (x : ℕ). due_of agenda' x ≡ Some None) (sym same) due)
-        (λ apart. dues m apart ∙ kept.held m b (sym (others m apart) ∙ e));
-    holder = λ m e. by_number n m
-        (λ same. let here : h' m ≡ Some c = ap h' same ∙ holder in subst IsSome (sym here) refl)
-        (λ apart. subst IsSome (sym (others m apart)) (kept.holder m (sym (dues m apart) ∙ e)));
-    told = λ b m e. split_true (is_eq (pair_cmp (c, n) (b, m))) (k b m)
-        (λ at. let both = pair_at c n b m at in ap h' (sym both.1) ∙ (holder ∙ ap Some both.0))
-        (λ old. let was_held : h m ≡ Some b = kept.told b m old in
-        others m (λ same. free h agenda k n b d kept was (sym (ap h same) ∙ was_held)) ∙ was_held)
-        (sym (pairs b m) ∙ e);
-    tells = λ b m e. pairs b m ∙ by_number n m
-        (λ same.
-        let here : Some c ≡ Some b = sym holder ∙ (sym (ap h' same) ∙ e) in
-        let who : c ≡ b = cc in
-        let at : is_eq (pair_cmp (c, n) (b, m)) ≡ true = subst (λ (x : ℕ). is_eq (pair_cmp (c, n) (x, m)) ≡ true) who (subst (λ (x : ℕ). is_eq (pair_cmp (c, n) (c, x)) ≡ true) (sym same) (pair_self c n)) in
-        ap (λ (x : Bool). cond x true (k b m)) at)
-        (λ apart. cond_true (is_eq (pair_cmp (c, n) (b, m))) (k b m) (kept.tells b m (sym (others m apart) ∙ e)));
+    held = held_all agenda agenda' h h' k n kept dues others (λ e. subst IsSome (sym holder) refl, λ has. due);
+    told = λ b m. (
+      λ e. split_true (is_eq (pair_cmp (c, n) (b, m))) (k b m)
+          (λ at. let both = pair_at c n b m at in ap h' (sym both.1) ∙ (holder ∙ ap Some both.0))
+          (λ old. let was_held : h m ≡ Some b = (kept.told b m).0 old in
+          others m (λ same. free h agenda k n b d kept was (sym (ap h same) ∙ was_held)) ∙ was_held)
+          (sym (pairs b m) ∙ e),
+      λ e. pairs b m ∙ by_number n m
+          (λ same.
+          let here : Some c ≡ Some b = sym holder ∙ (sym (ap h' same) ∙ e) in
+          let who : c ≡ b = cc in
+          let at = pair_same c n b m who (sym same) in
+          ap (λ (x : Bool). cond x true (k b m)) at)
+          (λ apart. cond_true (is_eq (pair_cmp (c, n) (b, m))) (k b m)
+          ((kept.told b m).1 (sym (others m apart) ∙ e))),
+    );
     moments = λ m t e. by_number n m
         (λ same.
         let here : Some None ≡ Some (Some t) = sym due ∙ subst (λ (x : ℕ). due_of agenda' x ≡ Some (Some t)) same e in
@@ -138,58 +165,54 @@ module _ (agenda agenda' : Waiting) (h h' : Holders) (k k' : ℕ → ℕ → Boo
   pub kept_drop : h n ≡ Some c → (due_of agenda' n ≡ Some None → ⊥) → ((t : ℕ) → due_of agenda' n ≡ Some (Some t) → t < 2 ^ 64) → h' n ≡ None → ((b m : ℕ) → k' b m ≡ cond (is_eq (pair_cmp (c, n) (b, m))) false (k b m)) → IsKept agenda' h' k'
   kept_drop was due fits none pairs = record {
     rising = rising;
-    held = λ m b e. by_number n m
-        (λ same. let here : h' m ≡ None = ap h' same ∙ none in cc)
-        (λ apart. dues m apart ∙ kept.held m b (sym (others m apart) ∙ e));
-    holder = λ m e. by_number n m
-        (λ same. absurd (due (subst (λ (x : ℕ). due_of agenda' x ≡ Some None) same e)))
-        (λ apart. subst IsSome (sym (others m apart)) (kept.holder m (sym (dues m apart) ∙ e)));
-    told = λ b m e. split_false (is_eq (pair_cmp (c, n) (b, m))) (k b m)
-        (λ off old.
-        let was_held : h m ≡ Some b = kept.told b m old in
-        others m (λ same.
-        let here : Some c ≡ Some b = sym was ∙ (sym (ap h same) ∙ was_held) in
-        let who : c ≡ b = cc in
-        let at : is_eq (pair_cmp (c, n) (b, m)) ≡ true = subst (λ (x : ℕ). is_eq (pair_cmp (c, n) (x, m)) ≡ true) who (subst (λ (x : ℕ). is_eq (pair_cmp (c, n) (c, x)) ≡ true) (sym same) (pair_self c n)) in
-        cc) ∙ was_held)
-        (sym (pairs b m) ∙ e);
-    tells = λ b m e. by_number n m
-        (λ same. let here : h' m ≡ None = ap h' same ∙ none in cc)
-        (λ apart.
-        let off : is_eq (pair_cmp (c, n) (b, m)) ≡ false = not_true (is_eq (pair_cmp (c, n) (b, m))) (λ at. apart (sym (pair_at c n b m at).1)) in
-        pairs b m ∙ (ap (λ (x : Bool). cond x false (k b m)) off ∙ kept.tells b m (sym (others m apart) ∙ e)));
+    held = held_all agenda agenda' h h' k n kept dues others (
+      λ e. absurd (due e),
+      λ has. absurd (no_holder (h' n) (λ b e. let here : None ≡ Some b = sym none ∙ e in cc) has),
+    );
+    told = λ b m. (
+      λ e. split_false (is_eq (pair_cmp (c, n) (b, m))) (k b m)
+          (λ off old.
+          let was_held : h m ≡ Some b = (kept.told b m).0 old in
+          others m (λ same.
+          let here : Some c ≡ Some b = sym was ∙ (sym (ap h same) ∙ was_held) in
+          let who : c ≡ b = cc in
+          let at = pair_same c n b m who (sym same) in
+          cc) ∙ was_held)
+          (sym (pairs b m) ∙ e),
+      λ e. by_number n m
+          (λ same. let here : h' m ≡ None = ap h' same ∙ none in cc)
+          (λ apart.
+          let off = not_true (is_eq (pair_cmp (c, n) (b, m))) (λ at. apart (sym (pair_at c n b m at).1)) in
+          pairs b m ∙ (ap (λ (x : Bool). cond x false (k b m)) off
+          ∙ (kept.told b m).1 (sym (others m apart) ∙ e))),
+    );
     moments = λ m t e. by_number n m
         (λ same. fits t (subst (λ (x : ℕ). due_of agenda' x ≡ Some (Some t)) same e))
         (λ apart. kept.moments m t (sym (dues m apart) ∙ e));
   }
 
-  -- no connection held the number, and it goes
-  pub kept_gone : ((b : ℕ) → h n ≡ Some b → ⊥) → (due_of agenda' n ≡ Some None → ⊥) → ((t : ℕ) → due_of agenda' n ≡ Some (Some t) → t < 2 ^ 64) → h' n ≡ h n → ((b m : ℕ) → k' b m ≡ k b m) → IsKept agenda' h' k'
-  kept_gone nobody due fits none pairs = record {
-    rising = rising;
-    held = λ m b e. by_number n m
-        (λ same. absurd (nobody b (sym none ∙ (sym (ap h' same) ∙ e))))
-        (λ apart. dues m apart ∙ kept.held m b (sym (others m apart) ∙ e));
-    holder = λ m e. by_number n m
-        (λ same. absurd (due (subst (λ (x : ℕ). due_of agenda' x ≡ Some None) same e)))
-        (λ apart. subst IsSome (sym (others m apart)) (kept.holder m (sym (dues m apart) ∙ e)));
-    told = λ b m e.
-        let was_held : h m ≡ Some b = kept.told b m (sym (pairs b m) ∙ e) in
-        by_number n m (λ same. ap h' same ∙ (none ∙ (sym (ap h same) ∙ was_held))) (λ apart. others m apart ∙ was_held);
-    tells = λ b m e. pairs b m ∙ kept.tells b m (by_number n m (λ same. ap h same ∙ (sym none ∙ (sym (ap h' same) ∙ e))) (λ apart. sym (others m apart) ∙ e));
-    moments = λ m t e. by_number n m
-        (λ same. fits t (subst (λ (x : ℕ). due_of agenda' x ≡ Some (Some t)) same e))
-        (λ apart. kept.moments m t (sym (dues m apart) ∙ e));
-  }
+-- no connection holds the number, before or after
+pub kept_free : (agenda agenda' : Waiting) (h : Holders) (k : ℕ → ℕ → Bool) (n : ℕ) → IsKept agenda h k
+    → IsRising agenda' → ((m : ℕ) → (m ≡ n → ⊥) → due_of agenda' m ≡ due_of agenda m) → ((b : ℕ) → h n ≡ Some b → ⊥)
+    → (due_of agenda' n ≡ Some None → ⊥) → ((t : ℕ) → due_of agenda' n ≡ Some (Some t) → t < 2 ^ 64)
+    → IsKept agenda' h k
+kept_free agenda agenda' h k n kept rising dues nobody due fits = record {
+  rising = rising;
+  held = held_all agenda agenda' h h k n kept dues (λ m apart. refl)
+      (λ e. absurd (due e), λ has. absurd (no_holder (h n) nobody has));
+  told = kept.told;
+  moments = λ m t e. by_number n m
+      (λ same. fits t (subst (λ (x : ℕ). due_of agenda' x ≡ Some (Some t)) same e))
+      (λ apart. kept.moments m t (sym (dues m apart) ∙ e));
+}
 
 -- the same is told by pairs that are the same
 pub kept_same : (agenda : Waiting) (h h' : Holders) (k k' : ℕ → ℕ → Bool) → IsKept agenda h k → ((m : ℕ) → h' m ≡ h m) → ((b m : ℕ) → k' b m ≡ k b m) → IsKept agenda h' k'
 kept_same agenda h h' k k' kept others pairs = record {
   rising = kept.rising;
-  held = λ m b e. kept.held m b (sym (others m) ∙ e);
-  holder = λ m e. subst IsSome (sym (others m)) (kept.holder m e);
-  told = λ b m e. others m ∙ kept.told b m (sym (pairs b m) ∙ e);
-  tells = λ b m e. pairs b m ∙ kept.tells b m (sym (others m) ∙ e);
+  held = λ m. subst (λ (o : Option ℕ). (due_of agenda m ≡ Some None) ↔ IsSome o) (sym (others m)) (kept.held m);
+  told = λ b m. subst (λ (x : Bool). (x ≡ true) ↔ (h' m ≡ Some b)) (sym (pairs b m))
+      (subst (λ (o : Option ℕ). (k b m ≡ true) ↔ (o ≡ Some b)) (sym (others m)) (kept.told b m));
   moments = kept.moments;
 }
 
@@ -200,7 +223,7 @@ back_step false c f = refl
 -- a pair that was put in and taken out again
 pub pair_back : (agenda : Waiting) (h : Holders) (k : ℕ → ℕ → Bool) (c n d b m : ℕ) → IsKept agenda h k → due_of agenda n ≡ Some (Some d) → cond (is_eq (pair_cmp (c, n) (b, m))) false (cond (is_eq (pair_cmp (c, n) (b, m))) true (k b m)) ≡ k b m
 pair_back agenda h k c n d b m kept was = back_step (is_eq (pair_cmp (c, n) (b, m))) (k b m) (λ at.
-    not_true (k b m) (λ old. free h agenda k n b d kept was (ap h (pair_at c n b m at).1 ∙ kept.told b m old)))
+    not_true (k b m) (λ old. free h agenda k n b d kept was (ap h (pair_at c n b m at).1 ∙ (kept.told b m).0 old)))
 
 -- ---- what a call says of the moments afterwards
 
@@ -225,19 +248,20 @@ none_fits o t e f = let h : None ≡ Some (Some t) = sym e ∙ f in cc
 
 -- a number that waits for nothing yet is held by none
 pub nobody_yet : (h : Holders) (agenda : Waiting) (k : ℕ → ℕ → Bool) (n b : ℕ) → IsKept agenda h k → due_of agenda n ≡ None → h n ≡ Some b → ⊥
-nobody_yet h agenda k n b kept none holder = none_apart (due_of agenda n) none (kept.held n b holder)
+nobody_yet h agenda k n b kept none holder = none_apart (due_of agenda n) none (held_due h agenda k n b kept holder)
 
 -- a number is put in, or memory is refused
 pub kept_put : {T E : Type 0} (result : Result T E) (agenda agenda' : Waiting) (h : Holders) (k : ℕ → ℕ → Bool) (n : ℕ) → IsKept agenda h k → due_of agenda n ≡ None
     → OnOk result (agenda' ≡ added agenda n (Some 0)) → OnErr result (agenda' ≡ agenda)
     → ((m : ℕ) → due_of (added agenda n (Some 0)) m ≡ cond (n == m) (Some (Some 0)) (due_of agenda m)) → IsRising (added agenda n (Some 0)) → IsKept agenda' h k
 kept_put (Ok t) agenda agenda' h k n kept none ok err moments rising =
+    let own = moments n ∙ own_due n (Some (Some 0)) (due_of agenda n) in
     subst (λ (w : Waiting). IsKept w h k) (sym ok)
-    (kept_gone agenda (added agenda n (Some 0)) h h k k 0 n kept rising (λ m apart. moments m ∙ other_due n m (Some (Some 0)) (due_of agenda m) apart) (λ m apart. refl)
+    (kept_free agenda (added agenda n (Some 0)) h k n kept rising
+    (λ m apart. moments m ∙ other_due n m (Some (Some 0)) (due_of agenda m) apart)
     (λ b e. nobody_yet h agenda k n b kept none e)
-    (some_apart (due_of (added agenda n (Some 0)) n) 0 (moments n ∙ own_due n (Some (Some 0)) (due_of agenda n)))
-    (λ t. some_fits (due_of (added agenda n (Some 0)) n) 0 t (moments n ∙ own_due n (Some (Some 0)) (due_of agenda n)) (omega arith))
-    refl (λ b m. refl))
+    (some_apart (due_of (added agenda n (Some 0)) n) 0 own)
+    (λ t. some_fits (due_of (added agenda n (Some 0)) n) 0 t own (omega arith)))
 kept_put (Err e) agenda agenda' h k n kept none ok err moments rising = subst (λ (w : Waiting). IsKept w h k) (sym err) kept
 
 pub ok_of : {T E : Type 0} {P : Type 0} (result : Result T E) → OnOk result P → is_err result ≡ false → P

@@ -7,7 +7,14 @@ use Rattle.std.proofs.lemmas.Bool.{eqb-true, eqb-false, eq-eqb, ne_eqb, le-ltb}
 use Rattle.std.proofs.lemmas.Bool.Decides.{nat_tests}
 use Rattle.deferral.specs.Due.{Waiting, AllNumbers, IsDue, IsLeastDue, IsRising, added, changed, due_of, removed}
 use Rattle.peer_queue.specs.Place.{AreBelow, Place, Places, Ready, gone, is_candidate, least_candidate, moved}
-use Rattle.peer_queue.specs.Index.{Holders, place_by, places_by}
+use Rattle.peer_queue.specs.Index.{Holders, due_at, place_by, place_for, places_by}
+use Rattle.peer_queue.specs.declared.wait.Wait.{Wait}
+use Rattle.peer_queue.specs.declared.wait.Wait.TheVariants.{Ready as ReadyNow, Until}
+
+-- the moment that a wait is due at tells the place for it
+due_place : (wait : Wait) → place_for (Until (due_at wait)) ≡ place_for wait
+due_place ReadyNow = refl
+due_place (Until moment) = refl
 
 -- ---- another moment, or none
 
@@ -21,6 +28,14 @@ moved_by k h [] n due o here same = refl
 moved_by k h (x ∷ xs) n due o here same =
     ap (λ (e : ℕ × Place). e ∷ places_by k (changed xs n due)) (moved_step k h n x due o (x.0 == n) refl here (λ e. same x.0 (eqb-false x.0 n e)))
     ∙ ap (λ (l : Places). cond (x.0 == n) (n, place_by o due) (x.0, place_by (h x.0) x.1) ∷ l) (moved_by k h xs n due o here same)
+
+-- a number that none holds any more, and its wait
+pub moved_wait : (k h : Holders) (agenda : Waiting) (n d : ℕ) (wait : Wait) → d ≡ due_at wait → k n ≡ None
+    → ((m : ℕ) → (m ≡ n → ⊥) → k m ≡ h m)
+    → places_by k (changed agenda n (Some d)) ≡ moved (places_by h agenda) n (place_for wait)
+moved_wait k h agenda n d wait due none same =
+    moved_by k h agenda n (Some d) None none same
+    ∙ ap (moved (places_by h agenda) n) (ap (λ (m : ℕ). place_for (Until m)) due ∙ due_place wait)
 
 -- ---- taken out
 
@@ -144,6 +159,11 @@ least_some h (x ∷ xs) now n rising is =
 pub candidate_is : (r : Option ℕ) (h : Holders) (agenda : Waiting) (now : ℕ) → IsRising agenda → IfSome r (λ n. IsLeastDue agenda now n) → IfNone r ((n : ℕ) → IsDue agenda now n → ⊥) → r ≡ least_candidate now (places_by h agenda)
 candidate_is None h agenda now rising some none = sym (least_none h agenda now rising none)
 candidate_is (Some n) h agenda now rising some none = sym (least_some h agenda now n rising some)
+
+-- a number that is ready is due at 0
+pub ready_put : {T E : Type 0} (result : Result T E) (agenda agenda' : Waiting) (n d : ℕ) → d ≡ due_at ReadyNow
+    → OnOk result (agenda' ≡ added agenda n (Some d)) → OnOk result (agenda' ≡ added agenda n (Some 0))
+ready_put result agenda agenda' n d ready = subst (λ (m : ℕ). OnOk result (agenda' ≡ added agenda n (Some m))) ready
 
 -- a number is put in above all others, or memory is refused
 pub places_put : {T E : Type 0} (result : Result T E) (agenda agenda' : Waiting) (h : Holders) (n : ℕ) → AreBelow n (places_by h agenda) → OnOk result (agenda' ≡ added agenda n (Some 0)) → OnOk result (places_by h agenda' ≡ places_by h agenda ++ (n, Ready) ∷ [])

@@ -14,6 +14,7 @@ mod limits;
 mod place_index;
 mod settled;
 mod station;
+mod wait;
 
 pub use fault::StationFault;
 pub use laws::{each_number_has_one_place, reopened};

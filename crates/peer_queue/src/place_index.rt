@@ -6,8 +6,10 @@ ghost use Rattle.std.specs.List.Sorted.{IsStrictlyIncreasing};
 ghost use Rattle.peer_queue.specs.Place.{AreBelow, AreRising, AreUnheld, Held, IsHeldBy, IsLater, IsUnheld, Ready};
 ghost use Rattle.peer_queue.specs.Place.{all_gone, all_ready, gone, held_count, least_candidate, moved, released};
 ghost use Rattle.peer_queue.specs.Place.{unheld};
-ghost use Rattle.peer_queue.specs.Index.{place_until};
+ghost use Rattle.peer_queue.specs.Index.{place_for};
 
+use crate::wait::Wait;
+use conn_core::CxnId;
 use deferral::{Later, after_put, after_remove, after_set};
 use std::alloc::{AllocError, Global};
 use std::collections::{BTreeMap, BTreeSet};
@@ -18,9 +20,9 @@ use std::marker::Model;
 /// Contracts see it as the list of the numbers with their places, by rising numbers.
 #[derive(Drop)]
 pub(crate) struct PlaceIndex {
-    // Each number, with the moment that it waits for: 0 where it is ready, none where it is held.
+    // Each number, with the moment that it is due at: that of its wait, and none where a connection holds it.
     agenda: Later,
-    // Who holds a number.
+    // The connection that holds a number.
     holders: BTreeMap<u64, u64>,
     // What a connection holds: pairs of connection and number.
     held: BTreeSet<(u64, u64)>,
@@ -38,7 +40,8 @@ impl Model for PlaceIndex {
 
     ghost view = { λ index. places_by (get nat_cmp index.holders) index.agenda };
 
-    ghost invariant = { λ index. IsKept index.agenda (get nat_cmp index.holders) (λ connection number. contains pair_cmp index.held (connection, number)) };
+    ghost invariant = { λ index. IsKept index.agenda (get nat_cmp index.holders)
+        (λ connection number. contains pair_cmp index.held (connection, number)) };
 }
 
 impl PlaceIndex {
@@ -64,7 +67,7 @@ impl PlaceIndex {
     {
         // The numbers still rise.
         after_put();
-        self.agenda.put(number, 0)
+        self.agenda.put(number, Wait::Ready.due_at())
     }
 
     /// The least number that is ready, or later until a moment at or before now.
@@ -77,11 +80,11 @@ impl PlaceIndex {
     }
 
     /// Whether this connection holds this number.
-    pub fn is_held_by(&self, connection: u64, number: u64) -> bool
-        ensures { IsTrue result ↔ IsHeldBy self.now connection number }
+    pub fn is_held_by(&self, connection: CxnId, number: u64) -> bool
+        ensures { IsTrue result ↔ IsHeldBy self.now connection.0 number }
     {
         match self.holders.get(&number) {
-            Some(holder) => *holder == connection,
+            Some(holder) => *holder == connection.0,
             None => false,
         }
     }
@@ -90,32 +93,32 @@ impl PlaceIndex {
     ///
     /// # Errors
     /// `NoMemory` where memory was refused; nothing changes.
-    pub fn hold(&mut self, connection: u64, number: u64) -> Result<(), AllocError>
+    pub fn hold(&mut self, connection: CxnId, number: u64) -> Result<(), AllocError>
         requires { IsUnheld self.old number }
-        ensures ok { OnOk result (self.new ≡ moved self.old number (Held connection)) }
+        ensures ok { OnOk result (self.new ≡ moved self.old number (Held connection.0)) }
         ensures err { OnErr result (self.new ≡ self.old) }
     {
         // The same numbers wait, and they rise.
         after_set();
-        self.held.insert((connection, number))?;
-        if self.holders.insert(number, connection).is_err() {
-            self.held.remove(&(connection, number));
+        self.held.insert((connection.0, number))?;
+        if self.holders.insert(number, connection.0).is_err() {
+            self.held.remove(&(connection.0, number));
             return Err(AllocError);
         }
         self.agenda.set(number, None);
         Ok(())
     }
 
-    /// Has a number that this connection holds wait for this moment, or none at 0. Takes no memory.
-    pub fn give_up(&mut self, connection: u64, number: u64, moment: u64)
-        requires { IsHeldBy self.old connection number }
-        ensures { self.new ≡ moved self.old number (place_until moment) }
+    /// Has a number that this connection holds wait for this. Takes no memory.
+    pub fn give_up(&mut self, connection: CxnId, number: u64, wait: Wait)
+        requires { IsHeldBy self.old connection.0 number }
+        ensures { self.new ≡ moved self.old number (place_for wait) }
     {
-        self.held.remove(&(connection, number));
+        self.held.remove(&(connection.0, number));
         self.holders.remove(&number);
         // The same numbers wait, and they rise.
         after_set();
-        self.agenda.set(number, Some(moment));
+        self.agenda.set(number, Some(wait.due_at()));
     }
 
     /// Takes out a number that no connection holds.
@@ -129,11 +132,11 @@ impl PlaceIndex {
     }
 
     /// Takes out a number that this connection holds.
-    pub fn end(&mut self, connection: u64, number: u64)
-        requires { IsHeldBy self.old connection number }
+    pub fn end(&mut self, connection: CxnId, number: u64)
+        requires { IsHeldBy self.old connection.0 number }
         ensures { self.new ≡ gone self.old number }
     {
-        self.held.remove(&(connection, number));
+        self.held.remove(&(connection.0, number));
         self.holders.remove(&number);
         // The others wait as before, and they rise.
         after_remove();
@@ -141,13 +144,13 @@ impl PlaceIndex {
     }
 
     // A number that this connection holds, where it holds one.
-    fn first_held_by(&self, connection: u64) -> Option<u64>
-        ensures some { IfSome result (λ number. IsHeldBy self.now connection number) }
-        ensures none { IfNone result ((number : ℕ) → IsHeldBy self.now connection number → ⊥) }
+    fn first_held_by(&self, connection: CxnId) -> Option<u64>
+        ensures some { IfSome result (λ number. IsHeldBy self.now connection.0 number) }
+        ensures none { IfNone result ((number : ℕ) → IsHeldBy self.now connection.0 number → ⊥) }
         ensures rising { AreRising self.now }
     {
-        let (holder, number) = self.held.range((connection, 0)..).next()?;
-        if *holder == connection {
+        let (holder, number) = self.held.range((connection.0, 0)..).next()?;
+        if *holder == connection.0 {
             Some(*number)
         } else {
             None
@@ -156,14 +159,14 @@ impl PlaceIndex {
 
     /// Makes all that this connection holds ready, and counts it. Takes no memory. Logarithmic for each number that it
     /// holds.
-    pub fn release(&mut self, connection: u64) -> u64
+    pub fn release(&mut self, connection: CxnId) -> u64
         requires { length self.old < 2 ^ 64 }
-        ensures count { result ≡ held_count connection self.old }
-        ensures places { self.new ≡ released connection self.old }
+        ensures count { result ≡ held_count connection.0 self.old }
+        ensures places { self.new ≡ released connection.0 self.old }
     {
         let mut count = 0;
         while let Some(number) = self.first_held_by(connection) {
-            self.give_up(connection, number, 0);
+            self.give_up(connection, number, Wait::Ready);
             count += 1;
         }
         count
@@ -183,7 +186,7 @@ impl PlaceIndex {
     {
         match self.holders.first_key_value() {
             Some(_) => false,
-            None => self.agenda.due_least(0).is_none(),
+            None => self.agenda.due_least(Wait::Ready.due_at()).is_none(),
         }
     }
 

@@ -10,6 +10,7 @@ ghost use Rattle.peer_queue.specs.Place.{all_ready, placed};
 use crate::fault::station_fault;
 use crate::place_index::{PlaceIndex, all_ready_of};
 use crate::settled::{Settled, number_in};
+use crate::wait::Wait;
 use crate::{Limits, Owed, Shed, StationFault};
 use conn_core::{CxnId, Deferral, Outcome, Verdict};
 use disk_model::Disk;
@@ -55,7 +56,7 @@ impl<D: Disk> Station<D> {
     ghost use Rattle.peer_queue.specs.Place.{AreRising, Held, IsHeldBy, IsLater, Later, Ready};
     ghost use Rattle.peer_queue.specs.Place.{gone, held_count, least_candidate, moved, released};
     ghost use Rattle.peer_queue.specs.Place.{unheld};
-    ghost use Rattle.peer_queue.specs.Index.{place_until};
+    ghost use Rattle.peer_queue.specs.Index.{place_for};
     ghost use Rattle.peer_queue.specs.Shed.{IsShedSet};
     ghost use Rattle.peer_queue.specs.Settled.{Finishes, IsEnded, Settles, number_in, settled_by};
     ghost use Rattle.peer_queue.specs.Faults.{IsClaimFault, IsEndFault, IsOweFault};
@@ -168,7 +169,7 @@ impl<D: Disk> Station<D> {
             return Ok(None);
         };
         let debt = self.owed_debt(number)?;
-        self.index.hold(connection.0, number)?;
+        self.index.hold(connection, number)?;
         Ok(Some(debt))
     }
 
@@ -194,7 +195,7 @@ impl<D: Disk> Station<D> {
         ensures unchanged { OnErr result (IsSame self.old self.new) }
     {
         let settled = Settled::Answered(verdict.code());
-        match self.settle_as(connection.0, verdict.debt().number(), settled) {
+        match self.settle_as(connection, verdict.debt().number(), settled) {
             Ok(()) => Ok(()),
             Err(fault) => Err((verdict, fault)),
         }
@@ -223,7 +224,7 @@ impl<D: Disk> Station<D> {
         ensures unchanged { OnErr result (IsSame self.old self.new) }
     {
         let settled = Settled::deferred(self.limits, now);
-        match self.settle_as(connection.0, deferral.debt().number(), settled) {
+        match self.settle_as(connection, deferral.debt().number(), settled) {
             Ok(()) => Ok(()),
             Err(fault) => Err((deferral, fault)),
         }
@@ -250,7 +251,7 @@ impl<D: Disk> Station<D> {
         ensures handed { IfErr result (λ e. e.0 ≡ debt) }
         ensures unchanged { OnErr result (IsSame self.old self.new) }
     {
-        match self.settle_as(connection.0, debt.number(), Settled::Dropped(cause)) {
+        match self.settle_as(connection, debt.number(), Settled::Dropped(cause)) {
             Ok(()) => Ok(()),
             Err(fault) => Err((debt, fault)),
         }
@@ -270,7 +271,7 @@ impl<D: Disk> Station<D> {
         ensures handed { IfErr result (λ e. e.0 ≡ debt) }
         ensures unchanged { OnErr result (IsSame self.old self.new) }
     {
-        match self.settle_as(connection.0, debt.number(), Settled::Ready) {
+        match self.settle_as(connection, debt.number(), Settled::Ready) {
             Ok(()) => Ok(()),
             Err(fault) => Err((debt, fault)),
         }
@@ -302,7 +303,7 @@ impl<D: Disk> Station<D> {
         ensures unchanged { OnErr result (IsSame self.old self.new) }
     {
         let settled = Settled::by(&outcome, self.limits, now);
-        match self.settle_as(connection.0, number_in(&outcome), settled) {
+        match self.settle_as(connection, number_in(&outcome), settled) {
             Ok(()) => Ok(settled),
             Err(fault) => Err((outcome, fault)),
         }
@@ -316,7 +317,7 @@ impl<D: Disk> Station<D> {
     {
         // No more are held than are owed, so that the count fits.
         let _totals = self.tape.totals();
-        self.index.release(connection.0)
+        self.index.release(connection)
     }
 
     /// Drops, oldest first, what exceeds the backlog's limit, as far as there is room among the notes that pend. All of
@@ -401,17 +402,17 @@ impl<D: Disk> Station<D> {
     // Makes this of a debt that this connection holds.
     fn settle_as(
         &mut self,
-        connection: u64,
+        connection: CxnId,
         number: u64,
         settled: Settled,
     ) -> Result<(), StationFault>
         requires { settled ≢ Settled.Later 0 }
-        ensures ok { OnOk result (Settles connection number settled self.old self.new) }
+        ensures ok { OnOk result (Settles connection.0 number settled self.old self.new) }
         ensures broken { IsErrOf result StationFault.Broken ↔ IsBroken self.old }
         ensures not_held { IsErrOf result StationFault.NotHeld
-            ↔ ((IsBroken self.old → ⊥) × (IsHeldBy (places_of self.old) connection number → ⊥)) }
+            ↔ ((IsBroken self.old → ⊥) × (IsHeldBy (places_of self.old) connection.0 number → ⊥)) }
         ensures pending_full { IsErrOf result (StationFault.Tape TapeFault.PendingFull)
-            ↔ (IsEnded settled × MeetsFull self.old connection number) }
+            ↔ (IsEnded settled × MeetsFull self.old connection.0 number) }
         ensures no_memory { IsErrOf result StationFault.NoMemory → IsEnded settled }
         ensures kinds { IfErr result IsEndFault }
         ensures unchanged { OnErr result (IsSame self.old self.new) }
@@ -419,23 +420,23 @@ impl<D: Disk> Station<D> {
         match settled {
             Settled::Answered(code) => self.end(connection, number, Note::Final { number, code }),
             Settled::Dropped(cause) => self.end(connection, number, Note::Drop { number, cause }),
-            Settled::Later(moment) => self.give_up(connection, number, moment),
-            Settled::Ready => self.give_up(connection, number, 0),
+            Settled::Later(moment) => self.give_up(connection, number, Wait::Until(moment)),
+            Settled::Ready => self.give_up(connection, number, Wait::Ready),
         }
     }
 
     // Ends a debt that this connection holds, by the note of its end.
-    fn end(&mut self, connection: u64, number: u64, note: Note) -> Result<(), StationFault>
+    fn end(&mut self, connection: CxnId, number: u64, note: Note) -> Result<(), StationFault>
         requires { IsEnd note number }
         ensures ok { OnOk result (Notes self.old self.new note) }
         ensures places { OnOk result
-            (IsHeldBy (places_of self.old) connection number
+            (IsHeldBy (places_of self.old) connection.0 number
             × (places_of self.new ≡ gone (places_of self.old) number)) }
         ensures broken { IsErrOf result StationFault.Broken ↔ IsBroken self.old }
         ensures not_held { IsErrOf result StationFault.NotHeld
-            ↔ ((IsBroken self.old → ⊥) × (IsHeldBy (places_of self.old) connection number → ⊥)) }
+            ↔ ((IsBroken self.old → ⊥) × (IsHeldBy (places_of self.old) connection.0 number → ⊥)) }
         ensures pending_full { IsErrOf result (StationFault.Tape TapeFault.PendingFull)
-            ↔ MeetsFull self.old connection number }
+            ↔ MeetsFull self.old connection.0 number }
         ensures kinds { IfErr result IsEndFault }
         ensures unchanged { OnErr result (IsSame self.old self.new) }
     {
@@ -454,14 +455,14 @@ impl<D: Disk> Station<D> {
         Ok(())
     }
 
-    // Has a debt that this connection holds wait for this moment; at 0 it is ready.
-    fn give_up(&mut self, connection: u64, number: u64, moment: u64) -> Result<(), StationFault>
+    // Has a debt that this connection holds wait for this.
+    fn give_up(&mut self, connection: CxnId, number: u64, wait: Wait) -> Result<(), StationFault>
         ensures ok { OnOk result
-            (IsSameTape self.old self.new × IsHeldBy (places_of self.old) connection number
-            × (places_of self.new ≡ moved (places_of self.old) number (place_until moment))) }
+            (IsSameTape self.old self.new × IsHeldBy (places_of self.old) connection.0 number
+            × (places_of self.new ≡ moved (places_of self.old) number (place_for wait))) }
         ensures broken { IsErrOf result StationFault.Broken ↔ IsBroken self.old }
         ensures not_held { IsErrOf result StationFault.NotHeld
-            ↔ ((IsBroken self.old → ⊥) × (IsHeldBy (places_of self.old) connection number → ⊥)) }
+            ↔ ((IsBroken self.old → ⊥) × (IsHeldBy (places_of self.old) connection.0 number → ⊥)) }
         ensures kinds { IfErr result (λ e. (e ≡ StationFault.Broken) ⊎ (e ≡ StationFault.NotHeld)) }
         ensures unchanged { OnErr result (self.new ≡ self.old) }
     {
@@ -471,7 +472,7 @@ impl<D: Disk> Station<D> {
         if !self.index.is_held_by(connection, number) {
             return Err(StationFault::NotHeld);
         }
-        self.index.give_up(connection, number, moment);
+        self.index.give_up(connection, number, wait);
         Ok(())
     }
 

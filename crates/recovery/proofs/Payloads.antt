@@ -1,29 +1,19 @@
 -- Lists of payloads, in a loop over their vectors.
-use Rattle.std.proofs.Common.{inl, inr, length-take, length-drop, ◌≡◌, ℕ, zero, suc, ◌+◌, ◌<◌, ◌≤◌, List, [], ◌∷◌, ◌++◌, length, get_or, take, drop, refl, sym, ◌∙◌, ap, arith, length-append, take-append-drop}
+use Rattle.std.proofs.Common.{inl, inr, length-take, length-drop, ◌≡◌, ℕ, zero, suc, ◌+◌, ◌≤◌, List, [], ◌∷◌, ◌++◌, length, take, drop, refl, sym, ◌∙◌, ap, arith, length-append, take-append-drop}
 use Rattle.std.specs.Prelude.{Vec}
 use Rattle.std.specs.declared.alloc.Global.{Global}
-use Rattle.std.proofs.lemmas.List.{append_assoc, get_or-map, take_more}
+use Rattle.std.proofs.lemmas.List.{append_assoc}
+use Rattle.std.proofs.lemmas.Option.{slice_get_within}
 use Rattle.tape_journal.specs.Segment.{records, gated, open_gate}
-use Rattle.tape_journal.specs.SegmentLaws.{length-sized}
 use Rattle.tape_journal.specs.Words.{octets_of}
 use Rattle.ledger_core.specs.Base.{HasDebts, RestoreStopsAt}
 use Rattle.ledger_core.specs.BaseLaws.{length-owes}
 use Rattle.ledger_core.specs.State.{Owing}
 use Rattle.recovery.specs.declared.fault.TapeFault.TheVariants.{Damaged}
 
--- the octets of the vector at an index
-pub octets_at : (vectors : List (Vec ℕ Global)) (i : ℕ) (v : Vec ℕ Global) → i < length vectors → v ≡ get_or vectors i v → v.items ≡ get_or (octets_of vectors) i v.items
-octets_at vectors i v inside is = ap (λ (w : Vec ℕ Global). w.items) is ∙ sym (get_or-map (λ (w : Vec ℕ Global). w.items) vectors i v v.items inside)
-
-pub take_step : (ps : List (List ℕ)) (i : ℕ) (p : List ℕ) → i < length ps → p ≡ get_or ps i p → take (i + 1) ps ≡ take i ps ++ p ∷ []
-take_step ps i p inside is = take_more ps i p inside ∙ ap (λ (l : List ℕ). take i ps ++ l ∷ []) (sym is)
-
 pub records-append : (ps qs : List (List ℕ)) → records (ps ++ qs) ≡ records ps ++ records qs
 records-append [] qs = refl
 records-append (p ∷ ps) qs = ap (λ (l : List ℕ). gated open_gate p ++ l) (records-append ps qs) ∙ sym (append_assoc (gated open_gate p) (records ps) (records qs))
-
-pub length-records-push : (ps : List (List ℕ)) (p : List ℕ) → length (records (ps ++ p ∷ [])) ≡ length (records ps) + (5 + length p)
-length-records-push ps p = omega (arith, ap length (records-append ps (p ∷ [])), length-append (records ps) (records (p ∷ [])), length-append (gated open_gate p) [], length-sized p)
 
 -- a front is no longer
 pub length-records-take : (ps : List (List ℕ)) (n : ℕ) → length (records (take n ps)) ≤ length (records ps)
@@ -45,7 +35,8 @@ debts_within mark behind debts has =
 
 -- it stops at a payload, or behind the last
 pub stops_within : (payloads : List (List ℕ)) (index : ℕ) → RestoreStopsAt payloads index → index ≤ length payloads
-stops_within payloads index (inl (none, (inside, rest))) = omega (arith, inside)
+stops_within payloads index (inl (none, stop)) =
+    omega (arith, slice_get_within payloads index stop.octets stop.here)
 stops_within payloads index (inr (base, behind, begins, inl (unsound, first))) = omega (arith, first)
 stops_within payloads index (inr (base, behind, begins, inr (inl (sound, (debts, ends, few, is))))) =
     omega (arith, is, ap length begins.split, debts_within base.mark behind debts ends.has)
@@ -55,13 +46,13 @@ stops_within payloads index (inr (
   begins,
   inr (inr (
     sound,
-    (debts, has, live, (place, is, (inside, rest))),
+    (debts, has, live, (place, is, stop)),
   )),
 )) =
     omega (
       arith,
       is,
-      inside,
+      slice_get_within (drop (length debts) behind) place stop.octets stop.here,
       ap length begins.split,
       length-drop (length debts) behind,
       debts_within base.mark behind

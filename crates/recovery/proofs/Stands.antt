@@ -6,7 +6,7 @@ use Rattle.std.proofs.Math.Seq.{take-add, take-append-add}
 use Rattle.std.specs.declared.alloc.Global.{Global}
 use Rattle.std.proofs.lemmas.List.{append-nil, map-append, length-map, take_all, drop_all, take-append-le, drop-append-le}
 use Rattle.disk_model.specs.Disk.{Event, EachImage, Image, Leaves}
-use Rattle.disk_model.specs.Moments.{Leaves-weaker}
+use Rattle.disk_model.specs.MomentLaws.{Leaves-weaker}
 use Rattle.disk_model.specs.declared.Disk.{Ghosts}
 use Rattle.tape_journal.specs.Journal.{Holds, disk_of as journal_disk}
 use Rattle.tape_journal.specs.Segment.{Reads, ReadsFrom, AllShort, IsShort}
@@ -16,16 +16,16 @@ use Rattle.ledger_core.specs.declared.note.Note.{Note}
 use Rattle.ledger_core.specs.Base.{Restores}
 use Rattle.ledger_core.specs.Index.{Indexes}
 use Rattle.ledger_core.specs.Spots.{records_length}
-use Rattle.ledger_core.specs.Laws.{after-append, AllLegal-back}
+use Rattle.ledger_core.specs.StateLaws.{after-append, AllLegal-back}
 use Rattle.ledger_core.specs.Note.{AreNotes, IsNote}
 use Rattle.ledger_core.specs.Spelling.{spelling, spellings}
 use Rattle.ledger_core.specs.SpellingLaws.{AreNotes-back, spellings-append, spelling-short}
 use Rattle.ledger_core.specs.State.{State, AllLegal, after}
-use Rattle.ledger_core.specs.Written.{restores-on}
+use Rattle.ledger_core.specs.WrittenLaws.{restores-on}
 use Rattle.recovery.specs.Notes.{AreLegal, History, flushed, ledger_after, most_pending, noted_all}
 use Rattle.recovery.specs.Shorts.{AllShort-prop}
 use Rattle.recovery.specs.Image.{EachTape, IsTape, Survives, TapeLeaves}
-use Rattle.recovery.specs.Laws.{AreLegal-append, AreLegal-take, Survives-noted_all, Survives-whole, tape_placed}
+use Rattle.recovery.specs.TapeLaws.{AreLegal-append, AreLegal-take, Survives-noted_all, Survives-whole, tape_placed}
 use Rattle.recovery.specs.PairLaws.{live_leaves, pair-placed, pairs-now}
 use Rattle.recovery.specs.Pairs.{placed}
 use Rattle.recovery.specs.Tape.{IsIndexed, StandsFor, StaysBehind}

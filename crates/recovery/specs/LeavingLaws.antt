@@ -18,13 +18,13 @@ use Rattle.ledger_core.specs.declared.note.Note.{Note}
 use Rattle.ledger_core.specs.declared.note.Note.TheVariants.{Owe, Final, Drop, Seen}
 use Rattle.ledger_core.specs.Base.{Restores}
 use Rattle.ledger_core.specs.BaseLaws.{restores_once}
-use Rattle.ledger_core.specs.Laws.{AllLegal-back, after-append}
+use Rattle.ledger_core.specs.StateLaws.{AllLegal-back, after-append}
 use Rattle.ledger_core.specs.Spelling.{spellings}
 use Rattle.ledger_core.specs.State.{State, AllLegal, IsLegal, after, step}
 use Rattle.ledger_core.specs.Written.{written}
 use Rattle.recovery.specs.Notes.{AreLegal, History, found, ledger_after, recovered}
 use Rattle.recovery.specs.Image.{EachTape, HasGeneration, IsTape, Log, Octets, Survives, TapeLeaves}
-use Rattle.recovery.specs.Laws.{AreLegal-take, generation_of_payloads, lives_once, logs_of_disks, tape_once}
+use Rattle.recovery.specs.TapeLaws.{AreLegal-take, generation_of_payloads, lives_once, logs_of_disks, tape_once}
 use Rattle.recovery.specs.Leaving.{EachLedger, HasLedger, HasSegment, IsFront, IsFullBy, LedgersLeave, LiesLeft, LiesOn, MayLeave}
 use Rattle.recovery.specs.Leaving.{RotatesTooLongBy}
 use Rattle.recovery.specs.Leaving.{left_by, ledger_of_first, pending_notes}

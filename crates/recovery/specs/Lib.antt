@@ -5,7 +5,7 @@ pub mod PairLaws
 pub mod Image
 pub mod Words
 pub mod Tape
-pub mod Laws
+pub mod TapeLaws
 pub mod Leaving
 pub mod LeavingLaws
 pub mod Texts

@@ -16,6 +16,6 @@ mod texts;
 
 pub use fault::TapeFault;
 pub use laws::tape_once;
-pub use tape::{RefusedTape, Tape};
+pub use tape::{MOST_PENDING, RefusedTape, Tape};
 /// Memory was refused.
 pub use std::alloc::AllocError as NoMemory;

@@ -12,22 +12,7 @@ ghost use Rattle.recovery.specs.Words.{IsReplayFault};
 use crate::TapeFault;
 use ledger_core::{Ledger, ReplayFault, Restored};
 use std::alloc::Global;
-
-// How many octets a record has before its payload.
-pub(crate) const RECORD_HEAD: u64 = 5;
-
-// How long the records of these payloads are, or more than any disk.
-pub(crate) fn records_len(payloads: &[Vec<u8>]) -> u64
-    ensures { result ≡ min (length (records (octets_of payloads.now))) (2 ^ 64 - 1) }
-{
-    let mut total = 0u64;
-    for payload in payloads {
-        total = total
-            .saturating_add(RECORD_HEAD)
-            .saturating_add(payload.len() as u64);
-    }
-    total
-}
+use tape_journal::records_len;
 
 // Where the gate of the record of this index stands, or more than any disk has.
 fn gate_of(payloads: &[Vec<u8>], index: usize) -> u64

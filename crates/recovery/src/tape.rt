@@ -17,18 +17,15 @@ ghost use Rattle.recovery.specs.declared.fault.TapeFault.TheVariants.{Broken};
 
 use crate::TapeFault;
 use crate::fault::{append_fault, open_fault};
-use crate::read::{RECORD_HEAD, read_ledger, records_len};
+use crate::read::read_ledger;
 use crate::segments::{Segments, is_second_live};
 use disk_model::Disk;
 use ledger_core::{Cause, Ledger, LedgerFault, Note, Totals, encode};
 use std::alloc::{AllocError, Global};
-use tape_journal::Journal;
+use tape_journal::{Journal, LONGEST_SEGMENT, RECORD_HEAD, records_len};
 
-// How many notes may pend.
-const MOST_PENDING: usize = 65536;
-
-// The longest segment, in octets, with its end gate.
-const LONGEST_SEGMENT: u64 = 4294967296;
+/// How many notes may pend.
+pub const MOST_PENDING: usize = 65536;
 
 // The shortest segment for which a rotation is due is longer, in octets.
 const LONG_SEGMENT: u64 = 65536;

@@ -1,12 +1,13 @@
 -- What the answer of a call says of the octets that wait, and what they say of it.
-use Rattle.std.proofs.Common.{◌≡◌, ◌≢◌, ◌⊎◌, ℕ, Option, Some, None, Result, Ok, Err, List, [], ◌∷◌, ◌++◌, sym, ◌∙◌, refl, inl, inr, subst}
-use Rattle.std.specs.Prelude.{◌↔◌}
+use Rattle.std.proofs.Common.{◌≡◌, ◌≢◌, ◌⊎◌, ℕ, Option, Some, None, Result, Ok, Err, List, [], ◌∷◌, ◌++◌, sym, ◌∙◌, ap}
+use Rattle.std.proofs.Common.{refl, inl, inr, subst}
+use Rattle.std.specs.Prelude.{◌↔◌, IfErr, IfSome}
 use Rattle.std.proofs.lemmas.List.{append-nil}
 use Rattle.funnel.specs.Stream.{IsUnended}
 use Rattle.funnel.specs.StreamLaws.{first_line_once, whole_line_ends}
 use Rattle.reply_reader.specs.Reply.{IsNoReply, IsReplyLine}
 use Rattle.reply_reader.specs.Stream.{AtWork, BeginsWithNoReply, BeginsWithReply, Broken, Given, Held, IsFaulty, IsShort, IsTooLong, Reads, StandsFor, Working}
-use Rattle.reply_reader.specs.Told.{NextIs, given_of, told}
+use Rattle.reply_reader.specs.Told.{GivesReply, NextIs, RefusesNext, given_of, told}
 use Rattle.reply_reader.specs.declared.fault.ReplyFault.{ReplyFault}
 use Rattle.reply_reader.specs.declared.fault.ReplyFault.TheVariants.{TooLong, NoCode, NoMemory, Failed}
 use Rattle.reply_reader.specs.declared.line.Reply.{Reply}
@@ -96,10 +97,10 @@ module _ (held : Held) (unread rest : List ℕ) (is : held ≡ Working unread) w
   pub at-none : (r : Result (Option Reply) ReplyFault) → NextIs unread rest r → (r ≡ Ok None) ↔ AtWork held IsShort
   at-none r n = subst (λ h. (r ≡ Ok None) ↔ AtWork h IsShort) (sym is) (none-iff unread rest r n)
 
-  pub at-long : (r : Result (Option Reply) ReplyFault) → NextIs unread rest r → (r ≡ Err TooLong) ↔ AtWork held IsTooLong
+  at-long : (r : Result (Option Reply) ReplyFault) → NextIs unread rest r → (r ≡ Err TooLong) ↔ AtWork held IsTooLong
   at-long r n = subst (λ h. (r ≡ Err TooLong) ↔ AtWork h IsTooLong) (sym is) (long-iff unread rest r n)
 
-  pub at-no-code : (r : Result (Option Reply) ReplyFault) → NextIs unread rest r → (r ≡ Err NoCode) ↔ AtWork held BeginsWithNoReply
+  at-no-code : (r : Result (Option Reply) ReplyFault) → NextIs unread rest r → (r ≡ Err NoCode) ↔ AtWork held BeginsWithNoReply
   at-no-code r n = subst (λ h. (r ≡ Err NoCode) ↔ AtWork h BeginsWithNoReply) (sym is) (no-code-iff unread rest r n)
 
   reads-of : (fed : List ℕ) (given : List Given) → StandsFor held fed given → Reads fed given unread
@@ -110,6 +111,48 @@ module _ (held : Held) (unread rest : List ℕ) (is : held ≡ Working unread) w
 
   pub at-broken : (fault : ReplyFault) → fault ≢ NoMemory → NextIs unread rest (Err fault) → (fed : List ℕ) (given : List Given) → StandsFor held fed given → StandsFor Broken fed (given ++ [])
   at-broken fault other n fed given s = breaks-at unread rest fault other n fed given (reads-of fed given s)
+
+  -- a reply that is given was the first
+  pub at-reply : (next : Option Reply) → NextIs unread rest (Ok next)
+      → IfSome next (λ reply. GivesReply held (Working rest) (given_of reply))
+  at-reply (Some reply) n = record { unread = unread; rest = rest; waited = is; begins = n; waits = refl }
+  at-reply None n = tt
+
+  at-memory : (r : Result (Option Reply) ReplyFault) → NextIs unread rest r → r ≡ Err NoMemory
+      → AtWork held (λ waiting. (given : Given) × (behind : List ℕ) × BeginsWithReply waiting given behind)
+  at-memory r n e =
+      let memory : NextIs unread rest (Err NoMemory) = subst (λ s. NextIs unread rest s) e n in
+      subst (λ h. AtWork h (λ waiting. (given : Given) × (behind : List ℕ) × BeginsWithReply waiting given behind)) (sym is)
+      (memory.1, memory.2, memory.3)
+
+  at-refuses : (r : Result (Option Reply) ReplyFault) (new : Held) → NextIs unread rest r → (r ≡ Err NoMemory → new ≡ held)
+      → IfErr r (λ fault. fault ≢ NoMemory → new ≡ Broken) → RefusesNext held new r
+  at-refuses r new n unchanged breaks = record {
+    failed = (λ e. absurd (subst (λ s. NextIs unread rest s) e n), λ b. let e : Working unread ≡ Broken = sym is ∙ b in cc);
+    too_long = at-long r n;
+    no_code = at-no-code r n;
+    no_memory = at-memory r n;
+    unchanged = unchanged;
+    breaks = breaks;
+  }
+
+  only-memory : (r : Result (Option Reply) ReplyFault) → IfErr r (λ fault. fault ≡ NoMemory)
+      → IfErr r (λ fault. fault ≢ NoMemory → Working rest ≡ Broken)
+  only-memory (Ok next) memory = tt
+  only-memory (Err fault) memory = λ other. absurd (other memory)
+
+  -- a call that told no fault but want of memory
+  pub at-works : (r : Result (Option Reply) ReplyFault) → NextIs unread rest r → IfErr r (λ fault. fault ≡ NoMemory)
+      → RefusesNext held (Working rest) r
+  at-works r n memory =
+      at-refuses r (Working rest) n
+      (λ e. let same : NextIs unread rest (Err NoMemory) = subst (λ s. NextIs unread rest s) e n in ap Working same.0 ∙ sym is)
+      (only-memory r memory)
+
+  -- a call that told another fault
+  pub at-fault : (fault : ReplyFault) → fault ≢ NoMemory → NextIs unread rest (Err fault) → RefusesNext held Broken (Err fault)
+  at-fault fault other n =
+      at-refuses (Err fault) Broken n (λ e. let memory : fault ≡ NoMemory = cc in absurd (other memory)) (λ o. refl)
 
 -- a call that reads a whole line
 module _ (unread line rest : List ℕ) (parts : unread ≡ line ++ 10 ∷ rest) (short : IsShort line) where

@@ -65,7 +65,3 @@ after_feed Broken piece = Broken
 abbrev pub StandsFor : Held → List ℕ → List Given → Type 0
 StandsFor (Working unread) fed given = Reads fed given unread
 StandsFor Broken fed given = (unread : List ℕ) × Reads fed given unread × IsFaulty unread
-
--- the same, of a reader that has told the fault
-abbrev pub StandsFailed : Held → List ℕ → List Given → Type 0
-StandsFailed held fed given = (held ≡ Broken) × StandsFor held fed given

@@ -1,6 +1,7 @@
--- What the replies of a reader say.
-use Rattle.std.specs.Prelude.{◌≡◌, ℕ, Option, Some, None, Result, Ok, Err, List, [], ◌∷◌}
-use Rattle.reply_reader.specs.Stream.{Given, BeginsWithNoReply, BeginsWithReply, IsShort, IsTooLong}
+-- What a reader's answers say, and what a call makes of it.
+use Rattle.std.specs.Prelude.{◌≡◌, ◌≢◌, ◌↔◌, ℕ, Option, Some, None, Result, Ok, Err, List, [], ◌∷◌, IfErr, IsErrOf}
+use Rattle.reply_reader.specs.Stream.{AtWork, BeginsWithNoReply, BeginsWithReply, Broken, Given, Held, IsShort, IsTooLong}
+use Rattle.reply_reader.specs.Stream.{Working}
 use Rattle.reply_reader.specs.declared.fault.ReplyFault.{ReplyFault}
 use Rattle.reply_reader.specs.declared.fault.ReplyFault.TheVariants.{TooLong, NoCode, NoMemory, Failed}
 use Rattle.reply_reader.specs.declared.line.Reply.{Reply}
@@ -23,3 +24,23 @@ NextIs unread rest (Err TooLong) = IsTooLong unread
 NextIs unread rest (Err NoCode) = BeginsWithNoReply unread
 NextIs unread rest (Err NoMemory) = (rest ≡ unread) × (given : Given) × (behind : List ℕ) × BeginsWithReply unread given behind
 NextIs unread rest (Err Failed) = ⊥
+
+-- The reply was the first of what waited, and what stands behind its line waits now.
+pub record GivesReply (old new : Held) (given : Given) : Type 0 where
+  pub unread : List ℕ
+  pub rest : List ℕ
+  pub waited : old ≡ Working unread
+  pub begins : BeginsWithReply unread given rest
+  pub waits : new ≡ Working rest
+
+-- When the next reply is refused, in the order in which it is tried, and what that leaves.
+pub record RefusesNext (old new : Held) (result : Result (Option Reply) ReplyFault) : Type 0 where
+  pub failed : IsErrOf result Failed ↔ (old ≡ Broken)
+  pub too_long : IsErrOf result TooLong ↔ AtWork old IsTooLong
+  pub no_code : IsErrOf result NoCode ↔ AtWork old BeginsWithNoReply
+  -- want of memory comes only for a reply, and its line stays unread
+  pub no_memory : IsErrOf result NoMemory
+      → AtWork old (λ unread. (given : Given) × (rest : List ℕ) × BeginsWithReply unread given rest)
+  pub unchanged : IsErrOf result NoMemory → new ≡ old
+  -- every other fault stands for good
+  pub breaks : IfErr result (λ fault. fault ≢ NoMemory → new ≡ Broken)

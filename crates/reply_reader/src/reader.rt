@@ -1,9 +1,8 @@
 // Replies from pieces of any size.
-ghost use Rattle.std.specs.Prelude.{◌≡◌, ◌≢◌, ◌≤◌, ◌↔◌, ◌++◌, [], ℕ, List, IfOk, IfSome, IsOk, IsErrOf, IsTrue, OnOk};
-ghost use Rattle.std.specs.Prelude.{OnErr};
-ghost use Rattle.reply_reader.specs.Stream.{AtWork, BeginsWithNoReply, BeginsWithReply, Broken, Given, IsShort};
-ghost use Rattle.reply_reader.specs.Stream.{IsTooLong, StandsFailed, StandsFor, Working, after_feed, longest_reply};
-ghost use Rattle.reply_reader.specs.Told.{NextIs, given_of, told};
+ghost use Rattle.std.specs.Prelude.{◌≡◌, ◌≤◌, ◌↔◌, ◌++◌, [], ℕ, List, IfOk, IfSome, IsOk, IsTrue, OnOk, OnErr};
+ghost use Rattle.reply_reader.specs.Stream.{AtWork, Broken, Given, IsShort, StandsFor, Working, after_feed};
+ghost use Rattle.reply_reader.specs.Stream.{longest_reply};
+ghost use Rattle.reply_reader.specs.Told.{GivesReply, NextIs, RefusesNext, given_of, told};
 
 use crate::NoMemory;
 use crate::fault::ReplyFault;
@@ -77,24 +76,11 @@ impl ReplyReader {
     pub fn next(&mut self) -> Result<Option<Reply>, ReplyFault>
         ensures stands { (fed : List ℕ) (given : List Given) → StandsFor self.old fed given
             → StandsFor self.new fed (given ++ told result) }
-        ensures reply { IfOk result
-            (λ next. IfSome next (λ reply.
-            AtWork self.old (λ unread. (rest : List ℕ)
-            × BeginsWithReply unread (given_of reply) rest × (self.new ≡ Working rest)))) }
+        ensures some { IfOk result
+            (λ next. IfSome next (λ reply. GivesReply self.old self.new (given_of reply))) }
         ensures none { (result ≡ Ok None) ↔ AtWork self.old IsShort }
-        ensures too_long { IsErrOf result ReplyFault.TooLong ↔ AtWork self.old IsTooLong }
-        ensures no_code { IsErrOf result ReplyFault.NoCode ↔ AtWork self.old BeginsWithNoReply }
-        ensures no_memory { IsErrOf result ReplyFault.NoMemory
-            → AtWork self.old (λ unread. (given : Given) × (rest : List ℕ)
-            × BeginsWithReply unread given rest) }
-        ensures failed { IsErrOf result ReplyFault.Failed ↔ (self.old ≡ Broken) }
         ensures waits { result ≡ Ok None → self.new ≡ self.old }
-        ensures refused { IsErrOf result ReplyFault.NoMemory → self.new ≡ self.old }
-        ensures told_fault { (fault : ReplyFault) (fed : List ℕ) (given : List Given)
-            → IsErrOf result fault → fault ≢ ReplyFault.NoMemory → StandsFor self.old fed given
-            → StandsFailed self.new fed given }
-        ensures breaks { (fault : ReplyFault) → IsErrOf result fault → fault ≢ ReplyFault.NoMemory
-            → self.new ≡ Broken }
+        ensures refuses { RefusesNext self.old self.new result }
     {
         match &mut self.stage {
             Stage::Working(unread) => match next_reply(unread) {

@@ -7,10 +7,11 @@ use Rattle.std.proofs.lemmas.List.Elements.{All-head, All-tail}
 use Rattle.funnel.specs.Line.{without_cr}
 use Rattle.funnel.specs.Stream.{BeginsWithLine, IsUnended, ended}
 use Rattle.funnel.specs.StreamLaws.{ended_first, first_line_once, whole_line_ends}
-use Rattle.script.specs.Line.{SentenceView, Declares}
+use Rattle.script.specs.Line.{SentenceView, Declares, Gives}
 use Rattle.script.specs.Script.{IsFirstBroken, IsWhy, KeepsOrder, KeepsRules, LineSays, MayFollow, Reads}
 use Rattle.script.specs.declared.fault.Reason.{Reason}
-use Rattle.script.specs.declared.fault.Reason.TheVariants.{NoStep, NoPeer, PeerBehindStep, DeclaredTwice, Unended}
+use Rattle.script.specs.declared.fault.Reason.TheVariants.{NoStep, NoPeer, PeerBehindStep, DeclaredTwice, NoTape}
+use Rattle.script.specs.declared.fault.Reason.TheVariants.{TapeBehindStep, NoPeerOfTape, TapeTwice, Unended}
 use Rattle.script.proofs.Once.{says_once}
 
 -- no line stands first in what is left that may stand behind these sentences, and something is left
@@ -39,7 +40,7 @@ why_blocks : (before : List SentenceView) (left : List ℕ) (reason : Reason) �
     Blocks before left
 why_blocks before left NoStep why = record {
   some = begun_is_some left why.0 why.1 why.2;
-  none = λ line behind begins said says may. why.3.1 said (moved left line why.0 behind why.1 said begins why.2 says);
+  none = λ line behind begins said says may. why.3.2 said (moved left line why.0 behind why.1 said begins why.2 says);
 }
 why_blocks before left NoPeer why = record {
   some = begun_is_some left why.0 why.1 why.2;
@@ -62,6 +63,37 @@ why_blocks before left DeclaredTwice why = record {
       (moved left line why.0 behind why.1 said begins why.2 says) why.3.1 in
       let follows : MayFollow before (Declares why.3.0) = subst (MayFollow before) same may in
       follows.1 why.3.3;
+}
+why_blocks before left NoTape why = record {
+  some = begun_is_some left why.0 why.1 why.2;
+  none = λ line behind begins said says may. why.3.1 said (moved left line why.0 behind why.1 said begins why.2 says);
+}
+why_blocks before left TapeBehindStep why = record {
+  some = begun_is_some left why.0 why.1 why.2;
+  none = λ line behind begins said says may.
+      let same =
+      says_once (without_cr why.0) said (Gives why.3.0 why.3.1)
+      (moved left line why.0 behind why.1 said begins why.2 says) why.3.2 in
+      let follows : MayFollow before (Gives why.3.0 why.3.1) = subst (MayFollow before) same may in
+      why.3.3 follows.0;
+}
+why_blocks before left NoPeerOfTape why = record {
+  some = begun_is_some left why.0 why.1 why.2;
+  none = λ line behind begins said says may.
+      let same =
+      says_once (without_cr why.0) said (Gives why.3.0 why.3.1)
+      (moved left line why.0 behind why.1 said begins why.2 says) why.3.2 in
+      let follows : MayFollow before (Gives why.3.0 why.3.1) = subst (MayFollow before) same may in
+      why.3.4 follows.1;
+}
+why_blocks before left TapeTwice why = record {
+  some = begun_is_some left why.0 why.1 why.2;
+  none = λ line behind begins said says may.
+      let same =
+      says_once (without_cr why.0) said (Gives why.3.0 why.3.1)
+      (moved left line why.0 behind why.1 said begins why.2 says) why.3.2 in
+      let follows : MayFollow before (Gives why.3.0 why.3.1) = subst (MayFollow before) same may in
+      why.3.5 follows.2;
 }
 why_blocks before left Unended why = record {
   some = why.0;

@@ -1,14 +1,15 @@
 pub mod Armed
 pub mod Cuts
-pub mod Digits
 pub mod Distinct
 pub mod Ends
 pub mod Forms
 pub mod Growing
+pub mod Held
 pub mod Names
 pub mod Once
 pub mod Peers
 pub mod Reading
 pub mod Rows
 pub mod Saying
+pub mod Tapes
 pub mod Writing

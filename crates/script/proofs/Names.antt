@@ -53,42 +53,47 @@ equal_self : (a : List ℕ) → slice_cmp nat_cmp a a ≡ Equal
 equal_self [] = refl
 equal_self (x ∷ xs) = self_step x xs (equal_self xs)
 
--- a key that the test finds is among the names
-found_at : (key k : Octets) (keys : List Octets) (o : Ordering) → octets_cmp key k ≡ o →
-    (is_eq o || list_any (is_at (octets_cmp key)) keys) ≡ true →
-    (list_any (is_at (octets_cmp key)) keys ≡ true → Contains (texts keys) key.items) →
-    Contains (texts (k ∷ keys)) key.items
-found_at key k keys Less is e more = behind_it k.items key.items (texts keys) (more e)
-found_at key k keys Equal is e more =
-    subst (λ (n : List ℕ). Contains (k.items ∷ texts keys) n) (sym (same_octets key.items k.items is))
-    (in_front k.items (texts keys))
-found_at key k keys Greater is e more = behind_it k.items key.items (texts keys) (more e)
+-- the keys that are this name
+abbrev pub named : List ℕ → Octets → Ordering
+named name key = slice_cmp nat_cmp name key.items
 
-pub found : (key : Octets) (keys : List Octets) → list_any (is_at (octets_cmp key)) keys ≡ true →
-    Contains (texts keys) key.items
-found key [] e = cc
-found key (k ∷ keys) e = found_at key k keys (octets_cmp key k) refl e (found key keys)
+-- a key that the test finds is among the names
+found_at : (name : List ℕ) (k : Octets) (keys : List Octets) (o : Ordering) → slice_cmp nat_cmp name k.items ≡ o →
+    (is_eq o || list_any (is_at (named name)) keys) ≡ true →
+    (list_any (is_at (named name)) keys ≡ true → Contains (texts keys) name) →
+    Contains (texts (k ∷ keys)) name
+found_at name k keys Less is e more = behind_it k.items name (texts keys) (more e)
+found_at name k keys Equal is e more =
+    subst (λ (n : List ℕ). Contains (k.items ∷ texts keys) n) (sym (same_octets name k.items is))
+    (in_front k.items (texts keys))
+found_at name k keys Greater is e more = behind_it k.items name (texts keys) (more e)
+
+pub found : (name : List ℕ) (keys : List Octets) → list_any (is_at (named name)) keys ≡ true →
+    Contains (texts keys) name
+found name [] e = cc
+found name (k ∷ keys) e = found_at name k keys (slice_cmp nat_cmp name k.items) refl e (found name keys)
 
 -- and one that it does not find is not
-unfound_at : (key k : Octets) (keys : List Octets) (o : Ordering) → octets_cmp key k ≡ o →
-    (is_eq o || list_any (is_at (octets_cmp key)) keys) ≡ false →
-    (list_any (is_at (octets_cmp key)) keys ≡ false → Contains (texts keys) key.items → ⊥) →
-    (k.items ≡ key.items) ⊎ Contains (texts keys) key.items → ⊥
-unfound_at key k keys Less is e none (inl same) =
-    let never : Less ≡ Equal = sym is ∙ ap (λ (n : List ℕ). slice_cmp nat_cmp key.items n) same
-    ∙ equal_self key.items in cc
-unfound_at key k keys Less is e none (inr more) = none e more
-unfound_at key k keys Equal is e none h = cc
-unfound_at key k keys Greater is e none (inl same) =
-    let never : Greater ≡ Equal = sym is ∙ ap (λ (n : List ℕ). slice_cmp nat_cmp key.items n) same
-    ∙ equal_self key.items in cc
-unfound_at key k keys Greater is e none (inr more) = none e more
+unfound_at : (name : List ℕ) (k : Octets) (keys : List Octets) (o : Ordering) → slice_cmp nat_cmp name k.items ≡ o →
+    (is_eq o || list_any (is_at (named name)) keys) ≡ false →
+    (list_any (is_at (named name)) keys ≡ false → Contains (texts keys) name → ⊥) →
+    (k.items ≡ name) ⊎ Contains (texts keys) name → ⊥
+unfound_at name k keys Less is e none (inl same) =
+    let never : Less ≡ Equal = sym is ∙ ap (λ (n : List ℕ). slice_cmp nat_cmp name n) same
+    ∙ equal_self name in cc
+unfound_at name k keys Less is e none (inr more) = none e more
+unfound_at name k keys Equal is e none h = cc
+unfound_at name k keys Greater is e none (inl same) =
+    let never : Greater ≡ Equal = sym is ∙ ap (λ (n : List ℕ). slice_cmp nat_cmp name n) same
+    ∙ equal_self name in cc
+unfound_at name k keys Greater is e none (inr more) = none e more
 
-pub unfound : (key : Octets) (keys : List Octets) → list_any (is_at (octets_cmp key)) keys ≡ false →
-    Contains (texts keys) key.items → ⊥
-unfound key [] e h = absurd (omega (arith, h.1))
-unfound key (k ∷ keys) e h =
-    unfound_at key k keys (octets_cmp key k) refl e (unfound key keys) (cases_front k.items key.items (texts keys) h)
+pub unfound : (name : List ℕ) (keys : List Octets) → list_any (is_at (named name)) keys ≡ false →
+    Contains (texts keys) name → ⊥
+unfound name [] e h = absurd (omega (arith, h.1))
+unfound name (k ∷ keys) e h =
+    unfound_at name k keys (slice_cmp nat_cmp name k.items) refl e (unfound name keys)
+    (cases_front k.items name (texts keys) h)
 
 -- what a set has that was given one key more
 gains_at : (key k : Octets) (keys rest : List Octets) (name : List ℕ) (o : Ordering) → octets_cmp key k ≡ o →

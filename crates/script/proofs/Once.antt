@@ -7,7 +7,7 @@ use Rattle.std.proofs.lemmas.Bool.{eqb-false}
 use Rattle.std.proofs.lemmas.List.Elements.{All-cons}
 use Rattle.article_store.specs.declared.store.Found.TheVariants.{Article, Gone, Unsendable}
 use Rattle.script.specs.Action.{ActionView, Hands, Receives, Supplies, Breaks}
-use Rattle.script.specs.Line.{SentenceView, Blank, Declares, Takes, Says, SaysStep}
+use Rattle.script.specs.Line.{SentenceView, Blank, Declares, Gives, Takes, Says, SaysStep, SaysTape}
 use Rattle.script.specs.Parts.{ActionOf, SaysOn, StepOf}
 use Rattle.script.specs.Step.{StepView, Lines, Flushes, Begins, Parts, Seals, Connects, Acts, Ticks, Sheds, Rotates}
 use Rattle.script.specs.Step.{Stops, Arms, Restarts}
@@ -15,6 +15,7 @@ use Rattle.script.specs.Words.{IsCut, IsSolid}
 use Rattle.script.proofs.Cuts.{cuts_once, cut_is, cut_longer, solid_from, solid_none}
 use Rattle.script.proofs.Forms.{number_solid, step_parts}
 use Rattle.script.proofs.Peers.{peer_once}
+use Rattle.script.proofs.Tapes.{tape_once}
 use Rattle.script.proofs.Writing.{written_once}
 
 -- two numbers that the test tells apart
@@ -253,12 +254,47 @@ peer_no_blank line behind e (inl none) = let never : codes "peer " ++ behind ≡
 peer_no_blank line behind e (inr comment) =
     differs (codes "peer " ++ behind) (codes "#" ++ comment.0) refl line e comment.1
 
+-- and so does a line of a tape
+tape_no_blank : (line behind : List ℕ) → line ≡ codes "tape " ++ behind → Says line Blank → ⊥
+tape_no_blank line behind e (inl none) = let never : codes "tape " ++ behind ≡ [] = sym e ∙ none in cc
+tape_no_blank line behind e (inr comment) =
+    differs (codes "tape " ++ behind) (codes "#" ++ comment.0) refl line e comment.1
+
+peer_no_tape : (line x y : List ℕ) → line ≡ codes "peer " ++ x → line ≡ codes "tape " ++ y → ⊥
+peer_no_tape line x y p q = differs (codes "peer " ++ x) (codes "tape " ++ y) refl line p q
+
+tape_no_step : (line name octets : List ℕ) (step : StepView) → SaysTape line name octets → SaysStep line step → ⊥
+tape_no_step line name octets step p q =
+    no_step line (codes "tape") (Some (name ++ 32 ∷ p.0)) (solid_from (codes "tape") refl) p.1 refl step q
+
+-- a line of a tape that is written otherwise says nothing
+pub no_tape_none : (line text : List ℕ) → line ≡ codes "tape " ++ text →
+    ((name octets : List ℕ) → SaysTape (codes "tape " ++ text) name octets → ⊥) → (said : SentenceView) →
+    Says line said → ⊥
+no_tape_none line text e none Blank says = tape_no_blank line text e says
+no_tape_none line text e none (Declares peer) says = peer_no_tape line says.declaration text says.written e
+no_tape_none line text e none (Gives name octets) says =
+    none name octets (subst (λ (l : List ℕ). SaysTape l name octets) e says)
+no_tape_none line text e none (Takes step) says =
+    no_step line (codes "tape") (Some text) (solid_from (codes "tape") refl) e refl step says
+
 pub says_once : (line : List ℕ) (one other : SentenceView) → Says line one → Says line other → one ≡ other
 says_once line Blank Blank p q = refl
 says_once line Blank (Declares peer) p q = absurd (peer_no_blank line q.declaration q.written p)
 says_once line Blank (Takes step) p q = absurd (blank_no_step line step p q)
 says_once line (Declares peer) Blank p q = absurd (peer_no_blank line p.declaration p.written q)
 says_once line (Declares one) (Declares other) p q = ap Declares (peer_once line one other p q)
+says_once line Blank (Gives name octets) p q = absurd (tape_no_blank line (name ++ 32 ∷ q.0) q.1 p)
+says_once line (Gives name octets) Blank p q = absurd (tape_no_blank line (name ++ 32 ∷ p.0) p.1 q)
+says_once line (Declares peer) (Gives name octets) p q =
+    absurd (peer_no_tape line p.declaration (name ++ 32 ∷ q.0) p.written q.1)
+says_once line (Gives name octets) (Declares peer) p q =
+    absurd (peer_no_tape line q.declaration (name ++ 32 ∷ p.0) q.written p.1)
+says_once line (Gives one octets) (Gives other others) p q =
+    let same = tape_once line one other octets others p q in
+    ap (λ (n : List ℕ). Gives n octets) same.0 ∙ ap (λ (o : List ℕ). Gives other o) same.1
+says_once line (Gives name octets) (Takes step) p q = absurd (tape_no_step line name octets step p q)
+says_once line (Takes step) (Gives name octets) p q = absurd (tape_no_step line name octets step q p)
 says_once line (Declares peer) (Takes step) p q =
     absurd (no_step line (codes "peer") (Some p.declaration) (solid_from (codes "peer") refl) p.written refl step q)
 says_once line (Takes step) Blank p q = absurd (blank_no_step line step q p)

@@ -6,13 +6,14 @@ use Rattle.std.specs.Prelude.{IfErr, IfOk, IsErrAnd, IsOk}
 use Rattle.funnel.specs.Line.{without_cr}
 use Rattle.funnel.specs.Stream.{BeginsWithLine}
 use Rattle.script.specs.Draft.{Drafts, Gains, HasRead, IsRefusal}
-use Rattle.script.specs.Line.{SentenceView, Blank, Declares, Says, Takes}
+use Rattle.script.specs.Line.{SentenceView, Blank, Declares, Gives, Says, Takes}
 use Rattle.script.specs.Script.{BreaksAt, Holds, IsFirstBroken, IsScript, IsToldOf, KeepsRules, NamesLine, Reads}
 use Rattle.script.specs.Script.{places_from, steps_of}
 use Rattle.script.specs.Step.{StepView, step_view}
 use Rattle.script.specs.declared.draft.Draft.{Draft}
 use Rattle.script.specs.declared.fault.Reason.{Reason}
-use Rattle.script.specs.declared.fault.Reason.TheVariants.{NoStep, NoPeer, PeerBehindStep, DeclaredTwice, Unended}
+use Rattle.script.specs.declared.fault.Reason.TheVariants.{NoStep, NoPeer, PeerBehindStep, DeclaredTwice, NoTape}
+use Rattle.script.specs.declared.fault.Reason.TheVariants.{TapeBehindStep, NoPeerOfTape, TapeTwice, Unended}
 use Rattle.script.specs.declared.fault.ScriptFault.{ScriptFault}
 use Rattle.script.specs.declared.fault.ScriptFault.TheVariants.{Broken, NoMemory}
 use Rattle.script.specs.declared.read.Script.{Script}
@@ -63,6 +64,14 @@ refusal_told text rest line more place sentences reads at begins (Broken p PeerB
     record { sentences = sentences; left = rest; reads = reads; at = r.0 ∙ at; why = (line, more, begins, r.1) }
 refusal_told text rest line more place sentences reads at begins (Broken p DeclaredTwice) r =
     record { sentences = sentences; left = rest; reads = reads; at = r.0 ∙ at; why = (line, more, begins, r.1) }
+refusal_told text rest line more place sentences reads at begins (Broken p NoTape) r =
+    record { sentences = sentences; left = rest; reads = reads; at = r.0 ∙ at; why = (line, more, begins, r.1) }
+refusal_told text rest line more place sentences reads at begins (Broken p TapeBehindStep) r =
+    record { sentences = sentences; left = rest; reads = reads; at = r.0 ∙ at; why = (line, more, begins, r.1) }
+refusal_told text rest line more place sentences reads at begins (Broken p NoPeerOfTape) r =
+    record { sentences = sentences; left = rest; reads = reads; at = r.0 ∙ at; why = (line, more, begins, r.1) }
+refusal_told text rest line more place sentences reads at begins (Broken p TapeTwice) r =
+    record { sentences = sentences; left = rest; reads = reads; at = r.0 ∙ at; why = (line, more, begins, r.1) }
 refusal_told text rest line more place sentences reads at begins (Broken p Unended) r = absurd r.1
 refusal_told text rest line more place sentences reads at begins NoMemory r = tt
 
@@ -109,6 +118,7 @@ counted : (place : ℕ) (sentences : List SentenceView) →
 counted place [] = refl
 counted place (Blank ∷ sentences) = counted (place + 1) sentences
 counted place (Declares peer ∷ sentences) = counted (place + 1) sentences
+counted place (Gives name octets ∷ sentences) = counted (place + 1) sentences
 counted place (Takes step ∷ sentences) = ap suc (counted (place + 1) sentences)
 
 pub placed : (text : List ℕ) (script : Script) → IsScript text script →

@@ -1,12 +1,12 @@
 -- What some lines say.
-use Rattle.std.proofs.Common.{◌≡◌, [], ◌∷◌, ◌++◌, None, Some, inl, inr, refl}
+use Rattle.std.proofs.Common.{◌≡◌, ℕ, List, [], ◌∷◌, ◌++◌, None, Some, inl, inr, refl}
 use Rattle.std.specs.Prelude.{codes}
 use Rattle.article_store.specs.declared.store.Found.TheVariants.{Gone}
-use Rattle.script.specs.Action.{Hands, Receives, Supplies}
+use Rattle.script.specs.Action.{Hands, Receives, Spells, Supplies}
 use Rattle.script.specs.Arming.{arming_of}
-use Rattle.script.specs.Line.{Blank, Says, SaysStep, Takes}
+use Rattle.script.specs.Line.{Blank, Gives, Says, SaysStep, Takes}
 use Rattle.script.specs.Numbers.{u64_of}
-use Rattle.script.specs.Script.{KeepsOrder}
+use Rattle.script.specs.Script.{KeepsOrder, tape_of}
 use Rattle.script.specs.Step.{Lines, Flushes, Begins, Parts, Seals, Connects, Acts, Ticks, Stops, Arms, Restarts}
 
 blank_line : Says [] Blank
@@ -62,6 +62,23 @@ part_line = (refl, refl)
 
 seal_line : SaysStep (codes "seal") Seals
 seal_line = refl
+
+-- octets are written in digits of either case, one pair or more
+tape_line : Spells (codes "a5Ff") (165 ∷ 255 ∷ []) → Says (codes "tape p a5Ff") (Gives (codes "p") (165 ∷ 255 ∷ []))
+tape_line spells = (codes "a5Ff", refl, refl, spells)
+
+odd_digits : (octets : List ℕ) → Spells (codes "a5f") octets → ⊥
+odd_digits octets spells = let never = spells.1 in cc
+
+no_digits : (octets : List ℕ) → Spells [] octets → ⊥
+no_digits octets spells = spells.0 refl
+
+-- the tape of a peer is what its line says
+tape_of_one : tape_of (Gives (codes "q") (0 ∷ []) ∷ Gives (codes "p") (165 ∷ []) ∷ []) (codes "p") ≡ Some (165 ∷ [])
+tape_of_one = refl
+
+tape_of_none : tape_of (Gives (codes "q") (0 ∷ []) ∷ []) (codes "p") ≡ None
+tape_of_none = refl
 
 -- the numbers of a script: digits alone, of 64 bits
 greatest_number : u64_of (codes "18446744073709551615") ≡ Some 18446744073709551615

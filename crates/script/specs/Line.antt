@@ -43,14 +43,22 @@ SaysStep line (Arms armed) =
     × (arming_of (slice_split (λ octet. octet == 32) words) ≡ Some armed)
 SaysStep line Restarts = line ≡ codes "restart"
 
--- what one line says: nothing, a peer or a step
+-- a line says that the first disk of this peer's tape holds these octets
+abbrev pub SaysTape : (line name octets : List ℕ) → Type 0
+SaysTape line name octets =
+    (digits : List ℕ) × (line ≡ codes "tape " ++ (name ++ 32 ∷ digits)) × IsTrue (is_peer_name name)
+    × Spells digits octets
+
+-- what one line says: nothing, a peer, what a peer's tape holds, or a step
 pub data SentenceView : Type 0 where
   Blank : SentenceView
   Declares : Settings → SentenceView
+  Gives : (name octets : List ℕ) → SentenceView
   Takes : StepView → SentenceView
 
 -- Empty lines and lines that begin with `#` say nothing.
 abbrev pub Says : List ℕ → SentenceView → Type 0
 Says line Blank = (line ≡ []) ⊎ ((comment : List ℕ) × (line ≡ codes "#" ++ comment))
 Says line (Declares peer) = SaysPeer line peer
+Says line (Gives name octets) = SaysTape line name octets
 Says line (Takes step) = SaysStep line step

@@ -1,28 +1,32 @@
 -- What a script is, and which line is the first that breaks its rules (docs/FORMATS.md).
-use Rattle.std.specs.Prelude.{◌≡◌, ◌≢◌, ◌+◌, ℕ, List, [], ◌∷◌, ◌++◌, length, map, Result, Err, Contains}
-use Rattle.std.specs.Prelude.{IsPermutation, codes}
+use Rattle.std.specs.Prelude.{◌≡◌, ◌≢◌, ◌+◌, ℕ, if◌then◌else◌, List, [], ◌∷◌, ◌++◌, length, map, Option, None, Some}
+use Rattle.std.specs.Prelude.{Result, Err, Contains, IsPermutation, codes, unwrap_or}
 use Rattle.std.specs.Cmp.Lexicographic.{slice_cmp}
 use Rattle.std.specs.List.{All, AllZip}
 use Rattle.std.specs.List.Sorted.{IsSortedBy}
 use Rattle.std.specs.Ordering.{is_lt, nat_cmp}
+use Rattle.std.specs.Str.{bytes_eq}
 use Rattle.feed_conf.specs.PeerView.{settings_view}
 use Rattle.feed_conf.specs.Settings.{Settings}
 use Rattle.feed_conf.specs.declared.conf.PeerConf.{PeerConf}
 use Rattle.funnel.specs.Line.{without_cr}
 use Rattle.funnel.specs.Stream.{BeginsWithLine, IsUnended, ended}
-use Rattle.script.specs.Line.{SentenceView, Blank, Declares, Takes, Says}
+use Rattle.script.specs.Line.{SentenceView, Blank, Declares, Gives, Takes, Says}
 use Rattle.script.specs.Step.{StepView, step_view}
 use Rattle.script.specs.declared.fault.Reason.{Reason}
-use Rattle.script.specs.declared.fault.Reason.TheVariants.{NoStep, NoPeer, PeerBehindStep, DeclaredTwice, Unended}
+use Rattle.script.specs.declared.fault.Reason.TheVariants.{NoStep, NoPeer, PeerBehindStep, DeclaredTwice, NoTape}
+use Rattle.script.specs.declared.fault.Reason.TheVariants.{TapeBehindStep, NoPeerOfTape, TapeTwice, Unended}
 use Rattle.script.specs.declared.fault.ScriptFault.{ScriptFault}
 use Rattle.script.specs.declared.fault.ScriptFault.TheVariants.{Broken, NoMemory}
 use Rattle.script.specs.declared.read.Script.{Script}
+use Rattle.world_core.specs.Given.{GivenPeer}
 
 -- the steps among sentences
 abbrev pub steps_of : List SentenceView → List StepView
 steps_of [] = []
 steps_of (Blank ∷ sentences) = steps_of sentences
 steps_of (Declares peer ∷ sentences) = steps_of sentences
+steps_of (Gives name octets ∷ sentences) = steps_of sentences
 steps_of (Takes step ∷ sentences) = step ∷ steps_of sentences
 
 -- the places of the lines that say them, where the first sentence's line has this place
@@ -30,6 +34,7 @@ abbrev pub places_from : ℕ → List SentenceView → List ℕ
 places_from place [] = []
 places_from place (Blank ∷ sentences) = places_from (place + 1) sentences
 places_from place (Declares peer ∷ sentences) = places_from (place + 1) sentences
+places_from place (Gives name octets ∷ sentences) = places_from (place + 1) sentences
 places_from place (Takes step ∷ sentences) = place ∷ places_from (place + 1) sentences
 
 -- the place of each step's line, from 1
@@ -41,15 +46,27 @@ abbrev pub peers_of : List SentenceView → List Settings
 peers_of [] = []
 peers_of (Blank ∷ sentences) = peers_of sentences
 peers_of (Declares peer ∷ sentences) = peer ∷ peers_of sentences
+peers_of (Gives name octets ∷ sentences) = peers_of sentences
 peers_of (Takes step ∷ sentences) = peers_of sentences
 
 abbrev pub names_of : List SentenceView → List (List ℕ)
 names_of sentences = map (λ (peer : Settings). peer.name) (peers_of sentences)
 
--- a sentence may stand behind these: a peer where no step is among them and none of its name
+-- what the first of them that gives this peer's tape says that it holds; none where none does
+abbrev pub tape_of : List SentenceView → List ℕ → Option (List ℕ)
+tape_of [] name = None
+tape_of (Blank ∷ sentences) name = tape_of sentences name
+tape_of (Declares peer ∷ sentences) name = tape_of sentences name
+tape_of (Gives peer octets ∷ sentences) name = if bytes_eq peer name then Some octets else tape_of sentences name
+tape_of (Takes step ∷ sentences) name = tape_of sentences name
+
+-- a sentence may stand behind these: a peer where no step is among them and none of its name, and a tape where no step
+-- is among them, its peer is, and no tape of that
 abbrev pub MayFollow : List SentenceView → SentenceView → Type 0
 MayFollow before Blank = Unit {0}
 MayFollow before (Declares peer) = (steps_of before ≡ []) × (Contains (names_of before) peer.name → ⊥)
+MayFollow before (Gives name octets) =
+    (steps_of before ≡ []) × Contains (names_of before) name × (tape_of before name ≡ None)
 MayFollow before (Takes step) = Unit {0}
 
 -- each of the later sentences may stand behind the earlier ones and those before it
@@ -73,15 +90,24 @@ pub record Reads (text : List ℕ) (sentences : List SentenceView) (rest : List 
 abbrev pub KeepsRules : List ℕ → Type 0
 KeepsRules text = (sentences : List SentenceView) × Reads text sentences []
 
+-- the peers without their tapes
+abbrev pub confs_of : List GivenPeer → List PeerConf
+confs_of peers = map (λ (given : GivenPeer). given.0) peers
+
 -- the peers stand in byte order of their names
 abbrev pub IsInByteOrder : List PeerConf → Type 0
 IsInByteOrder peers = IsSortedBy (λ (a : PeerConf) (b : PeerConf). is_lt (slice_cmp nat_cmp a.name b.name)) peers
 
--- a script has the peers of these sentences, in byte order of their names, and their steps in order, with the places of
--- their lines
+-- a peer's tape holds what its line says, or nothing where it has none
+abbrev pub HoldsTape : List SentenceView → GivenPeer → Type 0
+HoldsTape sentences given = given.1.items ≡ unwrap_or (tape_of sentences given.0.name) []
+
+-- a script has the peers of these sentences, in byte order of their names, each with its tape, and their steps in
+-- order, with the places of their lines
 pub record Holds (script : Script) (sentences : List SentenceView) : Type 0 where
-  pub peers : IsPermutation (peers_of sentences) (map settings_view script.peers.items)
-  pub order : IsInByteOrder script.peers.items
+  pub peers : IsPermutation (peers_of sentences) (map settings_view (confs_of script.peers.items))
+  pub tapes : All (HoldsTape sentences) script.peers.items
+  pub order : IsInByteOrder (confs_of script.peers.items)
   pub steps : map step_view script.steps.items ≡ steps_of sentences
   pub lines : script.lines.items ≡ places_of sentences
 
@@ -93,13 +119,30 @@ IsScript text script = (sentences : List SentenceView) × Reads text sentences [
 abbrev pub BeginsAsPeer : List ℕ → Type 0
 BeginsAsPeer line = (declaration : List ℕ) × (line ≡ codes "peer " ++ declaration)
 
+-- a line that begins as the line of a tape
+abbrev pub BeginsAsTape : List ℕ → Type 0
+BeginsAsTape line = (text : List ℕ) × (line ≡ codes "tape " ++ text)
+
+-- a line says nothing that a line may say
+abbrev pub SaysNone : List ℕ → Type 0
+SaysNone line = (said : SentenceView) → Says line said → ⊥
+
 -- why a line may not stand behind these sentences
 abbrev pub IsWhyLine : List SentenceView → (line : List ℕ) → Reason → Type 0
-IsWhyLine before line NoStep = (BeginsAsPeer line → ⊥) × ((said : SentenceView) → Says line said → ⊥)
-IsWhyLine before line NoPeer = BeginsAsPeer line × ((said : SentenceView) → Says line said → ⊥)
+IsWhyLine before line NoStep = (BeginsAsPeer line → ⊥) × (BeginsAsTape line → ⊥) × SaysNone line
+IsWhyLine before line NoPeer = BeginsAsPeer line × SaysNone line
 IsWhyLine before line PeerBehindStep = (peer : Settings) × Says line (Declares peer) × (steps_of before ≢ [])
 IsWhyLine before line DeclaredTwice =
     (peer : Settings) × Says line (Declares peer) × (steps_of before ≡ []) × Contains (names_of before) peer.name
+IsWhyLine before line NoTape = BeginsAsTape line × SaysNone line
+IsWhyLine before line TapeBehindStep =
+    (name octets : List ℕ) × Says line (Gives name octets) × (steps_of before ≢ [])
+IsWhyLine before line NoPeerOfTape =
+    (name octets : List ℕ) × Says line (Gives name octets) × (steps_of before ≡ [])
+    × (Contains (names_of before) name → ⊥)
+IsWhyLine before line TapeTwice =
+    (name octets : List ℕ) × Says line (Gives name octets) × (steps_of before ≡ []) × Contains (names_of before) name
+    × (tape_of before name ≢ None)
 IsWhyLine before line Unended = ⊥
 
 -- the first line of what is left breaks the rules for this reason
@@ -113,6 +156,10 @@ IsWhy before left NoStep = FirstBreaks before left NoStep
 IsWhy before left NoPeer = FirstBreaks before left NoPeer
 IsWhy before left PeerBehindStep = FirstBreaks before left PeerBehindStep
 IsWhy before left DeclaredTwice = FirstBreaks before left DeclaredTwice
+IsWhy before left NoTape = FirstBreaks before left NoTape
+IsWhy before left TapeBehindStep = FirstBreaks before left TapeBehindStep
+IsWhy before left NoPeerOfTape = FirstBreaks before left NoPeerOfTape
+IsWhy before left TapeTwice = FirstBreaks before left TapeTwice
 IsWhy before left Unended = (left ≢ []) × IsUnended left
 
 -- The line at this place, from 1, is the first that breaks the rules, and this is why.

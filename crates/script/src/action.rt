@@ -78,8 +78,11 @@ fn line_of(alloc: Global, text: &[u8]) -> Result<Vec<u8>, AllocError>
     Ok(line)
 }
 
-// The octets that pairs of hexadecimal digits spell, one pair or more; nothing where there is another octet.
-fn octets_of(alloc: Global, digits: &[u8]) -> Result<Option<Vec<u8>>, AllocError>
+/// The octets that pairs of hexadecimal digits spell, one pair or more; nothing where there is another octet.
+///
+/// # Errors
+/// Memory was refused.
+pub(crate) fn octets_of(alloc: Global, digits: &[u8]) -> Result<Option<Vec<u8>>, AllocError>
     ensures { IfOk result (λ octets. MatchOption octets
         ((spelt : List ℕ) → Spells digits.now spelt → ⊥)
         (λ spelt. Spells digits.now spelt.items)) }

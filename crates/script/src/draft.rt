@@ -1,17 +1,20 @@
 // A script of which some lines are read.
-ghost use Rattle.std.specs.Prelude.{◌≡◌, ◌+◌, [], length, IfErr, IfOk, List, OnOk};
+ghost use Rattle.std.specs.Prelude.{◌≡◌, ◌+◌, [], length, IfErr, IfOk, List, MatchOption, OnOk, ℕ};
+ghost use Rattle.std.specs.List.{AllZip};
 ghost use Rattle.feed_conf.specs.PeerView.{settings_view};
-ghost use Rattle.script.specs.Draft.{Drafts, Gains, IsPeerRefusal, IsReasonOf, IsRefusal};
-ghost use Rattle.script.specs.Line.{Declares, Says, SentenceView, Takes};
-ghost use Rattle.script.specs.Script.{Holds};
+ghost use Rattle.script.specs.Draft.{Drafts, Gains, IsPeerRefusal, IsReasonOf, IsRefusal, IsTapeRefusal, IsWhyTape};
+ghost use Rattle.script.specs.Draft.{HaveOtherNames, IsGiven};
+ghost use Rattle.script.specs.Line.{Declares, Gives, Says, SentenceView, Takes};
+ghost use Rattle.script.specs.Script.{Holds, MayFollow};
 ghost use Rattle.script.specs.Step.{step_view};
 
 use crate::fault::{Reason, ScriptFault};
 use crate::read::Script;
 use crate::sentence::{Sentence, read_sentence};
 use feed_conf::PeerConf;
+use funnel::PeerName;
 use std::alloc::{AllocError, Global};
-use std::collections::BTreeSet;
+use std::collections::{BTreeMap, BTreeSet};
 use world_core::Step;
 
 /// What the lines so far say.
@@ -21,6 +24,8 @@ pub struct Draft {
     peers: Vec<PeerConf>,
     // Their names.
     names: BTreeSet<Vec<u8>>,
+    // What their tapes hold, by their names, where a line says so.
+    tapes: BTreeMap<Vec<u8>, Vec<u8>>,
     // The steps, in order.
     steps: Vec<Step>,
     // The place of each step's line, from 1.
@@ -35,6 +40,7 @@ impl Draft {
         Draft {
             peers: Vec::new(alloc),
             names: BTreeSet::new(alloc),
+            tapes: BTreeMap::new(alloc),
             steps: Vec::new(alloc),
             lines: Vec::new(alloc),
         }
@@ -54,6 +60,7 @@ impl Draft {
         match read_sentence(alloc, line)? {
             Some(Sentence::Nothing) => Ok(()),
             Some(Sentence::Peer(conf)) => self.declare(alloc, place, conf),
+            Some(Sentence::Tape(name, octets)) => self.give(alloc, place, &name, octets),
             Some(Sentence::Step(step)) => {
                 self.take(place, step)?;
                 Ok(())
@@ -100,27 +107,86 @@ impl Draft {
         Ok(())
     }
 
+    // Gives the peer of this name its tape by the line at this place.
+    fn give(
+        &mut self,
+        alloc: Global,
+        place: usize,
+        name: &PeerName,
+        octets: Vec<u8>,
+    ) -> Result<(), ScriptFault>
+        ensures ok { OnOk result ((before : List SentenceView) → Drafts self.old before
+            → Gains self.old self.new before (Gives name.now octets.items)) }
+        ensures broken { IfErr result (λ fault. (before : List SentenceView)
+            → Drafts self.old before → IsTapeRefusal place name.now before fault) }
+    {
+        if let Some(reason) = self.why_no_tape(name) {
+            return Err(ScriptFault::Broken {
+                line: place,
+                reason,
+            });
+        }
+        let key = Vec::from_slice(alloc, name.bytes())?;
+        self.tapes.insert(key, octets)?;
+        Ok(())
+    }
+
+    // Why the tape of the peer of this name may not stand behind the lines so far; nothing where it may.
+    fn why_no_tape(&self, name: &PeerName) -> Option<Reason>
+        ensures { (before : List SentenceView) → Drafts self.now before → MatchOption result
+            ((octets : List ℕ) → MayFollow before (Gives name.now octets))
+            (λ reason. IsWhyTape before name.now reason) }
+    {
+        if !self.steps.is_empty() {
+            Some(Reason::TapeBehindStep)
+        } else if !self.names.contains(name.bytes()) {
+            Some(Reason::NoPeerOfTape)
+        } else if self.tapes.contains_key(name.bytes()) {
+            Some(Reason::TapeTwice)
+        } else {
+            None
+        }
+    }
+
     /// The script that the lines so far are.
     ///
     /// # Errors
     /// Memory was refused.
-    pub fn finish(self) -> Result<Script, AllocError>
+    pub fn finish(self, alloc: Global) -> Result<Script, AllocError>
         ensures { IfOk result (λ script. (sentences : List SentenceView)
             → Drafts self sentences → Holds script sentences) }
     {
         let Draft {
             mut peers,
+            tapes,
             steps,
             lines,
             ..
         } = self;
         peers.sort_by(|a, b| a.name.bytes().cmp(b.name.bytes()))?;
         Ok(Script {
-            peers,
+            peers: with_tapes(alloc, peers, tapes)?,
             steps,
             lines,
         })
     }
+}
+
+// The peers, each with what its tape holds. Their names differ.
+fn with_tapes(
+    alloc: Global,
+    peers: Vec<PeerConf>,
+    mut tapes: BTreeMap<Vec<u8>, Vec<u8>>,
+) -> Result<Vec<(PeerConf, Vec<u8>)>, AllocError>
+    ensures { IfOk result (λ given. HaveOtherNames peers.items
+        → AllZip (IsGiven tapes) peers.items given.items) }
+{
+    let mut given = Vec::with_capacity(alloc, peers.len())?;
+    for conf in peers {
+        let octets = tapes.remove(conf.name.bytes()).unwrap_or(Vec::new(alloc));
+        given.push((conf, octets))?;
+    }
+    Ok(given)
 }
 
 // Why a line that says nothing breaks the rules.
@@ -129,6 +195,8 @@ fn reason_of(line: &[u8]) -> Reason
 {
     if line.starts_with(b"peer ") {
         Reason::NoPeer
+    } else if line.starts_with(b"tape ") {
+        Reason::NoTape
     } else {
         Reason::NoStep
     }

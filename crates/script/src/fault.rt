@@ -8,7 +8,7 @@ use thiserror::Error;
 /// Why a line breaks the rules of a script.
 #[derive(Clone, Copy, Debug, PartialEq, Eq, Error)]
 pub enum Reason {
-    /// It says neither a peer nor a step, and it is no comment.
+    /// It says neither a peer nor a tape nor a step, and it is no comment.
     #[error("no step is written so")]
     NoStep,
     /// It begins as the line of a peer, and its settings are not those of one peer of that name.
@@ -20,6 +20,18 @@ pub enum Reason {
     /// It declares a peer whose name is declared already.
     #[error("the peer is declared already")]
     DeclaredTwice,
+    /// It begins as the line of a tape, and has no name and pairs of hexadecimal digits behind that.
+    #[error("no tape is written so")]
+    NoTape,
+    /// It gives a tape behind a step.
+    #[error("a tape stands behind a step")]
+    TapeBehindStep,
+    /// It gives the tape of a peer that no line before it declares.
+    #[error("the peer of the tape is not declared before it")]
+    NoPeerOfTape,
+    /// It gives the tape of a peer whose tape is given already.
+    #[error("the tape of the peer is given already")]
+    TapeTwice,
     /// It is the last, and does not end with LF.
     #[error("the last line has no end")]
     Unended,

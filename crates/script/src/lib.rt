@@ -1,4 +1,5 @@
-//! The reading of drill scripts: which peers a script declares and which step each line says, or its first broken line.
+//! The reading of drill scripts: which peers a script declares, what their tapes hold at first and which step each line
+//! says, or its first broken line.
 //!
 //! May touch nothing but memory; it stands on `feed_conf` and `funnel` for the peers and their names, on `world_core`
 //! for the steps, on `article_store` and `disk_model` for what they carry.
@@ -11,12 +12,13 @@ mod arming;
 mod draft;
 mod fault;
 pub mod laws;
-mod lines;
 mod numbers;
 mod peer;
 mod read;
 mod sentence;
 mod step;
+mod tape;
+mod words;
 
 pub use fault::{Reason, ScriptFault};
 pub use read::{Script, read_script};

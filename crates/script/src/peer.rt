@@ -7,7 +7,7 @@ ghost use Rattle.feed_conf.specs.declared.conf.PeerConf.{PeerConf};
 ghost use Rattle.script.specs.Peer.{IsNamedWith, SaysPeer, peer_text};
 ghost use Rattle.script.specs.Words.{IsSolid};
 
-use crate::lines::split_word;
+use crate::words::split_word;
 use feed_conf::{ConfFaultKind, PeerConf, read_conf};
 use std::alloc::{AllocError, Global};
 

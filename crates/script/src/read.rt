@@ -1,24 +1,23 @@
 // Drill scripts (docs/FORMATS.md).
-ghost use Rattle.std.specs.Prelude.{◌≡◌, ◌≢◌, ◌↔◌, ℕ, Err, IfErr, IfOk, IsOk, length, map};
+ghost use Rattle.std.specs.Prelude.{◌≡◌, ◌≢◌, ◌↔◌, ℕ, Err, IfErr, IfOk, IsOk, length};
 ghost use Rattle.std.specs.List.{IsDistinct};
 ghost use Rattle.std.specs.Str.{bytes_eq};
-ghost use Rattle.feed_conf.specs.declared.conf.PeerConf.{PeerConf};
 ghost use Rattle.script.specs.Script.{IsFirstBroken, IsScript, IsToldOf, KeepsRules, NamesLine};
 ghost use Rattle.script.specs.declared.fault.ScriptFault.TheVariants.{NoMemory};
+ghost use Rattle.world_core.specs.Given.{given_names};
 
 use crate::draft::Draft;
 use crate::fault::{Reason, ScriptFault};
-use crate::lines::first_line;
 use feed_conf::PeerConf;
-use funnel::without_cr;
+use funnel::{first_line, without_cr};
 use std::alloc::Global;
 use world_core::Step;
 
 /// A script that keeps its rules.
 #[derive(Drop)]
 pub struct Script {
-    /// What is declared of the peers, in byte order of their names.
-    pub peers: Vec<PeerConf>,
+    /// The peers, in byte order of their names, each with what the first disk of its tape holds before the first step.
+    pub peers: Vec<(PeerConf, Vec<u8>)>,
     /// The steps, in order.
     pub steps: Vec<Step>,
     /// The place of each step's line among all lines, from 1.
@@ -34,7 +33,7 @@ pub fn read_script(alloc: Global, text: &[u8]) -> Result<Script, ScriptFault>
     ensures ok { IfOk result (IsScript text.now) }
     // The names of its peers differ.
     ensures distinct { IfOk result (λ script. IsDistinct bytes_eq
-        (map (λ (conf : PeerConf). conf.name) script.peers.items)) }
+        (given_names script.peers.items)) }
     // Each step has its line.
     ensures placed { IfOk result
         (λ script. length script.lines.items ≡ length script.steps.items) }
@@ -59,6 +58,6 @@ pub fn read_script(alloc: Global, text: &[u8]) -> Result<Script, ScriptFault>
             reason: Reason::Unended,
         });
     }
-    let script = draft.finish()?;
+    let script = draft.finish(alloc)?;
     Ok(script)
 }

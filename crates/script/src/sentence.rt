@@ -5,7 +5,9 @@ ghost use Rattle.script.specs.Sentence.{sentence_view};
 
 use crate::peer::read_peer;
 use crate::step::read_step;
+use crate::tape::read_tape;
 use feed_conf::PeerConf;
+use funnel::PeerName;
 use std::alloc::{AllocError, Global};
 use world_core::Step;
 
@@ -16,6 +18,8 @@ pub enum Sentence {
     Nothing,
     /// A peer is declared.
     Peer(PeerConf),
+    /// The first disk of the tape of the peer of this name holds these octets.
+    Tape(PeerName, Vec<u8>),
     /// A step is taken.
     Step(Step),
 }
@@ -35,6 +39,12 @@ pub fn read_sentence(alloc: Global, line: &[u8]) -> Result<Option<Sentence>, All
     if let Some(declaration) = line.strip_prefix(b"peer ") {
         return match read_peer(alloc, declaration)? {
             Some(conf) => Ok(Some(Sentence::Peer(conf))),
+            None => Ok(None),
+        };
+    }
+    if let Some(text) = line.strip_prefix(b"tape ") {
+        return match read_tape(alloc, text)? {
+            Some((name, octets)) => Ok(Some(Sentence::Tape(name, octets))),
             None => Ok(None),
         };
     }

@@ -7,8 +7,8 @@ ghost use Rattle.script.specs.Step.{StepView, Stops, step_view};
 
 use crate::action::Action;
 use crate::arming::Arming;
-use crate::lines::split_word;
 use crate::numbers::read_number;
+use crate::words::split_word;
 use disk_model::Choice;
 use funnel::PeerName;
 use std::alloc::{AllocError, Global};

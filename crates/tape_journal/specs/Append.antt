@@ -5,7 +5,7 @@ use Rattle.disk_model.specs.Disk.{AfterSync, Leaves, ToldFault}
 use Rattle.disk_model.specs.declared.Disk.{Ghosts}
 use Rattle.tape_journal.specs.Journal.{Holds, IsBroken, appending, disk_of, end_of}
 use Rattle.tape_journal.specs.Segment.{AllShort, ReadsFrom, longest_segment, records}
-use Rattle.tape_journal.specs.Stage.{Staged}
+use Rattle.tape_journal.specs.Stage.{AnyGates}
 use Rattle.tape_journal.specs.Words.{octets_of}
 use Rattle.tape_journal.specs.declared.fault.AppendFault.{AppendFault}
 use Rattle.tape_journal.specs.declared.fault.AppendFault.TheVariants.{Broken, Disk, PayloadTooLong, TapeFull}
@@ -22,7 +22,7 @@ module _ {D : Type 0} {g : Ghosts D} where
     -- a stop at any moment of it leaves the first of the payloads, with all from before it
     pub moments : Leaves (ReadsFrom (length all) (all ++ octets_of payloads)) (g.log (disk_of old)) (g.log (disk_of new))
     -- after its first sync that succeeded the images differ in the new gates alone
-    pub gates : AfterSync (Staged all (octets_of payloads)) (g.log (disk_of old)) (g.log (disk_of new))
+    pub gates : AfterSync (AnyGates all (octets_of payloads)) (g.log (disk_of old)) (g.log (disk_of new))
     pub cause : IsErrOf result Disk → ToldFault (g.told (disk_of old)) (g.told (disk_of new))
 
   -- When adding payloads is refused, in the order in which it is tried, and what a refusal leaves.

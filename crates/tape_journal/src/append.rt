@@ -4,18 +4,18 @@ ghost use Rattle.disk_model.specs.Disk.{content, Leaves, AfterSync, CountsFaults
 ghost use Rattle.tape_journal.specs.Journal.{gates_opened, appending};
 ghost use Rattle.tape_journal.specs.Kept.{AtRest};
 ghost use Rattle.tape_journal.specs.Segment.{ReadsFrom, records, at_rest, AllShort};
-ghost use Rattle.tape_journal.specs.Stage.{Staged, HasStaged, staging};
+ghost use Rattle.tape_journal.specs.Stage.{AnyGates, HasAnyGates, written_behind};
 ghost use Rattle.tape_journal.specs.Words.{octets_of};
 
 use crate::put::{put, put_synced};
-use crate::read::{MAX_PAYLOAD, OPEN};
+use crate::read::{LONGEST_PAYLOAD, OPEN, RECORD_HEAD};
 use disk_model::{Disk, DiskFault};
 use std::alloc::{AllocError, Global};
 
 // What stands behind the end gate before the gates are opened.
 pub(crate) fn staging_of(alloc: Global, payloads: &[Vec<u8>]) -> Result<Vec<u8>, AllocError>
     requires { AllShort (octets_of payloads.now) }
-    ensures { IfOk result (λ v. v.items ≡ staging (octets_of payloads.now)) }
+    ensures { IfOk result (λ v. v.items ≡ written_behind (octets_of payloads.now)) }
 {
     let mut octets = Vec::new(alloc);
     for payload in payloads {
@@ -32,20 +32,22 @@ pub(crate) fn are_short(payloads: &[Vec<u8>]) -> bool
     ensures { IsTrue result ↔ AllShort (octets_of payloads.now) }
 {
     for payload in payloads {
-        if payload.len() > MAX_PAYLOAD as usize {
+        if payload.len() > LONGEST_PAYLOAD as usize {
             return false;
         }
     }
     true
 }
 
-// How long the records are, or more than any disk.
-pub(crate) fn length_of(payloads: &[Vec<u8>]) -> u64
+/// How long the records of these payloads are, in octets, or the greatest u64.
+pub fn records_len(payloads: &[Vec<u8>]) -> u64
     ensures { result ≡ min (length (records (octets_of payloads.now))) (2 ^ 64 - 1) }
 {
     let mut total = 0u64;
     for payload in payloads {
-        total = total.saturating_add(5).saturating_add(payload.len() as u64);
+        total = total
+            .saturating_add(RECORD_HEAD)
+            .saturating_add(payload.len() as u64);
     }
     total
 }
@@ -55,18 +57,18 @@ fn open_gates<D: Disk>(disk: &mut D, first: u64, payloads: &[Vec<u8>]) -> Result
     requires { first + length (records (octets_of payloads.now)) < 2 ^ 64 }
     ensures honest { D.honest disk.old ↔ D.honest disk.new }
     ensures moments { D.honest disk.old → (front : List (List ℕ))
-        → HasStaged (D.log disk.old) front (octets_of payloads.now) first
-        → Leaves (Staged front (octets_of payloads.now)) (D.log disk.old) (D.log disk.new) }
+        → HasAnyGates (D.log disk.old) front (octets_of payloads.now) first
+        → Leaves (AnyGates front (octets_of payloads.now)) (D.log disk.old) (D.log disk.new) }
     ensures done { D.honest disk.old → (front : List (List ℕ))
-        → HasStaged (D.log disk.old) front (octets_of payloads.now) first
+        → HasAnyGates (D.log disk.old) front (octets_of payloads.now) first
         → OnOk result (content (D.log disk.new) ≡ at_rest (front ++ octets_of payloads.now)) }
     ensures calls { D.honest disk.old → (front : List (List ℕ))
-        → HasStaged (D.log disk.old) front (octets_of payloads.now) first
+        → HasAnyGates (D.log disk.old) front (octets_of payloads.now) first
         → OnOk result (D.log disk.new
         ≡ gates_opened first (octets_of payloads.now) (D.log disk.old)) }
     ensures later { D.told disk.old ≤ D.told disk.new }
     ensures cause { D.honest disk.old → (front : List (List ℕ))
-        → HasStaged (D.log disk.old) front (octets_of payloads.now) first
+        → HasAnyGates (D.log disk.old) front (octets_of payloads.now) first
         → CountsFaults (D.told disk.old) (D.told disk.new) result }
     ensures quiet { OnOk result (D.told disk.new ≡ D.told disk.old) }
 {
@@ -86,7 +88,7 @@ pub(crate) fn add_records<D: Disk>(
     payloads: &[Vec<u8>],
 ) -> Result<(), DiskFault>
     requires fits { end + length (records (octets_of payloads.now)) < 2 ^ 64 - 1 }
-    requires staged { staged.now ≡ staging (octets_of payloads.now) }
+    requires staged { staged.now ≡ written_behind (octets_of payloads.now) }
     requires short { AllShort (octets_of payloads.now) }
     ensures honest { D.honest disk.old ↔ D.honest disk.new }
     ensures moments { D.honest disk.old → (all : List (List ℕ)) → AtRest (D.log disk.old) all
@@ -95,7 +97,7 @@ pub(crate) fn add_records<D: Disk>(
         (D.log disk.new) }
     ensures gates { D.honest disk.old → (all : List (List ℕ)) → AtRest (D.log disk.old) all
         → end ≡ length (records all)
-        → AfterSync (Staged all (octets_of payloads.now)) (D.log disk.old) (D.log disk.new) }
+        → AfterSync (AnyGates all (octets_of payloads.now)) (D.log disk.old) (D.log disk.new) }
     ensures done { D.honest disk.old → (all : List (List ℕ)) → AtRest (D.log disk.old) all
         → end ≡ length (records all)
         → OnOk result (AtRest (D.log disk.new) (all ++ octets_of payloads.now)) }

@@ -4,8 +4,8 @@ ghost use Rattle.std.specs.Prelude.{IsTrue, MatchResult, OnErr, OnOk};
 ghost use Rattle.tape_journal.specs.Batch.{Gathers, octets_in};
 ghost use Rattle.tape_journal.specs.Segment.{IsShort, at_rest, gated, longest_segment, open_gate};
 
-use crate::journal::MAX_LEN;
-use crate::read::{MAX_PAYLOAD, OPEN};
+use crate::journal::LONGEST_SEGMENT;
+use crate::read::{LONGEST_PAYLOAD, OPEN};
 use crate::{BatchFault, RenewFault};
 use std::alloc::{AllocError, Global};
 
@@ -44,7 +44,7 @@ impl Batch {
         ensures too_long { IsErrOf result BatchFault.PayloadTooLong
             ↔ (IsShort payload.now → ⊥) }
     {
-        if payload.len() > MAX_PAYLOAD as usize {
+        if payload.len() > LONGEST_PAYLOAD as usize {
             return Err(BatchFault::PayloadTooLong);
         }
         let len = self.octets.len();
@@ -76,7 +76,7 @@ impl Batch {
     {
         let Batch { mut octets } = self;
         let end = octets.len() as u64;
-        if end >= MAX_LEN {
+        if end >= LONGEST_SEGMENT {
             return Err(RenewFault::TapeFull);
         }
         octets.push(0)?;

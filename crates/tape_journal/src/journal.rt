@@ -5,15 +5,15 @@ ghost use Rattle.tape_journal.specs.Segment.{IsDamagedAt, Reads};
 ghost use Rattle.tape_journal.specs.Window.{held_by, shown_by, start_of};
 ghost use Rattle.tape_journal.specs.declared.fault.OpenFault.TheVariants.{Damaged};
 
-use crate::append::{add_records, are_short, length_of, staging_of};
+use crate::append::{add_records, are_short, records_len, staging_of};
 use crate::read::{payloads_of, record_at};
 use crate::window::Window;
 use crate::{AppendFault, OpenFault, ReadFault, Unrepaired};
 use disk_model::Disk;
 use std::alloc::{AllocError, Global};
 
-// The longest segment, in octets, with its end gate.
-pub(crate) const MAX_LEN: u64 = 4294967296;
+/// The longest segment, in octets, with its end gate.
+pub const LONGEST_SEGMENT: u64 = 4294967296;
 
 /// A disk on which no journal was opened, handed back as the call left it.
 #[derive(Drop)]
@@ -22,7 +22,8 @@ pub struct Refused<D: Disk> {
     pub disk: D,
     /// Why it was refused.
     pub fault: OpenFault,
-    ghost damaged: { D.honest disk → (at : ℕ) → fault ≡ Damaged at → (payloads : List (List ℕ)) → Reads (content (D.log disk)) payloads → ⊥ },
+    ghost damaged: { D.honest disk → (at : ℕ) → fault ≡ Damaged at → (payloads : List (List ℕ))
+        → Reads (content (D.log disk)) payloads → ⊥ },
 }
 
 /// A journal of payloads on a disk of its own: a segment whose records have open gates, with a closed gate behind.
@@ -139,8 +140,8 @@ impl<D: Disk> Journal<D> {
         if !are_short(payloads) {
             return Err(AppendFault::PayloadTooLong);
         }
-        let added = length_of(payloads);
-        if self.end.saturating_add(1).saturating_add(added) > MAX_LEN {
+        let added = records_len(payloads);
+        if self.end.saturating_add(1).saturating_add(added) > LONGEST_SEGMENT {
             return Err(AppendFault::TapeFull);
         }
         Ok(added)

@@ -17,10 +17,11 @@ mod repair;
 mod unrepaired;
 mod window;
 
+pub use append::records_len;
 pub use batch::Batch;
 pub use fault::{AppendFault, BatchFault, OpenFault, ReadFault, RenewFault};
-pub use journal::{Journal, Refused};
-pub use read::peek_first;
+pub use journal::{Journal, LONGEST_SEGMENT, Refused};
+pub use read::{LONGEST_PAYLOAD, RECORD_HEAD, peek_first};
 pub use renew::NotRenewed;
 pub use unrepaired::Unrepaired;
 /// Memory was refused.

@@ -15,10 +15,11 @@ use std::alloc::Global;
 
 pub(crate) const OPEN: u8 = 0xa5;
 
-pub(crate) const MAX_PAYLOAD: u32 = 16777216;
+/// The longest payload, in octets.
+pub const LONGEST_PAYLOAD: u32 = 16777216;
 
-// How many octets stand before a payload: the gate and the payload's length.
-const HEAD_LEN: u64 = 5;
+/// How many octets a record has before its payload: the gate and the payload's length.
+pub const RECORD_HEAD: u64 = 5;
 
 // What stands where a record or the end of a segment is to stand.
 #[derive(Clone, Copy)]
@@ -75,11 +76,11 @@ fn head_of(octets: &[u8], left: u64) -> Head
     if octets[0] != OPEN || left == 1 {
         return Head::End;
     }
-    if left < HEAD_LEN {
+    if left < RECORD_HEAD {
         return Head::CutShort;
     }
     let size = number_of(&octets[1..]);
-    if size > MAX_PAYLOAD || u64::from(size) > left - HEAD_LEN {
+    if size > LONGEST_PAYLOAD || u64::from(size) > left - RECORD_HEAD {
         return Head::CutShort;
     }
     Head::Record(size)
@@ -112,13 +113,13 @@ pub(crate) fn record_at<D: Disk>(
 {
     let left = len - at;
     let mut octets = [0u8; 5];
-    let first = &mut octets[..left.min(HEAD_LEN) as usize];
+    let first = &mut octets[..left.min(RECORD_HEAD) as usize];
     window.fill(disk, at, first)?;
     match head_of(first, left) {
         Head::End => Ok(None),
         Head::CutShort => Err(OpenFault::Damaged { at }),
         Head::Record(size) => {
-            let payload = octets_at(alloc, window, disk, at + HEAD_LEN, size as usize)?;
+            let payload = octets_at(alloc, window, disk, at + RECORD_HEAD, size as usize)?;
             Ok(Some(payload))
         }
     }
@@ -152,7 +153,7 @@ pub(crate) fn payloads_of<D: Disk>(
         match record_at(alloc, &mut window, disk, end, len)? {
             None => return Ok((payloads, end)),
             Some(payload) => {
-                end += HEAD_LEN + payload.len() as u64;
+                end += RECORD_HEAD + payload.len() as u64;
                 payloads.push(payload)?;
             }
         }

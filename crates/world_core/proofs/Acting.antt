@@ -1,27 +1,6 @@
 -- The steps on one connection of a world: what they make of it and its peer, put back, is what they make of the world.
-use Rattle.std.proofs.Common.{
-  ◌≡◌,
-  ℕ,
-  ◌<◌,
-  ◌≤◌,
-  Bool,
-  true,
-  false,
-  None,
-  Some,
-  List,
-  [],
-  ◌∷◌,
-  length,
-  get_or,
-  refl,
-  sym,
-  ap,
-  ◌∙◌,
-  subst,
-  inl,
-  inr,
-}
+use Rattle.std.proofs.Common.{◌≡◌, ℕ, ◌<◌, ◌≤◌, Bool, true, false, None, Some, List, [], ◌∷◌, length, get_or, refl, sym}
+use Rattle.std.proofs.Common.{ap, ◌∙◌, subst, inl, inr}
 use Rattle.std.specs.Prelude.{if◌then◌else◌, is_some, slice_get}
 use Rattle.std.proofs.Math.ListN.{set}
 use Rattle.disk_model.specs.declared.Disk.{Ghosts}
@@ -30,72 +9,22 @@ use Rattle.ledger_core.specs.State.{Owing}
 use Rattle.article_store.specs.declared.store.Found.{Found}
 use Rattle.conn_core.proofs.Closed.{first_reason-none}
 use Rattle.conn_core.specs.Commands.{Command, Handing, Quit}
-use Rattle.conn_core.specs.History.{
-  Broke,
-  Came,
-  Event as Happening,
-  Faulted,
-  Handed as HandedIn,
-  Offered,
-  Put,
-  after,
-  closes,
-  first_reason,
-  is_quit_due,
-  puts,
-  reason,
-  with_puts,
-}
+use Rattle.conn_core.specs.History.{Broke, Came, Event as Happening, Faulted, Handed as HandedIn, Offered, Put, after}
+use Rattle.conn_core.specs.History.{closes, first_reason, is_quit_due, puts, reason, with_puts}
 use Rattle.conn_core.specs.Receipt.{Fails as FailsToReceive, Is_closed, Reads, Receives, Waits}
 use Rattle.conn_core.specs.Stands.{left_behind}
 use Rattle.conn_core.specs.declared.options.Options.{Options}
 use Rattle.world_core.specs.Past.{ConnPast, Life, Past, PeerPast, conn_at, options_of, with_conn, with_past, with_peer}
 use Rattle.world_core.specs.Safe.{IsSafe}
 use Rattle.world_core.specs.Events.{Claims, IsCandidate, Returns}
-use Rattle.world_core.specs.Exchange.{
-  FailsToBreak,
-  FailsToHand,
-  FailsToRead,
-  FailsToSupply,
-  Follows,
-  FollowsNot,
-  HandsOver,
-  Has_no_room,
-  IsConn,
-  Is_shut,
-  None_there,
-  TakesArticle,
-  TakesBreak,
-  TakesBytes,
-  TakesHand,
-  Taken_over,
-  with_transcript,
-}
+use Rattle.world_core.specs.Exchange.{FailsToBreak, FailsToHand, FailsToRead, FailsToSupply, Follows, FollowsNot}
+use Rattle.world_core.specs.Exchange.{HandsOver, Has_no_room, IsConn, Is_shut, None_there, TakesArticle, TakesBreak}
+use Rattle.world_core.specs.Exchange.{TakesBytes, TakesHand, Taken_over, with_transcript}
 use Rattle.world_core.specs.Joined.{AreRunning, MadeOn, RefusedOn, RefusesAct, TicksOne, TicksOneNot}
-use Rattle.world_core.specs.Pairs.{
-  ClaimsAt,
-  FailsToHandAt,
-  FailsToOfferAt,
-  Followed,
-  FollowedNot,
-  FollowsAt,
-  FollowsNotAt,
-  GivesBackAt,
-  HandedOn,
-  HandedOnNot,
-  HandsOverAt,
-  None_at,
-  No_room_at,
-  PairStands,
-  Received,
-  ReceivedNot,
-  Shut_at,
-  Supplied,
-  SuppliedNot,
-  Taken_at,
-  broken_off,
-  ticked_at,
-}
+use Rattle.world_core.specs.Pairs.{ClaimsAt, FailsToHandAt, FailsToOfferAt, Followed, FollowedNot, FollowsAt}
+use Rattle.world_core.specs.Pairs.{FollowsNotAt, GivesBackAt, HandedOn, HandedOnNot, HandsOverAt, None_at, No_room_at}
+use Rattle.world_core.specs.Pairs.{PairStands, Received, ReceivedNot, Shut_at, Supplied, SuppliedNot, Taken_at}
+use Rattle.world_core.specs.Pairs.{broken_off, ticked_at}
 use Rattle.world_core.specs.Told.{Handed as SaidHanded, Said}
 use Rattle.world_core.specs.declared.connection.Connection.{Connection}
 use Rattle.world_core.specs.declared.fault.Fault.{Fault}
@@ -106,17 +35,8 @@ use Rattle.world_core.specs.declared.told.Handed.{Handed as Handover}
 use Rattle.world_core.specs.declared.told.Told.{Told}
 use Rattle.world_core.proofs.Chains.{fails_one}
 use Rattle.world_core.proofs.Joining.{conn_there, pair_there, put_back, put_there}
-use Rattle.world_core.proofs.Lifting.{
-  Leads,
-  PeerKeeps,
-  keeps_same,
-  keeps_with_tape,
-  leads_claim,
-  leads_nowhere,
-  leads_return,
-  safe_with,
-  with_same,
-}
+use Rattle.world_core.proofs.Lifting.{Leads, PeerKeeps, keeps_same, keeps_with_tape, leads_claim, leads_nowhere}
+use Rattle.world_core.proofs.Lifting.{leads_return, safe_with, with_same}
 use Rattle.world_core.proofs.Reaching.{follows_life, follows_life_not, left_broke, left_held}
 use Rattle.world_core.proofs.Sound.{safe_of}
 use Rattle.world_core.proofs.Stationed.{WithPeer, set_same}

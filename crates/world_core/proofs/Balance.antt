@@ -1,36 +1,7 @@
 -- What happens on a connection takes debts out of those that it holds, each into one outcome: it has the same numbers
 -- as before.
-use Rattle.std.proofs.Common.{
-  ◌≡◌,
-  ℕ,
-  zero,
-  suc,
-  ◌+◌,
-  ◌≤◌,
-  Bool,
-  true,
-  false,
-  cond,
-  Option,
-  None,
-  Some,
-  List,
-  [],
-  ◌∷◌,
-  ◌++◌,
-  length,
-  map,
-  drop,
-  find,
-  refl,
-  sym,
-  ap,
-  ◌∙◌,
-  subst,
-  arith,
-  append_assoc,
-  append-nil,
-}
+use Rattle.std.proofs.Common.{◌≡◌, ℕ, zero, suc, ◌+◌, ◌≤◌, Bool, true, false, cond, Option, None, Some, List, [], ◌∷◌}
+use Rattle.std.proofs.Common.{◌++◌, length, map, drop, find, refl, sym, ap, ◌∙◌, subst, arith, append_assoc, append-nil}
 use Rattle.std.specs.Prelude.{◌==◌, if◌then◌else◌, is_some, option_map}
 use Rattle.std.specs.Set.{remove_key}
 use Rattle.std.proofs.lemmas.Bool.{eq-eqb}
@@ -38,59 +9,13 @@ use Rattle.ledger_core.specs.State.{Owing}
 use Rattle.conn_core.proofs.Facts.{ended_places-append, ends-offered, ends_below}
 use Rattle.conn_core.proofs.HeldBack.{ended_places-backs, find-is_at, held_from-append, held_from-gone, places}
 use Rattle.conn_core.specs.Codes.{meaning}
-use Rattle.conn_core.specs.Commands.{
-  Ask,
-  Command,
-  Gone,
-  Handing,
-  Held,
-  Quit,
-  Sendable,
-  Unsendable,
-  Want,
-  held_for,
-  is_at,
-}
-use Rattle.conn_core.specs.History.{
-  End,
-  Event,
-  Offered,
-  Put,
-  Came,
-  Faulted,
-  Handed,
-  Sent,
-  Tick,
-  Broke,
-  Leave,
-  Taken,
-  accepted,
-  after,
-  answered,
-  answered_now,
-  asks,
-  backs,
-  closes,
-  closes_in,
-  ended_places,
-  ends,
-  ends_at_close,
-  ends_by_answer,
-  ends_by_loss,
-  ends_by_meaning,
-  first_want,
-  held,
-  held_from,
-  is_quit_due,
-  outcomes,
-  outside,
-  phase,
-  puts,
-  reason,
-  story,
-  taken,
-  with_puts,
-}
+use Rattle.conn_core.specs.Commands.{Ask, Command, Gone, Handing, Held, Quit, Sendable, Unsendable, Want, held_for}
+use Rattle.conn_core.specs.Commands.{is_at}
+use Rattle.conn_core.specs.History.{End, Event, Offered, Put, Came, Faulted, Handed, Sent, Tick, Broke, Leave, Taken}
+use Rattle.conn_core.specs.History.{accepted, after, answered, answered_now, asks, backs, closes, closes_in}
+use Rattle.conn_core.specs.History.{ended_places, ends, ends_at_close, ends_by_answer, ends_by_loss, ends_by_meaning}
+use Rattle.conn_core.specs.History.{first_want, held, held_from, is_quit_due, outcomes, outside, phase, puts, reason}
+use Rattle.conn_core.specs.History.{story, taken, with_puts}
 use Rattle.conn_core.specs.Used.{times}
 use Rattle.conn_core.specs.declared.codes.Meaning.{Meaning}
 use Rattle.conn_core.specs.declared.codes.Meaning.TheVariants.{Wanted, SendBlock, Later, Final}

@@ -1,70 +1,15 @@
 -- Each final answer among a peer's notes has a verdict that is right by the transcript of its connection.
-use Rattle.std.proofs.Common.{
-  ◌≡◌,
-  ◌⊎◌,
-  ℕ,
-  zero,
-  suc,
-  ◌+◌,
-  ◌<◌,
-  Bool,
-  true,
-  false,
-  cond,
-  Option,
-  None,
-  Some,
-  List,
-  [],
-  ◌∷◌,
-  ◌++◌,
-  length,
-  drop,
-  map,
-  refl,
-  sym,
-  ap,
-  ◌∙◌,
-  subst,
-  inl,
-  inr,
-  arith,
-}
+use Rattle.std.proofs.Common.{◌≡◌, ◌⊎◌, ℕ, zero, suc, ◌+◌, ◌<◌, Bool, true, false, cond, Option, None, Some, List, []}
+use Rattle.std.proofs.Common.{◌∷◌, ◌++◌, length, drop, map, refl, sym, ap, ◌∙◌, subst, inl, inr, arith}
 use Rattle.std.specs.Prelude.{◌==◌, Contains, if◌then◌else◌, is_some}
 use Rattle.std.proofs.Math.ListN.{set}
 use Rattle.std.specs.List.{AllByRecursion, AllZip, slice_get}
-use Rattle.conn_core.specs.History.{
-  needed,
-  Came,
-  End,
-  Event as Happening,
-  Faulted,
-  Taken,
-  after,
-  ends,
-  need,
-  outcomes,
-  output,
-  outside,
-  reason,
-  story,
-  taken,
-}
+use Rattle.conn_core.specs.History.{needed, Came, End, Event as Happening, Faulted, Taken, after, ends, need, outcomes}
+use Rattle.conn_core.specs.History.{output, outside, reason, story, taken}
 use Rattle.conn_core.specs.Receipt.Receives.{Is_closed, Waits, Reads, Fails as FailsToRead}
 use Rattle.conn_core.specs.Receipt.{Receives}
-use Rattle.conn_core.specs.Stands.{
-  Arises,
-  Breaks,
-  Is_handed,
-  Offers,
-  Receives_fault,
-  Receives_reply,
-  Sends,
-  Starts,
-  Takes_one,
-  Ticks,
-  left_behind,
-}
+use Rattle.conn_core.specs.Stands.{Arises, Breaks, Is_handed, Offers, Receives_fault, Receives_reply, Sends, Starts}
+use Rattle.conn_core.specs.Stands.{Takes_one, Ticks, left_behind}
 use Rattle.conn_core.specs.declared.options.Options.{Options}
 use Rattle.conn_core.specs.declared.outcome.Outcome.{Outcome}
 use Rattle.conn_core.specs.declared.outcome.Outcome.TheVariants.{Back, Deferred, Final as FinalOutcome, Lost}
@@ -81,60 +26,15 @@ use Rattle.peer_queue.specs.declared.limits.Owed.TheVariants.{Already, New}
 use Rattle.peer_queue.specs.declared.settled.Settled.{Settled}
 use Rattle.peer_queue.specs.declared.settled.Settled.TheVariants.{Answered, Dropped, Later, Ready}
 use Rattle.recovery.specs.Notes.{History}
-use Rattle.world_core.specs.Past.{
-  ConnPast,
-  Life,
-  Past,
-  PeerPast,
-  TapePast,
-  conn_at,
-  limits_of,
-  options_of,
-  with_past,
-  with_peer,
-  with_places,
-  with_tape,
-}
-use Rattle.world_core.specs.Events.{
-  Acknowledges,
-  AllDo,
-  Claims,
-  Does,
-  Event,
-  Opens,
-  OpensIntake,
-  Owes,
-  Parts,
-  Returns,
-  Rotates,
-  Sees,
-  Settles,
-  Sheds,
-}
-use Rattle.world_core.specs.Events.{
-  Refuses as RefusesEvent,
-  claimed_peer,
-  each_place,
-  opened_peer,
-  owed_as,
-  owing_as,
-  parted,
-  settled,
-  settled_as,
-  shed_peer,
-}
+use Rattle.world_core.specs.Past.{ConnPast, Life, Past, PeerPast, TapePast, conn_at, limits_of, options_of, with_past}
+use Rattle.world_core.specs.Past.{with_peer, with_places, with_tape}
+use Rattle.world_core.specs.Events.{Acknowledges, AllDo, Claims, Does, Event, Opens, OpensIntake, Owes, Parts, Returns}
+use Rattle.world_core.specs.Events.{Rotates, Sees, Settles, Sheds}
+use Rattle.world_core.specs.Events.{Refuses as RefusesEvent, claimed_peer, each_place, opened_peer, owed_as, owing_as}
+use Rattle.world_core.specs.Events.{parted, settled, settled_as, shed_peer}
 use Rattle.world_core.specs.Events.AllDo.{Start as NoEvent, Next as OneEvent}
-use Rattle.world_core.specs.Exchange.{
-  with_transcript,
-  Follows,
-  HandsOver,
-  TicksEach,
-  settle_events,
-  sent_out,
-  told_out,
-  untold,
-  with_taken,
-}
+use Rattle.world_core.specs.Exchange.{with_transcript, Follows, HandsOver, TicksEach, settle_events, sent_out, told_out}
+use Rattle.world_core.specs.Exchange.{untold, with_taken}
 use Rattle.world_core.specs.Exchange.HandsOver.{None_there, Taken_over, Has_no_room, Is_shut}
 use Rattle.world_core.specs.Exchange.TicksEach.{Start as NoneTicked, Next as OneTicked}
 use Rattle.world_core.specs.Told.{Said}
@@ -146,33 +46,12 @@ use Rattle.world_core.specs.Runs.{Does as DoesStep, Runs, Takes}
 use Rattle.world_core.specs.Runs.Runs.{Start as NoStep, Next as OneStep}
 use Rattle.world_core.specs.Safe.{KeepsNotes}
 use Rattle.world_core.specs.Sound.{IsSoundConn}
-use Rattle.world_core.specs.Steps.{
-  Good,
-  NotGood,
-  Reading,
-  TakesReading,
-  begun_at,
-  flush_events,
-  is_named,
-  owes_from,
-  seal_events,
-}
+use Rattle.world_core.specs.Steps.{Good, NotGood, Reading, TakesReading, begun_at, flush_events, is_named, owes_from}
+use Rattle.world_core.specs.Steps.{seal_events}
 use Rattle.world_core.specs.declared.fault.Fault.{Fault}
 use Rattle.world_core.specs.declared.step.Step.{Step}
-use Rattle.world_core.specs.declared.step.Step.TheVariants.{
-  Line,
-  Flush,
-  Begin,
-  Part,
-  Seal,
-  Connect,
-  Hand,
-  Bytes,
-  Article,
-  Break,
-  Tick,
-  Shed,
-}
+use Rattle.world_core.specs.declared.step.Step.TheVariants.{Line, Flush, Begin, Part, Seal, Connect, Hand, Bytes}
+use Rattle.world_core.specs.declared.step.Step.TheVariants.{Article, Break, Tick, Shed}
 use Rattle.world_core.specs.declared.step.Step.TheVariants.{Rotate, Stop, Restart}
 use Rattle.disk_model.specs.declared.choice.Choice.{Choice}
 use Rattle.world_core.proofs.Pure.{all_weaker}

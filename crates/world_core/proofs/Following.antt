@@ -1,22 +1,6 @@
 -- What follows a step on a connection: its outcomes go to the peer one after another, and are told.
-use Rattle.std.proofs.Common.{
-  ◌≡◌,
-  ℕ,
-  List,
-  [],
-  ◌∷◌,
-  ◌++◌,
-  map,
-  refl,
-  sym,
-  ap,
-  ◌∙◌,
-  subst,
-  inl,
-  inr,
-  append_assoc,
-  append-nil,
-}
+use Rattle.std.proofs.Common.{◌≡◌, ℕ, List, [], ◌∷◌, ◌++◌, map, refl, sym, ap, ◌∙◌, subst, inl, inr, append_assoc}
+use Rattle.std.proofs.Common.{append-nil}
 use Rattle.std.specs.Prelude.{IfErr, IsErrAnd, Result, Ok, Err}
 use Rattle.disk_model.specs.declared.Disk.{Ghosts}
 use Rattle.feed_conf.specs.declared.conf.PeerConf.{PeerConf}
@@ -24,18 +8,8 @@ use Rattle.conn_core.specs.History.{Event as Happening, Taken}
 use Rattle.conn_core.specs.declared.outcome.Outcome.{Outcome}
 use Rattle.world_core.specs.Past.{ConnPast, PeerPast, options_of}
 use Rattle.world_core.specs.Exchange.{untold, with_taken, with_transcript}
-use Rattle.world_core.specs.Pairs.{
-  FollowedNot,
-  Next,
-  PairStands,
-  SettledAll,
-  SettledNone,
-  SettledNot,
-  SettledOne,
-  SettledSome,
-  Start,
-  settled_said,
-}
+use Rattle.world_core.specs.Pairs.{FollowedNot, Next, PairStands, SettledAll, SettledNone, SettledNot, SettledOne}
+use Rattle.world_core.specs.Pairs.{SettledSome, Start, settled_said}
 use Rattle.world_core.specs.Told.{Said, said_of}
 use Rattle.world_core.specs.declared.connection.Connection.{Connection}
 use Rattle.world_core.specs.declared.fault.Fault.{Fault}

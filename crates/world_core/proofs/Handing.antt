@@ -1,45 +1,8 @@
 -- What a claim, an offer and a return make of a connection and its peer.
-use Rattle.std.proofs.Common.{
-  ◌≡◌,
-  ◌≢◌,
-  ◌↔◌,
-  ◌⊎◌,
-  ℕ,
-  Bool,
-  true,
-  false,
-  Option,
-  None,
-  Some,
-  List,
-  [],
-  ◌∷◌,
-  ◌++◌,
-  map,
-  refl,
-  sym,
-  ap,
-  ◌∙◌,
-  subst,
-  inl,
-  inr,
-}
-use Rattle.std.specs.Prelude.{
-  Contains,
-  Err,
-  IfErr,
-  IfNone,
-  IfSome,
-  IsSome,
-  Ok,
-  OnOk,
-  Result,
-  is_none,
-  is_some,
-  not,
-  option_map,
-  slice_get,
-}
+use Rattle.std.proofs.Common.{◌≡◌, ◌≢◌, ◌↔◌, ◌⊎◌, ℕ, Bool, true, false, Option, None, Some, List, [], ◌∷◌, ◌++◌, map}
+use Rattle.std.proofs.Common.{refl, sym, ap, ◌∙◌, subst, inl, inr}
+use Rattle.std.specs.Prelude.{Contains, Err, IfErr, IfNone, IfSome, IsSome, Ok, OnOk, Result, is_none, is_some, not}
+use Rattle.std.specs.Prelude.{option_map, slice_get}
 use Rattle.std.proofs.lemmas.Bool.{cases_eq}
 use Rattle.std.proofs.lemmas.Option.{slice_get_within}
 use Rattle.disk_model.specs.declared.Disk.{Ghosts}
@@ -55,19 +18,8 @@ use Rattle.conn_core.specs.declared.reason.Reason.{Reason}
 use Rattle.conn_core.specs.declared.ready.Ready.{Ready as Readiness}
 use Rattle.conn_core.specs.declared.ready.Ready.TheVariants.{Busy as NoRoom, Shut, Yes}
 use Rattle.peer_queue.specs.Faults.{IsClaimFault}
-use Rattle.peer_queue.specs.Place.{
-  AreRising,
-  Held,
-  IsHeldBy,
-  IsUnheld,
-  Place,
-  Places,
-  Ready,
-  is_held,
-  least_candidate,
-  moved,
-  place_at,
-}
+use Rattle.peer_queue.specs.Place.{AreRising, Held, IsHeldBy, IsUnheld, Place, Places, Ready, is_held, least_candidate}
+use Rattle.peer_queue.specs.Place.{moved, place_at}
 use Rattle.peer_queue.proofs.Claims.{candidate_unheld}
 use Rattle.peer_queue.specs.Words.{IsRead, IsSameTape, ledger_of, places_of}
 use Rattle.peer_queue.specs.declared.fault.StationFault.{StationFault}
@@ -76,22 +28,8 @@ use Rattle.world_core.specs.Past.{ConnPast, PeerPast, TapePast, options_of, with
 use Rattle.world_core.specs.Events.{RefusesClaim, claimed_peer}
 use Rattle.world_core.specs.Exchange.{with_transcript}
 use Rattle.world_core.specs.Fault.{fault_of_station}
-use Rattle.world_core.specs.Pairs.{
-  ClaimsAt,
-  Followed,
-  FollowedNot,
-  GivesBackAt,
-  HandedNot,
-  HandedOn,
-  HandedOnNot,
-  HandedOver,
-  HandsOverAt,
-  None_at,
-  No_room_at,
-  PairStands,
-  Shut_at,
-  Taken_at,
-}
+use Rattle.world_core.specs.Pairs.{ClaimsAt, Followed, FollowedNot, GivesBackAt, HandedNot, HandedOn, HandedOnNot}
+use Rattle.world_core.specs.Pairs.{HandedOver, HandsOverAt, None_at, No_room_at, PairStands, Shut_at, Taken_at}
 use Rattle.world_core.specs.Sound.{numbers_at}
 use Rattle.world_core.specs.Stands.{HoldsTranscript, PeerStands, TapeStands}
 use Rattle.world_core.specs.Told.{Handed as SaidHanded, Said, said_of}

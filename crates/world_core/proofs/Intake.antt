@@ -11,16 +11,8 @@ use Rattle.recovery.specs.Notes.{flushed}
 use Rattle.recovery.specs.Tape.{StandsFor}
 use Rattle.recovery.specs.Words.{IsBroken, IsFlushFault, IsFull, OneHasRisen, log_of, pending_of, told_of}
 use Rattle.recovery.specs.declared.fault.TapeFault.{TapeFault}
-use Rattle.recovery.specs.declared.fault.TapeFault.TheVariants.{
-  Damaged,
-  Disk,
-  Broken,
-  TapeFull,
-  GenerationFull,
-  PendingFull,
-  NoMemory,
-  Note,
-}
+use Rattle.recovery.specs.declared.fault.TapeFault.TheVariants.{Damaged, Disk, Broken, TapeFull, GenerationFull}
+use Rattle.recovery.specs.declared.fault.TapeFault.TheVariants.{PendingFull, NoMemory, Note}
 use Rattle.recovery.specs.declared.tape.Tape.{Tape}
 use Rattle.world_core.specs.Past.{Past, TapePast, with_intake}
 use Rattle.world_core.specs.Safe.{KeepsLines}
@@ -32,16 +24,8 @@ use Rattle.world_core.specs.Stands.{DidOne, FailedOne, PeerStands, Stands, TapeS
 use Rattle.world_core.specs.declared.fault.Fault.{Fault}
 use Rattle.world_core.specs.declared.peer.Peer.{Peer}
 use Rattle.world_core.specs.declared.stations.Stations.{Stations}
-use Rattle.world_core.proofs.Peers.{
-  FlushedNot,
-  broke_as,
-  flushed_as,
-  full_here,
-  full_there,
-  none_there,
-  tape_broken,
-  tape_works,
-}
+use Rattle.world_core.proofs.Peers.{FlushedNot, broke_as, flushed_as, full_here, full_there, none_there, tape_broken}
+use Rattle.world_core.proofs.Peers.{tape_works}
 use Rattle.world_core.proofs.Pure.{keeps_lines}
 use Rattle.world_core.proofs.Sound.{sound_intake}
 use Rattle.world_core.proofs.Stationed.{same_history}

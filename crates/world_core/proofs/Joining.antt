@@ -1,34 +1,6 @@
 -- A connection of a world and its peer, taken out and put back: what they make is a step of the world.
-use Rattle.std.proofs.Common.{
-  ◌≡◌,
-  ◌↔◌,
-  ℕ,
-  zero,
-  suc,
-  ◌<◌,
-  ◌≤◌,
-  Bool,
-  true,
-  false,
-  cond,
-  Option,
-  None,
-  Some,
-  List,
-  [],
-  ◌∷◌,
-  length,
-  get_or,
-  map,
-  refl,
-  sym,
-  ap,
-  ◌∙◌,
-  subst,
-  inl,
-  inr,
-  arith,
-}
+use Rattle.std.proofs.Common.{◌≡◌, ◌↔◌, ℕ, zero, suc, ◌<◌, ◌≤◌, Bool, true, false, cond, Option, None, Some, List, []}
+use Rattle.std.proofs.Common.{◌∷◌, length, get_or, map, refl, sym, ap, ◌∙◌, subst, inl, inr, arith}
 use Rattle.std.specs.Prelude.{◌==◌, Contains, if◌then◌else◌, option_map, slice_get}
 use Rattle.std.proofs.Math.ListN.{set}
 use Rattle.std.specs.List.{AllByRecursion, AllZip, IsDistinct}

@@ -1,30 +1,6 @@
 -- What was acknowledged stays so over each event, and so over any of them one after another.
-use Rattle.std.proofs.Common.{
-  ◌≡◌,
-  ℕ,
-  zero,
-  suc,
-  ◌+◌,
-  ◌-◌,
-  ◌≤◌,
-  Some,
-  List,
-  [],
-  ◌∷◌,
-  ◌++◌,
-  length,
-  take,
-  drop,
-  refl,
-  sym,
-  ap,
-  ◌∙◌,
-  subst,
-  arith,
-  append_assoc,
-  append-nil,
-  take-append-drop,
-}
+use Rattle.std.proofs.Common.{◌≡◌, ℕ, zero, suc, ◌+◌, ◌-◌, ◌≤◌, Some, List, [], ◌∷◌, ◌++◌, length, take, drop, refl}
+use Rattle.std.proofs.Common.{sym, ap, ◌∙◌, subst, arith, append_assoc, append-nil, take-append-drop}
 use Rattle.std.proofs.Math.ListN.{set}
 use Rattle.std.specs.List.{AllZip, slice_get}
 use Rattle.ledger_core.specs.declared.note.Note.{Note}
@@ -34,22 +10,8 @@ use Rattle.peer_queue.specs.declared.limits.Owed.{Owed}
 use Rattle.peer_queue.specs.declared.limits.Owed.TheVariants.{New, Already}
 use Rattle.recovery.specs.Notes.{History, flushed, noted_all, recovered}
 use Rattle.world_core.specs.Past.{Past, PeerPast, TapePast, with_peer}
-use Rattle.world_core.specs.Events.{
-  Acknowledges,
-  AllDo,
-  Claims,
-  Does,
-  Event,
-  Opens,
-  OpensIntake,
-  Owes,
-  Parts,
-  Returns,
-  Rotates,
-  Sees,
-  Settles,
-  Sheds,
-}
+use Rattle.world_core.specs.Events.{Acknowledges, AllDo, Claims, Does, Event, Opens, OpensIntake, Owes, Parts, Returns}
+use Rattle.world_core.specs.Events.{Rotates, Sees, Settles, Sheds}
 use Rattle.world_core.specs.Events.{owed_as, owing_as, settled_as, settling}
 use Rattle.peer_queue.specs.declared.settled.Settled.{Settled}
 use Rattle.peer_queue.specs.declared.settled.Settled.TheVariants.{Answered, Dropped, Later, Ready}

@@ -2,22 +2,8 @@
 use Rattle.std.proofs.Common.{◌≡◌, ℕ, ◌+◌, Some, List, refl, ap, ◌∙◌}
 use Rattle.std.specs.List.{slice_get}
 use Rattle.world_core.specs.Past.{Past, PeerPast, with_peer}
-use Rattle.world_core.specs.Events.{
-  Acknowledges,
-  AllDo,
-  Claims,
-  Does,
-  Event,
-  Opens,
-  OpensIntake,
-  Owes,
-  Parts,
-  Returns,
-  Rotates,
-  Sees,
-  Settles,
-  Sheds,
-}
+use Rattle.world_core.specs.Events.{Acknowledges, AllDo, Claims, Does, Event, Opens, OpensIntake, Owes, Parts, Returns}
+use Rattle.world_core.specs.Events.{Rotates, Sees, Settles, Sheds}
 use Rattle.world_core.specs.Events.{Next, Refuses, Start, owed_as}
 use Rattle.world_core.specs.Sound.{names_of}
 use Rattle.world_core.proofs.Pure.{map_set}

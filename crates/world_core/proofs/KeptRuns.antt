@@ -5,17 +5,8 @@ use Rattle.disk_model.specs.declared.Disk.{Ghosts}
 use Rattle.disk_model.specs.declared.choice.Choice.{Choice}
 use Rattle.conn_core.specs.History.{Event as Happening}
 use Rattle.world_core.specs.Past.{ConnPast, Life, Past, PeerPast}
-use Rattle.world_core.specs.Exchange.{
-  Follows,
-  HandsOver,
-  Has_no_room,
-  Is_shut,
-  Next as NextTick,
-  None_there,
-  Start as FirstTick,
-  Taken_over,
-  TicksEach,
-}
+use Rattle.world_core.specs.Exchange.{Follows, HandsOver, Has_no_room, Is_shut, Next as NextTick, None_there}
+use Rattle.world_core.specs.Exchange.{Start as FirstTick, Taken_over, TicksEach}
 use Rattle.world_core.specs.Halts.{AtRest, ByChoice, CallsDisks, Strikes, TakesStop}
 use Rattle.world_core.specs.Runs.{Does, Next, Runs, Start, Takes}
 use Rattle.world_core.specs.Sound.{names_of}
@@ -26,20 +17,8 @@ use Rattle.world_core.specs.Turn.{names_at}
 use Rattle.world_core.specs.declared.peer.Peer.{Peer}
 use Rattle.world_core.specs.declared.peer.StoppedPeer.{StoppedPeer}
 use Rattle.world_core.specs.declared.step.Step.{Step}
-use Rattle.world_core.specs.declared.step.Step.TheVariants.{
-  Line,
-  Flush,
-  Begin,
-  Part,
-  Seal,
-  Connect,
-  Hand,
-  Bytes,
-  Article,
-  Break,
-  Tick,
-  Shed,
-}
+use Rattle.world_core.specs.declared.step.Step.TheVariants.{Line, Flush, Begin, Part, Seal, Connect, Hand, Bytes}
+use Rattle.world_core.specs.declared.step.Step.TheVariants.{Article, Break, Tick, Shed}
 use Rattle.world_core.specs.declared.step.Step.TheVariants.{Rotate, Stop, Restart}
 use Rattle.world_core.specs.declared.told.Handed.{Handed as Handover}
 use Rattle.world_core.specs.declared.world.Stage.{Stage}

@@ -1,34 +1,7 @@
 -- What happens to one peer of all, of which one connection's numbers change: the rest stays, and whatever a stop
 -- leaves is safe.
-use Rattle.std.proofs.Common.{
-  ◌≡◌,
-  ◌↔◌,
-  ℕ,
-  zero,
-  suc,
-  ◌≤◌,
-  Bool,
-  true,
-  false,
-  None,
-  Some,
-  List,
-  [],
-  ◌∷◌,
-  ◌++◌,
-  length,
-  map,
-  take,
-  refl,
-  sym,
-  ap,
-  ◌∙◌,
-  subst,
-  inl,
-  inr,
-  arith,
-  length-append,
-}
+use Rattle.std.proofs.Common.{◌≡◌, ◌↔◌, ℕ, zero, suc, ◌≤◌, Bool, true, false, None, Some, List, [], ◌∷◌, ◌++◌, length}
+use Rattle.std.proofs.Common.{map, take, refl, sym, ap, ◌∙◌, subst, inl, inr, arith, length-append}
 use Rattle.std.specs.Prelude.{◌==◌, cond, if◌then◌else◌, slice_get}
 use Rattle.std.proofs.Math.ListN.{set}
 use Rattle.std.specs.List.{AllByRecursion}
@@ -50,15 +23,8 @@ use Rattle.world_core.specs.Safe.{HasAcknowledged, IsAbove, IsSafe, KeepsLines, 
 use Rattle.world_core.specs.Tapes.{IsReadTape}
 use Rattle.world_core.specs.Events.{AllDo, Claims, Does, Event, Next, Returns, Settles, Start, settled_as, settling}
 use Rattle.world_core.specs.Exchange.{settle_events}
-use Rattle.world_core.specs.Pairs.{
-  AllSettleAt,
-  ClaimsAt,
-  GivesBackAt,
-  Next as NextSettled,
-  ReturnsAt,
-  SettlesAt,
-  Start as NoneSettled,
-}
+use Rattle.world_core.specs.Pairs.{AllSettleAt, ClaimsAt, GivesBackAt, Next as NextSettled, ReturnsAt, SettlesAt}
+use Rattle.world_core.specs.Pairs.{Start as NoneSettled}
 use Rattle.world_core.specs.Sound.{HasParted, IsSound}
 use Rattle.world_core.proofs.Acknowledged.{all_at}
 use Rattle.world_core.proofs.Chains.{take_left}

@@ -1,95 +1,62 @@
--- Worlds as they are made: all tapes are opened on empty disks.
-use Rattle.std.proofs.Common.{
-  ◌≡◌,
-  ℕ,
-  zero,
-  suc,
-  ◌+◌,
-  ◌<◌,
-  Bool,
-  true,
-  false,
-  Option,
-  None,
-  Some,
-  List,
-  [],
-  ◌∷◌,
-  length,
-  get_or,
-  map,
-  refl,
-  sym,
-  ap,
-  ◌∙◌,
-  subst,
-  inl,
-  inr,
-  arith,
-}
-use Rattle.std.proofs.Math.ListN.{set}
+-- Worlds as they are made: their tapes are opened.
+use Rattle.std.proofs.Common.{◌≡◌, ℕ, zero, suc, ◌+◌, ◌<◌, Bool, true, false, None, Some, List, [], ◌∷◌, ◌++◌, length}
+use Rattle.std.proofs.Common.{get_or, map, take, refl, sym, ap, ◌∙◌, subst, inl, arith}
 use Rattle.std.specs.Cmp.Lexicographic.{slice_cmp}
-use Rattle.std.specs.List.{AllByRecursion, AllZip, IsDistinct, slice_get}
+use Rattle.std.specs.List.{All, AllByRecursion, AllZip, IsDistinct, slice_get}
 use Rattle.std.specs.List.Sorted.{IsPermutation, IsSortedBy}
 use Rattle.std.specs.Ordering.{is_eq, is_lt, nat_cmp, ordering_reverse}
 use Rattle.std.specs.Str.{bytes_eq}
 use Rattle.std.specs.declared.cmp.Ordering.{Ordering}
 use Rattle.std.specs.declared.cmp.Ordering.TheVariants.{Less, Equal, Greater}
 use Rattle.std.proofs.lemmas.Cmp.{nat_list_cmp_total}
+use Rattle.std.proofs.lemmas.List.Elements.{All-cons, All-head, All-nil, All-tail}
 use Rattle.std.proofs.lemmas.List.MinMax.{ranks_by}
-use Rattle.std.proofs.lemmas.List.Sorted.{IsPermutation-map, sorted_far}
+use Rattle.std.proofs.lemmas.List.Sorted.{All-permutation, IsPermutation-map, sorted_far}
 use Rattle.std.proofs.lemmas.Map.Keys.{IsDistinct-IsPermutation, IsDistinct-head, IsDistinct-tail}
 use Rattle.std.proofs.lemmas.Map.Text.{is_eq-slice_cmp}
+use Rattle.disk_model.specs.Disk.{Event}
+use Rattle.disk_model.specs.Disk.Event.{Made}
+use Rattle.disk_model.specs.InMemory.{events, faults_told}
+use Rattle.disk_model.specs.declared.memory.MemDisk.{MemDisk}
+use Rattle.disk_model.specs.declared.Disk.{Ghosts}
 use Rattle.feed_conf.specs.declared.conf.PeerConf.{PeerConf}
 use Rattle.ledger_core.specs.State.{State, numbers, start}
-use Rattle.ledger_core.specs.Written.{whole-start}
 use Rattle.peer_queue.specs.Place.{all_ready}
-use Rattle.recovery.specs.Image.{IsTape}
-use Rattle.recovery.specs.Leaving.{EachLedger, HasLedger, IsFront}
-use Rattle.recovery.specs.Notes.{AreLegal, History, begun, ledger_after, recovered}
-use Rattle.world_core.specs.Past.{Life, Past, PeerPast, TapePast}
-use Rattle.world_core.specs.Safe.{HasAcknowledged, KeepsLines, KeepsNotes}
-use Rattle.world_core.specs.Events.{
-  Acknowledges,
-  AllDo,
-  Claims,
-  Does,
-  Event,
-  Opens,
-  OpensIntake,
-  Owes,
-  Parts,
-  Refuses,
-  Returns,
-  Rotates,
-  Sees,
-  Settles,
-  Sheds,
-}
-use Rattle.world_core.specs.Events.{each_place, opened_peer}
-use Rattle.world_core.specs.Events.AllDo.{Start, Next}
-use Rattle.world_core.specs.Tapes.{IsReopened}
-use Rattle.world_core.specs.Halting.{TapesStop}
-use Rattle.world_core.specs.Halts.{restart_events}
-use Rattle.world_core.specs.Making.{AreUnused, Begins, IsMakeFault, IsUnused, unused, unused_tape}
-use Rattle.world_core.specs.Opening.{AllOpen, HasNoneHeld, OpensNot}
+use Rattle.peer_queue.specs.Words.{limits_of as station_limits, places_of}
+use Rattle.recovery.specs.Image.{IsNoTapeAt, IsSomeTape, IsTape, Log, Octets}
+use Rattle.recovery.specs.TapeLaws.{tape_nowhere_damaged, tape_once}
+use Rattle.recovery.specs.Leaving.{broken_of}
+use Rattle.recovery.specs.Notes.{found}
+use Rattle.recovery.specs.Tape.{IsOpenedTape, StandsFor, contents_of}
+use Rattle.recovery.specs.Words.{IsBroken, IsOpenFault, ledger_of, log_of, told_of}
+use Rattle.recovery.specs.declared.fault.TapeFault.{TapeFault}
+use Rattle.recovery.specs.declared.fault.TapeFault.TheVariants.{Damaged, Disk, Broken, TapeFull, GenerationFull}
+use Rattle.recovery.specs.declared.fault.TapeFault.TheVariants.{PendingFull, NoMemory as NoTapeMemory, Note}
+use Rattle.recovery.specs.declared.tape.Tape.{Tape as OpenTape}
+use Rattle.world_core.specs.Past.{Life, Past, PeerPast, limits_of}
+use Rattle.world_core.specs.Safe.{HasAcknowledged}
+use Rattle.world_core.specs.Given.{BeginsFrom, GivenPeer, IsFound, IsGivenPeer, OpensGiven, RefusesFirst, RefusesTape}
+use Rattle.world_core.specs.Given.{StopsFor, RefusesPeer, RefusesTapes, found_peer, found_tape, given_names, octets_of}
+use Rattle.world_core.specs.Making.{Begins, HasNoOctets, IsMakeFault}
+use Rattle.world_core.specs.Opening.{HasNoneHeld}
 use Rattle.world_core.specs.Sound.{IsBefore, NamesRise, names_of}
-use Rattle.world_core.specs.Stands.{DisksStand, IsFreshPeer, Stands, StoppedStands}
-use Rattle.world_core.specs.declared.fault.Fault.{Fault}
-use Rattle.world_core.specs.declared.fault.Halt.{Halt}
-use Rattle.world_core.specs.declared.peer.StoppedPeer.{StoppedPeer}
+use Rattle.world_core.specs.Stands.{IsFreshPeer, PeerStands, Stands}
+use Rattle.world_core.specs.StopDisk.{all_faults, beneath, happened, own_faults}
+use Rattle.world_core.specs.declared.fault.Fault.TheVariants.{Tape as TapeTold}
+use Rattle.world_core.specs.declared.fault.TapesFault.{TapesFault}
+use Rattle.world_core.specs.declared.fault.TapesFault.TheVariants.{NoMemory, Tape}
+use Rattle.world_core.specs.declared.peer.Peer.{Peer}
 use Rattle.world_core.specs.declared.stop.StopDisk.{StopDisk}
 use Rattle.world_core.specs.declared.world.Stage.TheVariants.{Running}
 use Rattle.world_core.specs.declared.world.World.{World}
 use Rattle.world_core.proofs.Acknowledged.{all_at}
-use Rattle.world_core.proofs.Sound.{safe_of}
-use Rattle.world_core.proofs.Steady.{both_all, front_all, last_all}
+use Rattle.world_core.proofs.Peers.{not_true}
+use Rattle.world_core.proofs.Sound.{each_front, safe_of}
 use Rattle.world_core.proofs.Stopping.{tied_none}
+use Rattle.world_core.proofs.Tried.{none_held}
+use Rattle.world_core.proofs.Zips.{zip_push}
 
 -- ---- names in order
-
-abbrev is_below : PeerConf → PeerConf → Bool
-is_below one other = is_lt (slice_cmp nat_cmp one.name other.name)
 
 before : (one other : List ℕ) → is_lt (slice_cmp nat_cmp other one) ≡ false → bytes_eq one other ≡ false
     → IsBefore one other
@@ -101,36 +68,55 @@ before one other above apart = by (slice_cmp nat_cmp one other) refl
     by Greater is =
         absurd (let up = ap is_lt (nat_list_cmp_total.antisymm other one ∙ ap ordering_reverse is) in cc)
 
-all_before : (conf : PeerConf) (confs : List PeerConf)
-    → ((k : ℕ) (d : PeerConf) → k < length confs → is_below (get_or confs k d) conf ≡ false)
-    → AllByRecursion (λ (y : List ℕ). bytes_eq conf.name y ≡ false) (map (λ (c : PeerConf). c.name) confs)
-    → AllByRecursion (IsBefore conf.name) (map (λ (c : PeerConf). c.name) confs)
-all_before conf [] each apart = tt
-all_before conf (other ∷ confs) each apart = (
-  before conf.name other.name (each 0 other (omega arith)) apart.0,
-  all_before conf confs (λ k d within. each (suc k) d (omega (arith, within))) apart.1,
+turned : (r : Ordering) → is_eq (ordering_reverse r) ≡ is_eq r
+turned Less = refl
+turned Equal = refl
+turned Greater = refl
+
+same_back : (x y : List ℕ) → bytes_eq x y ≡ bytes_eq y x
+same_back x y =
+    sym (is_eq-slice_cmp x y) ∙ ap is_eq (nat_list_cmp_total.antisymm x y) ∙ turned (slice_cmp nat_cmp y x)
+    ∙ is_eq-slice_cmp y x
+
+abbrev is_below : GivenPeer → GivenPeer → Bool
+is_below one other = is_lt (slice_cmp nat_cmp one.0.name other.0.name)
+
+all_before : (peer : GivenPeer) (given : List GivenPeer)
+    → ((k : ℕ) (d : GivenPeer) → k < length given → is_below (get_or given k d) peer ≡ false)
+    → AllByRecursion (λ (y : List ℕ). bytes_eq peer.0.name y ≡ false) (given_names given)
+    → AllByRecursion (IsBefore peer.0.name) (given_names given)
+all_before peer [] each apart = tt
+all_before peer (other ∷ given) each apart = (
+  before peer.0.name other.0.name (each 0 other (omega arith)) apart.0,
+  all_before peer given (λ k d within. each (suc k) d (omega (arith, within))) apart.1,
 )
 
-sorted_tail : (conf : PeerConf) (confs : List PeerConf) → IsSortedBy is_below (conf ∷ confs) → IsSortedBy is_below confs
-sorted_tail conf confs up = λ k d low high.
+sorted_tail : (peer : GivenPeer) (given : List GivenPeer) → IsSortedBy is_below (peer ∷ given)
+    → IsSortedBy is_below given
+sorted_tail peer given up = λ k d low high.
     let next : suc k + 1 ≡ suc (k + 1) = omega arith in
-    subst (λ (n : ℕ). is_below (get_or (conf ∷ confs) n d) (get_or confs k d) ≡ false) next
+    subst (λ (n : ℕ). is_below (get_or (peer ∷ given) n d) (get_or given k d) ≡ false) next
     (up (suc k) d (omega arith) (omega (arith, high)))
 
-pub names_rise : (confs : List PeerConf) → IsSortedBy is_below confs
-    → IsDistinct bytes_eq (map (λ (c : PeerConf). c.name) confs)
-    → NamesRise (map (λ (c : PeerConf). c.name) confs)
+names_rise : (given : List GivenPeer) → IsSortedBy is_below given → IsDistinct bytes_eq (given_names given)
+    → NamesRise (given_names given)
 names_rise [] up apart = tt
-names_rise (conf ∷ confs) up apart = (
-  all_before conf confs
-      (λ k d within. sorted_far is_below (ranks_by nat_list_cmp_total (λ (c : PeerConf). c.name)) (conf ∷ confs) up 0
-      (suc k) d (omega arith) (omega (arith, within)))
-      (IsDistinct-head bytes_eq conf.name (map (λ (c : PeerConf). c.name) confs) apart),
-  names_rise confs (sorted_tail conf confs up)
-      (IsDistinct-tail bytes_eq conf.name (map (λ (c : PeerConf). c.name) confs) apart),
+names_rise (peer ∷ given) up apart = (
+  all_before peer given
+      (λ k d within. sorted_far is_below (ranks_by nat_list_cmp_total (λ (x : GivenPeer). x.0.name)) (peer ∷ given) up
+      0 (suc k) d (omega arith) (omega (arith, within)))
+      (IsDistinct-head bytes_eq peer.0.name (given_names given) apart),
+  names_rise given (sorted_tail peer given up) (IsDistinct-tail bytes_eq peer.0.name (given_names given) apart),
 )
 
--- ---- empty disks
+-- the peers in order have names that rise
+pub sorted_rise : (given ordered : List GivenPeer) → IsPermutation given ordered → IsSortedBy is_below ordered
+    → IsDistinct bytes_eq (given_names given) → NamesRise (given_names ordered)
+sorted_rise given ordered permuted up apart =
+    names_rise ordered up (IsDistinct-IsPermutation bytes_eq same_back (given_names given) (given_names ordered)
+    (IsPermutation-map (λ (x : GivenPeer). x.0.name) given ordered permuted) apart)
+
+-- ---- a tape is opened
 
 nothing_lies : IsTape ([], []) start
 nothing_lies = record {
@@ -148,254 +134,195 @@ nothing_lies = record {
   restores = inl (tt, refl, ([], tt, refl, tt, refl));
 }
 
-nothing_each : (P : State → Type 0) → P start → EachLedger P ([], [])
-nothing_each P has = λ one other is is'.
-    subst (λ (o : List ℕ). HasLedger P (one, o)) (sym is')
-    (subst (λ (o : List ℕ). HasLedger P (o, [])) (sym is) (start, nothing_lies, has))
+module _ {D : Type 0} {g : Ghosts D} where
+  is_found : (state : State) (tape : OpenTape D g) → StandsFor tape (found state) → told_of tape ≡ (0, 0)
+      → (IsBroken tape → ⊥) → IsFound state tape
+  is_found state tape stands told works =
+      record { stands = stands; log = refl; faults = told; broken = not_true (broken_of tape) works }
 
-nothing_legal : AreLegal start []
-nothing_legal = record { whole = whole-start; notes_are = tt; legal = tt }
+  -- the peer's tape was opened on the given octets
+  pub opens_given : (given : GivenPeer) (old : Log) (peer : Peer D g) → old ≡ (Made given.1.items ∷ [], [])
+      → IsOpenedTape old peer.station.tape → told_of peer.station.tape ≡ (0, 0) → (IsBroken peer.station.tape → ⊥)
+      → places_of peer.station ≡ all_ready (numbers (ledger_of peer.station.tape))
+      → station_limits peer.station ≡ limits_of given.0 → peer.conf ≡ given.0 → peer.parted ≡ false
+      → OpensGiven given peer
+  opens_given given old peer log opened told works ready limits conf parts = record {
+    state = opened.state;
+    was = subst (λ (l : Log). IsTape (contents_of l) opened.state) log opened.was;
+    stands = record {
+      conf = conf;
+      limits = limits;
+      tape = is_found opened.state peer.station.tape opened.stands told works;
+      places = ready ∙ ap (λ (state : State). all_ready (numbers state)) opened.stands.ledger;
+      parted = parts;
+    };
+  }
 
-nothing_front : IsFront begun start
-nothing_front = record { count = 0; enough = omega arith; within = omega arith; legal = nothing_legal; is = refl }
+  -- that of the intake on none
+  pub opens_empty : (old : Log) (tape : OpenTape D g) → old ≡ ([], []) → IsOpenedTape old tape → told_of tape ≡ (0, 0)
+      → (IsBroken tape → ⊥) → IsFound start tape
+  opens_empty old tape log opened told works =
+      let there = subst (λ (l : Log). IsTape (contents_of l) opened.state) log opened.was in
+      let none : opened.state ≡ start = tape_once ([], []) opened.state start there nothing_lies in
+      subst (λ (state : State). IsFound state tape) none (is_found opened.state tape opened.stands told works)
 
-disks_unused : (P : State → Type 0) (disks : StopDisk × StopDisk) → P start → AreUnused disks
-    → DisksStand P unused_tape disks
-disks_unused P disks has is =
-    record { log = is.log; faults = is.faults; works = refl; legal = nothing_legal; images = nothing_each P has }
+-- what has happened to a disk in memory is what has happened to the disk over it
+pub happened_as : (disk : StopDisk) (memory : MemDisk) (log : List Event) → beneath disk ≡ memory → events memory ≡ log
+    → happened disk ≡ log
+happened_as disk memory log is has = ap events is ∙ has
 
-names_unused : (confs : List PeerConf) → names_of (unused confs).peers ≡ map (λ (c : PeerConf). c.name) confs
-names_unused [] = refl
-names_unused (conf ∷ confs) = ap (λ names. conf.name ∷ names) (names_unused confs)
+pub none_told : (disk : StopDisk) (memory : MemDisk) → beneath disk ≡ memory → own_faults disk ≡ 0
+    → faults_told memory ≡ 0 → all_faults disk ≡ 0
+none_told disk memory is own told =
+    let none : faults_told (beneath disk) ≡ 0 = ap faults_told is ∙ told in
+    rw (own, none) refl
 
-all_acknowledged : (mark : ℕ) (confs : List PeerConf) → AllByRecursion (HasAcknowledged mark) (unused confs).peers
-all_acknowledged mark [] = tt
-all_acknowledged mark (conf ∷ confs) = (tt, all_acknowledged mark confs)
+pub both_are : {A B : Type 0} {one other : A} {this that : B} → one ≡ other → this ≡ that
+    → ◌≡◌ {A = A × B} (one, this) (other, that)
+both_are {A} {B} {one} {other} {this} {that} first second =
+    let before : B → A × B = λ y. (other, y) in
+    let behind : A → A × B = λ x. (x, this) in
+    ap behind first ∙ ap before second
 
-peers_unused : (confs : List PeerConf) (peers : List StoppedPeer) → AllZip IsUnused confs peers
-    → AllZip StoppedStands (unused confs).peers peers
-peers_unused [] [] all = tt
-peers_unused [] (peer ∷ peers) all = absurd all
-peers_unused (conf ∷ confs) [] all = absurd all
-peers_unused (conf ∷ confs) (peer ∷ peers) all = (
-  record {
-    conf = all.0.conf_is;
-    disks =
-        disks_unused (KeepsNotes (record { conf = conf; tape = unused_tape; places = []; parted = false })) peer.disks
-        nothing_front all.0.disks;
-  },
-  peers_unused confs peers all.1,
-)
+-- the octets were refused for this fault
+pub refuses_tape : (octets : Octets) (fault : TapeFault) → IsOpenFault fault → (fault ≡ NoTapeMemory → ⊥)
+    → ((segment at : ℕ) → fault ≡ Damaged segment at → IsNoTapeAt octets segment at) → RefusesTape octets fault
+refuses_tape octets (Damaged segment at) kind memory damaged = damaged segment at refl
+refuses_tape octets Disk kind memory damaged = tt
+refuses_tape octets Broken kind memory damaged = absurd kind
+refuses_tape octets TapeFull kind memory damaged = absurd kind
+refuses_tape octets GenerationFull kind memory damaged = absurd kind
+refuses_tape octets PendingFull kind memory damaged = absurd kind
+refuses_tape octets NoTapeMemory kind memory damaged = absurd (memory refl)
+refuses_tape octets (Note fault) kind memory damaged = absurd kind
 
-pub stop_unused : (confs : List PeerConf) (peers : List StoppedPeer) (disks : StopDisk × StopDisk)
-    → NamesRise (map (λ (c : PeerConf). c.name) confs)
-    → AllZip IsUnused confs peers → AreUnused disks → TapesStop (unused confs) peers disks
-stop_unused confs peers disks rise all is = record {
-  peers = peers_unused confs peers all;
-  intake = disks_unused (KeepsLines begun (unused confs).peers) disks
-      (record { front = nothing_front; lines = all_acknowledged 0 confs }) is;
-  begun = refl;
-  sound = record {
-    names = subst NamesRise (sym (names_unused confs)) rise;
-    fits = omega arith;
-    marked = omega arith;
-    acknowledged = all_acknowledged 0 confs;
-    kept = λ number e. absurd cc;
-    parted = λ number e. absurd cc;
-  };
-}
+-- ---- one after another
 
--- ---- what is opened has nothing on it
+module _ {D : Type 0} {g : Ghosts D} where
+  are_tapes : (given : List GivenPeer) (peers : List (Peer D g)) → AllZip OpensGiven given peers
+      → AllByRecursion (λ (other : GivenPeer). IsSomeTape (octets_of other)) given
+  are_tapes [] [] all = tt
+  are_tapes [] (peer ∷ peers) all = tt
+  are_tapes (one ∷ given) [] all = absurd all
+  are_tapes (one ∷ given) (peer ∷ peers) all = ((all.0.state, all.0.was), are_tapes given peers all.1)
 
-record IsNewTape (tape : TapePast) : Type 0 where
-  history : tape.history ≡ begun
-  faults : tape.faults ≡ (0, 0)
-  works : tape.broken ≡ false
+  -- one more was opened
+  pub opens_more : (front : List GivenPeer) (peers new : List (Peer D g)) (given : GivenPeer) (peer : Peer D g)
+      → AllZip OpensGiven front peers → OpensGiven given peer → new ≡ peers ++ peer ∷ []
+      → AllZip OpensGiven (front ++ given ∷ []) new
+  opens_more front peers new given peer all one more =
+      subst (AllZip OpensGiven (front ++ given ∷ [])) (sym more) (zip_push OpensGiven front peers given peer all one)
 
-record IsNewPeer (conf : PeerConf) (peer : PeerPast) : Type 0 where
-  conf_is : peer.conf ≡ conf
-  tape : IsNewTape peer.tape
-  places : peer.places ≡ []
-  parted : peer.parted ≡ false
+  -- behind those that were opened comes one that is refused
+  pub stops_for : (given front : List GivenPeer) (peers : List (Peer D g)) (peer : GivenPeer) (fault : TapesFault)
+      → AllZip OpensGiven front peers → front ≡ take (length front) given
+      → slice_get given (length front) ≡ Some peer → RefusesPeer peer fault
+      → StopsFor given fault
+  stops_for given front peers peer (Tape name fault) all so_far here refused = record {
+    place = length front;
+    peer = peer;
+    here = here;
+    named = refused.0;
+    before = subst (AllByRecursion (λ (other : GivenPeer). IsSomeTape (octets_of other))) so_far
+        (are_tapes front peers all);
+    why = refused.1;
+  }
+  stops_for given front peers peer NoMemory all so_far here refused = tt
 
-record IsNew (confs : List PeerConf) (past : Past) : Type 0 where
-  peers : AllZip IsNewPeer confs past.peers
-  intake : IsNewTape past.intake
-  last : past.last ≡ 0
-  kept : past.begun ≡ None
-
-new_unused : (confs : List PeerConf) → AllZip IsNewPeer confs (unused confs).peers
-new_unused [] = tt
-new_unused (conf ∷ confs) = (
-  record {
-    conf_is = refl;
-    tape = record { history = refl; faults = refl; works = refl };
-    places = refl;
-    parted =
-        refl;
-  },
-  new_unused confs,
-)
-
-is_new : (confs : List PeerConf) → IsNew confs (unused confs)
-is_new confs = record {
-  peers = new_unused confs;
-  intake = record { history = refl; faults = refl; works = refl };
-  last = refl;
-  kept = refl;
-}
-
-new_reopened : (P : State → Type 0) (old new : TapePast) → IsReopened P old new → IsNewTape old → IsNewTape new
-new_reopened P old new is was =
-    let none : is.count ≡ 0 = omega (arith, is.within, ap (λ (h : History). length h.notes) was.history) in
-    record {
-      history = ap (λ (t : TapePast). t.history) is.all ∙ ap (λ (n : ℕ). recovered old.history n) none
-          ∙ ap (λ (h : History). recovered h 0) was.history;
-      faults = ap (λ (t : TapePast). t.faults) is.all ∙ was.faults;
-      works = ap (λ (t : TapePast). t.broken) is.all;
-    }
-
-new_peer : (conf : PeerConf) (peer : PeerPast) (tape : TapePast) → IsReopened (KeepsNotes peer) peer.tape tape
-    → IsNewPeer conf peer
-    → IsNewPeer conf (opened_peer peer tape)
-new_peer conf peer tape is was =
-    let new = new_reopened (KeepsNotes peer) peer.tape tape is was.tape in
-    record {
-      conf_is = was.conf_is;
-      tape = new;
-      places = ap (λ (h : History). all_ready (numbers (ledger_after h))) new.history;
-      parted = refl;
-    }
-
-put_there : (confs : List PeerConf) (peers : List PeerPast) (place : ℕ) (peer : PeerPast) (tape : TapePast)
-    → AllZip IsNewPeer confs peers
-    → slice_get peers place ≡ Some peer → IsReopened (KeepsNotes peer) peer.tape tape
-    → AllZip IsNewPeer confs (set peers place (opened_peer peer tape))
-put_there [] [] place peer tape all here is = absurd cc
-put_there [] (p ∷ peers) place peer tape all here is = absurd all
-put_there (conf ∷ confs) [] place peer tape all here is = absurd all
-put_there (conf ∷ confs) (p ∷ peers) zero peer tape all here is =
-    let same : p ≡ peer = cc in
-    (new_peer conf peer tape is (subst (IsNewPeer conf) same all.0), all.1)
-put_there (conf ∷ confs) (p ∷ peers) (suc place) peer tape all here is =
-    (all.0, put_there confs peers place peer tape all.1 here is)
-
--- an opening of a tape
-abbrev IsOpening : Event → Type 0
-IsOpening (Owes place token id) = ⊥
-IsOpening (Parts place) = ⊥
-IsOpening (Rotates place generation) = ⊥
-IsOpening (Sheds place numbers) = ⊥
-IsOpening (Claims place id now) = ⊥
-IsOpening (Returns place id number) = ⊥
-IsOpening (Settles place id now outcome) = ⊥
-IsOpening (Sees number) = ⊥
-IsOpening Acknowledges = ⊥
-IsOpening (Opens place) = Unit {0}
-IsOpening OpensIntake = Unit {0}
-
-new_does : (confs : List PeerConf) (event : Event) → IsOpening event → (past later : Past) → Does event past later
-    → IsNew confs past → IsNew confs later
-new_does confs (Owes place token id) on past later d new = absurd on
-new_does confs (Parts place) on past later d new = absurd on
-new_does confs (Rotates place generation) on past later d new = absurd on
-new_does confs (Sheds place numbers) on past later d new = absurd on
-new_does confs (Claims place id now) on past later d new = absurd on
-new_does confs (Returns place id number) on past later d new = absurd on
-new_does confs (Settles place id now outcome) on past later d new = absurd on
-new_does confs (Sees number) on past later d new = absurd on
-new_does confs Acknowledges on past later d new = absurd on
-new_does confs (Opens place) on past later d new = subst (IsNew confs) (sym d.changed) (record {
-  peers = put_there confs past.peers place d.peer d.tape new.peers d.here d.opens;
-  intake = new.intake;
-  last = new.last;
-  kept = new.kept;
-})
-new_does confs OpensIntake on past later d new =
-    let tape = new_reopened (KeepsLines past.intake.history past.peers) past.intake d.tape d.opens new.intake in
-    subst (IsNew confs) (sym d.changed) (record {
-      peers = new.peers;
-      intake = tape;
-      last = ap (λ (h : History). (ledger_after h).mark) tape.history;
-      kept = refl;
-    })
-
-new_all : (confs : List PeerConf) (past later : Past) (events : List Event) → AllDo past events later
-    → AllByRecursion IsOpening events → IsNew confs past
-    → IsNew confs later
-new_all confs past _ _ Start on new = new
-new_all confs past later _ (Next events event mid _ does one safe) on new =
-    new_does confs event (last_all IsOpening events event on) mid later one
-    (new_all confs past mid events does (front_all IsOpening events (event ∷ []) on) new)
-
-each_opens : (n : ℕ) → AllByRecursion IsOpening (each_place Opens n)
-each_opens zero = tt
-each_opens (suc n) = both_all IsOpening (each_place Opens n) (Opens n ∷ []) (each_opens n) (tt, tt)
-
-all_open : (past : Past) → AllByRecursion IsOpening (restart_events past)
-all_open past = both_all IsOpening (each_place Opens (length past.peers)) (OpensIntake ∷ [])
-    (each_opens (length past.peers)) (tt, tt)
+-- the first in order is told
+pub refuses_tapes : (given ordered : List GivenPeer) (fault : TapesFault) → IsPermutation given ordered
+    → NamesRise (given_names ordered) → StopsFor ordered fault → RefusesTapes given fault
+refuses_tapes given ordered (Tape name fault) permuted rises stops =
+    record { ordered = ordered; permuted = permuted; rises = rises; stops = stops }
+refuses_tapes given ordered NoMemory permuted rises stops = tt
 
 -- ---- a world of them
 
-fresh_peers : (confs : List PeerConf) (peers : List PeerPast) → AllZip IsNewPeer confs peers
-    → AllByRecursion (λ (peer : PeerPast). EachLedger (KeepsNotes peer) peer.tape.log) peers
-    → AllZip IsFreshPeer confs peers
-fresh_peers [] [] all safe = tt
-fresh_peers [] (peer ∷ peers) all safe = absurd all
-fresh_peers (conf ∷ confs) [] all safe = absurd all
-fresh_peers (conf ∷ confs) (peer ∷ peers) all safe = (
-  record {
-    conf_is = all.0.conf_is;
-    tape = record { history = all.0.tape.history; faults = all.0.tape.faults; works = all.0.tape.works; safe = safe.0 };
-    places = all.0.places;
-    parted = all.0.parted;
-  },
-  fresh_peers confs peers all.1 safe.1,
-)
+module _ {D : Type 0} {g : Ghosts D} where
+  -- what the peers that were opened have been through
+  record HavePasts (given : List GivenPeer) (peers : List (Peer D g)) : Type 0 where
+    pasts : List PeerPast
+    given_are : AllZip IsGivenPeer given pasts
+    stand : AllZip PeerStands pasts peers
+    names : names_of pasts ≡ given_names given
+    acknowledged : AllByRecursion (HasAcknowledged 0) pasts
+    free : AllByRecursion HasNoneHeld pasts
 
-at_first : (past : Past) → past.last ≡ 0 → past.begun ≡ None
-    → past ≡ record { peers = past.peers; intake = past.intake; last = 0; begun = None }
-at_first past last kept =
-    ap (λ (n : ℕ). record { peers = past.peers; intake = past.intake; last = n; begun = past.begun }) last
-    ∙ ap (λ (b : Option ℕ). record { peers = past.peers; intake = past.intake; last = 0; begun = b }) kept
+  have_pasts : (given : List GivenPeer) (peers : List (Peer D g)) → AllZip OpensGiven given peers
+      → HavePasts given peers
+  have_pasts [] [] all =
+      record { pasts = []; given_are = tt; stand = tt; names = refl; acknowledged = tt; free = tt }
+  have_pasts [] (peer ∷ peers) all = absurd all
+  have_pasts (one ∷ given) [] all = absurd all
+  have_pasts (one ∷ given) (peer ∷ peers) all =
+      let rest = have_pasts given peers all.1 in
+      let past = found_peer one.0 all.0.state (log_of peer.station.tape) in
+      record {
+        pasts = past ∷ rest.pasts;
+        given_are = (
+          record {
+            state = all.0.state;
+            was = all.0.was;
+            fresh = record {
+              conf_is = refl;
+              tape = record {
+                history = refl;
+                faults = refl;
+                works = refl;
+                safe = each_front past peer.station.tape all.0.stands.tape;
+              };
+              places = refl;
+              parted = refl;
+            };
+          },
+          rest.given_are,
+        );
+        stand = (all.0.stands, rest.stand);
+        names = ap (λ (names : List (List ℕ)). one.0.name ∷ names) rest.names;
+        acknowledged = (tt, rest.acknowledged);
+        free = ((λ id number. none_held (numbers all.0.state) id number), rest.free);
+      }
 
 -- the world runs, with no connection, and no stop is armed
 abbrev at_start : Past → Life
-at_start past = record {
-  past = record { peers = past.peers; intake = past.intake; last = 0; begun = None };
-  conns = [];
-  connected = 0;
-  now = 0;
-  armed = None;
-  running = true;
-}
+at_start past = record { past = past; conns = []; connected = 0; now = 0; armed = None; running = true }
 
-pub begins : (peers confs : List PeerConf) (world : World) (stations : _) (conns : _) → IsPermutation peers confs
-    → NamesRise (map (λ (c : PeerConf). c.name) confs) → AllOpen (unused confs) stations
-    → world.stage ≡ Running stations conns → conns.items ≡ []
-    → world.armed ≡ None → world.connected ≡ 0 → world.now ≡ 0 → Begins peers world
-begins peers confs world stations conns permuted rises opens is none armed connected moment =
-    let new = new_all confs (unused confs) opens.later (restart_events (unused confs)) opens.opens
-    (all_open (unused confs)) (is_new confs) in
-    let same = at_first opens.later new.last new.kept in
-    let first : Past = record { peers = opens.later.peers; intake = opens.later.intake; last = 0; begun = None } in
-    let stands : Stands stations first = subst (λ (p : Past). Stands stations p) same opens.stands in
-    let safe = safe_of stations first stands in
+pub begins_from : (given ordered : List GivenPeer) (world : World) (stations : _) (conns : _)
+    → world.stage ≡ Running stations conns → IsPermutation given ordered → NamesRise (given_names ordered)
+    → AllZip OpensGiven ordered stations.peers.items → IsFound start stations.intake → stations.last ≡ 0
+    → stations.begun ≡ None → conns.items ≡ []
+    → world.armed ≡ None → world.connected ≡ 0 → world.now ≡ 0 → BeginsFrom given world
+begins_from given ordered world stations conns is permuted rises all intake last begun none armed connected moment =
+    let have = have_pasts ordered stations.peers.items all in
+    let past : Past = record {
+      peers = have.pasts;
+      intake = found_tape start (log_of stations.intake);
+      last = 0;
+      begun = None;
+    } in
+    let stands : Stands stations past = record {
+      peers = have.stand;
+      intake = intake;
+      last = last;
+      begun = begun;
+      sound = record {
+        names = subst NamesRise (sym have.names) rises;
+        fits = omega arith;
+        marked = omega arith;
+        acknowledged = have.acknowledged;
+        kept = λ number e. absurd cc;
+        parted = λ number e. absurd cc;
+      };
+    } in
+    let safe = safe_of stations past stands in
     record {
-      confs = confs;
+      ordered = ordered;
       permuted = permuted;
       rises = rises;
-      life = at_start opens.later;
+      life = at_start past;
       fresh = record {
-        peers = fresh_peers confs opens.later.peers new.peers safe.peers;
-        intake = record {
-          history = new.intake.history;
-          faults = new.intake.faults;
-          works = new.intake.works;
-          safe =
-              safe.intake;
-        };
+        peers = have.given_are;
+        intake = record { history = refl; faults = refl; works = refl; safe = safe.intake };
         rest = refl;
       };
       stands = record {
@@ -405,54 +332,99 @@ begins peers confs world stations conns permuted rises opens is none armed conne
         now = moment;
         sound = record {
           past = stands.sound;
-          conns = tied_none (at_start opens.later) refl
-              (λ place peer here. all_at HasNoneHeld opens.later.peers place peer opens.free here);
+          conns = tied_none (at_start past) refl
+              (λ place peer here. all_at HasNoneHeld have.pasts place peer have.free here);
         };
       };
     }
 
-why : (event : Event) → IsOpening event → (past later : Past) (fault : Fault) → Refuses event past fault later
-    → IsMakeFault fault
-why (Owes place token id) on past later fault r = absurd on
-why (Parts place) on past later fault r = absurd on
-why (Rotates place generation) on past later fault r = absurd on
-why (Sheds place numbers) on past later fault r = absurd on
-why (Claims place id now) on past later fault r = absurd on
-why (Returns place id number) on past later fault r = absurd on
-why (Settles place id now outcome) on past later fault r = absurd on
-why (Sees number) on past later fault r = absurd on
-why Acknowledges on past later fault r = absurd on
-why (Opens place) on past later fault r = elim r.refused.why [
-  | inl disk ↦ inl disk.0
-  | inr memory ↦ inr memory
-]
-why OpensIntake on past later fault r = elim r.refused.why [
-  | inl disk ↦ inl disk.0
-  | inr memory ↦ inr memory
-]
+-- ---- of empty tapes
 
--- it was not made
-pub make_fault : (past : Past) (halt : Halt) (stopped : List StoppedPeer) (disks : StopDisk × StopDisk)
-    → OpensNot past halt stopped disks → IsMakeFault halt.fault
-make_fault past halt stopped disks is =
-    let fails = is.fails.fails in
-    why fails.event (all_at IsOpening (restart_events past) fails.count fails.event (all_open past) fails.here)
-    fails.mid is.under_way halt.fault fails.refused
+abbrev HasNone : GivenPeer → Type 0
+HasNone given = given.1.items ≡ []
 
-turned : (r : Ordering) → is_eq (ordering_reverse r) ≡ is_eq r
-turned Less = refl
-turned Equal = refl
-turned Greater = refl
+all_none : (confs : List PeerConf) (given : List GivenPeer) → AllZip HasNoOctets confs given → All HasNone given
+all_none [] [] all = All-nil HasNone
+all_none [] (one ∷ given) all = absurd all
+all_none (conf ∷ confs) [] all = absurd all
+all_none (conf ∷ confs) (one ∷ given) all = All-cons HasNone one given all.0.none (all_none confs given all.1)
 
-same_back : (x y : List ℕ) → bytes_eq x y ≡ bytes_eq y x
-same_back x y =
-    sym (is_eq-slice_cmp x y) ∙ ap is_eq (nat_list_cmp_total.antisymm x y) ∙ turned (slice_cmp nat_cmp y x)
-    ∙ is_eq-slice_cmp y x
+confs_are : (confs : List PeerConf) (given : List GivenPeer) → AllZip HasNoOctets confs given
+    → map (λ (x : GivenPeer). x.0) given ≡ confs
+confs_are [] [] all = refl
+confs_are [] (one ∷ given) all = absurd all
+confs_are (conf ∷ confs) [] all = absurd all
+confs_are (conf ∷ confs) (one ∷ given) all =
+    ap (λ (c : PeerConf). c ∷ map (λ (x : GivenPeer). x.0) given) all.0.conf_is
+    ∙ ap (λ (cs : List PeerConf). conf ∷ cs) (confs_are confs given all.1)
 
--- the peers in order have names that rise
-pub sorted_rise : (peers confs : List PeerConf) → IsPermutation peers confs → IsSortedBy is_below confs
-    → IsDistinct bytes_eq (map (λ (c : PeerConf). c.name) peers) → NamesRise (map (λ (c : PeerConf). c.name) confs)
-sorted_rise peers confs permuted up apart =
-    names_rise confs up (IsDistinct-IsPermutation bytes_eq same_back (map (λ (c : PeerConf). c.name) peers)
-    (map (λ (c : PeerConf). c.name) confs)
-    (IsPermutation-map (λ (c : PeerConf). c.name) peers confs permuted) apart)
+names_are : (given : List GivenPeer)
+    → map (λ (c : PeerConf). c.name) (map (λ (x : GivenPeer). x.0) given) ≡ given_names given
+names_are [] = refl
+names_are (one ∷ given) = ap (λ (names : List (List ℕ)). one.0.name ∷ names) (names_are given)
+
+-- the names are those of the settings
+pub same_names : (confs : List PeerConf) (given : List GivenPeer) → AllZip HasNoOctets confs given
+    → IsDistinct bytes_eq (map (λ (c : PeerConf). c.name) confs) → IsDistinct bytes_eq (given_names given)
+same_names confs given all apart = subst (IsDistinct bytes_eq)
+    (ap (map (λ (c : PeerConf). c.name)) (sym (confs_are confs given all)) ∙ names_are given) apart
+
+fresh_peers : (given : List GivenPeer) (pasts : List PeerPast) → AllZip IsGivenPeer given pasts → All HasNone given
+    → AllZip (λ (conf : PeerConf). IsFreshPeer conf start) (map (λ (x : GivenPeer). x.0) given) pasts
+fresh_peers [] [] all none = tt
+fresh_peers [] (past ∷ pasts) all none = absurd all
+fresh_peers (one ∷ given) [] all none = absurd all
+fresh_peers (one ∷ given) (past ∷ pasts) all none =
+    let there = subst (λ (o : List ℕ). IsTape (o, []) all.0.state) (All-head HasNone one given none) all.0.was in (
+      subst (λ (state : State). IsFreshPeer one.0 state past)
+          (tape_once ([], []) all.0.state start there nothing_lies) all.0.fresh,
+      fresh_peers given pasts all.1 (All-tail HasNone one given none),
+    )
+
+pub begins : (confs : List PeerConf) (given : List GivenPeer) (world : World) → AllZip HasNoOctets confs given
+    → BeginsFrom given world → Begins confs world
+begins confs given world all is =
+    let ordered = map (λ (x : GivenPeer). x.0) is.ordered in
+    let none = All-permutation HasNone given is.ordered is.permuted (all_none confs given all) in
+    record {
+      confs = ordered;
+      permuted = subst (λ (cs : List PeerConf). IsPermutation cs ordered) (confs_are confs given all)
+          (IsPermutation-map (λ (x : GivenPeer). x.0) given is.ordered is.permuted);
+      rises = subst NamesRise (sym (names_are is.ordered)) is.rises;
+      life = is.life;
+      fresh = record {
+        peers = fresh_peers is.ordered is.life.past.peers is.fresh.peers none;
+        intake = is.fresh.intake;
+        rest = is.fresh.rest;
+      };
+      stands = is.stands;
+    }
+
+none_at : (given : List GivenPeer) (place : ℕ) (one : GivenPeer) → All HasNone given
+    → slice_get given place ≡ Some one → HasNone one
+none_at [] place one none here = absurd cc
+none_at (x ∷ given) zero one none here =
+    let same : x ≡ one = cc in
+    subst HasNone same (All-head HasNone x given none)
+none_at (x ∷ given) (suc place) one none here = none_at given place one (All-tail HasNone x given none) here
+
+not_damaged : (octets : Octets) (fault : TapeFault) → octets ≡ ([], []) → RefusesTape octets fault → fault ≡ Disk
+not_damaged octets (Damaged segment at) empty is =
+    absurd (tape_nowhere_damaged ([], []) start segment at nothing_lies
+    (subst (λ (o : Octets). IsNoTapeAt o segment at) empty is))
+not_damaged octets Disk empty is = refl
+not_damaged octets Broken empty is = absurd is
+not_damaged octets TapeFull empty is = absurd is
+not_damaged octets GenerationFull empty is = absurd is
+not_damaged octets PendingFull empty is = absurd is
+not_damaged octets NoTapeMemory empty is = absurd is
+not_damaged octets (Note fault) empty is = absurd is
+
+-- none but a disk in memory refuses them
+pub make_fault : (confs : List PeerConf) (given : List GivenPeer) (name : List ℕ) (fault : TapeFault)
+    → AllZip HasNoOctets confs given → RefusesFirst given name fault → IsMakeFault (TapeTold fault)
+make_fault confs given name fault all is =
+    let none = All-permutation HasNone given is.ordered is.permuted (all_none confs given all) in
+    let empty = none_at is.ordered is.stops.place is.stops.peer none is.stops.here in
+    inl (ap TapeTold (not_damaged (octets_of is.stops.peer) fault (ap (λ (o : List ℕ). (o, [])) empty)
+    is.stops.why))

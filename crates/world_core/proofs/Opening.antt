@@ -9,16 +9,8 @@ use Rattle.recovery.specs.Notes.{AreLegal, recovered}
 use Rattle.recovery.specs.Tape.{IsOpenedTape, Recovers}
 use Rattle.recovery.specs.Words.{IsBroken, IsOpenFault, OneHasRisen, ledger_of, log_of, told_of}
 use Rattle.recovery.specs.declared.fault.TapeFault.{TapeFault}
-use Rattle.recovery.specs.declared.fault.TapeFault.TheVariants.{
-  Damaged,
-  Disk,
-  Broken,
-  TapeFull,
-  GenerationFull,
-  PendingFull,
-  NoMemory,
-  Note,
-}
+use Rattle.recovery.specs.declared.fault.TapeFault.TheVariants.{Damaged, Disk, Broken, TapeFull, GenerationFull}
+use Rattle.recovery.specs.declared.fault.TapeFault.TheVariants.{PendingFull, NoMemory, Note}
 use Rattle.peer_queue.specs.Place.{all_ready}
 use Rattle.peer_queue.specs.Words.{limits_of as station_limits, places_of}
 use Rattle.world_core.specs.Past.{PeerPast, limits_of}

@@ -1,28 +1,6 @@
 -- What a line at a station makes of its peer.
-use Rattle.std.proofs.Common.{
-  ◌≡◌,
-  ◌≢◌,
-  ◌↔◌,
-  ℕ,
-  ◌<◌,
-  ◌≤◌,
-  Bool,
-  true,
-  false,
-  List,
-  [],
-  ◌∷◌,
-  ◌++◌,
-  if◌then◌else◌,
-  nat_lt,
-  refl,
-  sym,
-  ap,
-  ◌∙◌,
-  subst,
-  inl,
-  inr,
-}
+use Rattle.std.proofs.Common.{◌≡◌, ◌≢◌, ◌↔◌, ℕ, ◌<◌, ◌≤◌, Bool, true, false, List, [], ◌∷◌, ◌++◌, if◌then◌else◌, nat_lt}
+use Rattle.std.proofs.Common.{refl, sym, ap, ◌∙◌, subst, inl, inr}
 use Rattle.std.proofs.lemmas.Bool.{cases_lt, lt-ltb, le-ltb}
 use Rattle.disk_model.specs.declared.Disk.{Ghosts}
 use Rattle.ledger_core.specs.State.{State, Overflows}
@@ -35,16 +13,9 @@ use Rattle.recovery.specs.Notes.{most_pending}
 use Rattle.recovery.specs.Words.{IsBroken, ledger_of, pending_of}
 use Rattle.recovery.specs.declared.tape.Tape.{Tape}
 use Rattle.recovery.specs.declared.fault.TapeFault.{TapeFault}
-use Rattle.recovery.specs.declared.fault.TapeFault.TheVariants.{
-  Damaged,
-  Disk,
-  Broken as BrokenTape,
-  TapeFull,
-  GenerationFull,
-  PendingFull,
-  NoMemory as NoTapeMemory,
-  Note as RefusedNote,
-}
+use Rattle.recovery.specs.declared.fault.TapeFault.TheVariants.{Damaged, Disk, Broken as BrokenTape, TapeFull}
+use Rattle.recovery.specs.declared.fault.TapeFault.TheVariants.{GenerationFull, PendingFull, NoMemory as NoTapeMemory}
+use Rattle.recovery.specs.declared.fault.TapeFault.TheVariants.{Note as RefusedNote}
 use Rattle.peer_queue.specs.Faults.{IsOweFault, IsOweTapeFault}
 use Rattle.peer_queue.specs.Place.{Places, Ready}
 use Rattle.peer_queue.specs.Words.{IsSame, Notes, limits_of as station_limits, places_of}

@@ -1,34 +1,6 @@
 -- What happens on a connection keeps it tied to its peer, also where an outcome of it waits.
-use Rattle.std.proofs.Common.{
-  ◌≡◌,
-  inl,
-  inr,
-  ℕ,
-  zero,
-  suc,
-  ◌+◌,
-  ◌≤◌,
-  Bool,
-  true,
-  false,
-  Option,
-  None,
-  Some,
-  List,
-  [],
-  ◌∷◌,
-  ◌++◌,
-  length,
-  map,
-  drop,
-  take,
-  refl,
-  sym,
-  ap,
-  ◌∙◌,
-  subst,
-  arith,
-}
+use Rattle.std.proofs.Common.{◌≡◌, inl, inr, ℕ, zero, suc, ◌+◌, ◌≤◌, Bool, true, false, Option, None, Some, List, []}
+use Rattle.std.proofs.Common.{◌∷◌, ◌++◌, length, map, drop, take, refl, sym, ap, ◌∙◌, subst, arith}
 use Rattle.std.specs.Prelude.{◌==◌, Contains, if◌then◌else◌, is_some, slice_get}
 use Rattle.std.specs.List.{AllByRecursion, IsDistinct}
 use Rattle.std.proofs.lemmas.Bool.{cases_eq, cases_lt, eq-eqb, eqb-true}

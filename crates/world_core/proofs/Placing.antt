@@ -1,30 +1,6 @@
 -- The place of a peer's name, and a stop that is armed.
-use Rattle.std.proofs.Common.{
-  ◌≡◌,
-  ◌+◌,
-  ◌<◌,
-  ℕ,
-  zero,
-  suc,
-  Bool,
-  not,
-  List,
-  [],
-  ◌∷◌,
-  length,
-  map,
-  Option,
-  None,
-  Some,
-  cond,
-  ltb,
-  refl,
-  sym,
-  ap,
-  ◌∙◌,
-  subst,
-  arith,
-}
+use Rattle.std.proofs.Common.{◌≡◌, ◌+◌, ◌<◌, ℕ, zero, suc, Bool, not, List, [], ◌∷◌, length, map, Option, None, Some}
+use Rattle.std.proofs.Common.{cond, ltb, refl, sym, ap, ◌∙◌, subst, arith}
 use Rattle.std.specs.Prelude.{option_map}
 use Rattle.std.specs.List.{position, prefix_len}
 use Rattle.std.specs.Str.{bytes_eq}

@@ -1,35 +1,12 @@
 -- Lemmas on lists and marks, and on what is acknowledged.
-use Rattle.std.proofs.Common.{
-  ◌≡◌,
-  ℕ,
-  zero,
-  suc,
-  ◌<◌,
-  ◌≤◌,
-  Some,
-  List,
-  [],
-  ◌∷◌,
-  ◌++◌,
-  length,
-  get_or,
-  take,
-  drop,
-  map,
-  refl,
-  sym,
-  ap,
-  ◌∙◌,
-  subst,
-  arith,
-  take-append-drop,
-}
+use Rattle.std.proofs.Common.{◌≡◌, ℕ, zero, suc, ◌<◌, ◌≤◌, Some, List, [], ◌∷◌, ◌++◌, length, get_or, take, drop, map}
+use Rattle.std.proofs.Common.{refl, sym, ap, ◌∙◌, subst, arith, take-append-drop}
 use Rattle.std.proofs.Math.ListN.{set}
 use Rattle.std.specs.List.{AllByRecursion, AllZip, slice_get}
 use Rattle.ledger_core.specs.declared.note.Note.{Note}
 use Rattle.ledger_core.specs.declared.note.Note.TheVariants.{Owe, Final, Drop, Seen}
 use Rattle.ledger_core.specs.State.{State, AllLegal, after, step}
-use Rattle.ledger_core.specs.Laws.{after-append, AllLegal-back}
+use Rattle.ledger_core.specs.StateLaws.{after-append, AllLegal-back}
 use Rattle.recovery.specs.Image.{Octets, Survives}
 use Rattle.recovery.specs.Leaving.{HasLedger, ledger_of_first, mark_of, pending_notes}
 use Rattle.recovery.specs.Notes.{AreLegal, History, flushed, noted}

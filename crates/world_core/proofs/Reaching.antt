@@ -1,49 +1,14 @@
 -- What follows a step on a connection at its peer is what follows it in the world.
-use Rattle.std.proofs.Common.{
-  ◌≡◌,
-  ◌⊎◌,
-  ℕ,
-  ◌≤◌,
-  Bool,
-  true,
-  false,
-  Option,
-  None,
-  Some,
-  List,
-  [],
-  ◌∷◌,
-  ◌++◌,
-  length,
-  map,
-  take,
-  refl,
-  sym,
-  ap,
-  ◌∙◌,
-  subst,
-  inl,
-  inr,
-  arith,
-  length-append,
-}
+use Rattle.std.proofs.Common.{◌≡◌, ◌⊎◌, ℕ, ◌≤◌, Bool, true, false, Option, None, Some, List, [], ◌∷◌, ◌++◌, length, map}
+use Rattle.std.proofs.Common.{take, refl, sym, ap, ◌∙◌, subst, inl, inr, arith, length-append}
 use Rattle.std.specs.Prelude.{if◌then◌else◌, is_some, slice_get}
 use Rattle.std.proofs.Math.ListN.{set}
 use Rattle.std.proofs.Math.Seq.{take-append_seam}
 use Rattle.feed_conf.specs.declared.conf.PeerConf.{PeerConf}
 use Rattle.conn_core.proofs.Closed.{first_reason-none}
 use Rattle.conn_core.specs.Commands.{Quit}
-use Rattle.conn_core.specs.History.{
-  Broke,
-  Event as Happening,
-  Put,
-  Taken,
-  after,
-  first_reason,
-  is_quit_due,
-  outside,
-  reason,
-}
+use Rattle.conn_core.specs.History.{Broke, Event as Happening, Put, Taken, after, first_reason, is_quit_due, outside}
+use Rattle.conn_core.specs.History.{reason}
 use Rattle.conn_core.specs.Stands.{left_behind}
 use Rattle.conn_core.specs.declared.options.Options.{Options}
 use Rattle.conn_core.specs.declared.outcome.Outcome.{Outcome}
@@ -52,32 +17,16 @@ use Rattle.conn_core.specs.declared.reason.Reason.TheVariants.{Broken}
 use Rattle.world_core.specs.Past.{ConnPast, Life, PeerPast, options_of, with_conn, with_past, with_peer}
 use Rattle.world_core.specs.Safe.{IsSafe}
 use Rattle.world_core.specs.Events.{AllDo, Event, RefusesEnd, Settles, settling}
-use Rattle.world_core.specs.Exchange.{
-  Follows,
-  FollowsNot,
-  StopsAt,
-  sent_out,
-  settle_events,
-  told_out,
-  untold,
-  with_taken,
-}
+use Rattle.world_core.specs.Exchange.{Follows, FollowsNot, StopsAt, sent_out, settle_events, told_out, untold}
+use Rattle.world_core.specs.Exchange.{with_taken}
 use Rattle.world_core.specs.Pairs.{FollowsAt, FollowsNotAt}
 use Rattle.world_core.specs.Stands.{HoldsTranscript}
 use Rattle.world_core.specs.Told.{Said}
 use Rattle.world_core.specs.declared.connection.Connection.{Connection}
 use Rattle.world_core.specs.declared.fault.Fault.{Fault}
 use Rattle.world_core.specs.declared.fault.Fault.TheVariants.{NoMemory}
-use Rattle.world_core.proofs.Lifting.{
-  Leads,
-  PeerKeeps,
-  get_set,
-  keeps_then,
-  leads_settled,
-  safe_with,
-  with_same,
-  with_twice,
-}
+use Rattle.world_core.proofs.Lifting.{Leads, PeerKeeps, get_set, keeps_then, leads_settled, safe_with, with_same}
+use Rattle.world_core.proofs.Lifting.{with_twice}
 use Rattle.world_core.proofs.Telling.{left_same}
 use Rattle.world_core.proofs.Waiting.{more_taken}
 

@@ -1,40 +1,13 @@
 -- A funnel line, from what it says and the events at the peers that it names.
-use Rattle.std.proofs.Common.{
-  ◌≡◌,
-  ◌≢◌,
-  ◌↔◌,
-  ◌⊎◌,
-  ℕ,
-  ◌+◌,
-  ◌^◌,
-  ◌<◌,
-  ◌≤◌,
-  List,
-  [],
-  ◌∷◌,
-  map,
-  Err,
-  refl,
-  sym,
-  ap,
-  ◌∙◌,
-  subst,
-  inl,
-  inr,
-  arith,
-}
+use Rattle.std.proofs.Common.{◌≡◌, ◌≢◌, ◌↔◌, ◌⊎◌, ℕ, ◌+◌, ◌^◌, ◌<◌, ◌≤◌, List, [], ◌∷◌, map, Err, refl, sym, ap, ◌∙◌}
+use Rattle.std.proofs.Common.{subst, inl, inr, arith}
 use Rattle.std.specs.Prelude.{IsErrOf}
 use Rattle.std.specs.List.{AllZip}
 use Rattle.disk_model.specs.declared.Disk.{Ghosts}
 use Rattle.funnel.specs.Line.{IsFunnelLine, HasFault}
 use Rattle.funnel.specs.declared.line.LineFault.{LineFault}
-use Rattle.funnel.specs.declared.line.LineFault.TheVariants.{
-  NoToken,
-  BadToken,
-  BadId,
-  TooLong,
-  NoMemory as NoLineMemory,
-}
+use Rattle.funnel.specs.declared.line.LineFault.TheVariants.{NoToken, BadToken, BadId, TooLong}
+use Rattle.funnel.specs.declared.line.LineFault.TheVariants.{NoMemory as NoLineMemory}
 use Rattle.recovery.specs.declared.tape.Tape.{Tape}
 use Rattle.std.specs.Global.{Vec}
 use Rattle.world_core.specs.Past.{Past, with_last}

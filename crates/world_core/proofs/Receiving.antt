@@ -1,23 +1,6 @@
 -- Octets that come in on a connection, and an article that is handed in, also where an outcome waits.
-use Rattle.std.proofs.Common.{
-  ◌≡◌,
-  ℕ,
-  Bool,
-  true,
-  false,
-  Option,
-  None,
-  Some,
-  List,
-  [],
-  ◌∷◌,
-  ◌++◌,
-  refl,
-  sym,
-  ap,
-  ◌∙◌,
-  subst,
-}
+use Rattle.std.proofs.Common.{◌≡◌, ℕ, Bool, true, false, Option, None, Some, List, [], ◌∷◌, ◌++◌, refl, sym, ap, ◌∙◌}
+use Rattle.std.proofs.Common.{subst}
 use Rattle.std.specs.Prelude.{cond, find, if◌then◌else◌, is_some, option_map, slice_get}
 use Rattle.std.proofs.lemmas.Bool.{eq-eqb}
 use Rattle.std.proofs.lemmas.Option.{slice_get_within}
@@ -26,32 +9,11 @@ use Rattle.feed_conf.specs.declared.conf.PeerConf.{PeerConf}
 use Rattle.article_store.specs.declared.store.Found.{Found}
 use Rattle.conn_core.proofs.UsedUp.{find-left_from}
 use Rattle.conn_core.specs.Commands.{Handing, Want, is_of}
-use Rattle.conn_core.specs.History.{
-  Broke,
-  Came,
-  Event as Happening,
-  Faulted,
-  Handed,
-  Taken,
-  after,
-  need,
-  needed,
-  outcomes,
-  outside,
-  reason,
-  story,
-  taken,
-}
+use Rattle.conn_core.specs.History.{Broke, Came, Event as Happening, Faulted, Handed, Taken, after, need, needed}
+use Rattle.conn_core.specs.History.{outcomes, outside, reason, story, taken}
 use Rattle.conn_core.specs.Receipt.{Fails, Is_closed, IsHandedAs, Reads, Reads_on, Receives, ReceivesSome, Stops, Waits}
-use Rattle.conn_core.specs.Stands.{
-  Arises,
-  Breaks,
-  Is_handed,
-  Receives_fault,
-  Receives_reply,
-  Stands as ConnStands,
-  Takes_one,
-}
+use Rattle.conn_core.specs.Stands.{Arises, Breaks, Is_handed, Receives_fault, Receives_reply, Stands as ConnStands}
+use Rattle.conn_core.specs.Stands.{Takes_one}
 use Rattle.conn_core.specs.Used.{first_left, left_from}
 use Rattle.conn_core.specs.declared.options.Options.{Options}
 use Rattle.conn_core.specs.declared.outcome.Outcome.{Outcome}

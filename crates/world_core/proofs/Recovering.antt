@@ -1,32 +1,7 @@
 -- Whatever a stop leaves after a run is recovered as the debts after the first of a peer's notes, every acknowledged
 -- one among them.
-use Rattle.std.proofs.Common.{
-  ◌≡◌,
-  ◌⊎◌,
-  ℕ,
-  zero,
-  suc,
-  ◌<◌,
-  Bool,
-  true,
-  false,
-  cond,
-  not,
-  Some,
-  List,
-  [],
-  ◌∷◌,
-  ◌++◌,
-  take,
-  refl,
-  sym,
-  ap,
-  ◌∙◌,
-  subst,
-  inl,
-  inr,
-  arith,
-}
+use Rattle.std.proofs.Common.{◌≡◌, ◌⊎◌, ℕ, zero, suc, ◌<◌, Bool, true, false, cond, not, Some, List, [], ◌∷◌, ◌++◌}
+use Rattle.std.proofs.Common.{take, refl, sym, ap, ◌∙◌, subst, inl, inr, arith}
 use Rattle.std.specs.Prelude.{◌==◌, Contains}
 use Rattle.std.proofs.lemmas.Bool.{cases_eq, eqb-true}
 use Rattle.std.specs.List.{AllByRecursion, AllZip, slice_get}

@@ -1,40 +1,13 @@
 -- The openings of all tapes come to their end.
-use Rattle.std.proofs.Common.{
-  ◌≡◌,
-  ℕ,
-  ◌^◌,
-  ◌<◌,
-  ◌≤◌,
-  false,
-  Option,
-  None,
-  Some,
-  List,
-  [],
-  ◌∷◌,
-  ◌++◌,
-  length,
-  map,
-  refl,
-  sym,
-  ap,
-  ◌∙◌,
-  subst,
-  arith,
-  append-nil,
-}
+use Rattle.std.proofs.Common.{◌≡◌, ℕ, ◌^◌, ◌<◌, ◌≤◌, false, Option, None, Some, List, [], ◌∷◌, ◌++◌, length, map, refl}
+use Rattle.std.proofs.Common.{sym, ap, ◌∙◌, subst, arith, append-nil}
 use Rattle.std.specs.List.{AllByRecursion, AllZip, slice_get}
 use Rattle.disk_model.specs.declared.Disk.{Ghosts}
 use Rattle.ledger_core.specs.State.{State}
 use Rattle.recovery.specs.Image.{EachTape, Log, Survives, TapeLeaves}
 use Rattle.recovery.specs.Leaving.{EachLedger, HasLedger, LedgersLeave, LiesOn, broken_of, ledger_of_first}
-use Rattle.recovery.specs.LeavingLaws.{
-  EachLedger-weaker,
-  TapeLeaves-now,
-  TapeLeaves-weaker,
-  found_first,
-  survives_of_front,
-}
+use Rattle.recovery.specs.LeavingLaws.{EachLedger-weaker, TapeLeaves-now, TapeLeaves-weaker, found_first}
+use Rattle.recovery.specs.LeavingLaws.{survives_of_front}
 use Rattle.recovery.specs.Notes.{AreLegal, recovered}
 use Rattle.recovery.specs.Tape.{IsOpenedTape, Recovers}
 use Rattle.recovery.specs.Words.{IsBroken, IsOpenFault, OneHasRisen, ledger_of, log_of, told_of}

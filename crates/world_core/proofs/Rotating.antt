@@ -7,17 +7,8 @@ use Rattle.recovery.specs.LeavingLaws.{pends_by, rotates_by, same_disks, segment
 use Rattle.recovery.specs.Image.{Log}
 use Rattle.recovery.specs.Notes.{flushed, most_pending, noted_all}
 use Rattle.recovery.specs.Tape.{IsRead as IsTapeRead, StandsFor}
-use Rattle.recovery.specs.Words.{
-  IsBroken,
-  OneHasRisen,
-  RotatesTooLong,
-  disks_of,
-  generation_of,
-  ledger_of,
-  log_of,
-  pending_of,
-  told_of,
-}
+use Rattle.recovery.specs.Words.{IsBroken, OneHasRisen, RotatesTooLong, disks_of, generation_of, ledger_of, log_of}
+use Rattle.recovery.specs.Words.{pending_of, told_of}
 use Rattle.recovery.specs.declared.tape.Tape.{Tape}
 use Rattle.recovery.specs.declared.fault.TapeFault.{TapeFault}
 use Rattle.recovery.specs.declared.fault.TapeFault.TheVariants.{Disk, TapeFull, GenerationFull}

@@ -9,19 +9,8 @@ use Rattle.recovery.specs.Notes.{begun as begun_history, flushed, recovered}
 use Rattle.peer_queue.specs.Place.{Ready}
 use Rattle.peer_queue.specs.declared.limits.Owed.TheVariants.{Already, New}
 use Rattle.world_core.specs.Past.{Armed, Life, Past, PeerPast, TapePast, ledger_at, mark_at}
-use Rattle.world_core.specs.Events.{
-  Acknowledges,
-  Opens,
-  OpensIntake,
-  Owes,
-  Parts,
-  Sees,
-  opened_peer,
-  owed_as,
-  owing_as,
-  parted,
-  seen,
-}
+use Rattle.world_core.specs.Events.{Acknowledges, Opens, OpensIntake, Owes, Parts, Sees, opened_peer, owed_as, owing_as}
+use Rattle.world_core.specs.Events.{parted, seen}
 use Rattle.world_core.specs.Halts.{AtRest, ByChoice, armed_with, halted, left, restart_events}
 use Rattle.world_core.specs.Steps.{begun_at, flush_events, is_named, line_events, owed_there}
 use Rattle.world_core.specs.Told.{Mark, Owed, Said, lines_in, mark_said}

@@ -1,43 +1,13 @@
 -- What was acknowledged stays so over any run of steps.
-use Rattle.std.proofs.Common.{
-  ◌≡◌,
-  ℕ,
-  zero,
-  suc,
-  false,
-  Option,
-  Some,
-  List,
-  [],
-  ◌∷◌,
-  map,
-  refl,
-  sym,
-  ap,
-  subst,
-  inl,
-  inr,
-}
+use Rattle.std.proofs.Common.{◌≡◌, ℕ, zero, suc, false, Option, Some, List, [], ◌∷◌, map, refl, sym, ap, subst, inl}
+use Rattle.std.proofs.Common.{inr}
 use Rattle.std.specs.List.{AllZip, slice_get}
 use Rattle.conn_core.specs.History.{Event as Happening}
 use Rattle.disk_model.specs.declared.choice.Choice.{Choice}
 use Rattle.world_core.specs.Past.{ConnPast, Life, Past, PeerPast, TapePast, with_past, with_peer, with_tape}
 use Rattle.world_core.specs.Safe.{KeepsNotes}
-use Rattle.world_core.specs.Events.{
-  Acknowledges,
-  Claims,
-  Event,
-  Opens,
-  OpensIntake,
-  Owes,
-  Parts,
-  Refuses,
-  Returns,
-  Rotates,
-  Sees,
-  Settles,
-  Sheds,
-}
+use Rattle.world_core.specs.Events.{Acknowledges, Claims, Event, Opens, OpensIntake, Owes, Parts, Refuses, Returns}
+use Rattle.world_core.specs.Events.{Rotates, Sees, Settles, Sheds}
 use Rattle.world_core.specs.Steps.{Good, NotGood, Reading, TakesReading, begun_at}
 use Rattle.world_core.specs.Exchange.{Follows, HandsOver, TicksEach}
 use Rattle.world_core.specs.Exchange.HandsOver.{None_there, Taken_over, Has_no_room, Is_shut}
@@ -50,20 +20,8 @@ use Rattle.world_core.specs.Runs.Runs.{Start, Next}
 use Rattle.world_core.specs.Told.{Said}
 use Rattle.world_core.specs.declared.fault.Fault.{Fault}
 use Rattle.world_core.specs.declared.step.Step.{Step}
-use Rattle.world_core.specs.declared.step.Step.TheVariants.{
-  Line,
-  Flush,
-  Begin,
-  Part,
-  Seal,
-  Connect,
-  Hand,
-  Bytes,
-  Article,
-  Break,
-  Tick,
-  Shed,
-}
+use Rattle.world_core.specs.declared.step.Step.TheVariants.{Line, Flush, Begin, Part, Seal, Connect, Hand, Bytes}
+use Rattle.world_core.specs.declared.step.Step.TheVariants.{Article, Break, Tick, Shed}
 use Rattle.world_core.specs.declared.step.Step.TheVariants.{Rotate, Stop, Restart}
 use Rattle.world_core.proofs.Keeping.{events_stay, one_changed, stay_same, stay_then, tape_same}
 use Rattle.world_core.proofs.Shedding.{same_rotated}

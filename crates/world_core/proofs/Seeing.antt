@@ -1,32 +1,12 @@
 -- What a number that is noted on the intake's tape makes of all stations.
-use Rattle.std.proofs.Common.{
-  ◌≡◌,
-  ◌≢◌,
-  ◌↔◌,
-  ℕ,
-  ◌<◌,
-  ◌≤◌,
-  Bool,
-  if◌then◌else◌,
-  refl,
-  sym,
-  ap,
-  ◌∙◌,
-  subst,
-  inl,
-  inr,
-  arith,
-}
+use Rattle.std.proofs.Common.{◌≡◌, ◌≢◌, ◌↔◌, ℕ, ◌<◌, ◌≤◌, Bool, if◌then◌else◌, refl, sym, ap, ◌∙◌, subst, inl, inr}
+use Rattle.std.proofs.Common.{arith}
 use Rattle.std.proofs.lemmas.Bool.{lt-ltb, le-ltb}
 use Rattle.disk_model.specs.declared.Disk.{Ghosts}
 use Rattle.ledger_core.specs.State.{State}
 use Rattle.ledger_core.specs.declared.ledger.LedgerFault.{LedgerFault}
-use Rattle.ledger_core.specs.declared.ledger.LedgerFault.TheVariants.{
-  OldNumber,
-  NotOwed,
-  CountFull,
-  NoMemory as NoLedgerMemory,
-}
+use Rattle.ledger_core.specs.declared.ledger.LedgerFault.TheVariants.{OldNumber, NotOwed, CountFull}
+use Rattle.ledger_core.specs.declared.ledger.LedgerFault.TheVariants.{NoMemory as NoLedgerMemory}
 use Rattle.ledger_core.specs.declared.note.Note.TheVariants.{Seen}
 use Rattle.recovery.specs.Leaving.{broken_of}
 use Rattle.recovery.specs.LeavingLaws.{pends_by, same_disks}
@@ -34,16 +14,8 @@ use Rattle.recovery.specs.Notes.{History, most_pending, noted}
 use Rattle.recovery.specs.Tape.{StandsFor}
 use Rattle.recovery.specs.Words.{IsBroken, IsNoteFault, RefusesNote as LedgerRefuses, disks_of, ledger_of, pending_of}
 use Rattle.recovery.specs.declared.fault.TapeFault.{TapeFault}
-use Rattle.recovery.specs.declared.fault.TapeFault.TheVariants.{
-  Damaged,
-  Disk,
-  Broken,
-  TapeFull,
-  GenerationFull,
-  PendingFull,
-  NoMemory,
-  Note as RefusedNote,
-}
+use Rattle.recovery.specs.declared.fault.TapeFault.TheVariants.{Damaged, Disk, Broken, TapeFull, GenerationFull}
+use Rattle.recovery.specs.declared.fault.TapeFault.TheVariants.{PendingFull, NoMemory, Note as RefusedNote}
 use Rattle.recovery.specs.declared.tape.Tape.{Tape}
 use Rattle.world_core.specs.Past.{Past, TapePast, mark_at, with_intake}
 use Rattle.world_core.specs.Tapes.{RefusesNote, noted_at}

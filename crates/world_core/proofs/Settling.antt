@@ -1,24 +1,6 @@
 -- What an outcome that goes to its peer's station makes of the connection and the peer.
-use Rattle.std.proofs.Common.{
-  ◌≡◌,
-  ◌≢◌,
-  ◌↔◌,
-  ℕ,
-  None,
-  Some,
-  List,
-  [],
-  ◌∷◌,
-  ◌++◌,
-  map,
-  refl,
-  sym,
-  ap,
-  ◌∙◌,
-  subst,
-  inl,
-  inr,
-}
+use Rattle.std.proofs.Common.{◌≡◌, ◌≢◌, ◌↔◌, ℕ, None, Some, List, [], ◌∷◌, ◌++◌, map, refl, sym, ap, ◌∙◌, subst, inl}
+use Rattle.std.proofs.Common.{inr}
 use Rattle.std.specs.Prelude.{◌==◌, Contains}
 use Rattle.std.specs.List.{IsDistinct}
 use Rattle.std.proofs.lemmas.Option.{slice_get_within}
@@ -55,18 +37,8 @@ use Rattle.world_core.specs.declared.fault.Fault.{Fault}
 use Rattle.world_core.specs.declared.peer.Peer.{Peer}
 use Rattle.world_core.specs.declared.told.Told.{Told}
 use Rattle.world_core.specs.declared.told.Told.TheVariants.{Settled as ToldSettled}
-use Rattle.world_core.proofs.Holding.{
-  contains_first,
-  first_apart,
-  gone_none,
-  gone_other,
-  held_less,
-  moved_here,
-  moved_other,
-  numbers_taken,
-  others_apart,
-  untold_taken,
-}
+use Rattle.world_core.proofs.Holding.{contains_first, first_apart, gone_none, gone_other, held_less, moved_here}
+use Rattle.world_core.proofs.Holding.{moved_other, numbers_taken, others_apart, untold_taken}
 use Rattle.world_core.proofs.Owing.{no_room_here, noted_tape, room_here, same_peer}
 use Rattle.world_core.proofs.Peers.{tape_broken, tape_works}
 

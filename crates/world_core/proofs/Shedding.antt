@@ -1,28 +1,6 @@
 -- What a shedding and a rotation of one peer make of all stations.
-use Rattle.std.proofs.Common.{
-  ◌≡◌,
-  ℕ,
-  zero,
-  suc,
-  ◌<◌,
-  ◌≤◌,
-  List,
-  [],
-  ◌∷◌,
-  ◌++◌,
-  length,
-  drop,
-  get_or,
-  refl,
-  sym,
-  ap,
-  ◌∙◌,
-  subst,
-  inl,
-  inr,
-  arith,
-  Some,
-}
+use Rattle.std.proofs.Common.{◌≡◌, ℕ, zero, suc, ◌<◌, ◌≤◌, List, [], ◌∷◌, ◌++◌, length, drop, get_or, refl, sym, ap}
+use Rattle.std.proofs.Common.{◌∙◌, subst, inl, inr, arith, Some}
 use Rattle.std.specs.List.{AllByRecursion, AllZip, slice_get}
 use Rattle.disk_model.specs.declared.Disk.{Ghosts}
 use Rattle.ledger_core.specs.State.{State}
@@ -34,17 +12,8 @@ use Rattle.world_core.specs.Safe.{HasAcknowledged, IsAbove, KeepsNotes}
 use Rattle.world_core.specs.Tapes.{RefusesRotate}
 use Rattle.world_core.specs.Events.{Rotates, Sheds, shed_peer}
 use Rattle.world_core.specs.Sound.{HasParted, IsSound}
-use Rattle.world_core.specs.Stands.{
-  DidOne,
-  FailedOne,
-  PeerStands,
-  RotatedPeer,
-  ShedPeer,
-  Stands,
-  TapeStands,
-  UnrotatedPeer,
-  UnshedPeer,
-}
+use Rattle.world_core.specs.Stands.{DidOne, FailedOne, PeerStands, RotatedPeer, ShedPeer, Stands, TapeStands}
+use Rattle.world_core.specs.Stands.{UnrotatedPeer, UnshedPeer}
 use Rattle.world_core.specs.declared.fault.Fault.{Fault}
 use Rattle.world_core.specs.declared.peer.Peer.{Peer}
 use Rattle.world_core.specs.declared.stations.Stations.{Stations}

@@ -1,30 +1,6 @@
 -- What the calls of its peers make of all stations.
-use Rattle.std.proofs.Common.{
-  ◌≡◌,
-  ℕ,
-  zero,
-  suc,
-  ◌+◌,
-  ◌<◌,
-  Some,
-  Result,
-  Ok,
-  Err,
-  IfErr,
-  OnOk,
-  List,
-  [],
-  ◌∷◌,
-  length,
-  get_or,
-  refl,
-  sym,
-  ap,
-  ◌∙◌,
-  subst,
-  inl,
-  inr,
-}
+use Rattle.std.proofs.Common.{◌≡◌, ℕ, zero, suc, ◌+◌, ◌<◌, Some, Result, Ok, Err, IfErr, OnOk, List, [], ◌∷◌, length}
+use Rattle.std.proofs.Common.{get_or, refl, sym, ap, ◌∙◌, subst, inl, inr}
 use Rattle.std.specs.Prelude.{IfOk}
 use Rattle.std.proofs.Math.ListN.{set}
 use Rattle.std.specs.List.{AllZip, slice_get}
@@ -36,18 +12,8 @@ use Rattle.world_core.specs.Safe.{KeepsNotes}
 use Rattle.world_core.specs.Tapes.{RefusesFlush}
 use Rattle.world_core.specs.Events.{Owes, Parts, owed_as, owing_as, parted}
 use Rattle.world_core.specs.Sound.{IsSound}
-use Rattle.world_core.specs.Stands.{
-  DidOne,
-  FailedOne,
-  FlushedPeer,
-  OwedNot,
-  OwedOne,
-  OwedTo,
-  PeerStands,
-  Stands,
-  TapeStands,
-  UnflushedPeer,
-}
+use Rattle.world_core.specs.Stands.{DidOne, FailedOne, FlushedPeer, OwedNot, OwedOne, OwedTo, PeerStands, Stands}
+use Rattle.world_core.specs.Stands.{TapeStands, UnflushedPeer}
 use Rattle.world_core.specs.declared.fault.Fault.{Fault}
 use Rattle.world_core.specs.declared.peer.Peer.{Peer}
 use Rattle.world_core.specs.declared.stations.Stations.{Stations}

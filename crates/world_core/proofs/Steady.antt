@@ -1,33 +1,6 @@
 -- Events on tapes leave to each connection what it holds.
-use Rattle.std.proofs.Common.{
-  ◌≡◌,
-  ◌↔◌,
-  ℕ,
-  zero,
-  suc,
-  ◌+◌,
-  Bool,
-  true,
-  false,
-  cond,
-  Option,
-  None,
-  Some,
-  List,
-  [],
-  ◌∷◌,
-  ◌++◌,
-  length,
-  take,
-  map,
-  refl,
-  sym,
-  ap,
-  ◌∙◌,
-  subst,
-  inl,
-  inr,
-}
+use Rattle.std.proofs.Common.{◌≡◌, ◌↔◌, ℕ, zero, suc, ◌+◌, Bool, true, false, cond, Option, None, Some, List, [], ◌∷◌}
+use Rattle.std.proofs.Common.{◌++◌, length, take, map, refl, sym, ap, ◌∙◌, subst, inl, inr}
 use Rattle.std.specs.Prelude.{◌==◌, if◌then◌else◌}
 use Rattle.std.proofs.Math.ListN.{set}
 use Rattle.std.proofs.lemmas.Bool.{cases_eq}
@@ -36,51 +9,14 @@ use Rattle.peer_queue.specs.Place.{AreUnheld, Held, IsHeldBy, IsUnheld, Place, P
 use Rattle.peer_queue.specs.declared.limits.Owed.{Owed}
 use Rattle.peer_queue.specs.declared.limits.Owed.TheVariants.{New, Already}
 use Rattle.world_core.specs.Past.{Past, PeerPast, TapePast, with_peer, with_tape}
-use Rattle.world_core.specs.Events.{
-  Acknowledges,
-  AllDo,
-  Claims,
-  Does,
-  Event,
-  Fails,
-  Opens,
-  OpensIntake,
-  Owes,
-  Parts,
-  Refuses,
-  Returns,
-  Rotates,
-  Sees,
-  Settles,
-  Sheds,
-}
+use Rattle.world_core.specs.Events.{Acknowledges, AllDo, Claims, Does, Event, Fails, Opens, OpensIntake, Owes, Parts}
+use Rattle.world_core.specs.Events.{Refuses, Returns, Rotates, Sees, Settles, Sheds}
 use Rattle.world_core.specs.Events.{each_place, owed_as, owing_as, parted}
 use Rattle.world_core.specs.Events.AllDo.{Start, Next}
-use Rattle.world_core.specs.Steps.{
-  Good,
-  NotGood,
-  Reading,
-  RefusesFlushing,
-  RefusesLine,
-  RefusesPart,
-  RefusesRotation,
-  RefusesSeal,
-  RefusesShed,
-  TakesFlush,
-  TakesLine,
-}
-use Rattle.world_core.specs.Steps.{
-  TakesPart,
-  TakesReading,
-  TakesRotate,
-  TakesSeal,
-  TakesShed,
-  begun_at,
-  flush_events,
-  is_named,
-  owes_from,
-  seal_events,
-}
+use Rattle.world_core.specs.Steps.{Good, NotGood, Reading, RefusesFlushing, RefusesLine, RefusesPart, RefusesRotation}
+use Rattle.world_core.specs.Steps.{RefusesSeal, RefusesShed, TakesFlush, TakesLine}
+use Rattle.world_core.specs.Steps.{TakesPart, TakesReading, TakesRotate, TakesSeal, TakesShed, begun_at, flush_events}
+use Rattle.world_core.specs.Steps.{is_named, owes_from, seal_events}
 use Rattle.world_core.specs.Told.{Said}
 use Rattle.world_core.specs.declared.fault.Fault.{Fault}
 use Rattle.world_core.proofs.Holding.{gone_none, gone_other}

@@ -1,39 +1,7 @@
 -- The steps on tapes, from their events.
-use Rattle.std.proofs.Common.{
-  ◌≡◌,
-  ℕ,
-  zero,
-  suc,
-  ◌+◌,
-  ◌<◌,
-  true,
-  false,
-  None,
-  Some,
-  Result,
-  Ok,
-  Err,
-  IfErr,
-  OnOk,
-  List,
-  [],
-  ◌∷◌,
-  ◌++◌,
-  length,
-  take,
-  map,
-  refl,
-  sym,
-  ap,
-  ◌∙◌,
-  subst,
-  inl,
-  inr,
-  arith,
-  add-one,
-  cond,
-  not,
-}
+use Rattle.std.proofs.Common.{◌≡◌, ℕ, zero, suc, ◌+◌, ◌<◌, true, false, None, Some, Result, Ok, Err, IfErr, OnOk, List}
+use Rattle.std.proofs.Common.{[], ◌∷◌, ◌++◌, length, take, map, refl, sym, ap, ◌∙◌, subst, inl, inr, arith, add-one}
+use Rattle.std.proofs.Common.{cond, not}
 use Rattle.std.specs.Prelude.{IsErrAnd, nat_lt}
 use Rattle.std.specs.Global.{Vec}
 use Rattle.std.specs.List.{AllByRecursion, AllZip, position, prefix_len, slice_get}
@@ -46,29 +14,10 @@ use Rattle.world_core.specs.Past.{Past, PeerPast, TapePast, mark_at, place_of}
 use Rattle.world_core.specs.Told.{Rotated as SaidRotated, Shed as SaidShed, Taken as SaidTaken, said_of}
 use Rattle.recovery.specs.declared.fault.TapeFault.TheVariants.{Disk}
 use Rattle.world_core.specs.Tapes.{RefusesNote}
-use Rattle.world_core.specs.Events.{
-  Acknowledges,
-  Event,
-  Fails,
-  Parts,
-  Refuses,
-  Rotates,
-  Sees,
-  Sheds,
-  calls_disk,
-  each_place,
-  parted,
-}
-use Rattle.world_core.specs.Steps.{
-  IsSealable,
-  RefusesFlushing,
-  RefusesPart,
-  RefusesRotation,
-  RefusesSeal,
-  RefusesShed,
-  TakesFlush,
-  TakesPart,
-}
+use Rattle.world_core.specs.Events.{Acknowledges, Event, Fails, Parts, Refuses, Rotates, Sees, Sheds, calls_disk}
+use Rattle.world_core.specs.Events.{each_place, parted}
+use Rattle.world_core.specs.Steps.{IsSealable, RefusesFlushing, RefusesPart, RefusesRotation, RefusesSeal, RefusesShed}
+use Rattle.world_core.specs.Steps.{TakesFlush, TakesPart}
 use Rattle.world_core.specs.Steps.{TakesRotate, TakesSeal, TakesShed, begun_at, flush_events, seal_events}
 use Rattle.world_core.specs.Stands.{DidOne, FailedOne, PeerStands, Stands}
 use Rattle.world_core.specs.Stepped.{Did, Failed, FailedAt, HaltedAs, PartedEach, Took, TookNot}
@@ -78,23 +27,10 @@ use Rattle.world_core.specs.declared.fault.Halt.{Halt}
 use Rattle.world_core.specs.declared.peer.Peer.{Peer}
 use Rattle.world_core.specs.declared.stations.Stations.{Stations}
 use Rattle.world_core.specs.declared.told.Told.{Told}
-use Rattle.world_core.specs.declared.told.Told.TheVariants.{
-  Rotated as ToldRotated,
-  Shed as ToldShed,
-  Taken as ToldTaken,
-}
-use Rattle.world_core.proofs.Chains.{
-  did_more,
-  did_none,
-  did_one,
-  did_then,
-  each_more,
-  each_split,
-  failed_before,
-  failed_next,
-  failed_one,
-  failed_then,
-}
+use Rattle.world_core.specs.declared.told.Told.TheVariants.{Rotated as ToldRotated, Shed as ToldShed}
+use Rattle.world_core.specs.declared.told.Told.TheVariants.{Taken as ToldTaken}
+use Rattle.world_core.proofs.Chains.{did_more, did_none, did_one, did_then, each_more, each_split, failed_before}
+use Rattle.world_core.proofs.Chains.{failed_next, failed_one, failed_then}
 use Rattle.world_core.proofs.Seeing.{mark_is}
 
 -- ---- results

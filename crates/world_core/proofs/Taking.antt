@@ -1,57 +1,21 @@
 -- What the steps on tapes, and a stop that is met in one, make of a world.
-use Rattle.std.proofs.Common.{
-  ◌≡◌,
-  ℕ,
-  zero,
-  suc,
-  true,
-  false,
-  Option,
-  None,
-  Some,
-  List,
-  [],
-  ◌∷◌,
-  map,
-  refl,
-  sym,
-  ap,
-  ◌∙◌,
-  subst,
-  inl,
-  inr,
-}
+use Rattle.std.proofs.Common.{◌≡◌, ℕ, zero, suc, true, false, Option, None, Some, List, [], ◌∷◌, map, refl, sym, ap}
+use Rattle.std.proofs.Common.{◌∙◌, subst, inl, inr}
 use Rattle.std.specs.Prelude.{Contains, IfErr, OnOk, Result, option_map}
 use Rattle.std.specs.List.{AllByRecursion, AllZip, slice_get}
 use Rattle.recovery.specs.declared.fault.TapeFault.TheVariants.{Disk}
 use Rattle.world_core.specs.Past.{Armed, ConnPast, Life, Past, PeerPast, options_of, place_of, with_past}
 use Rattle.world_core.specs.Events.{Event, Fails, Parts, Refuses as RefusesEvent, Rotates, calls_disk}
-use Rattle.world_core.specs.Steps.{
-  RefusesFlushing,
-  RefusesPart,
-  RefusesRotation,
-  RefusesSeal,
-  begun_at,
-  flush_events,
-  seal_events,
-}
+use Rattle.world_core.specs.Steps.{RefusesFlushing, RefusesPart, RefusesRotation, RefusesSeal, begun_at, flush_events}
+use Rattle.world_core.specs.Steps.{seal_events}
 use Rattle.world_core.specs.Halts.{AtRest, ByChoice, Meets, halted}
 use Rattle.world_core.specs.Runs.{Does, OnTapes, Refuses, RefusesTapes}
 use Rattle.world_core.specs.Sound.{AreTied, HasNumber, IsSoundConn, numbers_at}
 use Rattle.world_core.specs.Stands.{ConnectionStands, HoldsTranscript, StageStands, Stands, WorldStands, armed_as}
 use Rattle.world_core.specs.Stepped.{HaltedAs, Took as TookTapes, TookNot}
 use Rattle.world_core.specs.Told.{Said, said_of}
-use Rattle.world_core.specs.Turn.{
-  DiskFails,
-  GoesOn,
-  Made,
-  Refused,
-  Took,
-  WasHalted,
-  WasNotTaken,
-  WasStruck,
-  WasStruckUntold,
-}
+use Rattle.world_core.specs.Turn.{DiskFails, GoesOn, Made, Refused, Took, WasHalted, WasNotTaken, WasStruck}
+use Rattle.world_core.specs.Turn.{WasStruckUntold}
 use Rattle.world_core.specs.declared.connection.Connection.{Connection}
 use Rattle.world_core.specs.declared.fault.Fault.{Fault}
 use Rattle.world_core.specs.declared.fault.Fault.TheVariants.{Tape, Stopped as HasStopped}

@@ -1,47 +1,13 @@
 -- What is told behind the outcomes of a step on a connection, and its output counts as sent.
-use Rattle.std.proofs.Common.{
-  ◌≡◌,
-  ◌↔◌,
-  ℕ,
-  Bool,
-  true,
-  false,
-  Option,
-  List,
-  [],
-  ◌∷◌,
-  ◌++◌,
-  length,
-  map,
-  drop,
-  refl,
-  sym,
-  ap,
-  ◌∙◌,
-  subst,
-  inl,
-  arith,
-  append-nil,
-}
+use Rattle.std.proofs.Common.{◌≡◌, ◌↔◌, ℕ, Bool, true, false, Option, List, [], ◌∷◌, ◌++◌, length, map, drop, refl, sym}
+use Rattle.std.proofs.Common.{ap, ◌∙◌, subst, inl, arith, append-nil}
 use Rattle.std.specs.Prelude.{◌==◌, Contains, if◌then◌else◌, is_none, is_some}
 use Rattle.std.specs.List.{IsDistinct}
 use Rattle.disk_model.specs.declared.Disk.{Ghosts}
 use Rattle.feed_conf.specs.declared.conf.PeerConf.{PeerConf}
 use Rattle.conn_core.specs.Commands.{Held}
-use Rattle.conn_core.specs.History.{
-  Event as Happening,
-  Sent,
-  Story,
-  accepted,
-  ended_places,
-  held_from,
-  need,
-  noted,
-  output,
-  reason,
-  story,
-  taken,
-}
+use Rattle.conn_core.specs.History.{Event as Happening, Sent, Story, accepted, ended_places, held_from, need, noted}
+use Rattle.conn_core.specs.History.{output, reason, story, taken}
 use Rattle.conn_core.specs.Stands.{Arises, HoldsBack, Sends, Stands as ConnStands, left_behind}
 use Rattle.conn_core.specs.State.{Holding}
 use Rattle.conn_core.specs.declared.options.Options.{Options}

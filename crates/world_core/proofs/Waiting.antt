@@ -3,40 +3,10 @@ use Rattle.std.proofs.Common.{◌≡◌, ◌+◌, Bool, true, false, List, [], �
 use Rattle.std.specs.Prelude.{◌||◌, nat_lt, is_some, if◌then◌else◌}
 use Rattle.conn_core.proofs.Closed.{first_reason-none}
 use Rattle.conn_core.specs.Commands.{Command, Quit}
-use Rattle.conn_core.specs.History.{
-  Event,
-  Offered,
-  Put,
-  Came,
-  Faulted,
-  Handed,
-  Sent,
-  Tick,
-  Broke,
-  Leave,
-  Taken,
-  accepted,
-  after,
-  answered,
-  ask_in,
-  asks,
-  counted,
-  is_leaving,
-  is_quit_due,
-  outside,
-  phase,
-  phase_after,
-  phase_put,
-  put_out,
-  puts,
-  quiet,
-  reason,
-  sent,
-  stirred,
-  story,
-  taken,
-  with_puts,
-}
+use Rattle.conn_core.specs.History.{Event, Offered, Put, Came, Faulted, Handed, Sent, Tick, Broke, Leave, Taken}
+use Rattle.conn_core.specs.History.{accepted, after, answered, ask_in, asks, counted, is_leaving, is_quit_due, outside}
+use Rattle.conn_core.specs.History.{phase, phase_after, phase_put, put_out, puts, quiet, reason, sent, stirred, story}
+use Rattle.conn_core.specs.History.{taken, with_puts}
 use Rattle.conn_core.specs.declared.options.Options.{Options}
 
 module _ (options : Options) where

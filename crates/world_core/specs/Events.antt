@@ -1,29 +1,6 @@
 -- What happens to a world: events, each on one tape (profile). Each later state is an equation, so that all else stays.
-use Rattle.std.specs.Prelude.{
-  ◌≡◌,
-  ◌⊎◌,
-  ◌+◌,
-  ◌-◌,
-  ◌<◌,
-  ℕ,
-  zero,
-  suc,
-  true,
-  false,
-  nat_lt,
-  if◌then◌else◌,
-  Option,
-  None,
-  Some,
-  List,
-  [],
-  ◌∷◌,
-  ◌++◌,
-  length,
-  take,
-  slice_get,
-  Contains,
-}
+use Rattle.std.specs.Prelude.{◌≡◌, ◌⊎◌, ◌+◌, ◌-◌, ◌<◌, ℕ, zero, suc, true, false, nat_lt, if◌then◌else◌, Option, None}
+use Rattle.std.specs.Prelude.{Some, List, [], ◌∷◌, ◌++◌, length, take, slice_get, Contains}
 use Rattle.ledger_core.specs.declared.note.Note.TheVariants.{Drop, Final, Owe, Seen}
 use Rattle.ledger_core.specs.State.{Overflows, Owing}
 use Rattle.recovery.specs.Leaving.{pending_notes}
@@ -32,50 +9,19 @@ use Rattle.recovery.specs.Words.{OneHasRisen}
 use Rattle.recovery.specs.declared.fault.TapeFault.TheVariants.{Broken, Disk}
 use Rattle.conn_core.specs.declared.outcome.Outcome.{Outcome}
 use Rattle.ledger_core.specs.State.{numbers}
-use Rattle.peer_queue.specs.Place.{
-  AreUnheld,
-  Held,
-  IsHeldBy,
-  Later as LaterPlace,
-  Ready,
-  all_gone,
-  all_ready,
-  gone,
-  least_candidate,
-  moved,
-}
+use Rattle.peer_queue.specs.Place.{AreUnheld, Held, IsHeldBy, Later as LaterPlace, Ready, all_gone, all_ready, gone}
+use Rattle.peer_queue.specs.Place.{least_candidate, moved}
 use Rattle.peer_queue.specs.Settled.{IsEnded, number_in, settled_by}
 use Rattle.peer_queue.specs.Shed.{IsShedSet, dropped}
 use Rattle.peer_queue.specs.declared.limits.Owed.{Owed}
 use Rattle.peer_queue.specs.declared.limits.Owed.TheVariants.{Already, New}
 use Rattle.peer_queue.specs.declared.settled.Settled.{Settled}
 use Rattle.peer_queue.specs.declared.settled.Settled.TheVariants.{Answered, Dropped, Later, Ready as Back}
-use Rattle.world_core.specs.Past.{
-  Past,
-  PeerPast,
-  TapePast,
-  ledger_at,
-  limits_of,
-  mark_at,
-  with_intake,
-  with_peer,
-  with_places,
-  with_tape,
-}
+use Rattle.world_core.specs.Past.{Past, PeerPast, TapePast, ledger_at, limits_of, mark_at, with_intake, with_peer}
+use Rattle.world_core.specs.Past.{with_places, with_tape}
 use Rattle.world_core.specs.Safe.{IsSafe, KeepsLines, KeepsNotes}
-use Rattle.world_core.specs.Tapes.{
-  IsFlushed,
-  HasRoom,
-  IsReadTape,
-  IsReopened,
-  RefusesFlush,
-  RefusesNote,
-  RefusesOpen,
-  RefusesOwe,
-  RefusesRotate,
-  IsRotated,
-  noted_at,
-}
+use Rattle.world_core.specs.Tapes.{IsFlushed, HasRoom, IsReadTape, IsReopened, RefusesFlush, RefusesNote, RefusesOpen}
+use Rattle.world_core.specs.Tapes.{RefusesOwe, RefusesRotate, IsRotated, noted_at}
 use Rattle.world_core.specs.declared.fault.Fault.{Fault}
 use Rattle.world_core.specs.declared.fault.Fault.TheVariants.{NoMemory, Tape}
 

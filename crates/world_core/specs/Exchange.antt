@@ -1,47 +1,13 @@
 -- The steps on connections (docs/FORMATS.md): each puts something into a transcript, and then its outcomes go to the
 -- peer's station, oldest first, each an event; its output counts as sent; and what it wants, and why it closed, is
 -- told.
-use Rattle.std.specs.Prelude.{
-  ◌≡◌,
-  ◌⊎◌,
-  ◌+◌,
-  ◌<◌,
-  ◌≤◌,
-  ◌^◌,
-  ℕ,
-  false,
-  None,
-  Some,
-  List,
-  [],
-  ◌∷◌,
-  ◌++◌,
-  length,
-  drop,
-  map,
-  take,
-  slice_get,
-}
+use Rattle.std.specs.Prelude.{◌≡◌, ◌⊎◌, ◌+◌, ◌<◌, ◌≤◌, ◌^◌, ℕ, false, None, Some, List, [], ◌∷◌, ◌++◌, length, drop}
+use Rattle.std.specs.Prelude.{map, take, slice_get}
 use Rattle.ledger_core.specs.State.{Owing}
 use Rattle.article_store.specs.declared.store.Found.{Found}
 use Rattle.conn_core.specs.Commands.{Handing}
-use Rattle.conn_core.specs.History.{
-  Event as Happening,
-  Broke,
-  Handed as HandedIn,
-  Offered,
-  Sent,
-  Taken,
-  Tick,
-  after,
-  need,
-  noted,
-  outcomes,
-  output,
-  outside,
-  reason,
-  taken,
-}
+use Rattle.conn_core.specs.History.{Event as Happening, Broke, Handed as HandedIn, Offered, Sent, Taken, Tick, after}
+use Rattle.conn_core.specs.History.{need, noted, outcomes, output, outside, reason, taken}
 use Rattle.conn_core.specs.Receipt.{IsHandedAs, Receives, ReceivesSome}
 use Rattle.conn_core.specs.Stands.{left_behind, ready_of}
 use Rattle.conn_core.specs.declared.options.Options.{Options}
@@ -50,21 +16,8 @@ use Rattle.conn_core.specs.declared.ready.Ready.TheVariants.{Busy as NoRoom, Shu
 use Rattle.peer_queue.specs.Place.{least_candidate}
 use Rattle.peer_queue.specs.Settled.{number_in, settled_by}
 use Rattle.peer_queue.specs.declared.limits.Limits.{Limits}
-use Rattle.world_core.specs.Past.{
-  ConnPast,
-  Life,
-  Past,
-  PeerPast,
-  TapePast,
-  conn_at,
-  limits_of,
-  options_of,
-  place_of,
-  with_conn,
-  with_past,
-  with_peer,
-  with_tape,
-}
+use Rattle.world_core.specs.Past.{ConnPast, Life, Past, PeerPast, TapePast, conn_at, limits_of, options_of, place_of}
+use Rattle.world_core.specs.Past.{with_conn, with_past, with_peer, with_tape}
 use Rattle.world_core.specs.Events.{AllDo, Claims, Event, Fails, IsCandidate, Refuses, Returns, Settles}
 use Rattle.world_core.specs.Tapes.{IsReadTape}
 use Rattle.world_core.specs.Told.{Connected, Handed, Output, Said, Settled, closed_said, lines_in, need_said}

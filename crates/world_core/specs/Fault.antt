@@ -1,22 +1,10 @@
 -- How the fault of a tape or a station is told as a step's (docs/FORMATS.md).
 use Rattle.recovery.specs.declared.fault.TapeFault.{TapeFault}
-use Rattle.recovery.specs.declared.fault.TapeFault.TheVariants.{
-  Damaged,
-  Disk,
-  Broken,
-  TapeFull,
-  GenerationFull,
-  PendingFull,
-  NoMemory,
-  Note,
-}
+use Rattle.recovery.specs.declared.fault.TapeFault.TheVariants.{Damaged, Disk, Broken, TapeFull, GenerationFull}
+use Rattle.recovery.specs.declared.fault.TapeFault.TheVariants.{PendingFull, NoMemory, Note}
 use Rattle.peer_queue.specs.declared.fault.StationFault.{StationFault}
-use Rattle.peer_queue.specs.declared.fault.StationFault.TheVariants.{
-  NotHeld,
-  Broken as BrokenStation,
-  Tape as StationTape,
-  NoMemory as NoStationMemory,
-}
+use Rattle.peer_queue.specs.declared.fault.StationFault.TheVariants.{NotHeld, Broken as BrokenStation}
+use Rattle.peer_queue.specs.declared.fault.StationFault.TheVariants.{Tape as StationTape, NoMemory as NoStationMemory}
 use Rattle.world_core.specs.declared.fault.Fault.{Fault}
 use Rattle.world_core.specs.declared.fault.Fault.TheVariants.{NoConnection, Tape, NoMemory as NoStepMemory}
 

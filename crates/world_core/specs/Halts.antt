@@ -1,61 +1,21 @@
 -- Stops and restarts (docs/FORMATS.md): what a stop makes of a world, what may be met in a step, and how all is
 -- opened again.
-use Rattle.std.specs.Prelude.{
-  ◌≡◌,
-  ◌⊎◌,
-  ℕ,
-  zero,
-  suc,
-  true,
-  false,
-  Option,
-  None,
-  Some,
-  List,
-  [],
-  ◌∷◌,
-  ◌++◌,
-  length,
-  map,
-  take,
-  slice_get,
-}
+use Rattle.std.specs.Prelude.{◌≡◌, ◌⊎◌, ℕ, zero, suc, true, false, Option, None, Some, List, [], ◌∷◌, ◌++◌, length, map}
+use Rattle.std.specs.Prelude.{take, slice_get}
 use Rattle.disk_model.specs.declared.choice.Choice.{Choice}
 use Rattle.recovery.specs.Leaving.{left_by}
 use Rattle.recovery.specs.declared.fault.TapeFault.TheVariants.{Disk}
 use Rattle.world_core.specs.Past.{Armed, Life, Past, PeerPast, TapePast, place_of, with_past}
 use Rattle.world_core.specs.Safe.{IsSafe}
-use Rattle.world_core.specs.Events.{
-  AllDo,
-  Event,
-  Fails,
-  Opens,
-  OpensIntake,
-  Parts,
-  Refuses,
-  Rotates,
-  calls_disk,
-  each_place,
-}
+use Rattle.world_core.specs.Events.{AllDo, Event, Fails, Opens, OpensIntake, Parts, Refuses, Rotates, calls_disk}
+use Rattle.world_core.specs.Events.{each_place}
 use Rattle.world_core.specs.Steps.{IsSealable, begun_at, flush_events, seal_events}
 use Rattle.world_core.specs.Told.{Said, Stopped, mark_said}
 use Rattle.world_core.specs.declared.fault.Fault.{Fault}
 use Rattle.world_core.specs.declared.fault.Fault.TheVariants.{NoMemory, NoPeer, Running, Stopped as HasStopped, Tape}
 use Rattle.world_core.specs.declared.step.Step.{Step}
-use Rattle.world_core.specs.declared.step.Step.TheVariants.{
-  Line,
-  Flush,
-  Begin,
-  Part,
-  Seal,
-  Connect,
-  Hand,
-  Bytes,
-  Article,
-  Break,
-  Tick,
-  Shed,
-}
+use Rattle.world_core.specs.declared.step.Step.TheVariants.{Line, Flush, Begin, Part, Seal, Connect, Hand, Bytes}
+use Rattle.world_core.specs.declared.step.Step.TheVariants.{Article, Break, Tick, Shed}
 use Rattle.world_core.specs.declared.step.Step.TheVariants.{Rotate, Stop, Restart}
 
 -- ---- what a stop makes of a world

@@ -17,6 +17,7 @@ pub mod Stepped
 pub mod Keeping
 pub mod Halting
 pub mod Turn
+pub mod Given
 pub mod Making
 pub mod Opening
 pub mod Pairs

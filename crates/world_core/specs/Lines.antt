@@ -6,42 +6,17 @@ use Rattle.ledger_core.specs.Codes.{code_number}
 use Rattle.ledger_core.specs.declared.note.Cause.{Cause}
 use Rattle.ledger_core.specs.declared.note.Cause.TheVariants.{Limit, Deferred, Missing, Unsendable}
 use Rattle.reply_reader.specs.declared.fault.ReplyFault.{ReplyFault}
-use Rattle.reply_reader.specs.declared.fault.ReplyFault.TheVariants.{
-  TooLong as TooLongReply,
-  NoCode,
-  NoMemory as NoReplyMemory,
-  Failed,
-}
+use Rattle.reply_reader.specs.declared.fault.ReplyFault.TheVariants.{TooLong as TooLongReply, NoCode}
+use Rattle.reply_reader.specs.declared.fault.ReplyFault.TheVariants.{NoMemory as NoReplyMemory, Failed}
 use Rattle.conn_core.specs.declared.reason.Reason.{Reason}
-use Rattle.conn_core.specs.declared.reason.Reason.TheVariants.{
-  Greeting,
-  Reader,
-  Unmatched,
-  Ended,
-  Timeout,
-  Broken,
-  Quit,
-}
+use Rattle.conn_core.specs.declared.reason.Reason.TheVariants.{Greeting, Reader, Unmatched, Ended, Timeout, Broken}
+use Rattle.conn_core.specs.declared.reason.Reason.TheVariants.{Quit}
 use Rattle.peer_queue.specs.declared.limits.Owed.{Owed as Answer}
 use Rattle.peer_queue.specs.declared.limits.Owed.TheVariants.{New, Already}
 use Rattle.peer_queue.specs.declared.settled.Settled.{Settled as Settling}
 use Rattle.peer_queue.specs.declared.settled.Settled.TheVariants.{Answered, Dropped, Later, Ready}
-use Rattle.world_core.specs.Told.{
-  Bad,
-  Closed,
-  Connected,
-  Handed,
-  Mark,
-  Need,
-  Output,
-  Owed,
-  Rotated,
-  Said,
-  Settled,
-  Shed,
-  Stopped,
-  Taken,
-}
+use Rattle.world_core.specs.Told.{Bad, Closed, Connected, Handed, Mark, Need, Output, Owed, Rotated, Said, Settled}
+use Rattle.world_core.specs.Told.{Shed, Stopped, Taken}
 use Rattle.world_core.specs.declared.told.Handed.{Handed as Handover}
 use Rattle.world_core.specs.declared.told.Handed.TheVariants.{Busy, Closed as HasClosed, Nothing, Number}
 

@@ -1,39 +1,13 @@
 -- A connection and its peer: what the steps on connections (specs/Exchange.antt) make of these two alone.
-use Rattle.std.specs.Prelude.{
-  ◌≡◌,
-  ◌⊎◌,
-  ◌↔◌,
-  ◌==◌,
-  ℕ,
-  Bool,
-  true,
-  false,
-  None,
-  Some,
-  option_to_list,
-  List,
-  [],
-  ◌∷◌,
-  ◌++◌,
-  map,
-  Contains,
-}
+use Rattle.std.specs.Prelude.{◌≡◌, ◌⊎◌, ◌↔◌, ◌==◌, ℕ, Bool, true, false, None, Some, option_to_list, List, [], ◌∷◌}
+use Rattle.std.specs.Prelude.{◌++◌, map, Contains}
 use Rattle.std.specs.List.{IsDistinct}
 use Rattle.disk_model.specs.declared.Disk.{Ghosts}
 use Rattle.ledger_core.specs.State.{Owing}
 use Rattle.article_store.specs.declared.store.Found.{Found}
 use Rattle.conn_core.specs.Commands.{Handing}
-use Rattle.conn_core.specs.History.{
-  Broke,
-  Event as Happening,
-  Handed as HandedIn,
-  Offered,
-  Taken,
-  Tick,
-  after,
-  need,
-  outside,
-}
+use Rattle.conn_core.specs.History.{Broke, Event as Happening, Handed as HandedIn, Offered, Taken, Tick, after, need}
+use Rattle.conn_core.specs.History.{outside}
 use Rattle.conn_core.specs.Receipt.{IsHandedAs, Receives, ReceivesSome}
 use Rattle.conn_core.specs.Stands.{Arises, left_behind, ready_of}
 use Rattle.conn_core.specs.State.{untold_at}

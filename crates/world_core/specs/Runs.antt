@@ -4,35 +4,16 @@ use Rattle.world_core.specs.Past.{ConnPast, Life, Past, PeerPast, with_past}
 use Rattle.world_core.specs.Safe.{IsSafe}
 use Rattle.world_core.specs.Steps.{RefusesFlushing, RefusesLine, RefusesPart, RefusesRotation, RefusesSeal, RefusesShed}
 use Rattle.world_core.specs.Steps.{TakesBegin, TakesFlush, TakesLine, TakesPart, TakesRotate, TakesSeal, TakesShed}
-use Rattle.world_core.specs.Exchange.{
-  FailsToBreak,
-  FailsToHand,
-  FailsToRead,
-  FailsToSupply,
-  RefusesConnect,
-  RefusesOn,
-  RefusesTick,
-}
+use Rattle.world_core.specs.Exchange.{FailsToBreak, FailsToHand, FailsToRead, FailsToSupply, RefusesConnect, RefusesOn}
+use Rattle.world_core.specs.Exchange.{RefusesTick}
 use Rattle.world_core.specs.Exchange.{TakesArticle, TakesBreak, TakesBytes, TakesConnect, TakesHand, TakesTick}
 use Rattle.world_core.specs.Halts.{RefusesRestart, RefusesStop, Strikes, StrikesUntold, TakesRestart, TakesStop}
 use Rattle.world_core.specs.Told.{Said}
 use Rattle.world_core.specs.declared.fault.Fault.{Fault}
 use Rattle.world_core.specs.declared.fault.Fault.TheVariants.{Stopped}
 use Rattle.world_core.specs.declared.step.Step.{Step}
-use Rattle.world_core.specs.declared.step.Step.TheVariants.{
-  Line,
-  Flush,
-  Begin,
-  Part,
-  Seal,
-  Connect,
-  Hand,
-  Bytes,
-  Article,
-  Break,
-  Tick,
-  Shed,
-}
+use Rattle.world_core.specs.declared.step.Step.TheVariants.{Line, Flush, Begin, Part, Seal, Connect, Hand, Bytes}
+use Rattle.world_core.specs.declared.step.Step.TheVariants.{Article, Break, Tick, Shed}
 use Rattle.world_core.specs.declared.step.Step.TheVariants.{Rotate, Stop, Restart}
 
 -- the world runs, and the step makes this of all tapes; all else stays

@@ -1,23 +1,6 @@
 -- What holds of each world that steps have made, stopped or not.
-use Rattle.std.specs.Prelude.{
-  ◌≡◌,
-  ◌↔◌,
-  ◌<◌,
-  ◌≤◌,
-  ◌==◌,
-  ◌^◌,
-  ◌++◌,
-  ℕ,
-  true,
-  false,
-  Some,
-  List,
-  [],
-  ◌∷◌,
-  map,
-  slice_get,
-  Contains,
-}
+use Rattle.std.specs.Prelude.{◌≡◌, ◌↔◌, ◌<◌, ◌≤◌, ◌==◌, ◌^◌, ◌++◌, ℕ, true, false, Some, List, [], ◌∷◌, map, slice_get}
+use Rattle.std.specs.Prelude.{Contains}
 use Rattle.std.specs.Cmp.Lexicographic.{slice_cmp}
 use Rattle.std.specs.List.{AllByRecursion, IsDistinct}
 use Rattle.std.specs.List.Sorted.{IsStrictlyIncreasing}

@@ -1,32 +1,15 @@
 -- What it is that a world, and what it is made of, stands for what it has been through.
-use Rattle.std.specs.Prelude.{
-  ◌≡◌,
-  ◌⊎◌,
-  ◌+◌,
-  ℕ,
-  Bool,
-  true,
-  false,
-  Option,
-  None,
-  Some,
-  option_map,
-  List,
-  [],
-  ◌∷◌,
-  map,
-  take,
-  slice_get,
-}
+use Rattle.std.specs.Prelude.{◌≡◌, ◌⊎◌, ◌+◌, ℕ, Bool, true, false, Option, None, Some, option_map, List, [], ◌∷◌, map}
+use Rattle.std.specs.Prelude.{take, slice_get}
 use Rattle.std.specs.List.{AllZip}
 use Rattle.disk_model.specs.declared.Disk.{Ghosts}
 use Rattle.feed_conf.specs.declared.conf.PeerConf.{PeerConf}
 use Rattle.ledger_core.specs.Ledger.{totals_of}
 use Rattle.ledger_core.specs.declared.ledger.Totals.{Totals}
-use Rattle.ledger_core.specs.State.{Overflows, State}
+use Rattle.ledger_core.specs.State.{Overflows, State, numbers, start}
 use Rattle.ledger_core.specs.declared.note.Note.TheVariants.{Owe}
 use Rattle.recovery.specs.Leaving.{EachLedger, broken_of}
-use Rattle.recovery.specs.Notes.{AreLegal, begun as begun_history}
+use Rattle.recovery.specs.Notes.{AreLegal, found}
 use Rattle.recovery.specs.Tape.{StandsFor}
 use Rattle.recovery.specs.Words.{log_of, told_of}
 use Rattle.recovery.specs.declared.fault.TapeFault.TheVariants.{Disk}
@@ -34,37 +17,16 @@ use Rattle.recovery.specs.declared.tape.Tape.{Tape}
 use Rattle.conn_core.specs.History.{Taken, outcomes, taken}
 use Rattle.conn_core.specs.Stands.{Stands as ConnStands}
 use Rattle.conn_core.specs.declared.outcome.Outcome.{Outcome}
+use Rattle.peer_queue.specs.Place.{all_ready}
 use Rattle.peer_queue.specs.Words.{limits_of as station_limits, places_of}
 use Rattle.peer_queue.specs.declared.limits.Owed.{Owed}
 use Rattle.peer_queue.specs.declared.limits.Owed.TheVariants.{New}
-use Rattle.world_core.specs.Past.{
-  Armed,
-  ConnPast,
-  Life,
-  Past,
-  PeerPast,
-  TapePast,
-  ledger_at,
-  limits_of,
-  options_of,
-  with_tape,
-}
+use Rattle.world_core.specs.Past.{Armed, ConnPast, Life, Past, PeerPast, TapePast, ledger_at, limits_of, options_of}
+use Rattle.world_core.specs.Past.{with_tape}
 use Rattle.world_core.specs.Safe.{IsSafe, KeepsLines, KeepsNotes}
 use Rattle.world_core.specs.Tapes.{HasRoom, IsFlushed, IsReopened, IsRotated, RefusesFlush, RefusesOpen, RefusesRotate}
-use Rattle.world_core.specs.Events.{
-  Does,
-  Event,
-  IsShedAt,
-  Owes,
-  Refuses,
-  RefusesCall,
-  RefusesLineAt,
-  opened_peer,
-  owed_as,
-  owing_as,
-  parted,
-  shed_peer,
-}
+use Rattle.world_core.specs.Events.{Does, Event, IsShedAt, Owes, Refuses, RefusesCall, RefusesLineAt, opened_peer}
+use Rattle.world_core.specs.Events.{owed_as, owing_as, parted, shed_peer}
 use Rattle.world_core.specs.Runs.{RefusesStep, Runs}
 use Rattle.world_core.specs.Sound.{IsSound, IsSoundLife}
 use Rattle.world_core.specs.StopDisk.{all_faults, happened}
@@ -238,24 +200,25 @@ pub record WorldStands (world : World) (life : Life) : Type 0 where
 
 -- ---- what making a world and a run give
 
--- a tape that was opened on empty disks
-pub record IsFreshTape (P : State → Type 0) (tape : TapePast) : Type 0 where
-  pub history : tape.history ≡ begun_history
+-- a tape of this ledger as an opening found it: nothing was noted since
+pub record IsFreshTape (state : State) (P : State → Type 0) (tape : TapePast) : Type 0 where
+  pub history : tape.history ≡ found state
   pub faults : tape.faults ≡ (0, 0)
   pub works : tape.broken ≡ false
   pub safe : EachLedger P tape.log
 
-pub record IsFreshPeer (conf : PeerConf) (peer : PeerPast) : Type 0 where
+-- the peer of these settings, whose tape was opened to this ledger: every number owed is ready
+pub record IsFreshPeer (conf : PeerConf) (state : State) (peer : PeerPast) : Type 0 where
   pub conf_is : peer.conf ≡ conf
-  pub tape : IsFreshTape (KeepsNotes peer) peer.tape
-  pub places : peer.places ≡ []
+  pub tape : IsFreshTape state (KeepsNotes peer) peer.tape
+  pub places : peer.places ≡ all_ready (numbers state)
   pub parted : peer.parted ≡ false
 
--- A world of these peers, in this order, whose tapes were opened on empty disks: nothing was noted, no number is
--- kept, there is no connection, no stop is armed, the moment is 0, and it runs.
-pub record IsFresh (confs : List PeerConf) (life : Life) : Type 0 where
-  pub peers : AllZip IsFreshPeer confs life.past.peers
-  pub intake : IsFreshTape (KeepsLines life.past.intake.history life.past.peers) life.past.intake
+-- A world that begins, with peers of what was given, in this order: its intake's tape was opened on empty disks, no
+-- number is kept, there is no connection, no stop is armed, the moment is 0, and it runs.
+pub record IsFreshOf {A : Type 0} (IsPeer : A → PeerPast → Type 0) (given : List A) (life : Life) : Type 0 where
+  pub peers : AllZip IsPeer given life.past.peers
+  pub intake : IsFreshTape start (KeepsLines life.past.intake.history life.past.peers) life.past.intake
   pub rest : life ≡ record {
     past = record { peers = life.past.peers; intake = life.past.intake; last = 0; begun = None };
     conns = [];
@@ -264,6 +227,10 @@ pub record IsFresh (confs : List PeerConf) (life : Life) : Type 0 where
     armed = None;
     running = true;
   }
+
+-- of these settings: nothing was noted
+abbrev pub IsFresh : List PeerConf → Life → Type 0
+IsFresh confs life = IsFreshOf (λ (conf : PeerConf). IsFreshPeer conf start) confs life
 
 -- it was not made: the step told is none, and memory was refused, or a disk in memory was refused it
 pub record WasNotMade (fault : WorldFault) : Type 0 where

@@ -1,25 +1,7 @@
 -- The steps on tapes (docs/FORMATS.md): each is a list of events, computed from the step and what stands before it.
 -- Room for what a step tells is made first, so that memory is refused before any of its events, or by one of them.
-use Rattle.std.specs.Prelude.{
-  ◌≡◌,
-  ◌≢◌,
-  ◌⊎◌,
-  ◌+◌,
-  ◌<◌,
-  ◌^◌,
-  ℕ,
-  true,
-  false,
-  if◌then◌else◌,
-  None,
-  Some,
-  List,
-  [],
-  ◌∷◌,
-  ◌++◌,
-  length,
-  map,
-}
+use Rattle.std.specs.Prelude.{◌≡◌, ◌≢◌, ◌⊎◌, ◌+◌, ◌<◌, ◌^◌, ℕ, true, false, if◌then◌else◌, None, Some, List, [], ◌∷◌}
+use Rattle.std.specs.Prelude.{◌++◌, length, map}
 use Rattle.std.specs.Prelude.{Bool}
 use Rattle.std.specs.List.{AllByRecursion, list_any}
 use Rattle.std.specs.Str.{bytes_eq}
@@ -28,19 +10,8 @@ use Rattle.funnel.specs.declared.line.LineFault.{LineFault}
 use Rattle.funnel.specs.declared.line.LineFault.TheVariants.{NoMemory as NoLineMemory}
 use Rattle.peer_queue.specs.declared.limits.Owed.{Owed as Answer}
 use Rattle.world_core.specs.Past.{Past, PeerPast, mark_at, place_of, with_last}
-use Rattle.world_core.specs.Events.{
-  Acknowledges,
-  AllDo,
-  Event,
-  Fails,
-  Owes,
-  Parts,
-  Rotates,
-  Sees,
-  Sheds,
-  each_place,
-  owed_as,
-}
+use Rattle.world_core.specs.Events.{Acknowledges, AllDo, Event, Fails, Owes, Parts, Rotates, Sees, Sheds, each_place}
+use Rattle.world_core.specs.Events.{owed_as}
 use Rattle.world_core.specs.Told.{Bad, Owed, Rotated, Said, Shed, Taken}
 use Rattle.world_core.specs.declared.fault.Fault.{Fault}
 use Rattle.world_core.specs.declared.fault.Fault.TheVariants.{CountFull, NoMemory, NoPeer, NotFlushed}

@@ -4,25 +4,12 @@ use Rattle.std.specs.Prelude.{◌≡◌, ◌≢◌, ◌⊎◌, ◌+◌, ◌-◌,
 use Rattle.ledger_core.specs.declared.ledger.LedgerFault.TheVariants.{CountFull}
 use Rattle.ledger_core.specs.declared.note.Note.{Note}
 use Rattle.ledger_core.specs.State.{Overflows, State}
-use Rattle.recovery.specs.Leaving.{
-  HasSegment,
-  IsFullBy,
-  LedgersLeave,
-  LiesOn,
-  RotatesTooLongBy,
-  ledger_of_first,
-  pending_notes,
-}
+use Rattle.recovery.specs.Leaving.{HasSegment, IsFullBy, LedgersLeave, LiesOn, RotatesTooLongBy, ledger_of_first}
+use Rattle.recovery.specs.Leaving.{pending_notes}
 use Rattle.recovery.specs.Notes.{flushed, most_pending, noted, recovered}
 use Rattle.recovery.specs.Words.{OneHasRisen}
-use Rattle.recovery.specs.declared.fault.TapeFault.TheVariants.{
-  Broken,
-  Disk,
-  GenerationFull,
-  PendingFull,
-  TapeFull,
-  Note as RefusedNote,
-}
+use Rattle.recovery.specs.declared.fault.TapeFault.TheVariants.{Broken, Disk, GenerationFull, PendingFull, TapeFull}
+use Rattle.recovery.specs.declared.fault.TapeFault.TheVariants.{Note as RefusedNote}
 use Rattle.world_core.specs.Past.{TapePast, ledger_at}
 use Rattle.world_core.specs.declared.fault.Fault.{Fault}
 use Rattle.world_core.specs.declared.fault.Fault.TheVariants.{NoMemory, Tape}

@@ -11,24 +11,12 @@ use Rattle.world_core.specs.Past.{PeerPast, ledger_at, mark_at}
 use Rattle.world_core.specs.declared.told.Handed.{Handed as Handing}
 use Rattle.world_core.specs.declared.told.OwedAt.{OwedAt}
 use Rattle.world_core.specs.declared.told.Told.{Told}
-use Rattle.world_core.specs.declared.told.Told.TheVariants.{
-  Owed as ToldOwed,
-  Bad as ToldBad,
-  Taken as ToldTaken,
-  Connected as ToldConnected,
-}
-use Rattle.world_core.specs.declared.told.Told.TheVariants.{
-  Handed as ToldHanded,
-  Settled as ToldSettled,
-  Output as ToldOutput,
-  Need as ToldNeed,
-}
-use Rattle.world_core.specs.declared.told.Told.TheVariants.{
-  Closed as ToldClosed,
-  Shed as ToldShed,
-  Rotated as ToldRotated,
-  Stopped as ToldStopped,
-}
+use Rattle.world_core.specs.declared.told.Told.TheVariants.{Owed as ToldOwed, Bad as ToldBad, Taken as ToldTaken}
+use Rattle.world_core.specs.declared.told.Told.TheVariants.{Connected as ToldConnected}
+use Rattle.world_core.specs.declared.told.Told.TheVariants.{Handed as ToldHanded, Settled as ToldSettled}
+use Rattle.world_core.specs.declared.told.Told.TheVariants.{Output as ToldOutput, Need as ToldNeed}
+use Rattle.world_core.specs.declared.told.Told.TheVariants.{Closed as ToldClosed, Shed as ToldShed}
+use Rattle.world_core.specs.declared.told.Told.TheVariants.{Rotated as ToldRotated, Stopped as ToldStopped}
 use Rattle.world_core.specs.declared.told.Told.TheVariants.{Mark as ToldMark}
 
 -- One thing that a step tells.

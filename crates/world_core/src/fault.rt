@@ -2,8 +2,10 @@
 ghost use Rattle.std.specs.Prelude.{◌≡◌};
 ghost use Rattle.world_core.specs.Fault.{fault_of, fault_of_station};
 ghost use Rattle.world_core.specs.declared.fault.Fault.TheVariants.{NoMemory};
+ghost use Rattle.world_core.specs.declared.fault.TapesFault.TheVariants.{NoMemory as NoTapesMemory};
 
 use crate::told::Told;
+use funnel::PeerName;
 use peer_queue::StationFault;
 use recovery::TapeFault;
 use std::alloc::{AllocError, AllocFailed};
@@ -84,6 +86,18 @@ pub struct WorldFault {
     pub lines: Vec<Vec<Told>>,
 }
 
+/// Why no world was made of given tapes.
+#[derive(Debug, Drop, Error)]
+pub enum TapesFault {
+    /// The tape of this peer was refused: `Damaged` where the octets are none, or `Disk` where a disk in memory was
+    /// refused memory.
+    #[error("Tape {fault}")]
+    Tape { peer: PeerName, fault: TapeFault },
+    /// Memory was refused.
+    #[error("NoMemory")]
+    NoMemory,
+}
+
 impl From<AllocError> for Fault {
     ghost from_gives = { λ _ fault. fault ≡ NoMemory };
 
@@ -100,6 +114,22 @@ impl From<AllocError> for Halt {
             place: None,
             fault: Fault::NoMemory,
         }
+    }
+}
+
+impl From<AllocError> for TapesFault {
+    ghost from_gives = { λ _ fault. fault ≡ NoTapesMemory };
+
+    fn from(_: AllocError) -> Self {
+        TapesFault::NoMemory
+    }
+}
+
+impl<T: Drop> From<AllocFailed<T>> for TapesFault {
+    ghost from_gives = { λ _ fault. fault ≡ NoTapesMemory };
+
+    fn from(_: AllocFailed<T>) -> Self {
+        TapesFault::NoMemory
     }
 }
 

@@ -27,7 +27,7 @@ mod tapes;
 mod told;
 mod world;
 
-pub use fault::{Fault, WorldFault};
+pub use fault::{Fault, TapesFault, WorldFault};
 pub use report::{PeerTotals, Report};
 pub use step::Step;
 pub use told::{Handed, OwedAt, Told};

@@ -1,23 +1,27 @@
-// Worlds as they are made.
+// Worlds as they are made: their tapes are opened.
 ghost use Rattle.std.specs.Prelude.{◌≡◌, [], IfErr, IfOk, map};
 ghost use Rattle.std.specs.List.{AllZip};
-ghost use Rattle.std.specs.Str.{bytes_eq};
-ghost use Rattle.world_core.specs.Making.{AreUnused, IsUnused};
+ghost use Rattle.ledger_core.specs.State.{start};
+ghost use Rattle.world_core.specs.Given.{IsFound, OpensGiven, StopsFor};
+ghost use Rattle.world_core.specs.Making.{HasNoOctets};
 
-use crate::fault::{Fault, WorldFault};
-use crate::peer::StoppedPeer;
-use crate::restart::{open_all, rooms_for};
+use crate::fault::{Fault, TapesFault, WorldFault};
+use crate::peer::Peer;
+use crate::stations::Stations;
 use crate::stop::{StopDisk, Trigger};
 use crate::world::{Stage, World};
 use disk_model::MemDisk;
 use feed_conf::PeerConf;
+use recovery::Tape;
 use std::alloc::{AllocError, Global};
 use std::cell::Cell;
 use std::rc::Rc;
 
 impl World {
     ghost use Rattle.std.specs.List.{IsDistinct};
+    ghost use Rattle.std.specs.Str.{bytes_eq};
     ghost use Rattle.feed_conf.specs.declared.conf.PeerConf.{PeerConf};
+    ghost use Rattle.world_core.specs.Given.{BeginsFrom, RefusesTapes, given_names};
     ghost use Rattle.world_core.specs.Making.{Begins, IsMakeFault};
     ghost use Rattle.world_core.specs.Stands.{WasNotMade};
 
@@ -45,56 +49,102 @@ impl World {
     }
 
     // A world of these peers, or why there is none.
-    fn make(alloc: Global, mut peers: Vec<PeerConf>) -> Result<World, Fault>
+    fn make(alloc: Global, peers: Vec<PeerConf>) -> Result<World, Fault>
         requires distinct { IsDistinct bytes_eq (map (λ (conf : PeerConf). conf.name) peers.items) }
         ensures begins { IfOk result (Begins peers.items) }
         ensures refused { IfErr result IsMakeFault }
     {
-        peers.sort_by(|a, b| a.name.bytes().cmp(b.name.bytes()))?;
+        let given = with_no_octets(alloc, peers)?;
+        match World::with_tapes(alloc, given) {
+            Ok(world) => Ok(world),
+            Err(TapesFault::Tape { fault, .. }) => Err(Fault::Tape(fault)),
+            Err(TapesFault::NoMemory) => Err(Fault::NoMemory),
+        }
+    }
+
+    /// A world of these peers, in byte order of their names, that begins from their tapes: of each the first disk in
+    /// memory holds the octets that stand beside its settings, and the second is empty. It is as one after a restart:
+    /// it runs, every number that a tape owes is ready, nothing was noted since, there is no connection, no stop is
+    /// armed, and the moment is 0. The intake's tape was opened on empty disks: lines are numbered from 1 on, and a
+    /// line whose number a peer's tape has noted is not owed to that peer again.
+    ///
+    /// # Errors
+    /// The tapes are opened in byte order of the peers' names, and the first that is refused is told: `Damaged` where
+    /// the octets are no tape, `Disk` where a disk in memory was refused memory. `NoMemory` where else it was refused.
+    pub fn with_tapes(
+        alloc: Global,
+        mut peers: Vec<(PeerConf, Vec<u8>)>,
+    ) -> Result<World, TapesFault>
+        requires distinct { IsDistinct bytes_eq (given_names peers.items) }
+        ensures begins { IfOk result (BeginsFrom peers.items) }
+        ensures refused { IfErr result (RefusesTapes peers.items) }
+    {
+        peers.sort_by(|a, b| a.0.name.bytes().cmp(b.0.name.bytes()))?;
         let trigger = Rc::new(alloc, Cell::new(Trigger::Idle))?;
         let count = peers.len();
-        let rooms = rooms_for(alloc, count)?;
-        let stopped = on_empty_disks(alloc, peers, &trigger)?;
-        let intake = empty_disks(alloc, count, &trigger)?;
-        match open_all(alloc, stopped, intake, rooms) {
-            Ok(stations) => Ok(World {
-                alloc,
-                stage: Stage::Running(stations, Vec::new(alloc)),
-                trigger,
-                armed: None,
-                connected: 0,
-                now: 0,
-            }),
-            Err(closed) => Err(closed.halt.fault),
-        }
+        let peers = open_each(alloc, peers, &trigger)?;
+        let intake = open_intake(alloc, count, &trigger)?;
+        let stations = Stations {
+            alloc,
+            peers,
+            intake,
+            last: 0,
+            begun: None,
+        };
+        Ok(World {
+            alloc,
+            stage: Stage::Running(stations, Vec::new(alloc)),
+            trigger,
+            armed: None,
+            connected: 0,
+            now: 0,
+        })
     }
 }
 
-// Empty disks of the tape at this place.
-fn empty_disks(
+// These peers, none with any octets.
+fn with_no_octets(
+    alloc: Global,
+    confs: Vec<PeerConf>,
+) -> Result<Vec<(PeerConf, Vec<u8>)>, AllocError>
+    ensures { IfOk result (λ given. AllZip HasNoOctets confs.items given.items) }
+{
+    let mut given = Vec::new(alloc);
+    for conf in confs {
+        given.push((conf, Vec::new(alloc)))?;
+    }
+    Ok(given)
+}
+
+// Opens the tapes of these peers in order, until one is refused.
+fn open_each(
+    alloc: Global,
+    given: Vec<(PeerConf, Vec<u8>)>,
+    trigger: &Rc<Cell<Trigger>>,
+) -> Result<Vec<Peer<StopDisk>>, TapesFault>
+    ensures ok { IfOk result (λ peers. AllZip OpensGiven given.items peers.items) }
+    ensures err { IfErr result (StopsFor given.items) }
+{
+    let mut peers = Vec::new(alloc);
+    for peer in given {
+        let opened = Peer::open_given(alloc, peer, peers.len(), trigger)?;
+        peers.push(opened)?;
+    }
+    Ok(peers)
+}
+
+// Opens the intake's tape on empty disks. Nothing but want of memory refuses it: a disk in memory fails for no more.
+fn open_intake(
     alloc: Global,
     place: usize,
     trigger: &Rc<Cell<Trigger>>,
-) -> Result<(StopDisk, StopDisk), AllocError>
-    ensures { IfOk result AreUnused }
+) -> Result<Tape<StopDisk>, AllocError>
+    ensures { IfOk result (IsFound start) }
 {
     let first = StopDisk::new(MemDisk::new(alloc), place, trigger.clone()?);
     let second = StopDisk::new(MemDisk::new(alloc), place, trigger.clone()?);
-    Ok((first, second))
-}
-
-// These peers, each with empty disks.
-fn on_empty_disks(
-    alloc: Global,
-    confs: Vec<PeerConf>,
-    trigger: &Rc<Cell<Trigger>>,
-) -> Result<Vec<StoppedPeer>, AllocError>
-    ensures { IfOk result (λ peers. AllZip IsUnused confs.items peers.items) }
-{
-    let mut peers = Vec::new(alloc);
-    for conf in confs {
-        let disks = empty_disks(alloc, peers.len(), trigger)?;
-        peers.push(StoppedPeer { conf, disks })?;
+    match Tape::open(alloc, first, second) {
+        Ok(tape) => Ok(tape),
+        Err(_) => Err(AllocError),
     }
-    Ok(peers)
 }

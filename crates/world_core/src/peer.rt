@@ -2,13 +2,16 @@
 ghost use Rattle.std.specs.Prelude.{◌≡◌, IfErr, IfOk, OnOk};
 ghost use Rattle.world_core.specs.Past.{limits_of};
 
-use crate::fault::Fault;
-use crate::stop::StopDisk;
-use disk_model::Disk;
+use crate::fault::{Fault, TapesFault};
+use crate::stop::{StopDisk, Trigger};
+use disk_model::{Disk, MemDisk};
 use feed_conf::PeerConf;
 use funnel::{MsgId, Token};
 use peer_queue::{Limits, Owed, Station, each_number_has_one_place};
+use recovery::TapeFault;
 use std::alloc::Global;
+use std::cell::Cell;
+use std::rc::Rc;
 
 /// A peer whose station is open.
 #[derive(Drop)]
@@ -116,6 +119,40 @@ impl StoppedPeer {
                 let disks = (refused.a, refused.b);
                 Err((StoppedPeer { conf, disks }, fault))
             }
+        }
+    }
+}
+
+impl Peer<StopDisk> {
+    ghost use Rattle.world_core.specs.Given.{OpensGiven, RefusesPeer};
+
+    // Opens the station of a peer at this place, the first disk of whose tape holds these octets, and the second none.
+    pub(crate) fn open_given(
+        alloc: Global,
+        given: (PeerConf, Vec<u8>),
+        place: usize,
+        trigger: &Rc<Cell<Trigger>>,
+    ) -> Result<Self, TapesFault>
+        ensures ok { IfOk result (OpensGiven given) }
+        ensures err { IfErr result (RefusesPeer given) }
+    {
+        let (conf, octets) = given;
+        let first = MemDisk::holding(alloc, &octets)?;
+        let first = StopDisk::new(first, place, trigger.clone()?);
+        let second = StopDisk::new(MemDisk::new(alloc), place, trigger.clone()?);
+        match Station::open(alloc, first, second, limits_of(&conf)) {
+            Ok(station) => Ok(Peer {
+                conf,
+                station,
+                parted: false,
+            }),
+            Err(refused) => match refused.fault {
+                TapeFault::NoMemory => Err(TapesFault::NoMemory),
+                fault => Err(TapesFault::Tape {
+                    peer: conf.name,
+                    fault,
+                }),
+            },
         }
     }
 }

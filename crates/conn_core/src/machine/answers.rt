@@ -12,6 +12,7 @@ use crate::deferral::Deferral;
 use crate::kept::WantedArticle;
 use crate::lines::{MODE_STREAM, QUIT};
 use crate::lookup::{debt_at, take_answered, take_at};
+use crate::mode::Mode;
 use crate::outcome::Outcome;
 use crate::phase::Phase;
 use crate::reason::Reason;
@@ -45,8 +46,8 @@ impl Machine {
                 self.mode_answered(reply.code);
                 Ok(())
             }
-            Phase::Streaming => self.answered(reply, true),
-            Phase::OneByOne => self.answered(reply, false),
+            Phase::Streaming => self.answered(reply, Mode::Streaming),
+            Phase::OneByOne => self.answered(reply, Mode::Ihave),
             Phase::Leaving => {
                 self.shut(Reason::Quit);
                 Ok(())
@@ -89,30 +90,30 @@ impl Machine {
     }
 
     // A reply in a mode. An `Err` changes nothing.
-    fn answered(&mut self, reply: &Reply, streaming: bool) -> Result<(), AllocError>
+    fn answered(&mut self, reply: &Reply, mode: Mode) -> Result<(), AllocError>
         ensures ok { OnOk result
-            (self.new ≡ answered_with self.old streaming (given_of reply.now)) }
+            (self.new ≡ answered_with self.old mode (given_of reply.now)) }
         ensures err { OnErr result (self.new ≡ self.old) }
     {
         match reply.code {
-            238 => self.wants(reply, streaming),
-            335 => self.sends_block(reply, streaming),
+            238 => self.wants(reply, mode),
+            335 => self.sends_block(reply, mode),
             _ => {
-                self.settles(reply, streaming);
+                self.settles(reply, mode);
                 Ok(())
             }
         }
     }
 
     // 238: the article of a CHECK is wanted (RFC 4644, section 2.4). An `Err` changes nothing.
-    fn wants(&mut self, reply: &Reply, streaming: bool) -> Result<(), AllocError>
+    fn wants(&mut self, reply: &Reply, mode: Mode) -> Result<(), AllocError>
         requires { reply.now.code ≡ 238 }
         ensures ok { OnOk result
-            (self.new ≡ answered_with self.old streaming (given_of reply.now)) }
+            (self.new ≡ answered_with self.old mode (given_of reply.now)) }
         ensures err { OnErr result (self.new ≡ self.old) }
     {
         self.wanted.reserve(1)?;
-        let Some(ask) = take_answered(&mut self.window, reply, streaming) else {
+        let Some(ask) = take_answered(&mut self.window, reply, mode) else {
             self.shut(stray(reply.code));
             return Ok(());
         };
@@ -127,15 +128,15 @@ impl Machine {
     }
 
     // 335: the block of an IHAVE goes out (RFC 3977, section 6.3.2). An `Err` changes nothing.
-    fn sends_block(&mut self, reply: &Reply, streaming: bool) -> Result<(), AllocError>
+    fn sends_block(&mut self, reply: &Reply, mode: Mode) -> Result<(), AllocError>
         requires { reply.now.code ≡ 335 }
         ensures ok { OnOk result
-            (self.new ≡ answered_with self.old streaming (given_of reply.now)) }
+            (self.new ≡ answered_with self.old mode (given_of reply.now)) }
         ensures err { OnErr result (self.new ≡ self.old) }
     {
         self.window.reserve(1)?;
         room_for_block(&mut self.output, &self.blocks)?;
-        let Some(ask) = take_answered(&mut self.window, reply, streaming) else {
+        let Some(ask) = take_answered(&mut self.window, reply, mode) else {
             self.shut(stray(reply.code));
             return Ok(());
         };
@@ -145,12 +146,12 @@ impl Machine {
     }
 
     // Any other answer ends a debt, or puts it off.
-    fn settles(&mut self, reply: &Reply, streaming: bool)
+    fn settles(&mut self, reply: &Reply, mode: Mode)
         requires not_wanted { reply.now.code ≢ 238 }
         requires no_block { reply.now.code ≢ 335 }
-        ensures { self.new ≡ answered_with self.old streaming (given_of reply.now) }
+        ensures { self.new ≡ answered_with self.old mode (given_of reply.now) }
     {
-        let Some(ask) = take_answered(&mut self.window, reply, streaming) else {
+        let Some(ask) = take_answered(&mut self.window, reply, mode) else {
             self.shut(stray(reply.code));
             return;
         };

@@ -1,7 +1,7 @@
 use Rattle.std.proofs.Common.{◌≡◌, ◌++◌, ◌+◌, length, sym, ap, ◌∙◌, subst, arith}
 use Rattle.deferral.specs.Due.{added}
 use Rattle.deferral.specs.Tree.{both, waiting_in}
-use Rattle.deferral.specs.TreeFalls.{sides_fall}
+use Rattle.deferral.specs.TreeLaws.{sides_fall}
 use Rattle.deferral.specs.declared.tree.Fork.TheInside.{Inside}
 use Rattle.deferral.proofs.Sides.{IsParted, due_left, due_right}
 use Rattle.deferral.proofs.Forks.{parted_put_left, parted_put_right, put_on_left, put_on_right, same_left, same_right, sides_parted, told_again}

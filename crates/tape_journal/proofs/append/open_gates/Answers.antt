@@ -5,10 +5,10 @@ use Rattle.std.specs.declared.alloc.Global.{Global}
 use Rattle.disk_model.specs.Disk.{Event, content, Torn, overwritten}
 use Rattle.disk_model.specs.Disk.Event.{Wrote}
 use Rattle.disk_model.specs.Disk.Leaves.{at_start}
-use Rattle.disk_model.specs.Moments.{Leaves-write, Leaves-now}
+use Rattle.disk_model.specs.MomentLaws.{Leaves-write, Leaves-now}
 use Rattle.tape_journal.specs.Journal.{gates_opened}
 use Rattle.tape_journal.specs.Segment.{records, open_gate}
-use Rattle.tape_journal.specs.Stage.{Staged, closed}
+use Rattle.tape_journal.specs.Stage.{AnyGates, closed_records}
 use Rattle.tape_journal.specs.Words.{octets_of}
 use Rattle.tape_journal.proofs.Gates.{torn_gate, written_gate, next_gate}
 use Rattle.tape_journal.proofs.Lists.{octets_at, take_step, drop_step, length-records-push, length-records-take}
@@ -22,7 +22,7 @@ loop-payload-init g c = record {
   quiet = refl;
   moments = λ h front has. at_start has.images;
   calls = λ h front has. refl;
-  whole = λ h front has. has.whole ∙ ap (λ (l : List (List ℕ)). records l ++ (closed (octets_of c.args.payloads.now) ++ 0 ∷ [])) (sym (append-nil front));
+  whole = λ h front has. has.whole ∙ ap (λ (l : List (List ℕ)). records l ++ (closed_records (octets_of c.args.payloads.now) ++ 0 ∷ [])) (sym (append-nil front));
 }
 
 -- the next gate lies within the disk
@@ -36,10 +36,10 @@ returns-in_err-put-clause-moments g c honest front has =
     let v = c.loop-payload.invariant in
     let old = g.D.Disk.log c.args.disk.now in
     let mid = g.D.Disk.log c.loop-payload.disk in
-    let P = Staged front qs in
+    let P = AnyGates front qs in
     let within : i < length qs = omega (arith, length-map c.args.payloads.now (λ (w : Vec ℕ Global). w.items)) in
     let at = next_gate front qs i c.args.first c.loop-payload.at has.place v.place in
-    let le = inside (content mid) (records (front ++ take i qs)) (closed (drop i qs) ++ 0 ∷ []) c.loop-payload.at (v.whole honest front has) at in
+    let le = inside (content mid) (records (front ++ take i qs)) (closed_records (drop i qs) ++ 0 ∷ []) c.loop-payload.at (v.whole honest front has) at in
     let place : c.loop-payload.at ≡ length (records front) + length (records (take i qs)) = omega (arith, has.place, v.place) in
     Leaves-write P old mid (g.D.Disk.log c.put.new.disk) c.loop-payload.at (open_gate ∷ []) c.put.result (v.moments honest front has) (c.put.ensures.log (v.honest.0 honest) le)
     (λ d x is torn. torn_gate front qs i d x within (Leaves-now P old mid (v.moments honest front has) d is) (subst (λ (k : ℕ). Torn k 1 d x) place torn))
@@ -51,7 +51,7 @@ returns-in_err-put-clause-cause g c honest front has =
     let v = c.loop-payload.invariant in
     let mid = g.D.Disk.log c.loop-payload.disk in
     let at = next_gate front qs i c.args.first c.loop-payload.at has.place v.place in
-    let le = inside (content mid) (records (front ++ take i qs)) (closed (drop i qs) ++ 0 ∷ []) c.loop-payload.at (v.whole honest front has) at in
+    let le = inside (content mid) (records (front ++ take i qs)) (closed_records (drop i qs) ++ 0 ∷ []) c.loop-payload.at (v.whole honest front has) at in
     let cause = c.in_err-put.ensures.cause (v.honest.0 honest) le in
     record { later = omega (arith, v.later, cause.later); rises = λ e. omega (arith, v.later, cause.rises refl) }
 
@@ -84,25 +84,25 @@ loop-payload-preserved g c =
       later = omega (arith, v.later, c.put.ensures.later);
       quiet = omega (arith, v.quiet, c.in_ok-put.ensures.quiet);
       moments = λ honest front has.
-          let P = Staged front qs in
+          let P = AnyGates front qs in
           let at = next_gate front qs i c.args.first c.loop-payload.at has.place v.place in
-          let le = inside (content mid) (records (front ++ take i qs)) (closed (drop i qs) ++ 0 ∷ []) c.loop-payload.at (v.whole honest front has) at in
+          let le = inside (content mid) (records (front ++ take i qs)) (closed_records (drop i qs) ++ 0 ∷ []) c.loop-payload.at (v.whole honest front has) at in
           let place : c.loop-payload.at ≡ length (records front) + length (records (take i qs)) = omega (arith, has.place, v.place) in
           Leaves-write P old mid (g.D.Disk.log c.put.new.disk) c.loop-payload.at (open_gate ∷ []) c.put.result (v.moments honest front has) (c.put.ensures.log (v.honest.0 honest) le)
           (λ d x here torn. torn_gate front qs i d x within (Leaves-now P old mid (v.moments honest front has) d here) (subst (λ (k : ℕ). Torn k 1 d x) place torn));
       whole = λ honest front has.
           let at = next_gate front qs i c.args.first c.loop-payload.at has.place v.place in
-          let le = inside (content mid) (records (front ++ take i qs)) (closed (drop i qs) ++ 0 ∷ []) c.loop-payload.at (v.whole honest front has) at in
+          let le = inside (content mid) (records (front ++ take i qs)) (closed_records (drop i qs) ++ 0 ∷ []) c.loop-payload.at (v.whole honest front has) at in
           let so_far = front ++ take i qs in
           let rest = drop (i + 1) qs in
           ap content (c.in_ok-put.ensures.log (v.honest.0 honest) le)
-          ∙ (ap (λ (l : List ℕ). overwritten l c.loop-payload.at (open_gate ∷ [])) (v.whole honest front has ∙ ap (λ (l : List (List ℕ)). records so_far ++ (closed l ++ 0 ∷ [])) (drop_step qs i p.items within is))
-          ∙ (ap (λ (k : ℕ). overwritten (records so_far ++ (closed (p.items ∷ rest) ++ 0 ∷ [])) k (open_gate ∷ [])) at
+          ∙ (ap (λ (l : List ℕ). overwritten l c.loop-payload.at (open_gate ∷ [])) (v.whole honest front has ∙ ap (λ (l : List (List ℕ)). records so_far ++ (closed_records l ++ 0 ∷ [])) (drop_step qs i p.items within is))
+          ∙ (ap (λ (k : ℕ). overwritten (records so_far ++ (closed_records (p.items ∷ rest) ++ 0 ∷ [])) k (open_gate ∷ [])) at
           ∙ (written_gate so_far rest p.items
-          ∙ ap (λ (l : List (List ℕ)). records l ++ (closed rest ++ 0 ∷ [])) (append_assoc front (take i qs) (p.items ∷ []) ∙ ap (λ (l : List (List ℕ)). front ++ l) (sym step)))));
+          ∙ ap (λ (l : List (List ℕ)). records l ++ (closed_records rest ++ 0 ∷ [])) (append_assoc front (take i qs) (p.items ∷ []) ∙ ap (λ (l : List (List ℕ)). front ++ l) (sym step)))));
       calls = λ honest front has.
           let at = next_gate front qs i c.args.first c.loop-payload.at has.place v.place in
-          let le = inside (content mid) (records (front ++ take i qs)) (closed (drop i qs) ++ 0 ∷ []) c.loop-payload.at (v.whole honest front has) at in
+          let le = inside (content mid) (records (front ++ take i qs)) (closed_records (drop i qs) ++ 0 ∷ []) c.loop-payload.at (v.whole honest front has) at in
           let rest = drop (i + 1) qs in
           let next : c.loop-payload.at + 5 + length p.items ≡ c.loop-payload.at + (5 + c.len.result) = omega (arith, c.len.ensures) in
           v.calls honest front has

@@ -1,4 +1,4 @@
-use Rattle.disk_model.specs.Moments.{Leaves-then, Leaves-weaker}
+use Rattle.disk_model.specs.MomentLaws.{Leaves-then, Leaves-weaker}
 use Rattle.tape_journal.specs.Rewrite.{EmptiedFrom, GatedAs, RenewedFrom}
 use Rattle.tape_journal.proofs.Renewing.{emptied_renewed, gated_renewed}
 use Rattle.tape_journal.proofs.renew.rewrite.Goals as goal

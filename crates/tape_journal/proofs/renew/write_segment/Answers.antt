@@ -2,7 +2,7 @@ use Rattle.std.proofs.Common.{◌≡◌, ℕ, ◌+◌, ◌-◌, List, [], ◌∷
 use Rattle.std.proofs.Common.{subst, inl, inr, arith}
 use Rattle.std.proofs.lemmas.List.{take_rest, append-nil, drop_all}
 use Rattle.disk_model.specs.Disk.{IsOnly, Torn, overwritten}
-use Rattle.disk_model.specs.Moments.{Leaves-then, Leaves-weaker}
+use Rattle.disk_model.specs.MomentLaws.{Leaves-then, Leaves-weaker}
 use Rattle.tape_journal.specs.Rewrite.{GatedAs}
 use Rattle.tape_journal.proofs.Gates.{torn_first}
 use Rattle.tape_journal.proofs.Renewing.{torn_behind_gate}

@@ -2,7 +2,7 @@ use Rattle.std.proofs.Common.{◌≡◌, ℕ, ◌+◌, ◌≤◌, List, [], ◌�
 use Rattle.std.proofs.lemmas.Result.{on_ok_weaker}
 use Rattle.disk_model.specs.Disk.{Event, content, Torn, IsOnly, overwritten}
 use Rattle.disk_model.specs.Disk.Event.{Wrote, Synced}
-use Rattle.disk_model.specs.Moments.{Leaves-weaker}
+use Rattle.disk_model.specs.MomentLaws.{Leaves-weaker}
 use Rattle.tape_journal.specs.Segment.{at_rest, Reads}
 use Rattle.tape_journal.proofs.Ending.{trimmed, torn_end, ended_reads, written_end, Ended-long, first_sync_on}
 use Rattle.tape_journal.proofs.repair.repair.Goals as goal

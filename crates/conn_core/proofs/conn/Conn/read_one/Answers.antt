@@ -1,23 +1,22 @@
-use Rattle.std.proofs.Common.{◌≡◌, ℕ, List, Ok, Err, None, ap, sym, ◌∙◌}
+use Rattle.std.proofs.Common.{◌≡◌, Ok, Err, None, ap, sym, ◌∙◌}
 use Rattle.std.specs.Prelude.{is_some}
-use Rattle.reply_reader.specs.Stream.{Working, BeginsWithReply, IsShort}
+use Rattle.reply_reader.specs.Stream.{Working, IsShort}
 use Rattle.reply_reader.specs.Told.{given_of}
-use Rattle.conn_core.proofs.Reading.{at-work, begins-fault, reads-fault, reads-none, reads-reply, shorter-reply}
+use Rattle.conn_core.proofs.Reading.{at-work, begins-fault, begins-reply, reads-fault, reads-none, reads-reply, shorter-reply}
 use Rattle.conn_core.proofs.conn.Conn.read_one.Goals as goal
 
 pub returns-in_ok-came-in-Ok-Some-clause-read : goal.returns-in_ok-came-in-Ok-Some-clause-read
 returns-in_ok-came-in-Ok-Some-clause-read c = λ options waiting h reading.
     let reader : c.self.inside.reader ≡ Working waiting = ap (λ v. v.reader) c.self.view_is ∙ reading.reader in
-    let reply = rw c.in-Ok-Some.field-0-is at c.in-Ok-Some.ensures.reply in
-    let read = at-work c.self.inside.reader waiting
-    (λ unread. (rest : List ℕ) × BeginsWithReply unread (given_of c.in-Ok-Some.reply) rest × (c.next.new.self ≡ Working rest)) reader reply in
-    reads-reply options c.args.self.now _ waiting h reading (given_of c.in-Ok-Some.reply) read.0 read.1 read.2 (rw (← c.self.view_is) c.in_ok-came-in-Ok-Some.ensures.ok)
+    let gives = rw c.in-Ok-Some.field-0-is at c.in-Ok-Some.ensures.some in
+    let begins = begins-reply c.self.inside.reader c.next.new.self waiting (given_of c.in-Ok-Some.reply) gives reader in
+    reads-reply options c.args.self.now _ waiting h reading (given_of c.in-Ok-Some.reply) gives.rest begins gives.waits (rw (← c.self.view_is) c.in_ok-came-in-Ok-Some.ensures.ok)
     c.is_none.result (ap is_some (sym c.closed.ensures) ∙ c.is_none.ensures)
 
 pub returns-in_ok-came-in-Ok-Some-clause-shorter : goal.returns-in_ok-came-in-Ok-Some-clause-shorter
 returns-in_ok-came-in-Ok-Some-clause-shorter c = λ more.
-    let reply = rw c.in-Ok-Some.field-0-is at c.in-Ok-Some.ensures.reply in
-    rw (← c.self.view_is) (shorter-reply c.self.inside.reader c.next.new.self (given_of c.in-Ok-Some.reply) reply)
+    let gives = rw c.in-Ok-Some.field-0-is at c.in-Ok-Some.ensures.some in
+    rw (← c.self.view_is) (shorter-reply c.self.inside.reader c.next.new.self (given_of c.in-Ok-Some.reply) gives)
 
 pub returns-in-Ok-None-clause-read : goal.returns-in-Ok-None-clause-read
 returns-in-Ok-None-clause-read c = λ options waiting h reading.
@@ -29,6 +28,6 @@ returns-in-Ok-None-clause-read c = λ options waiting h reading.
 pub returns-in_default-clause-read : goal.returns-in_default-clause-read
 returns-in_default-clause-read c = λ options waiting h reading.
     let reader : c.self.inside.reader ≡ Working waiting = ap (λ v. v.reader) c.self.view_is ∙ reading.reader in
-    let begins = begins-fault c.self.inside.reader waiting c.in-Err.fault reader (λ e. c.next.ensures.too_long.0 (c.in-Err.is ∙ ap (λ f. Err f) e))
-    (λ e. c.next.ensures.no_code.0 (c.in-Err.is ∙ ap (λ f. Err f) e)) (λ e. c.next.ensures.failed.0 (c.in-Err.is ∙ ap (λ f. Err f) e)) c.in_default.not-NoMemory in
+    let begins = begins-fault c.self.inside.reader waiting c.in-Err.fault reader (λ e. c.next.ensures.refuses.too_long.0 (c.in-Err.is ∙ ap (λ f. Err f) e))
+    (λ e. c.next.ensures.refuses.no_code.0 (c.in-Err.is ∙ ap (λ f. Err f) e)) (λ e. c.next.ensures.refuses.failed.0 (c.in-Err.is ∙ ap (λ f. Err f) e)) c.in_default.not-NoMemory in
     reads-fault options c.args.self.now _ waiting h reading c.in-Err.fault begins (rw (← c.self.view_is) c.faulted.ensures)

@@ -24,8 +24,12 @@ invariant_of-self c =
     let h : Holders = get nat_cmp c.self.inside.holders in
     let k : ℕ → ℕ → Bool = λ b m. contains pair_cmp c.self.inside.held (b, m) in
     let n = c.args.number in
-    let none : due_of agenda n ≡ None = moves.absent_last n agenda (moves.below_by h agenda n (subst (AreBelow n) (sym c.self.view_is) c.requires)) in
-    kept.kept_put c.put.result agenda c.put.new.self h k n c.self.invariant none c.put.ensures.ok c.put.ensures.err (λ m. c.after_put.ensures.moments agenda n m (Some 0) none) (c.after_put.ensures.order agenda n (Some 0) c.self.invariant.rising)
+    let below = moves.below_by h agenda n (subst (AreBelow n) (sym c.self.view_is) c.requires) in
+    let none : due_of agenda n ≡ None = moves.absent_last n agenda below in
+    let ok = moves.ready_put c.put.result agenda c.put.new.self n c.due_at.result c.due_at.ensures c.put.ensures.ok in
+    kept.kept_put c.put.result agenda c.put.new.self h k n c.self.invariant none ok c.put.ensures.err
+    (λ m. c.after_put.ensures.moments agenda n m (Some 0) none)
+    (c.after_put.ensures.order agenda n (Some 0) c.self.invariant.rising)
 
 pub returns-clause-ok : goal.returns-clause-ok
 returns-clause-ok c =
@@ -33,5 +37,6 @@ returns-clause-ok c =
     let h : Holders = get nat_cmp c.self.inside.holders in
     let k : ℕ → ℕ → Bool = λ b m. contains pair_cmp c.self.inside.held (b, m) in
     let n = c.args.number in
+    let ok = moves.ready_put c.put.result agenda c.put.new.self n c.due_at.result c.due_at.ensures c.put.ensures.ok in
     subst (λ (p : Places). OnOk c.put.result (places_by h c.put.new.self ≡ p ++ (n, Ready) ∷ [])) c.self.view_is
-    (moves.places_put c.put.result agenda c.put.new.self h n (subst (AreBelow n) (sym c.self.view_is) c.requires) c.put.ensures.ok)
+    (moves.places_put c.put.result agenda c.put.new.self h n (subst (AreBelow n) (sym c.self.view_is) c.requires) ok)

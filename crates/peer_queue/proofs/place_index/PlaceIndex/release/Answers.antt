@@ -7,7 +7,7 @@ pub loop-number-preserved : goal.loop-number-preserved
 loop-number-preserved c =
     let p = c.loop-number.self in
     let n = c.in-Some.number in
-    let b = c.args.connection in
+    let b = c.args.connection.0 in
     let one = count_moved b n p c.first_held_by.ensures.rising c.in-Some.ensures.some in
     record {
       counted = omega (arith, one, ap (held_count b) c.give_up.ensures, c.loop-number.invariant.counted);
@@ -16,18 +16,22 @@ loop-number-preserved c =
 
 pub loop-number-smaller : goal.loop-number-smaller
 loop-number-smaller c =
-    let one = count_moved c.args.connection c.in-Some.number c.loop-number.self c.first_held_by.ensures.rising c.in-Some.ensures.some in
-    omega (arith, one, ap (held_count c.args.connection) c.give_up.ensures)
+    let p = c.loop-number.self in
+    let b = c.args.connection.0 in
+    let one = count_moved b c.in-Some.number p c.first_held_by.ensures.rising c.in-Some.ensures.some in
+    omega (arith, one, ap (held_count b) c.give_up.ensures)
 
 pub overflow_add-count : goal.overflow_add-count
 overflow_add-count c =
-    let one = count_moved c.args.connection c.in-Some.number c.loop-number.self c.first_held_by.ensures.rising c.in-Some.ensures.some in
-    omega (arith, one, c.loop-number.invariant.counted, count_within c.args.connection c.args.self.now, c.requires)
+    let p = c.loop-number.self in
+    let b = c.args.connection.0 in
+    let one = count_moved b c.in-Some.number p c.first_held_by.ensures.rising c.in-Some.ensures.some in
+    omega (arith, one, c.loop-number.invariant.counted, count_within b c.args.self.now, c.requires)
 
 pub returns : goal.returns
 returns c =
     let p = c.loop-number.self in
-    let b = c.args.connection in
+    let b = c.args.connection.0 in
     record {
       count = omega (arith, c.loop-number.invariant.counted, count_none b p c.first_held_by.ensures.rising c.in_default.ensures.none);
       places = sym (released_none b p c.first_held_by.ensures.rising c.in_default.ensures.none) ∙ c.loop-number.invariant.same;

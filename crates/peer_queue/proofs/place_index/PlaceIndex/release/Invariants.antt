@@ -4,9 +4,9 @@ use Rattle.peer_queue.proofs.place_index.PlaceIndex.release.Given as goal
 
 abbrev pub invariant-loop-number : goal.invariant-loop-number
 invariant-loop-number l = record {
-  counted : l.count + held_count l.connection l.self ≡ held_count l.connection l.initial.self;
-  same : released l.connection l.self ≡ released l.connection l.initial.self;
+  counted : l.count + held_count l.connection.0 l.self ≡ held_count l.connection.0 l.initial.self;
+  same : released l.connection.0 l.self ≡ released l.connection.0 l.initial.self;
 }
 
 abbrev pub decreases-loop-number : goal.decreases-loop-number
-decreases-loop-number l = held_count l.connection l.self
+decreases-loop-number l = held_count l.connection.0 l.self

@@ -18,12 +18,12 @@ invariant_of-self c =
     let was = kept.unheld_due h agenda n (subst (λ (p : Places). IsUnheld p n) (sym c.self.view_is) c.requires) in
     let new = c.remove.ensures.new in
     let moments : (m : ℕ) → due_of c.remove.new.self m ≡ cond (n == m) None (due_of agenda m) = λ m. ap (λ (w : Waiting). due_of w m) new ∙ c.after_remove.ensures.moments agenda n m c.self.invariant.rising in
-    kept.kept_gone agenda c.remove.new.self h h k k 0 n c.self.invariant (subst IsRising (sym new) (c.after_remove.ensures.order agenda n c.self.invariant.rising))
-    (λ m apart. moments m ∙ kept.other_due n m None (due_of agenda m) apart) (λ m apart. refl)
+    kept.kept_free agenda c.remove.new.self h k n c.self.invariant
+    (subst IsRising (sym new) (c.after_remove.ensures.order agenda n c.self.invariant.rising))
+    (λ m apart. moments m ∙ kept.other_due n m None (due_of agenda m) apart)
     (λ b e. kept.free h agenda k n b was.0 c.self.invariant was.1 e)
     (kept.none_apart (due_of c.remove.new.self n) (moments n ∙ kept.own_due n None (due_of agenda n)))
     (λ t. kept.none_fits (due_of c.remove.new.self n) t (moments n ∙ kept.own_due n None (due_of agenda n)))
-    refl (λ b m. refl)
 
 pub returns : goal.returns
 returns c =

@@ -25,7 +25,9 @@ returns-in-Err-clause-pending_full g c =
     let station = c.args.self.now in
     let held = c.is_held_by.ensures.0 c.if-not-is_held_by.false in
     let fits : c.totals-totals.result.taken < 2 ^ 64 = omega arith in
-    let legal = held_legal station.index (ledger_of station) c.args.note c.args.connection c.args.number c.totals-totals.result c.requires station.all_placed held c.totals-totals.ensures.counts c.totals-totals.ensures.sum fits in
+    let legal = held_legal station.index (ledger_of station) c.args.note c.args.connection.0 c.args.number
+    c.totals-totals.result c.requires station.all_placed held c.totals-totals.ensures.counts
+    c.totals-totals.ensures.sum fits in
     let here : (c.in-Err.fault ≡ PendingFull) ↔ ((IsBroken station → ⊥) × IsLegal (ledger_of station) c.args.note × (pending_of station ≡ most_pending)) = c.in-Err.ensures.refuses.pending_full in
     full_iff c.in-Err.fault c.station_fault.result c.station_fault.ensures held legal here
 
@@ -34,5 +36,7 @@ returns-in-Err-clause-kinds g c =
     let station = c.args.self.now in
     let held = c.is_held_by.ensures.0 c.if-not-is_held_by.false in
     let fits : c.totals-totals.result.taken < 2 ^ 64 = omega arith in
-    let legal = held_legal station.index (ledger_of station) c.args.note c.args.connection c.args.number c.totals-totals.result c.requires station.all_placed held c.totals-totals.ensures.counts c.totals-totals.ensures.sum fits in
+    let legal = held_legal station.index (ledger_of station) c.args.note c.args.connection.0 c.args.number
+    c.totals-totals.result c.requires station.all_placed held c.totals-totals.ensures.counts
+    c.totals-totals.ensures.sum fits in
     subst IsEndFault (sym c.station_fault.ensures) (end_kind (ledger_of station) c.args.note c.in-Err.fault legal c.in-Err.ensures.refuses.kinds (λ cause told. ((c.in-Err.ensures.refuses.refused cause).0 told).1))

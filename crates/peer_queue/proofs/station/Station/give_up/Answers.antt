@@ -1,5 +1,5 @@
 use Rattle.std.proofs.Common.{ap, ◌∙◌}
-use Rattle.peer_queue.specs.Index.{place_until}
+use Rattle.peer_queue.specs.Index.{place_for}
 use Rattle.peer_queue.specs.Place.{placed}
 use Rattle.peer_queue.proofs.Ends.{placed-moved}
 use Rattle.peer_queue.proofs.station.Station.give_up.Goals as goal
@@ -8,6 +8,7 @@ pub invariant_of-self : goal.invariant_of-self
 invariant_of-self g c =
     let station = c.args.self.now in
     record {
-      all_placed = ap placed c.give_up.ensures ∙ (placed-moved station.index c.args.number (place_until c.args.moment) ∙ station.all_placed);
+      all_placed = ap placed c.give_up.ensures
+          ∙ (placed-moved station.index c.args.number (place_for c.args.wait) ∙ station.all_placed);
       marked = station.marked;
     }

@@ -1,5 +1,5 @@
 -- A debt that is owed, read back.
-use Rattle.std.proofs.Common.{◌≡◌, ◌⊎◌, inl, inr, ℕ, Some, None, is_some, refl, sym, ap, ◌∙◌, subst}
+use Rattle.std.proofs.Common.{◌≡◌, ◌⊎◌, inl, inr, is_some, refl, sym, ap, ◌∙◌, subst}
 use Rattle.std.proofs.lemmas.Bool.{false≢true}
 use Rattle.recovery.specs.Words.{IsDebtFault, ledger_of as tape_ledger}
 use Rattle.recovery.specs.Texts.{HasLengths}

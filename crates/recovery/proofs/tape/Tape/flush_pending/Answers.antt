@@ -13,10 +13,10 @@ use Rattle.std.specs.Prelude.{◌-◌, ◌^◌, min}
 use Rattle.ledger_core.specs.Index.{Indexes}
 use Rattle.ledger_core.specs.IndexLaws.{indexes-flushed}
 use Rattle.ledger_core.specs.Spots.{records_length}
-use Rattle.ledger_core.specs.Laws.{after-append, AllLegal-back}
+use Rattle.ledger_core.specs.StateLaws.{after-append, AllLegal-back}
 use Rattle.ledger_core.specs.SpellingLaws.{AreNotes-back}
 use Rattle.ledger_core.specs.State.{after}
-use Rattle.ledger_core.specs.Written.{restores-on}
+use Rattle.ledger_core.specs.WrittenLaws.{restores-on}
 use Rattle.recovery.specs.Notes.{AreLegal, flushed}
 use Rattle.recovery.specs.declared.segments.Segments.{Segments}
 use Rattle.recovery.proofs.Counts.{live_risen}

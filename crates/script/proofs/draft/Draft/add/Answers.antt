@@ -1,7 +1,7 @@
 use Rattle.script.specs.Line.{Blank, Takes}
 use Rattle.script.specs.Step.{step_view}
-use Rattle.script.specs.declared.sentence.Sentence.TheVariants.{Nothing, Step}
-use Rattle.script.proofs.Growing.{gains_blank, said_of}
+use Rattle.script.specs.declared.sentence.Sentence.TheVariants.{Nothing, Step, Tape}
+use Rattle.script.proofs.Growing.{gains_blank, said_of, tape_told}
 use Rattle.script.proofs.draft.Draft.add.Goals as goal
 
 pub returns-in-Some-Nothing-clause-ok : goal.returns-in-Some-Nothing-clause-ok
@@ -20,3 +20,12 @@ returns-in_ok-take-in-Some-Step-clause-ok c = λ before drafts at.
     (Step step) c.in-Some-Step.is c.in-Some-Step.field-0-is
     (c.in_ok-read_sentence.ensures {u = tt}) in
     (Takes (step_view step), says, c.in_ok-take-in-Some-Step.ensures before drafts at)
+
+pub returns-in-Some-Tape-clause-broken : goal.returns-in-Some-Tape-clause-broken
+returns-in-Some-Tape-clause-broken c =
+    let name = c.in-Some-Tape.name in
+    let octets = c.in-Some-Tape.octets in
+    let says =
+    said_of c.args.line.now c.in_ok-read_sentence.field-0 c.in-Some-Tape.field-0 (Tape name octets)
+    c.in-Some-Tape.is c.in-Some-Tape.field-0-is (c.in_ok-read_sentence.ensures {u = tt}) in
+    tape_told c.args.self.now c.args.place c.args.line.now name octets.items c.give.result says c.give.ensures.broken

@@ -7,6 +7,7 @@ returns c = λ before drafts at.
     gains_step c.args.self.now (record {
       peers = c.args.self.now.peers;
       names = c.args.self.now.names;
+      tapes = c.args.self.now.tapes;
       steps = c.push-2.new.self;
       lines = c.push.new.self;
-    }) c.args.step c.args.place before refl refl c.in_ok-push-2.ensures.items c.in_ok-push.ensures.items at drafts
+    }) c.args.step c.args.place before refl refl refl c.in_ok-push-2.ensures.items c.in_ok-push.ensures.items at drafts

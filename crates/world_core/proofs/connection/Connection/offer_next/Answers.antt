@@ -6,18 +6,8 @@ use Rattle.conn_core.specs.declared.ready.Ready.{Ready as Readiness}
 use Rattle.peer_queue.specs.Place.{IsHeldBy, Ready, moved}
 use Rattle.peer_queue.specs.Words.{places_of}
 use Rattle.world_core.specs.Past.{options_of}
-use Rattle.world_core.proofs.Handing.{
-  claim_refused,
-  gave_back_busy,
-  gave_back_memory,
-  gave_back_shut,
-  held_there,
-  if_none,
-  if_some,
-  none_claimed,
-  ready_told,
-  took_over,
-}
+use Rattle.world_core.proofs.Handing.{claim_refused, gave_back_busy, gave_back_memory, gave_back_shut, held_there}
+use Rattle.world_core.proofs.Handing.{if_none, if_some, none_claimed, ready_told, took_over}
 use Rattle.world_core.proofs.connection.Connection.offer_next.Goals as goal
 
 pub returns-in-Err-clause-err : goal.returns-in-Err-clause-err

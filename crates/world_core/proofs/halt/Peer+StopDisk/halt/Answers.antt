@@ -1,6 +1,6 @@
 -- Its disks are those of its tape.
 use Rattle.std.proofs.Common.{refl}
-use Rattle.recovery.specs.Laws.{logs_of_disks}
+use Rattle.recovery.specs.TapeLaws.{logs_of_disks}
 use Rattle.world_core.proofs.Halting.{peer_halted}
 use Rattle.world_core.proofs.halt.Peer+StopDisk.halt.Goals as goal
 

@@ -1,5 +1,5 @@
 -- The peers stop, and so does the intake.
-use Rattle.recovery.specs.Laws.{logs_of_disks}
+use Rattle.recovery.specs.TapeLaws.{logs_of_disks}
 use Rattle.world_core.proofs.Halting.{tapes_halted}
 use Rattle.world_core.proofs.halt.Stations+StopDisk.halt.Goals as goal
 

@@ -3,15 +3,8 @@ use Rattle.std.proofs.Common.{◌∙◌, length, sym, subst}
 use Rattle.world_core.specs.Events.{Parts, each_place}
 use Rattle.world_core.specs.Steps.{begun_at}
 use Rattle.world_core.specs.Stepped.{FailedAt}
-use Rattle.world_core.proofs.Stepping.{
-  flush_failed_part,
-  flush_failed_seal,
-  flush_memory,
-  flush_took,
-  if_err,
-  pushed,
-  sealable_begun,
-}
+use Rattle.world_core.proofs.Stepping.{flush_failed_part, flush_failed_seal, flush_memory, flush_took, if_err, pushed}
+use Rattle.world_core.proofs.Stepping.{sealable_begun}
 use Rattle.world_core.proofs.stations.Stations.flush.Goals as goal
 
 pub returns-in_err-told-clause-err : goal.returns-in_err-told-clause-err

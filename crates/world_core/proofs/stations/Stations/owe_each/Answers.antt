@@ -3,17 +3,8 @@ use Rattle.std.proofs.Common.{◌≡◌, ◌∙◌, ℕ, length, vec_len, refl, 
 use Rattle.world_core.specs.Events.{Owes}
 use Rattle.world_core.specs.Stands.{FailedOne}
 use Rattle.world_core.specs.Stepped.{AreFound, AreWithin}
-use Rattle.world_core.proofs.Lining.{
-  OwedSome,
-  length_more,
-  some_all,
-  some_failed,
-  some_more,
-  some_none,
-  split_end,
-  split_here,
-  split_more,
-}
+use Rattle.world_core.proofs.Lining.{OwedSome, length_more, some_all, some_failed, some_more, some_none, split_end}
+use Rattle.world_core.proofs.Lining.{split_here, split_more}
 use Rattle.world_core.proofs.Stepping.{if_err}
 use Rattle.world_core.proofs.stations.Stations.owe_each.Goals as goal
 

@@ -2,16 +2,8 @@
 use Rattle.std.proofs.Common.{◌∙◌, refl, sym, subst}
 use Rattle.world_core.specs.Events.{Rotates}
 use Rattle.world_core.specs.Stands.{FailedOne}
-use Rattle.world_core.proofs.Stepping.{
-  if_err,
-  place_same,
-  pushed,
-  rotate_absent,
-  rotate_failed,
-  rotate_memory,
-  rotate_said,
-  rotate_took,
-}
+use Rattle.world_core.proofs.Stepping.{if_err, place_same, pushed, rotate_absent, rotate_failed, rotate_memory}
+use Rattle.world_core.proofs.Stepping.{rotate_said, rotate_took}
 use Rattle.world_core.proofs.stations.Stations.rotate.Goals as goal
 
 pub returns-in_default-clause-err : goal.returns-in_default-clause-err

@@ -2,16 +2,8 @@
 use Rattle.std.proofs.Common.{◌∙◌, [], refl, sym, subst}
 use Rattle.world_core.specs.Events.{Sheds}
 use Rattle.world_core.specs.Stands.{FailedOne}
-use Rattle.world_core.proofs.Stepping.{
-  if_err,
-  place_same,
-  pushed,
-  shed_absent,
-  shed_failed,
-  shed_memory,
-  shed_said,
-  shed_took,
-}
+use Rattle.world_core.proofs.Stepping.{if_err, place_same, pushed, shed_absent, shed_failed, shed_memory, shed_said}
+use Rattle.world_core.proofs.Stepping.{shed_took}
 use Rattle.world_core.proofs.stations.Stations.shed.Goals as goal
 
 pub returns-in_default-clause-err : goal.returns-in_default-clause-err

@@ -1,0 +1,279 @@
+// What a debt costs on its way from a funnel line to the note of its final answer.
+//
+// `way DIRECTORY COUNT` has so many debts of one peer, in whole batches of 256, go the whole way over a tape in two
+// files of this directory: each line of a batch is read and owed, and the batch flushed; each debt is claimed and
+// offered, 16 at a time, to a connection whose peer wants and takes each article; each outcome is finished, and the
+// batch flushed again. `owed DIRECTORY COUNT` reads, owes and flushes as many, and ends where all are owed. What the
+// peer answers is made before the clock runs.
+use crate::files::{disks_in, remove};
+use crate::peer::{CONNECTION, answers_of, drain, offer, streaming};
+use crate::texts::text_of;
+use crate::time::{number, tell};
+use anyhow::{Context, Result, bail};
+use article_store::Found;
+use bytes::Bytes;
+use conn_core::{Conn, Outcome};
+use disk_model::FileDisk;
+use funnel::{MsgId, read_line};
+use ledger_core::{Debt, Totals};
+use peer_queue::{Limits, Settled, Station};
+use std::alloc::Global;
+use std::fs::File;
+use std::rt::Files;
+use std::time::{Clock, Instant};
+
+// How many debts are owed and finished between two flushes.
+const BATCH: u64 = 256;
+
+// How many of them are under way at once.
+const UNDER_WAY: u64 = 16;
+
+// An article has at most so many octets.
+const OCTETS: usize = 1000;
+
+// A batch of lines, and what the peer answers to the debts of each round.
+#[derive(Drop)]
+struct Feed {
+    lines: Vec<String>,
+    rounds: Vec<Round>,
+    text: Bytes,
+}
+
+// What the peer answers to as many debts as are under way.
+#[derive(Drop)]
+struct Round {
+    wanted: Vec<u8>,
+    taken: Vec<u8>,
+}
+
+pub fn run<R: AllocGlobal + Print + Clock + Files<File = File>>(
+    rt: &R,
+    words: &[String],
+) -> Result<()> {
+    match words {
+        [] => small(rt),
+        [work, path, count] if work.as_str() == "way" => way(rt, path, number(count)?),
+        [work, path, count] if work.as_str() == "owed" => owed(rt, path, number(count)?),
+        _ => bail!("debt [way DIRECTORY COUNT | owed DIRECTORY COUNT]"),
+    }
+}
+
+fn small<R: AllocGlobal + Print + Files<File = File>>(rt: &R) -> Result<()> {
+    let feed = feed_of(rt.alloc())?;
+    let totals = gone(rt, ".", &feed, 1024)?;
+    println!(rt;
+        "debt: {} taken, {} answered, {} owed",
+        totals.taken, totals.answered, totals.owed
+    )?;
+    let totals = left(rt, ".", &feed, 1024)?;
+    println!(rt; "debt: {} taken, {} owed", totals.taken, totals.owed)?;
+    remove(rt, ".")
+}
+
+fn way<R: AllocGlobal + Print + Clock + Files<File = File>>(
+    rt: &R,
+    path: &str,
+    count: u64,
+) -> Result<()> {
+    let feed = feed_of(rt.alloc())?;
+    let start = Instant::now(rt)?;
+    let totals = gone(rt, path, &feed, count)?;
+    let time = start.elapsed(rt)?;
+    if totals.owed != 0 {
+        bail!("{} of {} debts are owed", totals.owed, totals.taken);
+    }
+    tell(rt, totals.answered, "debts", time)
+}
+
+fn owed<R: AllocGlobal + Print + Clock + Files<File = File>>(
+    rt: &R,
+    path: &str,
+    count: u64,
+) -> Result<()> {
+    let feed = feed_of(rt.alloc())?;
+    let start = Instant::now(rt)?;
+    let totals = left(rt, path, &feed, count)?;
+    tell(rt, totals.owed, "debts", start.elapsed(rt)?)
+}
+
+fn feed_of(alloc: Global) -> Result<Feed> {
+    let ids = ids_of(alloc)?;
+    Ok(Feed {
+        lines: lines_of(alloc, &ids)?,
+        rounds: rounds_of(alloc, &ids)?,
+        text: Bytes::from_vec(text_of(alloc, OCTETS)?)?,
+    })
+}
+
+// The ids of a batch.
+fn ids_of(alloc: Global) -> Result<Vec<MsgId>> {
+    let mut ids = Vec::new(alloc);
+    for place in 0..BATCH {
+        let id = format!(in alloc; "<{place}.article@news.example.org>")?;
+        ids.push(MsgId::read(alloc, id.as_bytes())?.context("a message-id")?)?;
+    }
+    Ok(ids)
+}
+
+// A line of each id.
+fn lines_of(alloc: Global, ids: &[MsgId]) -> Result<Vec<String>> {
+    let mut lines = Vec::new(alloc);
+    for (place, id) in ids.iter().enumerate() {
+        let id = str::from_utf8(id.bytes())?;
+        lines.push(format!(in alloc; "default/{place} {id} feed.example.net")?)?;
+    }
+    Ok(lines)
+}
+
+fn rounds_of(alloc: Global, ids: &[MsgId]) -> Result<Vec<Round>> {
+    let mut rounds = Vec::new(alloc);
+    for ids in ids.chunks(UNDER_WAY as usize) {
+        rounds.push(Round {
+            wanted: answers_of(alloc, ids, b"238")?,
+            taken: answers_of(alloc, ids, b"239")?,
+        })?;
+    }
+    Ok(rounds)
+}
+
+// A station over a new tape in this directory.
+fn station_in<R: AllocGlobal + Files<File = File>>(
+    rt: &R,
+    path: &str,
+) -> Result<Station<FileDisk<File>>> {
+    remove(rt, path)?;
+    let (first, second) = disks_in(rt, path)?;
+    let limits = Limits {
+        backlog_limit: 0,
+        backlog_high: 0,
+        drop_deferred: false,
+    };
+    match Station::open(rt.alloc(), first, second, limits) {
+        Ok(station) => Ok(station),
+        Err(refused) => Err(refused.fault.into()),
+    }
+}
+
+// So many debts have gone the whole way.
+fn gone<R: AllocGlobal + Files<File = File>>(
+    rt: &R,
+    path: &str,
+    feed: &Feed,
+    count: u64,
+) -> Result<Totals> {
+    let mut station = station_in(rt, path)?;
+    send_batches(rt.alloc(), &mut station, feed, count / BATCH)?;
+    Ok(station.totals())
+}
+
+// proof: the connection in a frame of its own, so that no way out drops both it and the station.
+fn send_batches(
+    alloc: Global,
+    station: &mut Station<FileDisk<File>>,
+    feed: &Feed,
+    batches: u64,
+) -> Result<()> {
+    let mut conn = streaming(alloc)?;
+    for batch in 0..batches {
+        owe_batch(alloc, station, &feed.lines, batch)?;
+        for round in &feed.rounds {
+            send_round(station, &mut conn, round, &feed.text)?;
+        }
+        flush(station)?;
+    }
+    Ok(())
+}
+
+// So many debts are owed.
+fn left<R: AllocGlobal + Files<File = File>>(
+    rt: &R,
+    path: &str,
+    feed: &Feed,
+    count: u64,
+) -> Result<Totals> {
+    let mut station = station_in(rt, path)?;
+    for batch in 0..count / BATCH {
+        owe_batch(rt.alloc(), &mut station, &feed.lines, batch)?;
+    }
+    Ok(station.totals())
+}
+
+// Reads a batch of lines, owes each, and flushes them.
+fn owe_batch(
+    alloc: Global,
+    station: &mut Station<FileDisk<File>>,
+    lines: &[String],
+    batch: u64,
+) -> Result<()> {
+    let mut number = batch.saturating_mul(BATCH);
+    for line in lines {
+        number = number.saturating_add(1);
+        owe(alloc, station, number, line.as_bytes())?;
+    }
+    flush(station)
+}
+
+// proof: what the calls of the station ensure is left behind in each of these, so that its callers carry none of it.
+fn owe(
+    alloc: Global,
+    station: &mut Station<FileDisk<File>>,
+    number: u64,
+    line: &[u8],
+) -> Result<()> {
+    let line = read_line(alloc, line)?;
+    station.owe(number, &line.token, &line.id)?;
+    Ok(())
+}
+
+// Flushes a station, and writes its tape anew where that is due.
+fn flush(station: &mut Station<FileDisk<File>>) -> Result<()> {
+    station.flush()?;
+    if station.rotate_due() {
+        station.rotate()?;
+    }
+    Ok(())
+}
+
+fn claim(station: &mut Station<FileDisk<File>>) -> Result<Debt> {
+    station.claim(CONNECTION, 0)?.context("a debt")
+}
+
+// Sends the articles of as many debts as are under way, and finishes each debt.
+fn send_round(
+    station: &mut Station<FileDisk<File>>,
+    conn: &mut Conn,
+    round: &Round,
+    text: &Bytes,
+) -> Result<()> {
+    for _ in 0..UNDER_WAY {
+        offer(conn, claim(station)?)?;
+    }
+    drain(conn);
+    conn.input(&round.wanted)?;
+    for _ in 0..UNDER_WAY {
+        hand_in(conn, text.clone()?)?;
+    }
+    drain(conn);
+    conn.input(&round.taken)?;
+    for _ in 0..UNDER_WAY {
+        finish(station, conn.outcome().context("an outcome")?)?;
+    }
+    Ok(())
+}
+
+// Hands in the article that came to be wanted first.
+fn hand_in(conn: &mut Conn, text: Bytes) -> Result<()> {
+    let number = conn.need().context("an article is wanted")?;
+    if conn.article(number, Found::Article(text)).is_err() {
+        bail!("an article was refused");
+    }
+    Ok(())
+}
+
+fn finish(station: &mut Station<FileDisk<File>>, outcome: Outcome) -> Result<()> {
+    match station.finish(CONNECTION, outcome, 0) {
+        Ok(Settled::Answered(_)) => Ok(()),
+        Ok(_) => bail!("a debt was not answered"),
+        Err((_, fault)) => Err(fault.into()),
+    }
+}

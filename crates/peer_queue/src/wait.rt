@@ -1,0 +1,24 @@
+// What a debt waits for.
+ghost use Rattle.std.specs.Prelude.{◌≡◌};
+ghost use Rattle.peer_queue.specs.Index.{due_at};
+
+/// What a debt waits for that no connection holds.
+#[derive(Clone, Copy)]
+pub(crate) enum Wait {
+    /// Nothing: it is ready.
+    Ready,
+    /// This moment; until 0 is no wait.
+    Until(u64),
+}
+
+impl Wait {
+    // The moment from which on it may be claimed. 0 tells that it is ready, since no debt is later until then.
+    pub(crate) fn due_at(self) -> u64
+        ensures { result ≡ due_at self }
+    {
+        match self {
+            Wait::Ready => 0,
+            Wait::Until(moment) => moment,
+        }
+    }
+}

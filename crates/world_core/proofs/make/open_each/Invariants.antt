@@ -1,0 +1,7 @@
+use Rattle.std.specs.List.{AllZip}
+use Rattle.world_core.specs.Given.{OpensGiven}
+use Rattle.world_core.proofs.make.open_each.Given as goal
+
+-- those so far were opened
+abbrev pub invariant-loop-peer : goal.invariant-loop-peer
+invariant-loop-peer l = AllZip OpensGiven l.yielded l.peers.items
