@@ -153,7 +153,7 @@ fn read_more<R: Read>(reader: &mut R, buffer: &mut Vec<u8>, filled: usize) -> io
     ensures gave { IfOk result (λ count. Consumes (R.remaining reader.old) (R.remaining reader.new)
         (take count (drop filled buffer.new.items))) }
     ensures end { IfOk result (λ count. count ≡ 0 → IsAtEnd (R.remaining reader.new)) }
-    ensures err { OnErr result (Keeps (R.remaining reader.old) (R.remaining reader.new)) }
+    ensures unchanged { OnErr result (Keeps (R.remaining reader.old) (R.remaining reader.new)) }
 {
     if filled >= buffer.len() {
         make_room(buffer)?;
@@ -176,7 +176,7 @@ fn read_at<R: Read>(
     ensures gave { IfOk result (λ count. Consumes (R.remaining reader.old) (R.remaining reader.new)
         (take count (drop start buffer.new))) }
     ensures end { IfOk result (λ count. count ≡ 0 → IsAtEnd (R.remaining reader.new)) }
-    ensures err { OnErr result (Keeps (R.remaining reader.old) (R.remaining reader.new)) }
+    ensures unchanged { OnErr result (Keeps (R.remaining reader.old) (R.remaining reader.new)) }
 {
     reader.read(&mut buffer[start..end])
 }
@@ -197,7 +197,7 @@ fn judge(alloc: Global, text: &[u8]) -> Result<Found, StoreFault>
     ensures sendable { IfOk result IsFound }
     ensures said { IfOk result (IsReadAs text.now) }
     ensures there { result ≢ Ok Found.Gone }
-    ensures memory { IfErr result (λ fault. fault ≡ StoreFault.NoMemory) }
+    ensures kinds { IfErr result (λ fault. fault ≡ StoreFault.NoMemory) }
 {
     if is_sendable(text) {
         Ok(Found::Article(Bytes::copy_from_slice(alloc, text)?))

@@ -35,11 +35,11 @@ impl MemArticles {
     /// # Errors
     /// `NoMemory` where memory was refused; then each text stays as it was.
     pub fn insert(&mut self, token: &Token, text: Bytes) -> Result<(), AllocError>
-        ensures stands { OnOk result (text_at self.new token.now ≡ Some text) }
-        ensures others { OnOk result
+        ensures ok { OnOk result (text_at self.new token.now ≡ Some text) }
+        ensures keeps_others { OnOk result
             ((other : List ℕ) → other ≢ token.now
             → text_at self.new other ≡ text_at self.old other) }
-        ensures err { OnErr result
+        ensures unchanged { OnErr result
             ((other : List ℕ) → text_at self.new other ≡ text_at self.old other) }
     {
         let key = Vec::from_slice(self.alloc, token.bytes())?;
@@ -51,7 +51,7 @@ impl MemArticles {
     pub fn remove(&mut self, token: &Token) -> bool
         ensures found { result ≡ is_some (text_at self.old token.now) }
         ensures gone { text_at self.new token.now ≡ None }
-        ensures others { (other : List ℕ) → other ≢ token.now
+        ensures keeps_others { (other : List ℕ) → other ≢ token.now
             → text_at self.new other ≡ text_at self.old other }
     {
         self.texts.remove(token.bytes()).is_some()
@@ -71,7 +71,7 @@ impl Articles for MemArticles {
         ensures sendable { IfOk result IsFound }
         ensures said { IfOk result (IsSaidBy (λ text. text_at self.old token.now ≡ text)) }
         ensures unchanged { (other : List ℕ) → text_at self.new other ≡ text_at self.old other }
-        ensures memory { IfErr result (λ fault. fault ≡ StoreFault.NoMemory) }
+        ensures kinds { IfErr result (λ fault. fault ≡ StoreFault.NoMemory) }
         ensures there { OnErr result
             ((text : List ℕ) × (text_at self.old token.now ≡ Some text) × IsSendable text) }
     {

@@ -54,6 +54,6 @@ pub trait Articles {
     fn fetch(&mut self, token: &Token) -> Result<Found, StoreFault>
         ensures sendable { IfOk result IsFound }
         ensures said { IfOk result (IsSaidBy (says self.old token.now)) }
-        ensures kept { (other : List ℕ) (text : Option (List ℕ)) → says self.old other text
+        ensures unchanged { (other : List ℕ) (text : Option (List ℕ)) → says self.old other text
             ↔ says self.new other text };
 }

@@ -7,9 +7,9 @@ use Rattle.drill.specs.Drill.{Drills}
 use Rattle.drill.specs.declared.ending.Ending.{Ending}
 use Rattle.drill.specs.declared.ending.Ending.TheVariants.{Done as AllTaken, Refused as LineRefused}
 use Rattle.drill.specs.declared.ending.Ending.TheVariants.{NoTape as TapeRefused, NoMemory as WantsMemory}
-use Rattle.feed_conf.specs.Reading.{HaveTokens, lines_of}
+use Rattle.feed_conf.specs.Reading.{HaveLexemes, lines_of}
 use Rattle.feed_conf.specs.Settings.{Outcome, meaning}
-use Rattle.feed_conf.specs.Tokens.{Token}
+use Rattle.feed_conf.specs.Lexemes.{Lexeme}
 use Rattle.feed_conf.specs.declared.fault.ConfFault.{ConfFault}
 use Rattle.commands.specs.Check.{check_text}
 use Rattle.commands.specs.Exit.{exit_of}
@@ -25,7 +25,7 @@ use Rattle.commands.specs.declared.order.Order.TheVariants.{DrillFromInput, Dril
 
 -- what a configuration's text means: its settings, or its first fault
 abbrev pub Means : List ℕ → Result Outcome ConfFault → Type 0
-Means text meant = (lines : List (List Token)) → HaveTokens (lines_of text) lines → meaning lines ≡ meant
+Means text meant = (lines : List (List Lexeme)) → HaveLexemes (lines_of text) lines → meaning lines ≡ meant
 
 -- memory was refused, of which nothing is said
 abbrev pub LacksMemory : Exit → Option (List ℕ) → Type 0

@@ -1,11 +1,7 @@
 -- The lines that tell how a feed ended (docs/MANUAL.md).
 use Rattle.std.specs.Prelude.{ℕ, List, [], ◌∷◌, ◌++◌, codes, decimal, flat_map, string_bytes}
-use Rattle.ledger_core.specs.declared.ledger.LedgerFault.{LedgerFault}
-use Rattle.ledger_core.specs.declared.ledger.LedgerFault.TheVariants.{OldNumber, NotOwed, CountFull}
-use Rattle.ledger_core.specs.declared.ledger.LedgerFault.TheVariants.{NoMemory as NoLedgerMemory}
+use Rattle.recovery.specs.Faults.{tape_fault_name}
 use Rattle.recovery.specs.declared.fault.TapeFault.{TapeFault}
-use Rattle.recovery.specs.declared.fault.TapeFault.TheVariants.{Damaged, Disk, Broken, TapeFull, GenerationFull, PendingFull}
-use Rattle.recovery.specs.declared.fault.TapeFault.TheVariants.{NoMemory, Note}
 use Rattle.commands.specs.declared.feeds.FeedEnd.{FeedEnd}
 use Rattle.commands.specs.declared.feeds.FileTrouble.{FileTrouble}
 use Rattle.commands.specs.declared.feeds.FileTrouble.TheVariants.{Unread, Unwritten, Output}
@@ -13,27 +9,9 @@ use Rattle.commands.specs.declared.feeds.Owing.{Owing}
 use Rattle.commands.specs.declared.feeds.TapeTrouble.{TapeTrouble}
 use Rattle.commands.specs.declared.feeds.TapeTrouble.TheVariants.{Taken, Failed}
 
--- the words for why a ledger refuses a note
-abbrev pub ledger_kind : LedgerFault → List ℕ
-ledger_kind OldNumber = codes "Note OldNumber"
-ledger_kind NotOwed = codes "Note NotOwed"
-ledger_kind CountFull = codes "Note CountFull"
-ledger_kind NoLedgerMemory = codes "Note NoMemory"
-
--- the word for what is wrong with a tape
-abbrev pub tape_kind : TapeFault → List ℕ
-tape_kind (Damaged segment at) = codes "Damaged"
-tape_kind Disk = codes "Disk"
-tape_kind Broken = codes "Broken"
-tape_kind TapeFull = codes "TapeFull"
-tape_kind GenerationFull = codes "GenerationFull"
-tape_kind PendingFull = codes "PendingFull"
-tape_kind NoMemory = codes "NoMemory"
-tape_kind (Note fault) = ledger_kind fault
-
 -- the tape of this name is refused, or failed
 abbrev pub failed_text : List ℕ → TapeFault → List ℕ
-failed_text name fault = codes "tape " ++ name ++ codes ": " ++ tape_kind fault ++ 10 ∷ []
+failed_text name fault = codes "tape " ++ name ++ codes ": " ++ tape_fault_name fault ++ 10 ∷ []
 
 -- what is wrong with a tape
 abbrev pub tape_text : TapeTrouble → List ℕ

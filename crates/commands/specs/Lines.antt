@@ -3,28 +3,13 @@ use Rattle.std.specs.Prelude.{ℕ, List, [], ◌∷◌, ◌++◌, codes, decimal
 use Rattle.drill.specs.Words.{why_words}
 use Rattle.drill.specs.declared.ending.Refusal.{Refusal}
 use Rattle.drill.specs.declared.ending.TapeRefusal.{TapeRefusal}
+use Rattle.feed_conf.specs.Faults.{conf_fault_name}
 use Rattle.feed_conf.specs.declared.fault.ConfFault.{ConfFault}
-use Rattle.feed_conf.specs.declared.fault.ConfFaultKind.{ConfFaultKind}
-use Rattle.feed_conf.specs.declared.fault.ConfFaultKind.TheVariants.{NoValue, BadNumber, BadBoolean, Unbalanced}
-use Rattle.feed_conf.specs.declared.fault.ConfFaultKind.TheVariants.{BadPeerName, SamePeer, LowAboveHigh, Range}
-use Rattle.feed_conf.specs.declared.fault.ConfFaultKind.TheVariants.{NoMemory}
 use Rattle.commands.specs.FeedLines.{failed_text}
-
--- the word for what is wrong with a configuration
-abbrev pub kind_text : ConfFaultKind → List ℕ
-kind_text NoValue = codes "NoValue"
-kind_text BadNumber = codes "BadNumber"
-kind_text BadBoolean = codes "BadBoolean"
-kind_text Unbalanced = codes "Unbalanced"
-kind_text BadPeerName = codes "BadPeerName"
-kind_text SamePeer = codes "SamePeer"
-kind_text LowAboveHigh = codes "LowAboveHigh"
-kind_text Range = codes "Range"
-kind_text NoMemory = codes "NoMemory"
 
 -- a configuration's fault
 abbrev pub config_text : ConfFault → List ℕ
-config_text fault = codes "config line " ++ decimal fault.line ++ codes ": " ++ kind_text fault.kind ++ 10 ∷ []
+config_text fault = codes "config line " ++ decimal fault.line ++ codes ": " ++ conf_fault_name fault.kind ++ 10 ∷ []
 
 -- the line of a script that was refused, of a file or of standard input
 abbrev pub refusal_text : List ℕ → Refusal → List ℕ

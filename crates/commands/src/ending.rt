@@ -1,10 +1,9 @@
 // The lines that tell how a feed ended (docs/MANUAL.md).
 ghost use Rattle.std.specs.Prelude.{◌≡◌, ◌++◌, ◌∷◌, [], IfOk, OnOk, flat_map};
-ghost use Rattle.commands.specs.FeedLines.{end_text, failed_text, file_text, owing_text, tape_kind};
+ghost use Rattle.commands.specs.FeedLines.{end_text, failed_text, file_text, owing_text};
 ghost use Rattle.commands.specs.FeedLines.{tape_text};
 
 use crate::feeds::{FeedEnd, FileTrouble, Owing, TapeTrouble};
-use ledger_core::LedgerFault;
 use recovery::TapeFault;
 use std::alloc::{AllocError, Global};
 
@@ -56,28 +55,9 @@ pub fn add_tape_line(lines: &mut Vec<u8>, name: &[u8], fault: TapeFault) -> Resu
     lines.extend_from_slice(b"tape ")?;
     lines.extend_from_slice(name)?;
     lines.extend_from_slice(b": ")?;
-    lines.extend_from_slice(tape_word(fault).as_bytes())?;
+    lines.extend_from_slice(fault.name().as_bytes())?;
     lines.push(b'\n')?;
     Ok(())
-}
-
-// The word for what is wrong with a tape.
-fn tape_word(fault: TapeFault) -> &'static str
-    ensures { result.now ≡ tape_kind fault }
-{
-    match fault {
-        TapeFault::Damaged { .. } => "Damaged",
-        TapeFault::Disk => "Disk",
-        TapeFault::Broken => "Broken",
-        TapeFault::TapeFull => "TapeFull",
-        TapeFault::GenerationFull => "GenerationFull",
-        TapeFault::PendingFull => "PendingFull",
-        TapeFault::NoMemory => "NoMemory",
-        TapeFault::Note(LedgerFault::OldNumber) => "Note OldNumber",
-        TapeFault::Note(LedgerFault::NotOwed) => "Note NotOwed",
-        TapeFault::Note(LedgerFault::CountFull) => "Note CountFull",
-        TapeFault::Note(LedgerFault::NoMemory) => "Note NoMemory",
-    }
 }
 
 fn add_files(lines: &mut Vec<u8>, files: &[FileTrouble]) -> Result<(), AllocError>

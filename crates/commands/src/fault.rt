@@ -1,7 +1,7 @@
 // Why an order did not end well, or how a feed ended, and what says so on standard error (docs/MANUAL.md).
 ghost use Rattle.std.specs.Prelude.{◌≡◌, ◌≢◌, ◌++◌, ◌∷◌, [], ℕ, List, IfOk, codes, option_map};
 ghost use Rattle.commands.specs.Fault.{exit_of_fault, IsFaultOf, IsLineOf};
-ghost use Rattle.commands.specs.Lines.{config_text, kind_text, mistake_text, no_tape_text, refusal_text};
+ghost use Rattle.commands.specs.Lines.{config_text, mistake_text, no_tape_text, refusal_text};
 ghost use Rattle.commands.specs.Lines.{unread_text};
 ghost use Rattle.commands.specs.declared.fault.Fault.TheVariants.{NoMemory};
 
@@ -9,7 +9,7 @@ use crate::ending::{add_tape_line, end_lines};
 use crate::exit::Exit;
 use crate::feeds::FeedEnd;
 use drill::{Refusal, TapeRefusal};
-use feed_conf::{ConfFault, ConfFaultKind};
+use feed_conf::ConfFault;
 use std::alloc::{AllocError, Global};
 use std::io::{self, ErrorKind};
 
@@ -126,26 +126,9 @@ fn config_line(alloc: Global, fault: &ConfFault) -> Result<Vec<u8>, AllocError>
     let mut line = Vec::from_slice(alloc, b"config line ")?;
     line.extend_from_slice(itoa::Buffer::new().format(fault.line).as_bytes())?;
     line.extend_from_slice(b": ")?;
-    line.extend_from_slice(kind_word(fault.kind).as_bytes())?;
+    line.extend_from_slice(fault.kind.name().as_bytes())?;
     line.push(b'\n')?;
     Ok(line)
-}
-
-// The word for what is wrong with a configuration.
-fn kind_word(kind: ConfFaultKind) -> &'static str
-    ensures { result.now ≡ kind_text kind }
-{
-    match kind {
-        ConfFaultKind::NoValue => "NoValue",
-        ConfFaultKind::BadNumber => "BadNumber",
-        ConfFaultKind::BadBoolean => "BadBoolean",
-        ConfFaultKind::Unbalanced => "Unbalanced",
-        ConfFaultKind::BadPeerName => "BadPeerName",
-        ConfFaultKind::SamePeer => "SamePeer",
-        ConfFaultKind::LowAboveHigh => "LowAboveHigh",
-        ConfFaultKind::Range => "Range",
-        ConfFaultKind::NoMemory => "NoMemory",
-    }
 }
 
 // `FILE: line N: REASON`.

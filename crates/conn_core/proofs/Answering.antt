@@ -35,7 +35,7 @@ module _ (s : State) (mode : Mode) (reply : Given) (ask : Awaited) (found : find
   answered_state blocks = record s { window = remove_key (can_answer mode reply) s.window; blocks = blocks }
 
   -- by parts
-  pub answered-is : (m : Option Meaning) (x : Option Held) → meaning ask.verb reply.code ≡ m → find (is_at ask.place) s.held ≡ x
+  pub answered-is : (m : Option Meaning) (x : Option Held) → meaning ask.verb reply.code ≡ m → find (is_at ask.ticket) s.held ≡ x
       → answered_with s mode reply ≡ told (counted_by (answered_state (let_go ask.verb s.blocks)) (counts reply.code)) m ask (first_block s.blocks) x
   answered-is m x e f = rw (found, e, f) refl
 
@@ -59,7 +59,7 @@ sends-335 Block code blocks e b = let no : is_some (meaning Block 335) ≡ true 
 
 module _ (s : State) (mode : Mode) (reply : Given) (ask : Awaited) (found : find (can_answer mode reply) s.window ≡ Some ask) where
   -- 238 and a debt that is held
-  pub wants-is : (x : Option Held) (wanted : State) → reply.code ≡ 238 → find (is_at ask.place) s.held ≡ x
+  pub wants-is : (x : Option Held) (wanted : State) → reply.code ≡ 238 → find (is_at ask.ticket) s.held ≡ x
       → told (answered_state s mode reply ask found s.blocks) (Some Wanted) ask (first_block s.blocks) x ≡ wanted → answered_with s mode reply ≡ wanted
   wants-is x wanted e f g =
       let w = wanted-238 ask.verb reply.code s.blocks e (belongs-found s mode reply ask found) in
@@ -73,7 +73,7 @@ module _ (s : State) (mode : Mode) (reply : Given) (ask : Awaited) (found : find
       answered-is s mode reply ask found (Some SendBlock) _ w.0 refl ∙ rw (w.1, counts-335 reply.code e) g
 
 told-settled : (s : State) (m : Option Meaning) (ask : Awaited) (block : List ℕ) (x : Option Held) → (m ≡ Some Wanted → ⊥) → (m ≡ Some SendBlock → ⊥)
-    → told s m ask block x ≡ settled_by s m ask.place x
+    → told s m ask block x ≡ settled_by s m ask.ticket x
 told-settled s None ask block x w b = refl
 told-settled s (Some Wanted) ask block x w b = absurd (w refl)
 told-settled s (Some SendBlock) ask block x w b = absurd (b refl)
@@ -90,10 +90,10 @@ module _ (s : State) (mode : Mode) (reply : Given) (ask : Awaited) (found : find
   -- any other answer
   pub settles-is : (t : State) → t ≡ counted_by (answered_state s mode reply ask found (let_go ask.verb s.blocks)) (counts reply.code)
       → (meaning ask.verb reply.code ≡ Some Wanted → ⊥) → (meaning ask.verb reply.code ≡ Some SendBlock → ⊥)
-      → settled_by t (meaning ask.verb reply.code) ask.place (find (is_at ask.place) t.held) ≡ answered_with s mode reply
+      → settled_by t (meaning ask.verb reply.code) ask.ticket (find (is_at ask.ticket) t.held) ≡ answered_with s mode reply
   settles-is t e w b =
       let held : t.held ≡ s.held = ap (λ (v : State). v.held) e ∙ counted_by-held _ (counts reply.code) in
-      ap (λ hs. settled_by t (meaning ask.verb reply.code) ask.place (find (is_at ask.place) hs)) held
-      ∙ sym (told-settled t (meaning ask.verb reply.code) ask (first_block s.blocks) (find (is_at ask.place) s.held) w b)
-      ∙ ap (λ (v : State). told v (meaning ask.verb reply.code) ask (first_block s.blocks) (find (is_at ask.place) s.held)) e
-      ∙ sym (answered-is s mode reply ask found (meaning ask.verb reply.code) (find (is_at ask.place) s.held) refl refl)
+      ap (λ hs. settled_by t (meaning ask.verb reply.code) ask.ticket (find (is_at ask.ticket) hs)) held
+      ∙ sym (told-settled t (meaning ask.verb reply.code) ask (first_block s.blocks) (find (is_at ask.ticket) s.held) w b)
+      ∙ ap (λ (v : State). told v (meaning ask.verb reply.code) ask (first_block s.blocks) (find (is_at ask.ticket) s.held)) e
+      ∙ sym (answered-is s mode reply ask found (meaning ask.verb reply.code) (find (is_at ask.ticket) s.held) refl refl)

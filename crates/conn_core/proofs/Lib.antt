@@ -1,8 +1,4 @@
 mod Rows
-pub mod UsedUp
-pub mod HeldBack
-pub mod Facts
-pub mod Closed
 mod Switch
 mod Blocks
 mod Modes

@@ -1,5 +1,5 @@
 -- A debt that comes out, with what became of it.
-use Rattle.std.proofs.Common.{◌≡◌, ℕ, List, [], ◌∷◌, ◌++◌, sym, ap, subst, Some, ◌∙◌}
+use Rattle.std.proofs.Common.{◌≡◌, ℕ, List, [], ◌∷◌, ◌++◌, sym, ap, Some, ◌∙◌}
 use Rattle.std.specs.Set.{remove_key}
 use Rattle.ledger_core.specs.State.{Owing}
 use Rattle.ledger_core.specs.declared.note.FinalCode.{FinalCode}
@@ -16,13 +16,13 @@ use Rattle.conn_core.specs.declared.outcome.Outcome.{Outcome}
 use Rattle.conn_core.specs.declared.outcome.Outcome.TheVariants.{Deferred, Final as Ended_by}
 
 parted-with : State → ℕ → List Outcome → State
-parted-with s place outcomes = record s { held = remove_key (is_at place) s.held; found = s.found ++ outcomes }
+parted-with s ticket outcomes = record s { held = remove_key (is_at ticket) s.held; found = s.found ++ outcomes }
 
-pub lost-is : (s : State) (x : Held) (loss : Loss) (outcome : Outcome) (place : ℕ) → x.place ≡ place → outcome ∷ [] ≡ loss_of (handing_of loss) x.debt
-    → handed_for s (handing_of loss) (Some x) ≡ record s { held = remove_key (is_at place) s.held; found = s.found ++ outcome ∷ [] }
+pub lost-is : (s : State) (x : Held) (loss : Loss) (outcome : Outcome) (ticket : ℕ) → x.ticket ≡ ticket → outcome ∷ [] ≡ loss_of (handing_of loss) x.debt
+    → handed_for s (handing_of loss) (Some x) ≡ record s { held = remove_key (is_at ticket) s.held; found = s.found ++ outcome ∷ [] }
 unfolding parted-with
-lost-is s x Missing outcome place here e = ap (parted-with s x.place) (sym e) ∙ ap (λ k. parted-with s k (outcome ∷ [])) here
-lost-is s x Unfit outcome place here e = ap (parted-with s x.place) (sym e) ∙ ap (λ k. parted-with s k (outcome ∷ [])) here
+lost-is s x Missing outcome ticket here e = ap (parted-with s x.ticket) (sym e) ∙ ap (λ k. parted-with s k (outcome ∷ [])) here
+lost-is s x Unfit outcome ticket here e = ap (parted-with s x.ticket) (sym e) ∙ ap (λ k. parted-with s k (outcome ∷ [])) here
 
 pub deferral-is : (deferral : Deferral) (debt : Owing) → deferral.debt ≡ debt → Deferred deferral ∷ [] ≡ outcome_by Later debt
 deferral-is deferral debt e = ap (outcome_by Later) e

@@ -7,9 +7,9 @@ use Rattle.reply_reader.specs.Stream.{Given}
 use Rattle.ledger_core.specs.State.{Owing}
 use Rattle.conn_core.specs.Codes.{meaning, is_welcome}
 use Rattle.conn_core.specs.Commands.{Ask, Command, ModeStream, Asks, Quit, Handing, Sendable, Gone, Unsendable, Held, Want, held_for, check_of}
-use Rattle.conn_core.specs.History.{Event, Offered, Put, Came, Faulted, Handed, Sent, Tick, Broke, Leave, accepted, asks, ask_in, phase, phase_after, phase_put, is_streaming, is_mode, room, answered, answered_now, reason, held_from, wants_at_once, newcomer, puts, puts_greeting, puts_answer, puts_block, puts_article, with_puts, is_quit_due, after, outside}
+use Rattle.conn_core.specs.History.{Event, Offered, Put, Came, Faulted, Handed, Sent, Tick, Broke, Leave, accepted, asks, ask_in, phase, phase_after, phase_put, is_streaming, is_mode, room, answered, answered_now, reason, held_from, wants_at_once, newcomer, puts, puts_greeting, puts_answer, puts_block, puts_article, with_puts, is_quit_due, after, outside, Taken}
 use Rattle.conn_core.specs.State.{kept_for, kept_blocks}
-use Rattle.conn_core.specs.Stands.{Arises, Starts, Offers, Receives_reply, Receives_fault, Is_handed, Sends, Ticks, Breaks, Leaves, Takes_one, ready_when}
+use Rattle.conn_core.specs.Stands.{Arises, Starts, ready_when, Goes_on}
 use Rattle.conn_core.specs.declared.codes.Meaning.{Meaning}
 use Rattle.conn_core.specs.declared.codes.Meaning.TheVariants.{Wanted, SendBlock, Later, Final}
 use Rattle.conn_core.specs.declared.phase.Phase.{Phase}
@@ -68,21 +68,21 @@ calm-put OneByOne debts commands (Asks ask) i c = tt
 calm-put Leaving debts commands (Asks ask) i c = tt
 
 -- a reply
-calm-greeted : (b streaming : Bool) (debts : List Owing) (commands : List Ask) → Calm Greeting debts commands → Calm (if b then (if streaming then Asking else OneByOne) else Greeting) debts commands
-calm-greeted true true debts commands c = c
-calm-greeted true false debts commands c = tt
-calm-greeted false streaming debts commands c = c
+calm-on_greeting : (b streaming : Bool) (debts : List Owing) (commands : List Ask) → Calm Greeting debts commands → Calm (if b then (if streaming then Asking else OneByOne) else Greeting) debts commands
+calm-on_greeting true true debts commands c = c
+calm-on_greeting true false debts commands c = tt
+calm-on_greeting false streaming debts commands c = c
 
 calm-asked : (b : Bool) (debts : List Owing) (commands : List Ask) → Calm Asking debts commands → Calm (if b then Streaming else OneByOne) debts commands
 calm-asked true debts commands c = rw c.1 refl
 calm-asked false debts commands c = tt
 
-calm-came : (streaming : Bool) (p : Phase) (code : ℕ) (debts : List Owing) (commands : List Ask) → Calm p debts commands → Calm (phase_after streaming p code) debts commands
-calm-came streaming Greeting code debts commands c = calm-greeted (is_welcome code) streaming debts commands c
-calm-came streaming Asking code debts commands c = calm-asked (code == 203) debts commands c
-calm-came streaming Streaming code debts commands c = c
-calm-came streaming OneByOne code debts commands c = tt
-calm-came streaming Leaving code debts commands c = tt
+calm-on_reply : (streaming : Bool) (p : Phase) (code : ℕ) (debts : List Owing) (commands : List Ask) → Calm p debts commands → Calm (phase_after streaming p code) debts commands
+calm-on_reply streaming Greeting code debts commands c = calm-on_greeting (is_welcome code) streaming debts commands c
+calm-on_reply streaming Asking code debts commands c = calm-asked (code == 203) debts commands c
+calm-on_reply streaming Streaming code debts commands c = c
+calm-on_reply streaming OneByOne code debts commands c = tt
+calm-on_reply streaming Leaving code debts commands c = tt
 
 -- what it puts out
 puts-mode : (p : Phase) (b : Bool) → AreCalm p ((if b then ModeStream ∷ [] else []) ++ [])
@@ -111,13 +111,13 @@ puts-answer_one : (code : ℕ) (o : Option (ℕ × Ask)) → AreCalm OneByOne (p
 puts-answer_one code None = tt
 puts-answer_one code (Some found) = puts-block_one (meaning found.1.verb code) found.1
 
-puts-came : (streaming : Bool) (p : Phase) (reply : Given) (done : List ℕ) (commands : List Ask)
+puts-on_reply : (streaming : Bool) (p : Phase) (reply : Given) (done : List ℕ) (commands : List Ask)
     → AreCalm (phase_after streaming p reply.code) (puts_greeting streaming p reply.code ++ puts_answer reply.code (answered_now p reply done commands))
-puts-came streaming Greeting reply done commands = puts-mode _ (is_welcome reply.code && streaming)
-puts-came streaming Asking reply done commands = tt
-puts-came streaming Streaming reply done commands = puts-answer reply.code _
-puts-came streaming OneByOne reply done commands = puts-answer_one reply.code _
-puts-came streaming Leaving reply done commands = tt
+puts-on_reply streaming Greeting reply done commands = puts-mode _ (is_welcome reply.code && streaming)
+puts-on_reply streaming Asking reply done commands = tt
+puts-on_reply streaming Streaming reply done commands = puts-answer reply.code _
+puts-on_reply streaming OneByOne reply done commands = puts-answer_one reply.code _
+puts-on_reply streaming Leaving reply done commands = tt
 
 -- an article puts out nothing where no debt is held
 puts-none : (handing : Handing) (gone : List ℕ) (o : Option Want) (p : Phase) (debts : List Owing) → debts ≡ [] → AreCalm p (puts_article false handing (held_for (held_from 0 debts gone) o))
@@ -213,19 +213,20 @@ module _ (options : Options) where
 
   pub calm : (h : List Event) → Arises options h → IsCalmAt h
   calm h Starts = (refl, refl)
-  calm h (Offers g debt a ready) =
+  calm h (Goes_on g (Offered debt) a ready) =
       let mode : is_mode (phase options g) ≡ true = ready-mode options (phase options g) _ _ _ ready in
       calm-after g (Offered debt) (calm-more (phase options g) (accepted g) (asks g) debt mode (calm g a)) (puts-check (phase options g) (wants_at_once options g) (newcomer g debt) mode)
-  calm h (Receives_reply g reply a) =
-      calm-outside g (Came reply) (calm g a) (calm-after g (Came reply) (calm-came options.streaming (phase options g) reply.code (accepted g) (asks g) (calm g a)) (puts-came options.streaming (phase options g) reply (answered options g) (asks g)))
-  calm h (Receives_fault g fault a) = calm-outside g (Faulted fault) (calm g a) (calm-after g (Faulted fault) (calm g a) tt)
-  calm h (Is_handed g number handing a need) =
+  calm h (Goes_on g (Came reply) a can) =
+      calm-outside g (Came reply) (calm g a) (calm-after g (Came reply) (calm-on_reply options.streaming (phase options g) reply.code (accepted g) (asks g) (calm g a)) (puts-on_reply options.streaming (phase options g) reply (answered options g) (asks g)))
+  calm h (Goes_on g (Faulted fault) a can) = calm-outside g (Faulted fault) (calm g a) (calm-after g (Faulted fault) (calm g a) tt)
+  calm h (Goes_on g (Handed number handing) a need) =
       calm-after g (Handed number handing) (calm g a) (puts-handed (phase options g) (accepted g) (asks g) handing _ _ (calm g a))
-  calm h (Sends g count a few) = calm-if (is_some (reason options g)) g (Sent count ∷ g) (calm g a) (calm g a)
-  calm h (Ticks g now a) = calm-outside g (Tick now) (calm g a) (calm-after g (Tick now) (calm g a) tt)
-  calm h (Breaks g a) = calm-outside g Broke (calm g a) (calm-after g Broke (calm g a) tt)
-  calm h (Leaves g a) = calm-outside g Leave (calm g a) (calm-after g Leave (calm g a) tt)
-  calm h (Takes_one g a some) = calm g a
+  calm h (Goes_on g (Sent count) a few) = calm-if (is_some (reason options g)) g (Sent count ∷ g) (calm g a) (calm g a)
+  calm h (Goes_on g (Tick now) a can) = calm-outside g (Tick now) (calm g a) (calm-after g (Tick now) (calm g a) tt)
+  calm h (Goes_on g Broke a can) = calm-outside g Broke (calm g a) (calm-after g Broke (calm g a) tt)
+  calm h (Goes_on g Leave a can) = calm-outside g Leave (calm g a) (calm-after g Leave (calm g a) tt)
+  calm h (Goes_on g (Put command) a never) = absurd never
+  calm h (Goes_on g Taken a some) = calm g a
 
   -- in streaming mode no IHAVE was put out, whatever the calls were
   pub arises-plain : (h : List Event) → Arises options h → Plain (phase options h) (asks h)

@@ -8,8 +8,8 @@ use Rattle.ledger_core.specs.State.{Owing}
 use Rattle.conn_core.specs.Commands.{Handing, Want, is_of}
 use Rattle.conn_core.specs.History.{Event, Offered, Came, Faulted, Handed, Sent, Tick, Broke, Leave, Taken, accepted, taken, is_leaving, reason, checks, counted, story, outcomes, after, output, needed, need}
 use Rattle.conn_core.specs.State.{State, untold, output_of}
-use Rattle.conn_core.specs.Stands.{Arises, Open, StandsFor, ready_of, ready_when}
-use Rattle.conn_core.specs.Machine.{fresh, offered, came, faulted, handed, ticked, shut, asked_to_quit, sent_off, TakesOne, ready_at}
+use Rattle.conn_core.specs.Stands.{Arises, MatchesWhileOpen, Matches, ready_of, ready_when}
+use Rattle.conn_core.specs.Machine.{fresh, offered, on_reply, on_fault, handed, ticked, close, asked_to_quit, sent_off, TakesOne, ready_at}
 use Rattle.conn_core.specs.declared.options.Options.{Options}
 use Rattle.conn_core.specs.declared.ready.Ready.TheVariants.{Yes}
 use Rattle.conn_core.specs.declared.reason.Reason.{Reason}
@@ -34,7 +34,7 @@ ready-stays false true has_room e = cc
 ready-stays false false has_room e = refl
 
 -- one just made stands for the empty transcript
-pub fresh-stands : (options : Options) → StandsFor options (fresh options) []
+pub fresh-stands : (options : Options) → Matches options (fresh options) []
 unfolding story
 fresh-stands options = record {
   options_is = refl;
@@ -53,50 +53,50 @@ fresh-stands options = record {
     nothing (suc n) = refl
 
 -- a debt is accepted
-pub offered-stands : (options : Options) (s : State) (h : List Event) (debt : Owing) → StandsFor options s h → reason options h ≡ None → ready_of options h ≡ Yes
-    → StandsFor options (offered s debt) (after options h (Offered debt))
+pub offered-stands : (options : Options) (s : State) (h : List Event) (debt : Owing) → Matches options s h → reason options h ≡ None → ready_of options h ≡ Yes
+    → Matches options (offered s debt) (after options h (Offered debt))
 offered-stands options s h debt st running is_ready = stands_offered options s h debt st running (ready-stays _ (is_leaving h) _ is_ready)
 
 -- a reply comes in; what the calls were matters, since no IHAVE is awaited in streaming mode
-pub came-stands : (options : Options) (s : State) (h : List Event) (reply : Given) → Arises options h → StandsFor options s h → reason options h ≡ None
-    → StandsFor options (came s reply) (after options h (Came reply))
-came-stands options s h reply arises st running = stands_came options s h reply (arises-plain options h arises) st running
+pub on_reply-stands : (options : Options) (s : State) (h : List Event) (reply : Given) → Arises options h → Matches options s h → reason options h ≡ None
+    → Matches options (on_reply s reply) (after options h (Came reply))
+on_reply-stands options s h reply arises st running = stands_came options s h reply (arises-plain options h arises) st running
 
 -- what comes in is no reply
-pub faulted-stands : (options : Options) (s : State) (h : List Event) (fault : ReplyFault) → StandsFor options s h → reason options h ≡ None
-    → StandsFor options (faulted s fault) (after options h (Faulted fault))
-faulted-stands options s h fault st running = stands_faulted options s h fault st running
+pub on_fault-stands : (options : Options) (s : State) (h : List Event) (fault : ReplyFault) → Matches options s h → reason options h ≡ None
+    → Matches options (on_fault s fault) (after options h (Faulted fault))
+on_fault-stands options s h fault st running = stands_faulted options s h fault st running
 
 -- an article is handed in
-pub handed-stands : (options : Options) (s : State) (h : List Event) (number : ℕ) (handing : Handing) → StandsFor options s h → reason options h ≡ None
-    → StandsFor options (handed s number handing) (after options h (Handed number handing))
+pub handed-stands : (options : Options) (s : State) (h : List Event) (number : ℕ) (handing : Handing) → Matches options s h → reason options h ≡ None
+    → Matches options (handed s number handing) (after options h (Handed number handing))
 handed-stands options s h number handing st running = stands_handed options s h number handing st running
 
 -- a tick
-pub ticked-stands : (options : Options) (s : State) (h : List Event) (now : ℕ) → StandsFor options s h → reason options h ≡ None
-    → StandsFor options (ticked s now) (after options h (Tick now))
+pub ticked-stands : (options : Options) (s : State) (h : List Event) (now : ℕ) → Matches options s h → reason options h ≡ None
+    → Matches options (ticked s now) (after options h (Tick now))
 ticked-stands options s h now st running = stands_ticked options s h now st running
 
 -- the connection broke
-pub broke-stands : (options : Options) (s : State) (h : List Event) → StandsFor options s h → reason options h ≡ None
-    → StandsFor options (shut Broken s) (after options h Broke)
+pub broke-stands : (options : Options) (s : State) (h : List Event) → Matches options s h → reason options h ≡ None
+    → Matches options (close Broken s) (after options h Broke)
 broke-stands options s h st running = stands_broke options s h st running
 
 -- it is to quit
-pub leave-stands : (options : Options) (s : State) (h : List Event) → StandsFor options s h → reason options h ≡ None
-    → StandsFor options (asked_to_quit s) (after options h Leave)
-leave-stands options s h st running = stands_leave options s h st running
+pub quit_if_due-stands : (options : Options) (s : State) (h : List Event) → Matches options s h → reason options h ≡ None
+    → Matches options (asked_to_quit s) (after options h Leave)
+quit_if_due-stands options s h st running = stands_leave options s h st running
 
 -- octets are sent
-pub sent-stands : (options : Options) (s : State) (h : List Event) (count : ℕ) → StandsFor options s h → reason options h ≡ None → count ≤ length s.output
-    → StandsFor options (sent_off s count) (Sent count ∷ h)
+pub sent-stands : (options : Options) (s : State) (h : List Event) (count : ℕ) → Matches options s h → reason options h ≡ None → count ≤ length s.output
+    → Matches options (sent_off s count) (Sent count ∷ h)
 sent-stands options s h count st running few = stands_sent options s h count st running few
 
 -- only what is still to be told has changed
-told-stands : (options : Options) (old new : State) (o : Option Outcome) (h g : List Event) → StandsFor options old h → TakesOne old o new
+told-stands : (options : Options) (old new : State) (o : Option Outcome) (h g : List Event) → Matches options old h → TakesOne old o new
     → reason options g ≡ reason options h → is_leaving g ≡ is_leaving h → accepted g ≡ accepted h → counted options g ≡ counted options h
-    → untold new ≡ drop (taken g) (outcomes options g) → taken g ≤ length (outcomes options g) → (Open options new h → Open options new g)
-    → StandsFor options new g
+    → untold new ≡ drop (taken g) (outcomes options g) → taken g ≤ length (outcomes options g) → (MatchesWhileOpen options new h → MatchesWhileOpen options new g)
+    → Matches options new g
 told-stands options old new o h g st t same_reason same_leaving same_accepted same_counted told few open_same =
     let same = t.others in
     record {
@@ -125,8 +125,8 @@ told-stands options old new o h g st t same_reason same_leaving same_accepted sa
     }
 
 -- an outcome is taken: the first that was not
-pub taken-stands : (options : Options) (old new : State) (h : List Event) (outcome : Outcome) → StandsFor options old h → TakesOne old (Some outcome) new
-    → (slice_get (outcomes options h) (taken h) ≡ Some outcome) × StandsFor options new (Taken ∷ h)
+pub taken-stands : (options : Options) (old new : State) (h : List Event) (outcome : Outcome) → Matches options old h → TakesOne old (Some outcome) new
+    → (slice_get (outcomes options h) (taken h) ≡ Some outcome) × Matches options new (Taken ∷ h)
 unfolding story
 taken-stands options old new h outcome st t =
     let front = drop-front (taken h) (outcomes options h) outcome (untold new) (sym st.untold_is ∙ t.first) in (
@@ -146,8 +146,8 @@ taken-stands options old new h outcome st t =
     )
 
 -- or all were
-pub none_taken-stands : (options : Options) (old new : State) (h : List Event) → StandsFor options old h → TakesOne old None new
-    → (taken h ≡ length (outcomes options h)) × StandsFor options new h
+pub none_taken-stands : (options : Options) (old new : State) (h : List Event) → Matches options old h → TakesOne old None new
+    → (taken h ≡ length (outcomes options h)) × Matches options new h
 none_taken-stands options old new h st t =
     let told : untold new ≡ drop (taken h) (outcomes options h) = sym t.first ∙ st.untold_is in
     let nothing : drop (taken h) (outcomes options h) ≡ [] = sym told ∙ t.none_left refl in
@@ -157,41 +157,41 @@ none_taken-stands options old new h st t =
     )
 
 -- what it holds tells what the transcript says
-pub closed-is : (options : Options) (s : State) (h : List Event) → StandsFor options s h → s.closed ≡ reason options h
+pub closed-is : (options : Options) (s : State) (h : List Event) → Matches options s h → s.closed ≡ reason options h
 closed-is options s h st = st.closed_is
 
-ready-step : (options : Options) (s : State) (h : List Event) (r : Option Reason) → reason options h ≡ r → StandsFor options s h → ready_at s ≡ ready_of options h
+ready-step : (options : Options) (s : State) (h : List Event) (r : Option Reason) → reason options h ≡ r → Matches options s h → ready_at s ≡ ready_of options h
 ready-step options s h None e st = let o = st.while_open e in rw (st.closed_is, st.quitting_is, st.options_is, o.phase_is, o.held_is) refl
 ready-step options s h (Some why) e st = rw (st.closed_is, e) refl
 
-pub ready-is : (options : Options) (s : State) (h : List Event) → StandsFor options s h → ready_at s ≡ ready_of options h
+pub ready-is : (options : Options) (s : State) (h : List Event) → Matches options s h → ready_at s ≡ ready_of options h
 ready-is options s h st = ready-step options s h (reason options h) refl st
 
-output-step : (options : Options) (s : State) (h : List Event) (r : Option Reason) → reason options h ≡ r → StandsFor options s h → output_of s ≡ output options h
+output-step : (options : Options) (s : State) (h : List Event) (r : Option Reason) → reason options h ≡ r → Matches options s h → output_of s ≡ output options h
 output-step options s h None e st = let o = st.while_open e in rw (st.closed_is, e, o.output_is) refl
 output-step options s h (Some why) e st = rw (st.closed_is, e) refl
 
-pub output-is : (options : Options) (s : State) (h : List Event) → StandsFor options s h → output_of s ≡ output options h
+pub output-is : (options : Options) (s : State) (h : List Event) → Matches options s h → output_of s ≡ output options h
 output-is options s h st = output-step options s h (reason options h) refl st
 
-pub checks-is : (options : Options) (s : State) (h : List Event) → StandsFor options s h → not s.off ≡ checks options h
+pub checks-is : (options : Options) (s : State) (h : List Event) → Matches options s h → not s.off ≡ checks options h
 checks-is options s h st = ap not st.off_is
 
-need-step : (options : Options) (s : State) (h : List Event) (r : Option Reason) → reason options h ≡ r → StandsFor options s h
+need-step : (options : Options) (s : State) (h : List Event) (r : Option Reason) → reason options h ≡ r → Matches options s h
     → (if is_some s.closed then None else option_map (λ (want : Want). want.number) (slice_get s.wanted 0)) ≡ need options h
 need-step options s h None e st = let o = st.while_open e in rw (st.closed_is, e, o.wanted_is) refl
 need-step options s h (Some why) e st = rw (st.closed_is, e) refl
 
-pub need-is : (options : Options) (s : State) (h : List Event) → StandsFor options s h
+pub need-is : (options : Options) (s : State) (h : List Event) → Matches options s h
     → (if is_some s.closed then None else option_map (λ (want : Want). want.number) (slice_get s.wanted 0)) ≡ need options h
 need-is options s h st = need-step options s h (reason options h) refl st
 
-needed-step : (options : Options) (s : State) (h : List Event) (number : ℕ) (r : Option Reason) → reason options h ≡ r → StandsFor options s h
+needed-step : (options : Options) (s : State) (h : List Event) (number : ℕ) (r : Option Reason) → reason options h ≡ r → Matches options s h
     → (if is_some s.closed then None else find (is_of number) s.wanted) ≡ option_map (λ (want : ℕ × Want). want.1) (needed options h number)
 needed-step options s h number None e st = rw (st.closed_is, e) (wanted_first options s h number st e)
 needed-step options s h number (Some why) e st = rw (st.closed_is, e) refl
 
 -- the want of that number, where its article is wanted
-pub needed-is : (options : Options) (s : State) (h : List Event) (number : ℕ) → StandsFor options s h
+pub needed-is : (options : Options) (s : State) (h : List Event) (number : ℕ) → Matches options s h
     → (if is_some s.closed then None else find (is_of number) s.wanted) ≡ option_map (λ (want : ℕ × Want). want.1) (needed options h number)
 needed-is options s h number st = needed-step options s h number (reason options h) refl st

@@ -1,5 +1,5 @@
 -- The definitions computed on whole exchanges.
-use Rattle.std.specs.Prelude.{◌≡◌, ℕ, ◌==◌, Bool, true, false, Option, Some, None, List, [], ◌∷◌, ◌++◌, codes, length, map, replicate, refl}
+use Rattle.std.specs.Prelude.{◌≡◌, ℕ, true, false, Option, Some, None, List, [], ◌∷◌, ◌++◌, codes, map, replicate, refl}
 use Rattle.dot_codec.specs.Block.{written}
 use Rattle.reply_reader.specs.declared.fault.ReplyFault.TheVariants.{TooLong}
 use Rattle.ledger_core.specs.State.{Owing}
@@ -7,13 +7,13 @@ use Rattle.ledger_core.specs.declared.note.FinalCode.{FinalCode}
 use Rattle.ledger_core.specs.declared.note.FinalCode.TheVariants.{TakethisReceived, IhaveRejected, CheckNotWanted}
 use Rattle.ledger_core.specs.declared.note.Cause.TheVariants.{Missing}
 use Rattle.conn_core.specs.Checks.{are_off}
-use Rattle.conn_core.specs.Commands.{Handing, Sendable, Gone, Held, octets, Quit}
+use Rattle.conn_core.specs.Commands.{Sendable, Gone, Held}
 use Rattle.conn_core.specs.History.{Event, Offered, Came, Faulted, Handed, Sent, Tick, Broke, Leave, after, outside, story, outcomes, put_octets, output, reason, held, need}
 use Rattle.conn_core.specs.Stands.{ready_of}
 use Rattle.conn_core.specs.declared.options.Options.{Options}
-use Rattle.conn_core.specs.declared.ready.Ready.TheVariants.{Yes, Busy, Shut}
+use Rattle.conn_core.specs.declared.ready.Ready.TheVariants.{Busy, Shut}
 use Rattle.conn_core.specs.declared.reason.Reason.{Reason}
-use Rattle.conn_core.specs.declared.reason.Reason.TheVariants.{Reader, Unmatched, Ended, Timeout, Broken}
+use Rattle.conn_core.specs.declared.reason.Reason.TheVariants.{Reader, Unmatched, Ended, Timeout}
 use Rattle.conn_core.specs.declared.outcome.Outcome.{Outcome}
 use Rattle.conn_core.specs.declared.outcome.Outcome.TheVariants.{Final, Deferred, Lost, Back}
 
@@ -146,9 +146,9 @@ ended-reason : reason defaults ended ≡ Some (Ended 400)
 unfolding after story
 ended-reason = refl
 
-ended-shut : ready_of defaults ended ≡ Shut
+ended-close : ready_of defaults ended ≡ Shut
 unfolding after story
-ended-shut = refl
+ended-close = refl
 
 -- replies of a malicious peer, with one debt in flight: what comes out, and why it closes
 abbrev told : List Event → List Outcome × Option Reason

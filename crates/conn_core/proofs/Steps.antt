@@ -9,17 +9,17 @@ use Rattle.ledger_core.specs.State.{Owing}
 use Rattle.conn_core.specs.Used.{is_empty, left_from}
 use Rattle.conn_core.specs.Checks.{are_off}
 use Rattle.conn_core.specs.Commands.{Ask, Command, ModeStream, Asks, Quit, octets, Held, Want, check_of, want_of}
-use Rattle.conn_core.specs.History.{Event, Offered, Put, accepted, asks, put_out, put_octets, sent, taken, is_leaving, is_mode, is_streaming, phase, answered, window, counted, checks, closes, first_reason, reason, story, ends, held, outcomes, End, ended_places, backs, newcomer, wants_at_once, is_quit_due, with_quit, with_puts, after}
+use Rattle.conn_core.specs.History.{Event, Offered, Put, accepted, asks, put_out, put_octets, sent, taken, is_leaving, is_mode, is_streaming, phase, answered, window, counted, checks, closes, first_reason, reason, story, ends, held, outcomes, End, ended_tickets, backs, newcomer, wants_at_once, is_quit_due, with_quit, with_puts, after}
 use Rattle.conn_core.specs.State.{State, awaited_of, kept_for, kept_blocks, untold}
-use Rattle.conn_core.specs.Stands.{Open, StandsFor}
-use Rattle.conn_core.specs.Machine.{shut, asked, leave, offered, newly}
+use Rattle.conn_core.specs.Stands.{MatchesWhileOpen, Matches}
+use Rattle.conn_core.specs.Machine.{close, asked, quit_if_due, offered, newly}
 use Rattle.conn_core.specs.declared.phase.Phase.TheVariants.{Leaving}
 use Rattle.conn_core.specs.declared.options.Options.{Options}
 use Rattle.conn_core.specs.declared.reason.Reason.{Reason}
 use Rattle.conn_core.specs.declared.outcome.Outcome.TheVariants.{Back}
-use Rattle.conn_core.proofs.UsedUp.{left_from-append}
-use Rattle.conn_core.proofs.HeldBack.{held_from-append}
-use Rattle.conn_core.proofs.Facts.{answered_below, handed_below, ends_below, ends-offered}
+use Rattle.conn_core.specs.UsedLaws.{left_from-append}
+use Rattle.conn_core.specs.HeldLaws.{held_from-append}
+use Rattle.conn_core.specs.StoryLaws.{answered_below, handed_below, ends_below, ends-offered}
 use Rattle.conn_core.proofs.Blocks.{kept-more}
 
 pub first_reason-none : (r : Option Reason) → first_reason r None ≡ r
@@ -59,7 +59,7 @@ due-off a b c (Some r) e = false-last a b c
 
 module _ (options : Options) where
   -- outcomes that come behind those that there are
-  outcomes-more : (s : State) (h : List Event) (more : List End) → StandsFor options s h → reason options h ≡ None
+  outcomes-more : (s : State) (h : List Event) (more : List End) → Matches options s h → reason options h ≡ None
       → s.found ++ map (λ x. x.outcome) more ≡ drop (taken h) (map (λ x. x.outcome) (ends options h ++ more))
   outcomes-more s h more st running =
       let e : s.found ≡ drop (taken h) (outcomes options h) = sym (untold_open s (st.closed_is ∙ running)) ∙ st.untold_is in
@@ -70,11 +70,11 @@ module _ (options : Options) where
       rw (map-append (λ (x : End). x.outcome) (ends options h) more) (omega (arith, length-append (outcomes options h) (map (λ (x : End). x.outcome) more)))
 
   -- an event that does not close, by which these come out
-  pub goes_on : (s next : State) (h : List Event) (e : Event) (more : List End) → StandsFor options s h → reason options h ≡ None → closes options h e ≡ None
+  pub goes_on : (s next : State) (h : List Event) (e : Event) (more : List End) → Matches options s h → reason options h ≡ None → closes options h e ≡ None
       → ends options (e ∷ h) ≡ ends options h ++ more → taken (e ∷ h) ≡ taken h
       → next.options ≡ s.options → next.closed ≡ s.closed → next.quitting ≡ is_leaving (e ∷ h) → next.accepted ≡ length (accepted (e ∷ h))
       → next.recent ≡ take options.check_filter (counted options (e ∷ h)) → next.off ≡ are_off options (counted options (e ∷ h))
-      → next.found ≡ s.found ++ map (λ x. x.outcome) more → Open options next (e ∷ h) → StandsFor options next (e ∷ h)
+      → next.found ≡ s.found ++ map (λ x. x.outcome) more → MatchesWhileOpen options next (e ∷ h) → Matches options next (e ∷ h)
   goes_on s next h e more st running stays ends_same taken_same same_options same_closed quitting accepts recent off told o = record {
     options_is = same_options ∙ st.options_is;
     closed_is = rw (running, stays) (same_closed ∙ st.closed_is ∙ running);
@@ -88,10 +88,10 @@ module _ (options : Options) where
   }
 
   -- an event that closes, by which all that is held comes out
-  pub shut_by : (s : State) (h : List Event) (e : Event) (why : Reason) (stirs : Bool) (moment : Option ℕ) → StandsFor options s h → reason options h ≡ None → closes options h e ≡ Some why
+  pub shut_by : (s : State) (h : List Event) (e : Event) (why : Reason) (stirs : Bool) (moment : Option ℕ) → Matches options s h → reason options h ≡ None → closes options h e ≡ Some why
       → ends options (e ∷ h) ≡ ends options h ++ backs (held options h) → taken (e ∷ h) ≡ taken h
       → is_leaving (e ∷ h) ≡ is_leaving h → accepted (e ∷ h) ≡ accepted h → counted options (e ∷ h) ≡ counted options h
-      → StandsFor options (shut why (record s { stirred = stirs; quiet = moment })) (e ∷ h)
+      → Matches options (close why (record s { stirred = stirs; quiet = moment })) (e ∷ h)
   shut_by s h e why stirs moment st running closing ends_same taken_same leaving_same accepted_same counted_same =
       let o = st.while_open running in
       record {
@@ -107,12 +107,12 @@ module _ (options : Options) where
       }
 
   -- a command is put out
-  pub puts_out : (s : State) (h : List Event) (command : Command) (next : State) → StandsFor options s h
+  pub puts_out : (s : State) (h : List Event) (command : Command) (next : State) → Matches options s h
       → next ≡ record s { phase = next.phase; window = next.window; blocks = next.blocks; output = s.output ++ octets command }
-      → (reason options h ≡ None → Open options s h → next.phase ≡ phase options (Put command ∷ h))
-      → (reason options h ≡ None → Open options s h → next.window ≡ map awaited_of (window options (Put command ∷ h)))
-      → (reason options h ≡ None → Open options s h → next.blocks ≡ kept_blocks (window options (Put command ∷ h)))
-      → StandsFor options next (Put command ∷ h)
+      → (reason options h ≡ None → MatchesWhileOpen options s h → next.phase ≡ phase options (Put command ∷ h))
+      → (reason options h ≡ None → MatchesWhileOpen options s h → next.window ≡ map awaited_of (window options (Put command ∷ h)))
+      → (reason options h ≡ None → MatchesWhileOpen options s h → next.blocks ≡ kept_blocks (window options (Put command ∷ h)))
+      → Matches options next (Put command ∷ h)
   unfolding story
   puts_out s h command next st same phase_same window_same blocks_same = record {
     options_is = ap (λ (x : State). x.options) same ∙ st.options_is;
@@ -144,7 +144,7 @@ module _ (options : Options) where
   window-more : (h : List Event) (ask : Ask) → window options (Put (Asks ask) ∷ h) ≡ window options h ++ ask ∷ []
   window-more h ask = left_from-append (answered options h) 0 (asks h) ask (λ k q. answered_below options h k (omega arith))
 
-  pub put_ask : (s : State) (h : List Event) (ask : Ask) → StandsFor options s h → StandsFor options (asked s ask) (Put (Asks ask) ∷ h)
+  pub put_ask : (s : State) (h : List Event) (ask : Ask) → Matches options s h → Matches options (asked s ask) (Put (Asks ask) ∷ h)
   put_ask s h ask st = puts_out s h (Asks ask) (asked s ask) st refl
       (λ r o. o.phase_is)
       (λ r o. ap (λ ws. ws ++ awaited_of ask ∷ []) o.window_is ∙ sym (map-append awaited_of (window options h) (ask ∷ [])) ∙ ap (map awaited_of) (sym (window-more h ask)))
@@ -154,56 +154,56 @@ module _ (options : Options) where
   window-same : (h : List Event) (command : Command) → asks (Put command ∷ h) ≡ asks h → window options (Put command ∷ h) ≡ window options h
   window-same h command e = ap (λ xs. left_from 0 xs (answered options h)) e
 
-  pub put_mode : (s : State) (h : List Event) → StandsFor options s h → StandsFor options (record s { output = s.output ++ octets ModeStream }) (Put ModeStream ∷ h)
+  pub put_mode : (s : State) (h : List Event) → Matches options s h → Matches options (record s { output = s.output ++ octets ModeStream }) (Put ModeStream ∷ h)
   put_mode s h st = puts_out s h ModeStream (record s { output = s.output ++ octets ModeStream }) st refl
       (λ r o. o.phase_is)
       (λ r o. o.window_is ∙ ap (map awaited_of) (sym (window-same h ModeStream (append-nil (asks h)))))
       (λ r o. o.blocks_is ∙ ap kept_blocks (sym (window-same h ModeStream (append-nil (asks h)))))
 
-  put_quit : (s : State) (h : List Event) → StandsFor options s h → StandsFor options (record s { phase = Leaving; output = s.output ++ octets Quit }) (Put Quit ∷ h)
+  put_quit : (s : State) (h : List Event) → Matches options s h → Matches options (record s { phase = Leaving; output = s.output ++ octets Quit }) (Put Quit ∷ h)
   put_quit s h st = puts_out s h Quit (record s { phase = Leaving; output = s.output ++ octets Quit }) st refl
       (λ r o. refl)
       (λ r o. o.window_is ∙ ap (map awaited_of) (sym (window-same h Quit (append-nil (asks h)))))
       (λ r o. o.blocks_is ∙ ap kept_blocks (sym (window-same h Quit (append-nil (asks h)))))
 
   -- whether QUIT is due can be told from what is held
-  same_due : (s : State) (h : List Event) → StandsFor options s h → (r : Option Reason) → reason options h ≡ r
+  same_due : (s : State) (h : List Event) → Matches options s h → (r : Option Reason) → reason options h ≡ r
       → (s.quitting && (is_mode s.phase && (is_empty s.held && is_none s.closed))) ≡ is_quit_due options h
   same_due s h st None e = let o = st.while_open e in rw (st.quitting_is, o.phase_is, o.held_is, st.closed_is) refl
   same_due s h st (Some r) e =
       rw (st.closed_is, e) (false-last s.quitting (is_mode s.phase) (is_empty s.held) ∙ sym (false-last (is_leaving h) (is_mode (phase options h)) (is_empty (held options h))))
 
-  quit-step : (s : State) (h : List Event) → StandsFor options s h → (b : Bool)
-      → StandsFor options (if b then record s { phase = Leaving; output = s.output ++ octets Quit } else s) (if b then Put Quit ∷ h else h)
+  quit-step : (s : State) (h : List Event) → Matches options s h → (b : Bool)
+      → Matches options (if b then record s { phase = Leaving; output = s.output ++ octets Quit } else s) (if b then Put Quit ∷ h else h)
   quit-step s h st false = st
   quit-step s h st true = put_quit s h st
 
   -- QUIT goes out where it is due
-  pub stands_quit : (s : State) (h : List Event) → StandsFor options s h → StandsFor options (leave s) (with_quit options h)
+  pub stands_quit : (s : State) (h : List Event) → Matches options s h → Matches options (quit_if_due s) (with_quit options h)
   stands_quit s h st = rw (same_due s h st _ refl) (quit-step s h st (is_quit_due options h))
 
   -- it is not, once closed
-  pub with_quit-shut : (h : List Event) → is_some (reason options h) ≡ true → with_quit options h ≡ h
-  with_quit-shut h e = rw (due-off (is_leaving h) (is_mode (phase options h)) (is_empty (held options h)) (reason options h) e) refl
+  pub with_quit-close : (h : List Event) → is_some (reason options h) ≡ true → with_quit options h ≡ h
+  with_quit-close h e = rw (due-off (is_leaving h) (is_mode (phase options h)) (is_empty (held options h)) (reason options h) e) refl
 
   -- a debt is accepted
-  accepts : (s : State) (h : List Event) (debt : Owing) (b : Bool) (n : ℕ) → wants_at_once options h ≡ b → n ≡ length (accepted h) → StandsFor options s h → reason options h ≡ None
-      → StandsFor options (record s {
-        held = s.held ++ record { place = n; debt = debt } ∷ [];
+  accepts : (s : State) (h : List Event) (debt : Owing) (b : Bool) (n : ℕ) → wants_at_once options h ≡ b → n ≡ length (accepted h) → Matches options s h → reason options h ≡ None
+      → Matches options (record s {
+        held = s.held ++ record { ticket = n; debt = debt } ∷ [];
         accepted = n + 1;
-        wanted = s.wanted ++ (if b then want_of (record { place = n; debt = debt }) ∷ [] else []);
+        wanted = s.wanted ++ (if b then want_of (record { ticket = n; debt = debt }) ∷ [] else []);
       }) (Offered debt ∷ h)
   unfolding story
   accepts s h debt b n at_once e st running =
       let o = st.while_open running in
       goes_on s (record s {
-        held = s.held ++ record { place = n; debt = debt } ∷ [];
+        held = s.held ++ record { ticket = n; debt = debt } ∷ [];
         accepted = n + 1;
-        wanted = s.wanted ++ (if b then want_of (record { place = n; debt = debt }) ∷ [] else []);
+        wanted = s.wanted ++ (if b then want_of (record { ticket = n; debt = debt }) ∷ [] else []);
       }) h (Offered debt) [] st running refl (ends-offered options h debt ∙ sym (append-nil (ends options h))) refl refl refl st.quitting_is
       (rw e (omega (arith, length-append (accepted h) (debt ∷ [])))) st.recent_is st.off_is (sym (append-nil s.found)) (record {
         phase_is = o.phase_is;
-        held_is = rw (o.held_is, e, ends-offered options h debt) (sym (held_from-append (ended_places (ends options h)) 0 (accepted h) debt (length (accepted h)) (omega arith) (ends_below options h)));
+        held_is = rw (o.held_is, e, ends-offered options h debt) (sym (held_from-append (ended_tickets (ends options h)) 0 (accepted h) debt (length (accepted h)) (omega arith) (ends_below options h)));
         window_is = o.window_is;
         blocks_is = o.blocks_is;
         wanted_is = rw (o.wanted_is, e) (wanted-step b at_once);
@@ -221,27 +221,27 @@ module _ (options : Options) where
 
   -- and it is asked for by CHECK, or its article is wanted at once; QUIT is not due where it was not to quit
   offered-step : (s : State) (h : List Event) (debt : Owing) (b : Bool) → (is_streaming (phase options h) && checks options h) ≡ b
-      → StandsFor options s h → reason options h ≡ None → is_leaving h ≡ false
-      → StandsFor options (
+      → Matches options s h → reason options h ≡ None → is_leaving h ≡ false
+      → Matches options (
       let next : State = record s { held = s.held ++ newly s debt ∷ []; accepted = s.accepted + 1 } in
       if b then asked next (check_of (newly s debt)) else record next { wanted = s.wanted ++ want_of (newly s debt) ∷ [] }
       ) (with_quit options (with_puts (if not b then [] else Asks (check_of (newcomer h debt)) ∷ []) (Offered debt ∷ h)))
   offered-step s h debt true e st running stays =
       let next : State = record s { held = s.held ++ newly s debt ∷ []; accepted = s.accepted + 1 } in
       let x : Held = newcomer h debt in
-      let same : newly s debt ≡ x = ap (λ n. record { place = n; debt = debt }) st.accepted_is in
-      let held : StandsFor options next (Offered debt ∷ h) =
-      subst (λ (ws : List Want). StandsFor options (record next { wanted = ws }) (Offered debt ∷ h)) (append-nil s.wanted) (accepts s h debt false s.accepted (ap not e) st.accepted_is st running) in
-      rw stays (subst (λ (y : Held). StandsFor options (asked next (check_of y)) (Put (Asks (check_of x)) ∷ Offered debt ∷ h)) (sym same) (put_ask next (Offered debt ∷ h) (check_of x) held))
+      let same : newly s debt ≡ x = ap (λ n. record { ticket = n; debt = debt }) st.accepted_is in
+      let held : Matches options next (Offered debt ∷ h) =
+      subst (λ (ws : List Want). Matches options (record next { wanted = ws }) (Offered debt ∷ h)) (append-nil s.wanted) (accepts s h debt false s.accepted (ap not e) st.accepted_is st running) in
+      rw stays (subst (λ (y : Held). Matches options (asked next (check_of y)) (Put (Asks (check_of x)) ∷ Offered debt ∷ h)) (sym same) (put_ask next (Offered debt ∷ h) (check_of x) held))
   offered-step s h debt false e st running stays =
       rw stays (accepts s h debt true s.accepted (ap not e) st.accepted_is st running)
 
-  pub stands_offered : (s : State) (h : List Event) (debt : Owing) → StandsFor options s h → reason options h ≡ None → is_leaving h ≡ false
-      → StandsFor options (offered s debt) (after options h (Offered debt))
+  pub stands_offered : (s : State) (h : List Event) (debt : Owing) → Matches options s h → reason options h ≡ None → is_leaving h ≡ false
+      → Matches options (offered s debt) (after options h (Offered debt))
   unfolding after
   stands_offered s h debt st running stays =
       let o = st.while_open running in
       let next : State = record s { held = s.held ++ newly s debt ∷ []; accepted = s.accepted + 1 } in
       let same : (is_streaming s.phase && not s.off) ≡ (is_streaming (phase options h) && checks options h) = rw (o.phase_is, st.off_is) refl in
-      subst (λ (b : Bool). StandsFor options (if b then asked next (check_of (newly s debt)) else record next { wanted = s.wanted ++ want_of (newly s debt) ∷ [] }) (after options h (Offered debt))) (sym same)
+      subst (λ (b : Bool). Matches options (if b then asked next (check_of (newly s debt)) else record next { wanted = s.wanted ++ want_of (newly s debt) ∷ [] }) (after options h (Offered debt))) (sym same)
       (offered-step s h debt (is_streaming (phase options h) && checks options h) refl st running stays)

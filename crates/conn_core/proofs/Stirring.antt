@@ -6,7 +6,7 @@ use Rattle.reply_reader.specs.Stream.{Given}
 use Rattle.conn_core.specs.Checks.{counts}
 use Rattle.conn_core.specs.Codes.{meaning, is_welcome, ends_all}
 use Rattle.conn_core.specs.Commands.{Held, is_at}
-use Rattle.conn_core.specs.Machine.{answered_by, came, came_in, counted_by, first_block, greeted, leave, let_go, mode_answered, told, fits_awaited, belongs_to_awaited}
+use Rattle.conn_core.specs.Machine.{answered_by, on_reply, dispatch_reply, counted_by, first_block, quit_if_due, let_go, told, fits_awaited, belongs_to_awaited}
 use Rattle.conn_core.specs.State.{Awaited, State}
 use Rattle.conn_core.specs.declared.codes.Meaning.{Meaning}
 use Rattle.conn_core.specs.declared.codes.Meaning.TheVariants.{Wanted, SendBlock, Later, Final}
@@ -34,28 +34,28 @@ answered_by-stir : (s : State) (test : Awaited → Bool) (code : ℕ) (ask : Opt
 answered_by-stir s test code None = refl
 answered_by-stir s test code (Some ask) =
     let left : State = record s { window = remove_key test s.window; blocks = let_go ask.verb s.blocks } in
-    ap (λ v. told v (meaning ask.verb code) ask (first_block s.blocks) (find (is_at ask.place) s.held)) (counted_by-stir left (counts code))
-    ∙ told-stir (counted_by left (counts code)) (meaning ask.verb code) ask (first_block s.blocks) (find (is_at ask.place) s.held)
+    ap (λ v. told v (meaning ask.verb code) ask (first_block s.blocks) (find (is_at ask.ticket) s.held)) (counted_by-stir left (counts code))
+    ∙ told-stir (counted_by left (counts code)) (meaning ask.verb code) ask (first_block s.blocks) (find (is_at ask.ticket) s.held)
 
 if-stir : (b : Bool) (s t : State) → (if b then stir s else stir t) ≡ stir (if b then s else t)
 if-stir true s t = refl
 if-stir false s t = refl
 
-greeted-stir : (welcome streaming : Bool) (s t u : State) → (if welcome then (if streaming then stir s else stir t) else stir u) ≡ stir (if welcome then (if streaming then s else t) else u)
-greeted-stir true streaming s t u = if-stir streaming s t
-greeted-stir false streaming s t u = refl
+on_greeting-stir : (welcome streaming : Bool) (s t u : State) → (if welcome then (if streaming then stir s else stir t) else stir u) ≡ stir (if welcome then (if streaming then s else t) else u)
+on_greeting-stir true streaming s t u = if-stir streaming s t
+on_greeting-stir false streaming s t u = refl
 
 mode-stir : (yes ends : Bool) (s t u : State) → (if yes then stir s else if ends then stir t else stir u) ≡ stir (if yes then s else if ends then t else u)
 mode-stir true ends s t u = refl
 mode-stir false ends s t u = if-stir ends t u
 
-came_in-stir : (s : State) (reply : Given) (phase : Phase) → came_in (stir s) reply phase ≡ stir (came_in s reply phase)
-came_in-stir s reply Greeting = greeted-stir (is_welcome reply.code) s.options.streaming _ _ _
-came_in-stir s reply Asking = mode-stir (reply.code == 203) (ends_all reply.code) _ _ _
-came_in-stir s reply Streaming = answered_by-stir s (fits_awaited reply) reply.code (find (fits_awaited reply) s.window)
-came_in-stir s reply OneByOne = answered_by-stir s (belongs_to_awaited reply) reply.code (find (belongs_to_awaited reply) s.window)
-came_in-stir s reply Leaving = refl
+dispatch_reply-stir : (s : State) (reply : Given) (phase : Phase) → dispatch_reply (stir s) reply phase ≡ stir (dispatch_reply s reply phase)
+dispatch_reply-stir s reply Greeting = on_greeting-stir (is_welcome reply.code) s.options.streaming _ _ _
+dispatch_reply-stir s reply Asking = mode-stir (reply.code == 203) (ends_all reply.code) _ _ _
+dispatch_reply-stir s reply Streaming = answered_by-stir s (fits_awaited reply) reply.code (find (fits_awaited reply) s.window)
+dispatch_reply-stir s reply OneByOne = answered_by-stir s (belongs_to_awaited reply) reply.code (find (belongs_to_awaited reply) s.window)
+dispatch_reply-stir s reply Leaving = refl
 
 -- a reply, stirring last
-pub came-is : (s : State) (reply : Given) → came s reply ≡ leave (stir (came_in s reply s.phase))
-came-is s reply = ap leave (came_in-stir s reply s.phase)
+pub on_reply-is : (s : State) (reply : Given) → on_reply s reply ≡ quit_if_due (stir (dispatch_reply s reply s.phase))
+on_reply-is s reply = ap quit_if_due (dispatch_reply-stir s reply s.phase)

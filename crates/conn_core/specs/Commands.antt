@@ -1,6 +1,5 @@
 -- What is put out, and what is said of debts.
 use Rattle.std.specs.Prelude.{◌==◌, ℕ, Bool, true, false, Option, Some, None, List, [], ◌∷◌, ◌++◌, codes, find}
-use Rattle.std.specs.List.{flat_map}
 use Rattle.reply_reader.specs.Stream.{Given}
 use Rattle.ledger_core.specs.State.{Owing}
 use Rattle.ledger_core.specs.declared.note.Cause.TheVariants.{Missing, Unsendable as Unfit}
@@ -12,11 +11,11 @@ use Rattle.conn_core.specs.declared.codes.Meaning.TheVariants.{Wanted, SendBlock
 use Rattle.conn_core.specs.declared.outcome.Outcome.{Outcome}
 use Rattle.conn_core.specs.declared.outcome.Outcome.TheVariants.{Final as Ended_by, Deferred, Lost, Back}
 
--- A command about a debt: the debt's place among those accepted, from 0, its message-id, and its block: the octets that go
+-- A command about a debt: the debt's ticket among those accepted, from 0, its message-id, and its block: the octets that go
 -- out with the command, or those that an IHAVE offers; none for a CHECK (profile).
 pub record Ask : Type 0 where
   pub verb : Verb
-  pub place : ℕ
+  pub ticket : ℕ
   pub id : List ℕ
   pub block : List ℕ
 
@@ -49,19 +48,19 @@ pub data Handing : Type 0 where
   Gone : Handing
   Unsendable : Handing
 
--- a debt held: its place among those accepted, from 0 (profile)
+-- a debt held: its ticket among those accepted, from 0 (profile)
 pub record Held : Type 0 where
-  pub place : ℕ
+  pub ticket : ℕ
   pub debt : Owing
 
--- an article is wanted for the debt at that place, whose number this is (profile)
+-- an article is wanted for the debt at that ticket, whose number this is (profile)
 pub record Want : Type 0 where
-  pub place : ℕ
+  pub ticket : ℕ
   pub number : ℕ
 
--- whether this is the debt at that place (profile)
+-- whether this is the debt at that ticket (profile)
 abbrev pub is_at : ℕ → Held → Bool
-is_at place x = x.place == place
+is_at ticket x = x.ticket == ticket
 
 -- whether the want is of this number (profile)
 abbrev pub is_of : ℕ → Want → Bool
@@ -70,25 +69,25 @@ is_of number want = want.number == number
 -- the debt that a want is about, if it is still held (profile)
 abbrev pub held_for : List Held → Option Want → Option Held
 held_for held None = None
-held_for held (Some want) = find (is_at want.place) held
+held_for held (Some want) = find (is_at want.ticket) held
 
 -- the want of a debt's article (profile)
 abbrev pub want_of : Held → Want
-want_of x = record { place = x.place; number = x.debt.0 }
+want_of x = record { ticket = x.ticket; number = x.debt.0 }
 
--- a CHECK of the debt at that place (RFC 4644, section 2.4)
+-- a CHECK of the debt at that ticket (RFC 4644, section 2.4)
 abbrev pub check_of : Held → Ask
-check_of x = record { verb = Check; place = x.place; id = x.debt.1.1; block = [] }
+check_of x = record { verb = Check; ticket = x.ticket; id = x.debt.1.1; block = [] }
 
 -- the command that offers or sends an article whose block is there: TAKETHIS while streaming, else IHAVE (RFC 4644, section
 -- 2.5; RFC 3977, section 6.3.2)
 abbrev pub ask_with : (streaming : Bool) → Held → (block : List ℕ) → Ask
-ask_with true x block = record { verb = Takethis; place = x.place; id = x.debt.1.1; block = block }
-ask_with false x block = record { verb = Ihave; place = x.place; id = x.debt.1.1; block = block }
+ask_with true x block = record { verb = Takethis; ticket = x.ticket; id = x.debt.1.1; block = block }
+ask_with false x block = record { verb = Ihave; ticket = x.ticket; id = x.debt.1.1; block = block }
 
 -- the block of an IHAVE, as a command of its own (RFC 3977, section 6.3.2)
 abbrev pub block_of : Ask → Ask
-block_of ask = record { verb = Block; place = ask.place; id = ask.id; block = ask.block }
+block_of ask = record { verb = Block; ticket = ask.ticket; id = ask.id; block = ask.block }
 
 -- whether a reply fits a command in streaming mode, by its code and its id (RFC 4644, sections 2.4 and 2.5)
 abbrev pub fits_ask : Given → Ask → Bool

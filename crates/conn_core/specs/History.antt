@@ -5,7 +5,7 @@ use Rattle.std.specs.List.{flat_map}
 use Rattle.reply_reader.specs.Stream.{Given}
 use Rattle.reply_reader.specs.declared.fault.ReplyFault.{ReplyFault}
 use Rattle.ledger_core.specs.State.{Owing}
-use Rattle.conn_core.specs.Used.{has, is_empty, first_left, left_from, with_place}
+use Rattle.conn_core.specs.Used.{has, is_empty, first_left, left_from, with_ticket}
 use Rattle.conn_core.specs.Codes.{meaning, is_welcome, ends_all, stray}
 use Rattle.conn_core.specs.Checks.{counts, are_off}
 use Rattle.conn_core.specs.Commands.{Ask, Command, ModeStream, Asks, Quit, octets, Handing, Sendable, Gone, Unsendable, Held, Want, is_at, is_of, held_for, want_of, check_of, ask_with, block_of, fits_ask, belongs_to, outcome_by, loss_of}
@@ -32,7 +32,7 @@ pub data Event : Type 0 where
   Leave : Event  -- the connection is to quit
   Taken : Event  -- an outcome is taken
 
--- the debts accepted, in the order offered; a debt's place is its place here, from 0 (profile)
+-- the debts accepted, in the order offered; a debt's ticket is its index here, from 0 (profile)
 abbrev pub accepted : List Event → List Owing
 accepted [] = []
 accepted (Offered debt ∷ h) = accepted h ++ debt ∷ []
@@ -50,7 +50,7 @@ put_out [] = []
 put_out (Put command ∷ h) = put_out h ++ command ∷ []
 put_out (e ∷ h) = put_out h
 
--- the commands about debts, in the order put out; a command's place is its place here, from 0 (profile)
+-- the commands about debts, in the order put out; a command's ticket is its index here, from 0 (profile)
 abbrev pub asks : List Event → List Ask
 asks [] = []
 asks (Put command ∷ h) = asks h ++ ask_in command
@@ -160,13 +160,13 @@ module _ (options : Options) where
   phase (Put command ∷ h) = phase_put (phase h) command
   phase (e ∷ h) = phase h
 
-  -- the places of the commands that have an answer (RFC 4644, sections 2.4 and 2.5)
+  -- the tickets of the commands that have an answer (RFC 4644, sections 2.4 and 2.5)
   abbrev pub answered : List Event → List ℕ
   answered [] = []
-  answered (Came reply ∷ h) = with_place (answered_now (phase h) reply (answered h) (asks h)) (answered h)
+  answered (Came reply ∷ h) = with_ticket (answered_now (phase h) reply (answered h) (asks h)) (answered h)
   answered (e ∷ h) = answered h
 
-  -- the command that a reply answers, if it comes now, with its place (RFC 4644, sections 2.4 and 2.5)
+  -- the command that a reply answers, if it comes now, with its ticket (RFC 4644, sections 2.4 and 2.5)
   abbrev pub answered_ask : List Event → Given → Option (ℕ × Ask)
   answered_ask h reply = answered_now (phase h) reply (answered h) (asks h)
 
@@ -216,36 +216,31 @@ module _ (options : Options) where
   closes h (Faulted fault) = Some (Reader fault)
   closes h (Tick now) = if is_late h now then Some Timeout else None
   closes h Broke = Some Broken
-  closes h (Offered debt) = None
-  closes h (Put command) = None
-  closes h (Handed number handing) = None
-  closes h (Sent count) = None
-  closes h Leave = None
-  closes h Taken = None
+  closes h e = None
 
   -- why the connection is closed: the first reason (profile)
   abbrev pub reason : List Event → Option Reason
   reason [] = None
   reason (e ∷ h) = first_reason (reason h) (closes h e)
 
--- a debt that came out: its place, and what became of it (profile)
+-- a debt that came out: its ticket, and what became of it (profile)
 pub record End : Type 0 where
-  pub place : ℕ
+  pub ticket : ℕ
   pub outcome : Outcome
 
--- the places of these debts (profile)
-abbrev pub ended_places : List End → List ℕ
-ended_places ends = map (λ x. x.place) ends
+-- the tickets of these debts (profile)
+abbrev pub ended_tickets : List End → List ℕ
+ended_tickets ends = map (λ x. x.ticket) ends
 
--- the debts at place n and on, without those that came out (profile)
+-- the debts from ticket n on, without those that came out (profile)
 abbrev pub held_from : ℕ → List Owing → List ℕ → List Held
 held_from n [] gone = []
 held_from n (debt ∷ later) gone =
-    if has gone n then held_from (n + 1) later gone else record { place = n; debt = debt } ∷ held_from (n + 1) later gone
+    if has gone n then held_from (n + 1) later gone else record { ticket = n; debt = debt } ∷ held_from (n + 1) later gone
 
 -- the debt comes out as this, where it does (profile)
 abbrev pub end_of : Held → List Outcome → List End
-end_of x outcomes = map (λ outcome. record { place = x.place; outcome = outcome }) outcomes
+end_of x outcomes = map (λ outcome. record { ticket = x.ticket; outcome = outcome }) outcomes
 
 -- what an answer of this meaning ends: the debt that it is about, if that is still held (profile)
 abbrev pub ends_by_meaning : Option Meaning → Option Held → List End
@@ -256,7 +251,7 @@ ends_by_meaning (Some says) (Some x) = end_of x (outcome_by says x.debt)
 -- what a reply ends, where it answers this command (profile)
 abbrev pub ends_by_answer : List Held → ℕ → Option (ℕ × Ask) → List End
 ends_by_answer held code None = []
-ends_by_answer held code (Some command) = ends_by_meaning (meaning command.1.verb code) (find (is_at command.1.place) held)
+ends_by_answer held code (Some command) = ends_by_meaning (meaning command.1.verb code) (find (is_at command.1.ticket) held)
 
 -- what an article that is not there ends (profile)
 abbrev pub ends_by_loss : Handing → Option Held → List End
@@ -265,7 +260,7 @@ ends_by_loss handing (Some x) = end_of x (loss_of handing x.debt)
 
 -- the debts held come back, in the order offered (profile)
 abbrev pub backs : List Held → List End
-backs held = map (λ x. record { place = x.place; outcome = Back x.debt }) held
+backs held = map (λ x. record { ticket = x.ticket; outcome = Back x.debt }) held
 
 -- and they do where there is a reason to close (profile)
 abbrev pub ends_at_close : Option Reason → List Held → List End
@@ -284,10 +279,10 @@ wants_by_meaning (Some (Final code)) x = []
 -- what a reply makes wanted, where it answers this command (RFC 4644, section 2.4)
 abbrev pub wants_by_answer : List Held → ℕ → Option (ℕ × Ask) → List Want
 wants_by_answer held code None = []
-wants_by_answer held code (Some command) = wants_by_meaning (meaning command.1.verb code) (find (is_at command.1.place) held)
+wants_by_answer held code (Some command) = wants_by_meaning (meaning command.1.verb code) (find (is_at command.1.ticket) held)
 
 -- Which debts came out and as what, in order; which articles were ever wanted, in order; for which of these wants, by their
--- places, one was handed in (profile).
+-- tickets, one was handed in (profile).
 pub record Story : Type 0 where
   pub ends : List End
   pub wants : List Want
@@ -295,9 +290,9 @@ pub record Story : Type 0 where
 
 -- the debts held, in the order offered: each that was accepted and has not come out (profile)
 abbrev pub held_in : List Event → Story → List Held
-held_in h story = held_from 0 (accepted h) (ended_places story.ends)
+held_in h story = held_from 0 (accepted h) (ended_tickets story.ends)
 
--- the first want of that number for which no article was handed in, with its place (profile)
+-- the first want of that number for which no article was handed in, with its ticket (profile)
 abbrev pub first_want : Story → ℕ → Option (ℕ × Want)
 first_want story number = first_left (is_of number) story.handed 0 story.wants
 
@@ -311,7 +306,7 @@ with_ends story more = record story { ends = story.ends ++ more }
 
 -- a debt that is accepted now (profile)
 abbrev pub newcomer : List Event → Owing → Held
-newcomer h debt = record { place = length (accepted h); debt = debt }
+newcomer h debt = record { ticket = length (accepted h); debt = debt }
 
 -- what an article handed in for a debt puts out (RFC 4644, section 2.5; RFC 3977, section 6.3.2)
 abbrev pub puts_article : (streaming : Bool) → Handing → Option Held → List Command
@@ -365,15 +360,12 @@ module _ (options : Options) where
   story_after h story (Handed number handing) = record {
     ends = story.ends ++ ends_by_loss handing (held_wanting h story number);
     wants = story.wants;
-    handed = with_place (first_want story number) story.handed;
+    handed = with_ticket (first_want story number) story.handed;
   }
   story_after h story (Faulted fault) = with_ends story (ends_at_close (closes options h (Faulted fault)) (held_in h story))
   story_after h story (Tick now) = with_ends story (ends_at_close (closes options h (Tick now)) (held_in h story))
   story_after h story Broke = with_ends story (ends_at_close (closes options h Broke) (held_in h story))
-  story_after h story (Put command) = story
-  story_after h story (Sent count) = story
-  story_after h story Leave = story
-  story_after h story Taken = story
+  story_after h story e = story
 
   -- what became of the debts of a transcript, and of the articles wanted (profile)
   unfoldable pub story : List Event → Story
@@ -401,13 +393,7 @@ module _ (options : Options) where
   puts h (Offered debt) = if wants_at_once h then [] else Asks (check_of (newcomer h debt)) ∷ []
   puts h (Came reply) = puts_greeting options.streaming (phase options h) reply.code ++ puts_answer reply.code (answered_ask options h reply)
   puts h (Handed number handing) = puts_article (is_streaming (phase options h)) handing (held_wanting h (story h) number)
-  puts h (Put command) = []
-  puts h (Faulted fault) = []
-  puts h (Sent count) = []
-  puts h (Tick now) = []
-  puts h Broke = []
-  puts h Leave = []
-  puts h Taken = []
+  puts h e = []
 
   -- QUIT is due once it was asked to quit, a mode stands, nothing is held, and it is not closed (RFC 3977, section 5.4)
   abbrev pub is_quit_due : List Event → Bool

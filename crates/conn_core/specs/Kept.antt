@@ -25,18 +25,18 @@ can_answer Ihave reply = belongs_to_awaited reply
 abbrev pub answered_with : State → Mode → Given → State
 answered_with s mode reply = answered_by s (can_answer mode reply) reply.code (find (can_answer mode reply) s.window)
 
--- what an answer of this meaning makes of the debt at that place, where it is held
+-- what an answer of this meaning makes of the debt at that ticket, where it is held
 abbrev pub parted_by : State → ℕ → Meaning → Option Held → State
-parted_by s place meaning None = s
-parted_by s place meaning (Some x) = parted s place (outcome_by meaning x.debt)
+parted_by s ticket meaning None = s
+parted_by s ticket meaning (Some x) = parted s ticket (outcome_by meaning x.debt)
 
 -- what an answer that neither wants an article nor sends a block makes of that debt
 abbrev pub settled_by : State → Option Meaning → ℕ → Option Held → State
-settled_by s None place x = s
-settled_by s (Some Wanted) place x = s
-settled_by s (Some SendBlock) place x = s
-settled_by s (Some Later) place x = parted_by s place Later x
-settled_by s (Some (Final code)) place x = parted_by s place (Final code) x
+settled_by s None ticket x = s
+settled_by s (Some Wanted) ticket x = s
+settled_by s (Some SendBlock) ticket x = s
+settled_by s (Some Later) ticket x = parted_by s ticket Later x
+settled_by s (Some (Final code)) ticket x = parted_by s ticket (Final code) x
 
 -- what is handed in by an article that is not there (profile)
 abbrev pub handing_of : Loss → Handing

@@ -3,14 +3,14 @@ use Rattle.std.specs.Prelude.{◌≡◌, ℕ, ◌+◌, Bool, true, false, None, 
 use Rattle.reply_reader.specs.Stream.{Given, Held as Reading, Working, Broken, BeginsWithReply}
 use Rattle.conn_core.specs.History.{Event, Came, reason, after}
 use Rattle.conn_core.specs.Receipt.{Receives, ReceivesSome}
-use Rattle.conn_core.specs.Stands.{Arises, Stands, StandsFor}
+use Rattle.conn_core.specs.Stands.{Arises, StandsFor, Matches}
 use Rattle.conn_core.specs.State.{Holding}
 use Rattle.conn_core.specs.declared.options.Options.{Options}
 
 -- it is open, and stands for this transcript, whatever its reader holds
 pub record IsLeftOpen (options : Options) (conn : Holding) (h : List Event) : Type 0 where
   pub arises : Arises options h
-  pub stands : StandsFor options conn.state h
+  pub stands : Matches options conn.state h
   pub running : reason options h ≡ None
 
 -- and its reader holds these octets
@@ -22,7 +22,7 @@ pub record IsReading (options : Options) (conn : Holding) (waiting : List ℕ) (
 abbrev pub ReadsOne : Options → (waiting : List ℕ) → List Event → Holding → (more : Bool) → Type 0
 ReadsOne options waiting h new true =
     (reply : Given) × (rest : List ℕ) × BeginsWithReply waiting reply rest × IsReading options new rest (after options h (Came reply))
-ReadsOne options waiting h new false = (later : List Event) × (left : List ℕ) × Receives options waiting h later left × Stands options new left later
+ReadsOne options waiting h new false = (later : List Event) × (left : List ℕ) × Receives options waiting h later left × StandsFor options new left later
 
 -- how much a reader has still to read
 abbrev pub size_of : Reading → ℕ

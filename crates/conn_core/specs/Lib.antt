@@ -12,3 +12,7 @@ pub mod Stands
 pub mod State
 pub mod CheckSwitch
 pub mod Used
+pub mod ClosingLaws
+pub mod StoryLaws
+pub mod HeldLaws
+pub mod UsedLaws

@@ -1,6 +1,6 @@
 -- One step of what a connection holds, for each event. Only the private code cites these steps; what they mean over a whole
 -- transcript is said in History.
-use Rattle.std.specs.Prelude.{◌≡◌, ℕ, ◌+◌, ◌-◌, ◌*◌, Bool, true, false, ◌==◌, ◌&&◌, ◌||◌, not, nat_lt, nat_le, Option, Some, None, is_some, is_none, if◌then◌else◌, List, [], ◌∷◌, ◌++◌, length, find, drop, take, option_to_list}
+use Rattle.std.specs.Prelude.{◌≡◌, ℕ, ◌+◌, ◌-◌, Bool, true, false, ◌==◌, ◌&&◌, ◌||◌, not, nat_lt, nat_le, Option, Some, None, is_some, is_none, if◌then◌else◌, List, [], ◌∷◌, ◌++◌, length, find, drop, take, option_to_list}
 use Rattle.std.specs.Set.{remove_key}
 use Rattle.reply_reader.specs.Stream.{Given}
 use Rattle.reply_reader.specs.declared.fault.ReplyFault.{ReplyFault}
@@ -8,7 +8,7 @@ use Rattle.ledger_core.specs.State.{Owing}
 use Rattle.conn_core.specs.Used.{is_empty}
 use Rattle.conn_core.specs.Codes.{meaning, is_welcome, ends_all, stray, belongs, fits}
 use Rattle.conn_core.specs.Checks.{counts, is_high, is_low}
-use Rattle.conn_core.specs.Commands.{Ask, Command, ModeStream, Asks, Quit, octets, Handing, Sendable, Gone, Unsendable, Held, Want, is_at, is_of, held_for, want_of, check_of, ask_with, outcome_by, loss_of}
+use Rattle.conn_core.specs.Commands.{Ask, ModeStream, Asks, Quit, octets, Handing, Sendable, Gone, Unsendable, Held, is_at, is_of, held_for, want_of, check_of, ask_with, outcome_by, loss_of}
 use Rattle.conn_core.specs.History.{is_streaming, is_mode, room, moment}
 use Rattle.conn_core.specs.State.{Awaited, State, awaited_of, kept_for, untold}
 use Rattle.conn_core.specs.Stands.{ready_when}
@@ -21,7 +21,7 @@ use Rattle.conn_core.specs.declared.phase.Phase.TheVariants.{Greeting, Asking, S
 use Rattle.conn_core.specs.declared.options.Options.{Options}
 use Rattle.conn_core.specs.declared.ready.Ready.{Ready}
 use Rattle.conn_core.specs.declared.reason.Reason.{Reason}
-use Rattle.conn_core.specs.declared.reason.Reason.TheVariants.{Greeting as BadGreeting, Reader, Ended, Timeout, Broken, Quit as Left}
+use Rattle.conn_core.specs.declared.reason.Reason.TheVariants.{Greeting as BadGreeting, Reader, Ended, Timeout, Quit as Left}
 use Rattle.conn_core.specs.declared.outcome.Outcome.{Outcome}
 
 -- what a new connection holds
@@ -45,8 +45,8 @@ fresh options = record {
 }
 
 -- closed for this reason
-abbrev pub shut : Reason → State → State
-shut reason s = record s { closed = Some reason; output = [] }
+abbrev pub close : Reason → State → State
+close reason s = record s { closed = Some reason; output = [] }
 
 -- a command about a debt goes out, and its answer is awaited
 abbrev pub asked : State → Ask → State
@@ -57,20 +57,20 @@ asked s ask = record s {
 }
 
 -- QUIT goes out once nothing is held
-abbrev pub leave : State → State
-leave s =
+abbrev pub quit_if_due : State → State
+quit_if_due s =
     if s.quitting && (is_mode s.phase && (is_empty s.held && is_none s.closed))
     then record s { phase = Leaving; output = s.output ++ octets Quit }
     else s
 
--- the debt at that place leaves with what became of it, where something did
+-- the debt at that ticket leaves with what became of it, where something did
 abbrev pub parted : State → ℕ → List Outcome → State
-parted s place [] = s
-parted s place (outcome ∷ outcomes) = record s { held = remove_key (is_at place) s.held; found = s.found ++ outcome ∷ outcomes }
+parted s ticket [] = s
+parted s ticket (outcome ∷ outcomes) = record s { held = remove_key (is_at ticket) s.held; found = s.found ++ outcome ∷ outcomes }
 
 -- a debt is accepted
 abbrev pub newly : State → Owing → Held
-newly s debt = record { place = s.accepted; debt = debt }
+newly s debt = record { ticket = s.accepted; debt = debt }
 
 abbrev pub wants_or_asks : State → Held → State
 wants_or_asks s x = if is_streaming s.phase && not s.off then asked s (check_of x) else record s { wanted = s.wanted ++ want_of x ∷ [] }
@@ -110,7 +110,7 @@ let_go Block blocks = blocks
 
 -- the block of an answered IHAVE goes out
 abbrev pub sends_block : State → Awaited → List ℕ → State
-sends_block s awaited block = asked s (record { verb = Block; place = awaited.place; id = awaited.id; block = block })
+sends_block s awaited block = asked s (record { verb = Block; ticket = awaited.ticket; id = awaited.id; block = block })
 
 -- what an answer makes of the debt that it is about
 abbrev pub told : State → Option Meaning → Awaited → List ℕ → Option Held → State
@@ -119,55 +119,55 @@ told s (Some SendBlock) awaited block x = sends_block s awaited block
 told s (Some Wanted) awaited block None = s
 told s (Some Wanted) awaited block (Some x) = record s { wanted = s.wanted ++ want_of x ∷ [] }
 told s (Some Later) awaited block None = s
-told s (Some Later) awaited block (Some x) = parted s awaited.place (outcome_by Later x.debt)
+told s (Some Later) awaited block (Some x) = parted s awaited.ticket (outcome_by Later x.debt)
 told s (Some (Final code)) awaited block None = s
-told s (Some (Final code)) awaited block (Some x) = parted s awaited.place (outcome_by (Final code) x.debt)
+told s (Some (Final code)) awaited block (Some x) = parted s awaited.ticket (outcome_by (Final code) x.debt)
 
 -- a reply in a mode, and the first of the awaited commands that it fits by this test
 abbrev pub answered_by : State → (Awaited → Bool) → ℕ → Option Awaited → State
-answered_by s test code None = shut (stray code) s
+answered_by s test code None = close (stray code) s
 answered_by s test code (Some awaited) =
     told (counted_by (record s { window = remove_key test s.window; blocks = let_go awaited.verb s.blocks }) (counts code))
-    (meaning awaited.verb code) awaited (first_block s.blocks) (find (is_at awaited.place) s.held)
+    (meaning awaited.verb code) awaited (first_block s.blocks) (find (is_at awaited.ticket) s.held)
 
 -- a reply at the greeting
-abbrev pub greeted : State → ℕ → State
-greeted s code =
+abbrev pub on_greeting : State → ℕ → State
+on_greeting s code =
     if is_welcome code
     then (if s.options.streaming then record s { phase = Asking; output = s.output ++ octets ModeStream } else record s { phase = OneByOne })
-    else shut (BadGreeting code) s
+    else close (BadGreeting code) s
 
 -- the answer to MODE STREAM
-abbrev pub mode_answered : State → ℕ → State
-mode_answered s code =
-    if code == 203 then record s { phase = Streaming } else if ends_all code then shut (Ended code) s else record s { phase = OneByOne }
+abbrev pub on_mode_answer : State → ℕ → State
+on_mode_answer s code =
+    if code == 203 then record s { phase = Streaming } else if ends_all code then close (Ended code) s else record s { phase = OneByOne }
 
-abbrev pub came_in : State → Given → Phase → State
-came_in s reply Greeting = greeted s reply.code
-came_in s reply Asking = mode_answered s reply.code
-came_in s reply Streaming = answered_by s (fits_awaited reply) reply.code (find (fits_awaited reply) s.window)
-came_in s reply OneByOne = answered_by s (belongs_to_awaited reply) reply.code (find (belongs_to_awaited reply) s.window)
-came_in s reply Leaving = shut Left s
+abbrev pub dispatch_reply : State → Given → Phase → State
+dispatch_reply s reply Greeting = on_greeting s reply.code
+dispatch_reply s reply Asking = on_mode_answer s reply.code
+dispatch_reply s reply Streaming = answered_by s (fits_awaited reply) reply.code (find (fits_awaited reply) s.window)
+dispatch_reply s reply OneByOne = answered_by s (belongs_to_awaited reply) reply.code (find (belongs_to_awaited reply) s.window)
+dispatch_reply s reply Leaving = close Left s
 
 -- a reply
-abbrev pub came : State → Given → State
-came s reply = leave (came_in (record s { stirred = true }) reply s.phase)
+abbrev pub on_reply : State → Given → State
+on_reply s reply = quit_if_due (dispatch_reply (record s { stirred = true }) reply s.phase)
 
 -- what comes in is no reply
-abbrev pub faulted : State → ReplyFault → State
-faulted s fault = shut (Reader fault) s
+abbrev pub on_fault : State → ReplyFault → State
+on_fault s fault = close (Reader fault) s
 
 -- an article is handed in for a debt held
 abbrev pub handed_for : State → Handing → Option Held → State
 handed_for s handing None = s
 handed_for s (Sendable block) (Some x) = asked s (ask_with (is_streaming s.phase) x block)
-handed_for s Gone (Some x) = parted s x.place (loss_of Gone x.debt)
-handed_for s Unsendable (Some x) = parted s x.place (loss_of Unsendable x.debt)
+handed_for s Gone (Some x) = parted s x.ticket (loss_of Gone x.debt)
+handed_for s Unsendable (Some x) = parted s x.ticket (loss_of Unsendable x.debt)
 
 -- and for the first wanted number of these
 abbrev pub handed : State → ℕ → Handing → State
 handed s number handing =
-    leave (handed_for (record s { wanted = remove_key (is_of number) s.wanted }) handing (held_for s.held (find (is_of number) s.wanted)))
+    quit_if_due (handed_for (record s { wanted = remove_key (is_of number) s.wanted }) handing (held_for s.held (find (is_of number) s.wanted)))
 
 -- a tick
 abbrev pub is_awaiting : State → Bool
@@ -177,16 +177,16 @@ abbrev pub quiet_at : State → ℕ → ℕ
 quiet_at s now = moment s.quiet (not s.stirred && is_awaiting s) now
 
 abbrev pub late_or : State → Bool → State
-late_or s late = if late then shut Timeout s else s
+late_or s late = if late then close Timeout s else s
 
 abbrev pub ticked : State → ℕ → State
 ticked s now =
-    leave (late_or (record s { stirred = false; quiet = Some (quiet_at s now) })
+    quit_if_due (late_or (record s { stirred = false; quiet = Some (quiet_at s now) })
     (is_awaiting s && nat_le s.options.response_timeout (now - quiet_at s now)))
 
 -- it is to quit
 abbrev pub asked_to_quit : State → State
-asked_to_quit s = leave (record s { quitting = true })
+asked_to_quit s = quit_if_due (record s { quitting = true })
 
 -- so many octets at the front of the output count as sent
 abbrev pub sent_off : State → ℕ → State

@@ -1,5 +1,5 @@
 -- What octets that come in, and articles that are handed in, are to a connection.
-use Rattle.std.specs.Prelude.{◌≡◌, ℕ, true, Option, None, is_some, List, [], ◌∷◌}
+use Rattle.std.specs.Prelude.{◌≡◌, ℕ, true, None, is_some, List, []}
 use Rattle.dot_codec.specs.Lines.{HasLines, IsSendable}
 use Rattle.dot_codec.specs.Block.{written}
 use Rattle.article_store.specs.declared.store.Found.{Found}

@@ -1,12 +1,10 @@
 -- What it is that a connection stands for a transcript.
 use Rattle.std.specs.Prelude.{◌≡◌, ℕ, ◌≤◌, ◌<◌, Bool, true, false, Option, None, Some, is_some, if◌then◌else◌, List, [], ◌∷◌, length, drop, take, map, nat_lt, slice_get}
-use Rattle.ledger_core.specs.State.{Owing}
-use Rattle.reply_reader.specs.Stream.{Given, Held as Reading, Working, IsShort}
-use Rattle.reply_reader.specs.declared.fault.ReplyFault.{ReplyFault}
+use Rattle.reply_reader.specs.Stream.{Held as Reading, Working, IsShort}
 use Rattle.conn_core.specs.Checks.{are_off}
-use Rattle.conn_core.specs.Commands.{Handing, Want}
+use Rattle.conn_core.specs.Commands.{Want}
 use Rattle.conn_core.specs.State.{Holding, State, awaited_of, kept_blocks, untold}
-use Rattle.conn_core.specs.History.{Event, Offered, Came, Faulted, Handed, Sent, Tick, Broke, Leave, Taken, accepted, put_octets, sent, taken, is_leaving, phase, room, reason, window, counted, stirred, quiet, held, wanted, outcomes, output, needed, after, outside, noted}
+use Rattle.conn_core.specs.History.{Event, Offered, Put, Handed, Sent, Taken, accepted, put_octets, sent, taken, is_leaving, phase, room, reason, window, counted, stirred, quiet, held, wanted, outcomes, output, needed, after, outside, noted}
 use Rattle.conn_core.specs.declared.options.Options.{Options}
 use Rattle.conn_core.specs.declared.outcome.Outcome.{Outcome}
 use Rattle.conn_core.specs.declared.ready.Ready.{Ready}
@@ -38,22 +36,32 @@ abbrev pub RefusesArticle : ArticleFault → Option (ℕ × Want) → Type 0
 RefusesArticle NotNeeded want = want ≡ None
 RefusesArticle NoArticleMemory want = is_some want ≡ true
 
+-- whether a call may bring this event: a debt where there is room, an article that is wanted, a count of octets that are
+-- put out, an outcome that is left; what comes from outside always, and a command never (profile)
+abbrev pub Allows : (options : Options) (h : List Event) → Event → Type 0
+Allows options h (Offered debt) = ready_of options h ≡ Yes
+Allows options h (Put command) = ⊥
+Allows options h (Handed number handing) = is_some (needed options h number) ≡ true
+Allows options h (Sent count) = count ≤ length (output options h)
+Allows options h Taken = taken h < length (outcomes options h)
+Allows options h e = Unit {0}
+
+-- the transcript after a call that brings this event (profile)
+abbrev pub transcript_after : (options : Options) (h : List Event) → Event → List Event
+transcript_after options h (Offered debt) = after options h (Offered debt)
+transcript_after options h (Handed number handing) = after options h (Handed number handing)
+transcript_after options h (Sent count) = noted options h (Sent count)
+transcript_after options h Taken = Taken ∷ h
+transcript_after options h e = outside options h e
+
 -- the transcripts that calls can make (profile)
 pub data Arises (options : Options) : List Event → Type 0 where
   Starts : Arises options []
-  Offers : (h : List Event) (debt : Owing) → Arises options h → ready_of options h ≡ Yes → Arises options (after options h (Offered debt))
-  Receives_reply : (h : List Event) (reply : Given) → Arises options h → Arises options (outside options h (Came reply))
-  Receives_fault : (h : List Event) (fault : ReplyFault) → Arises options h → Arises options (outside options h (Faulted fault))
-  Is_handed : (h : List Event) (number : ℕ) (handing : Handing) → Arises options h → is_some (needed options h number) ≡ true
-      → Arises options (after options h (Handed number handing))
-  Sends : (h : List Event) (count : ℕ) → Arises options h → count ≤ length (output options h) → Arises options (noted options h (Sent count))
-  Ticks : (h : List Event) (now : ℕ) → Arises options h → Arises options (outside options h (Tick now))
-  Breaks : (h : List Event) → Arises options h → Arises options (outside options h Broke)
-  Leaves : (h : List Event) → Arises options h → Arises options (outside options h Leave)
-  Takes_one : (h : List Event) → Arises options h → taken h < length (outcomes options h) → Arises options (Taken ∷ h)
+  Goes_on : (h : List Event) (e : Event) → Arises options h → Allows options h e
+      → Arises options (transcript_after options h e)
 
 -- what is held against the transcript while it is open (profile)
-pub record Open (options : Options) (s : State) (h : List Event) : Type 0 where
+pub record MatchesWhileOpen (options : Options) (s : State) (h : List Event) : Type 0 where
   pub phase_is : s.phase ≡ phase options h
   pub held_is : s.held ≡ held options h
   pub window_is : s.window ≡ map awaited_of (window options h)
@@ -65,7 +73,7 @@ pub record Open (options : Options) (s : State) (h : List Event) : Type 0 where
   pub quiet_is : s.quiet ≡ quiet options h
 
 -- what is held against the transcript (profile)
-pub record StandsFor (options : Options) (s : State) (h : List Event) : Type 0 where
+pub record Matches (options : Options) (s : State) (h : List Event) : Type 0 where
   pub options_is : s.options ≡ options
   pub closed_is : s.closed ≡ reason options h
   pub quitting_is : s.quitting ≡ is_leaving h
@@ -74,7 +82,7 @@ pub record StandsFor (options : Options) (s : State) (h : List Event) : Type 0 w
   pub off_is : s.off ≡ are_off options (counted options h)
   pub untold_is : untold s ≡ drop (taken h) (outcomes options h)
   pub taken_few : taken h ≤ length (outcomes options h)
-  pub while_open : reason options h ≡ None → Open options s h
+  pub while_open : reason options h ≡ None → MatchesWhileOpen options s h
 
 -- what is held back of a reply: nothing once closed, else what waits in the reader, with no whole line and not too much for
 -- one (RFC 3977, section 3.1)
@@ -88,12 +96,12 @@ left_behind options unread h = if is_some (reason options h) then [] else unread
 
 -- a connection with these options stands for this transcript and these octets that it holds back: the calls can have made
 -- them, and it holds what they say (profile)
-unfoldable pub Stands : Options → Holding → (unread : List ℕ) → List Event → Type 0
-Stands options conn unread h =
-    Arises options h × HoldsBack (is_some (reason options h)) conn.reader unread × StandsFor options conn.state h
+unfoldable pub StandsFor : Options → Holding → (unread : List ℕ) → List Event → Type 0
+StandsFor options conn unread h =
+    Arises options h × HoldsBack (is_some (reason options h)) conn.reader unread × Matches options conn.state h
 
 -- an outcome is taken, the first that was not; or all were, and nothing changes (profile)
 abbrev pub Takes : Options → (unread : List ℕ) → List Event → Option Outcome → Holding → Type 0
-Takes options unread h None new = (taken h ≡ length (outcomes options h)) × Stands options new unread h
+Takes options unread h None new = (taken h ≡ length (outcomes options h)) × StandsFor options new unread h
 Takes options unread h (Some outcome) new =
-    (slice_get (outcomes options h) (taken h) ≡ Some outcome) × Stands options new unread (Taken ∷ h)
+    (slice_get (outcomes options h) (taken h) ≡ Some outcome) × StandsFor options new unread (Taken ∷ h)

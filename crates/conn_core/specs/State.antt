@@ -1,5 +1,5 @@
 -- What a connection holds at a moment, in plain lists.
-use Rattle.std.specs.Prelude.{ℕ, Bool, Option, is_some, if◌then◌else◌, List, [], ◌∷◌, ◌++◌, length, map}
+use Rattle.std.specs.Prelude.{ℕ, Bool, Option, is_some, if◌then◌else◌, List, [], ◌∷◌, ◌++◌, map}
 use Rattle.reply_reader.specs.Stream.{Held as Reading}
 use Rattle.conn_core.specs.Commands.{Ask, Held, Want}
 use Rattle.conn_core.specs.declared.codes.Verb.{Verb}
@@ -14,12 +14,12 @@ use Rattle.conn_core.specs.declared.outcome.Outcome.TheVariants.{Back}
 -- a command whose answer is awaited: of its octets only the id is kept (profile)
 pub record Awaited : Type 0 where
   pub verb : Verb
-  pub place : ℕ
+  pub ticket : ℕ
   pub id : List ℕ
 
 -- what is kept of a command until its answer (profile)
 abbrev pub awaited_of : Ask → Awaited
-awaited_of ask = record { verb = ask.verb; place = ask.place; id = ask.id }
+awaited_of ask = record { verb = ask.verb; ticket = ask.ticket; id = ask.id }
 
 -- the block that a command keeps for its answer: that of an IHAVE (RFC 3977, section 6.3.2)
 abbrev pub kept_for : Verb → List ℕ → List (List ℕ)

@@ -7,7 +7,7 @@ ghost use Rattle.conn_core.specs.History.{Event, Offered, Handed, Sent, Tick, Br
 ghost use Rattle.conn_core.specs.History.{needed, output, after, outside, noted};
 ghost use Rattle.conn_core.specs.Mode.{mode};
 ghost use Rattle.conn_core.specs.Receipt.{IsHandedAs, IsSendableArticle, Receives, ReceivesSome};
-ghost use Rattle.conn_core.specs.Stands.{Refuses, RefusesArticle, Stands, Takes, left_behind, ready_of};
+ghost use Rattle.conn_core.specs.Stands.{Refuses, RefusesArticle, StandsFor, Takes, left_behind, ready_of};
 ghost use Rattle.conn_core.specs.State.{output_at, untold_at};
 ghost use Rattle.conn_core.specs.declared.options.Options.{Options};
 
@@ -47,7 +47,7 @@ impl Conn {
     /// # Errors
     /// `NoMemory` where memory was refused.
     pub fn new(alloc: Global, id: CxnId, options: Options) -> Result<Self, AllocError>
-        ensures stands { IfOk result (λ conn. Stands options conn [] []) }
+        ensures ok { IfOk result (λ conn. StandsFor options conn [] []) }
         ensures id { IfOk result (λ conn. conn.id ≡ id) }
     {
         Ok(Conn {
@@ -67,7 +67,7 @@ impl Conn {
     /// Whether a debt can be offered.
     pub fn ready(&self) -> Ready
         ensures { (options : Options) (unread : List ℕ) (h : List Event)
-            → Stands options self.now unread h → result ≡ ready_of options h }
+            → StandsFor options self.now unread h → result ≡ ready_of options h }
     {
         self.machine.ready()
     }
@@ -75,7 +75,7 @@ impl Conn {
     /// The mode that its peer has agreed to: `None` before that, once QUIT is out, and once it is closed.
     pub fn mode(&self) -> Option<Mode>
         ensures { (options : Options) (unread : List ℕ) (h : List Event)
-            → Stands options self.now unread h → result ≡ mode options h }
+            → StandsFor options self.now unread h → result ≡ mode options h }
     {
         self.machine.mode()
     }
@@ -86,14 +86,14 @@ impl Conn {
     /// The debt comes back, and nothing changes. `Closed` where it is closed or was asked to quit, else `Busy` where no
     /// mode stands or as many are held as the mode allows, else `NoMemory` where memory was refused.
     pub fn offer(&mut self, debt: Debt) -> Result<(), Back>
-        ensures accepted { OnOk result
+        ensures ok { OnOk result
             ((options : Options) (unread : List ℕ) (h : List Event)
-            → Stands options self.old unread h
+            → StandsFor options self.old unread h
             → (ready_of options h ≡ Ready.Yes)
-            × Stands options self.new unread (after options h (Offered debt))) }
-        ensures refused { IfErr result
+            × StandsFor options self.new unread (after options h (Offered debt))) }
+        ensures refuses { IfErr result
             (λ back. (options : Options) (unread : List ℕ) (h : List Event)
-            → Stands options self.old unread h
+            → StandsFor options self.old unread h
             → Refuses back.fault (ready_of options h)) }
         ensures returned { IfErr result (λ back. back.debt ≡ debt) }
         ensures unchanged { OnErr result (self.new ≡ self.old) }
@@ -126,7 +126,7 @@ impl Conn {
     /// The number whose article came to be wanted first.
     pub fn need(&self) -> Option<u64>
         ensures { (options : Options) (unread : List ℕ) (h : List Event)
-            → Stands options self.now unread h → result ≡ need options h }
+            → StandsFor options self.now unread h → result ≡ need options h }
     {
         self.machine.need()
     }
@@ -137,17 +137,18 @@ impl Conn {
     /// What was found comes back, and nothing changes. `NotNeeded` where no article of that number is wanted, also once
     /// closed, else `NoMemory` where the text can be sent and memory was refused.
     pub fn article(&mut self, number: u64, found: Found) -> Result<(), (Found, ArticleFault)>
-        ensures taken { OnOk result
+        ensures ok { OnOk result
             ((options : Options) (unread : List ℕ) (h : List Event)
-            → Stands options self.old unread h
+            → StandsFor options self.old unread h
             → (is_some (needed options h number) ≡ true)
             × ((handing : Handing) × IsHandedAs found handing
-            × Stands options self.new unread (after options h (Handed number handing)))) }
-        ensures refused { IfErr result
+            × StandsFor options self.new unread (after options h (Handed number handing)))) }
+        ensures refuses { IfErr result
             (λ e. (options : Options) (unread : List ℕ) (h : List Event)
-            → Stands options self.old unread h
+            → StandsFor options self.old unread h
             → RefusesArticle e.1 (needed options h number)) }
-        ensures memory { IfErr result (λ e. e.1 ≡ ArticleFault.NoMemory → IsSendableArticle found) }
+        ensures no_memory { IfErr result
+            (λ e. e.1 ≡ ArticleFault.NoMemory → IsSendableArticle found) }
         ensures returned { IfErr result (λ e. e.0 ≡ found) }
         ensures unchanged { OnErr result (self.new ≡ self.old) }
         ensures same_id { self.new.id ≡ self.old.id }
@@ -155,7 +156,7 @@ impl Conn {
         if !self.machine.needs(number) {
             return Err((found, ArticleFault::NotNeeded));
         }
-        if let Err(_) = self.machine.hand(number, &found) {
+        if let Err(_) = self.machine.on_article(number, &found) {
             return Err((found, ArticleFault::NoMemory));
         }
         Ok(())
@@ -168,19 +169,19 @@ impl Conn {
     /// `NoMemory` where memory was refused while it was open: some of the whole replies were taken, from the first on,
     /// and it is closed as by [`Conn::broken`].
     pub fn input(&mut self, octets: &[u8]) -> Result<(), AllocError>
-        ensures received { OnOk result
+        ensures ok { OnOk result
             ((options : Options) (unread : List ℕ) (h : List Event)
-            → Stands options self.old unread h
+            → StandsFor options self.old unread h
             → (later : List Event) × (left : List ℕ)
             × Receives options (unread ++ octets.now) h later left
-            × Stands options self.new left later) }
-        ensures refused { OnErr result
+            × StandsFor options self.new left later) }
+        ensures err { OnErr result
             ((options : Options) (unread : List ℕ) (h : List Event)
-            → Stands options self.old unread h
+            → StandsFor options self.old unread h
             → (later : List Event) × ReceivesSome options (unread ++ octets.now) h later
-            × Stands options self.new [] (after options later Broke)) }
+            × StandsFor options self.new [] (after options later Broke)) }
         ensures dropped { (options : Options) (unread : List ℕ) (h : List Event)
-            → Stands options self.old unread h → is_some (reason options h) ≡ true
+            → StandsFor options self.old unread h → is_some (reason options h) ≡ true
             → IsOk result }
         ensures same_id { self.new.id ≡ self.old.id }
     {
@@ -198,15 +199,15 @@ impl Conn {
 
     // Takes each whole reply in, while it is open. Where memory was refused it still is.
     fn take_in(&mut self, octets: &[u8]) -> Result<(), AllocError>
-        ensures received { OnOk result
+        ensures ok { OnOk result
             ((options : Options) (unread : List ℕ) (h : List Event)
-            → Stands options self.old unread h → reason options h ≡ None
+            → StandsFor options self.old unread h → reason options h ≡ None
             → (later : List Event) × (left : List ℕ)
             × Receives options (unread ++ octets.now) h later left
-            × Stands options self.new left later) }
-        ensures refused { OnErr result
+            × StandsFor options self.new left later) }
+        ensures err { OnErr result
             ((options : Options) (unread : List ℕ) (h : List Event)
-            → Stands options self.old unread h → reason options h ≡ None
+            → StandsFor options self.old unread h → reason options h ≡ None
             → (later : List Event) × ReceivesSome options (unread ++ octets.now) h later
             × IsLeftOpen options self.new later) }
         ensures same_id { self.new.id ≡ self.old.id }
@@ -224,7 +225,7 @@ impl Conn {
             → ReadsOne options waiting h self.new more) }
         ensures shorter { IfOk result
             (λ more. more ≡ true → size_of self.new.reader < size_of self.old.reader) }
-        ensures refused { OnErr result
+        ensures err { OnErr result
             ((options : Options) (waiting : List ℕ) (h : List Event)
             → IsReading options self.old waiting h
             → IsLeftOpen options self.new h) }
@@ -232,14 +233,14 @@ impl Conn {
     {
         match self.reader.next() {
             Ok(Some(reply)) => {
-                self.machine.came(&reply)?;
+                self.machine.on_reply(&reply)?;
                 Ok(self.machine.closed().is_none())
             }
             Ok(None) => Ok(false),
             Err(fault) => match fault {
                 ReplyFault::NoMemory => Err(AllocError),
                 _ => {
-                    self.machine.faulted(fault);
+                    self.machine.on_fault(fault);
                     Ok(false)
                 }
             },
@@ -249,8 +250,8 @@ impl Conn {
     /// The moment is this, in seconds. It closes where an answer is late.
     pub fn tick(&mut self, now: u64)
         ensures stands { (options : Options) (unread : List ℕ) (h : List Event)
-            → Stands options self.old unread h
-            → let later = outside options h (Tick now) in Stands options self.new
+            → StandsFor options self.old unread h
+            → let later = outside options h (Tick now) in StandsFor options self.new
             (left_behind options unread later) later }
         ensures same_id { self.new.id ≡ self.old.id }
     {
@@ -260,8 +261,8 @@ impl Conn {
     /// The connection broke.
     pub fn broken(&mut self)
         ensures stands { (options : Options) (unread : List ℕ) (h : List Event)
-            → Stands options self.old unread h
-            → Stands options self.new [] (outside options h Broke) }
+            → StandsFor options self.old unread h
+            → StandsFor options self.new [] (outside options h Broke) }
         ensures same_id { self.new.id ≡ self.old.id }
     {
         self.machine.broken()
@@ -270,8 +271,8 @@ impl Conn {
     /// No debt is taken any more, and QUIT goes out once none is held and a mode stands.
     pub fn quit(&mut self)
         ensures stands { (options : Options) (unread : List ℕ) (h : List Event)
-            → Stands options self.old unread h
-            → Stands options self.new unread (outside options h Leave) }
+            → StandsFor options self.old unread h
+            → StandsFor options self.new unread (outside options h Leave) }
         ensures same_id { self.new.id ≡ self.old.id }
     {
         self.machine.quit()
@@ -280,7 +281,7 @@ impl Conn {
     /// Whether a CHECK goes before each TAKETHIS.
     pub fn checks(&self) -> bool
         ensures { (options : Options) (unread : List ℕ) (h : List Event)
-            → Stands options self.now unread h → result ≡ checks options h }
+            → StandsFor options self.now unread h → result ≡ checks options h }
     {
         self.machine.checks()
     }
@@ -288,7 +289,7 @@ impl Conn {
     /// The octets that are still to be sent, in order: none, once closed.
     pub fn output(&self) -> &[u8]
         ensures stands { (options : Options) (unread : List ℕ) (h : List Event)
-            → Stands options self.now unread h → result.now ≡ output options h }
+            → StandsFor options self.now unread h → result.now ≡ output options h }
         ensures now { result.now ≡ output_at self.now }
     {
         self.machine.output()
@@ -298,8 +299,8 @@ impl Conn {
     pub fn sent(&mut self, count: usize)
         requires { count ≤ length (output_at self.old) }
         ensures stands { (options : Options) (unread : List ℕ) (h : List Event)
-            → Stands options self.old unread h
-            → Stands options self.new unread (noted options h (Sent count)) }
+            → StandsFor options self.old unread h
+            → StandsFor options self.new unread (noted options h (Sent count)) }
         ensures same_id { self.new.id ≡ self.old.id }
     {
         self.machine.sent(count)
@@ -308,7 +309,7 @@ impl Conn {
     /// The next outcome, oldest first.
     pub fn outcome(&mut self) -> Option<Outcome>
         ensures stands { (options : Options) (unread : List ℕ) (h : List Event)
-            → Stands options self.old unread h → Takes options unread h result self.new }
+            → StandsFor options self.old unread h → Takes options unread h result self.new }
         ensures told { untold_at self.old ≡ option_to_list result ++ untold_at self.new }
         ensures none_left { IfNone result (untold_at self.new ≡ []) }
         ensures same_id { self.new.id ≡ self.old.id }
@@ -319,7 +320,7 @@ impl Conn {
     /// Why it closed: `None` while it is open.
     pub fn closed(&self) -> Option<Reason>
         ensures { (options : Options) (unread : List ℕ) (h : List Event)
-            → Stands options self.now unread h → result ≡ reason options h }
+            → StandsFor options self.now unread h → result ≡ reason options h }
     {
         self.machine.closed()
     }

@@ -6,10 +6,10 @@ use funnel::MsgId;
 use ledger_core::Debt;
 use std::marker::Model;
 
-// A debt held, with its place among those accepted.
+// A debt held, with its ticket among those accepted.
 #[derive(Debug, Drop)]
 pub(crate) struct HeldDebt {
-    place: u64,
+    ticket: u64,
     debt: Debt,
 }
 
@@ -18,20 +18,20 @@ impl Model for HeldDebt {
 
     ghost Value = { Held };
 
-    ghost view = { λ x. record { place = x.place; debt = x.debt } };
+    ghost view = { λ x. record { ticket = x.ticket; debt = x.debt } };
 }
 
 impl HeldDebt {
-    pub(crate) fn new(place: u64, debt: Debt) -> Self
-        ensures { result ≡ record { place = place; debt = debt } }
+    pub(crate) fn new(ticket: u64, debt: Debt) -> Self
+        ensures { result ≡ record { ticket = ticket; debt = debt } }
     {
-        HeldDebt { place, debt }
+        HeldDebt { ticket, debt }
     }
 
-    pub(crate) fn place(&self) -> u64
-        ensures { result ≡ self.now.place }
+    pub(crate) fn ticket(&self) -> u64
+        ensures { result ≡ self.now.ticket }
     {
-        self.place
+        self.ticket
     }
 
     pub(crate) fn debt(&self) -> &Debt
@@ -43,7 +43,7 @@ impl HeldDebt {
     pub(crate) fn into_debt(self) -> Debt
         ensures { result ≡ self.debt }
     {
-        let HeldDebt { place: _, debt } = self;
+        let HeldDebt { ticket: _, debt } = self;
         debt
     }
 }
@@ -52,7 +52,7 @@ impl HeldDebt {
 #[derive(Debug, Drop)]
 pub(crate) struct AwaitedAsk {
     verb: Verb,
-    place: u64,
+    ticket: u64,
     id: MsgId,
 }
 
@@ -61,14 +61,14 @@ impl Model for AwaitedAsk {
 
     ghost Value = { Awaited };
 
-    ghost view = { λ ask. record { verb = ask.verb; place = ask.place; id = ask.id } };
+    ghost view = { λ ask. record { verb = ask.verb; ticket = ask.ticket; id = ask.id } };
 }
 
 impl AwaitedAsk {
-    pub(crate) fn new(verb: Verb, place: u64, id: MsgId) -> Self
-        ensures { result ≡ record { verb = verb; place = place; id = id } }
+    pub(crate) fn new(verb: Verb, ticket: u64, id: MsgId) -> Self
+        ensures { result ≡ record { verb = verb; ticket = ticket; id = id } }
     {
-        AwaitedAsk { verb, place, id }
+        AwaitedAsk { verb, ticket, id }
     }
 
     pub(crate) fn verb(&self) -> Verb
@@ -77,10 +77,10 @@ impl AwaitedAsk {
         self.verb
     }
 
-    pub(crate) fn place(&self) -> u64
-        ensures { result ≡ self.now.place }
+    pub(crate) fn ticket(&self) -> u64
+        ensures { result ≡ self.now.ticket }
     {
-        self.place
+        self.ticket
     }
 
     pub(crate) fn id(&self) -> &MsgId
@@ -91,17 +91,21 @@ impl AwaitedAsk {
 
     // What it becomes where its block goes out.
     pub(crate) fn into_block(self) -> Self
-        ensures { result ≡ record { verb = Verb.Block; place = self.place; id = self.id } }
+        ensures { result ≡ record { verb = Verb.Block; ticket = self.ticket; id = self.id } }
     {
-        let AwaitedAsk { verb: _, place, id } = self;
-        AwaitedAsk::new(Verb::Block, place, id)
+        let AwaitedAsk {
+            verb: _,
+            ticket,
+            id,
+        } = self;
+        AwaitedAsk::new(Verb::Block, ticket, id)
     }
 }
 
 // A wanted article, with the place of its debt.
 #[derive(Debug, Drop)]
 pub(crate) struct WantedArticle {
-    place: u64,
+    ticket: u64,
     number: u64,
 }
 
@@ -110,20 +114,20 @@ impl Model for WantedArticle {
 
     ghost Value = { Want };
 
-    ghost view = { λ want. record { place = want.place; number = want.number } };
+    ghost view = { λ want. record { ticket = want.ticket; number = want.number } };
 }
 
 impl WantedArticle {
-    pub(crate) fn new(place: u64, number: u64) -> Self
-        ensures { result ≡ record { place = place; number = number } }
+    pub(crate) fn new(ticket: u64, number: u64) -> Self
+        ensures { result ≡ record { ticket = ticket; number = number } }
     {
-        WantedArticle { place, number }
+        WantedArticle { ticket, number }
     }
 
-    pub(crate) fn place(&self) -> u64
-        ensures { result ≡ self.now.place }
+    pub(crate) fn ticket(&self) -> u64
+        ensures { result ≡ self.now.ticket }
     {
-        self.place
+        self.ticket
     }
 
     pub(crate) fn number(&self) -> u64

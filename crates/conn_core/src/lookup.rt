@@ -43,10 +43,10 @@ fn first_answered(window: &VecDeque<AwaitedAsk>, reply: &Reply, mode: Mode) -> O
     window.iter().position(|ask| can_answer(reply, ask, mode))
 }
 
-fn first_at(held: &VecDeque<HeldDebt>, place: u64) -> Option<usize>
-    ensures { result ≡ position (is_at place) held.now.items }
+fn first_at(held: &VecDeque<HeldDebt>, ticket: u64) -> Option<usize>
+    ensures { result ≡ position (is_at ticket) held.now.items }
 {
-    held.iter().position(|x| x.place() == place)
+    held.iter().position(|x| x.ticket() == ticket)
 }
 
 fn first_of(wanted: &VecDeque<WantedArticle>, number: u64) -> Option<usize>
@@ -85,26 +85,26 @@ pub(crate) fn take_answered(
     }
 }
 
-// The debt at that place.
-pub(crate) fn debt_at(held: &VecDeque<HeldDebt>, place: u64) -> Option<&HeldDebt>
-    ensures { option_copied result ≡ find (is_at place) held.now.items }
+// The debt at that ticket.
+pub(crate) fn debt_at(held: &VecDeque<HeldDebt>, ticket: u64) -> Option<&HeldDebt>
+    ensures { option_copied result ≡ find (is_at ticket) held.now.items }
 {
-    match first_at(held, place) {
+    match first_at(held, ticket) {
         Some(i) => held.get(i),
         None => None,
     }
 }
 
-// Takes out the debt at that place.
-pub(crate) fn take_at(held: &mut VecDeque<HeldDebt>, place: u64) -> Option<HeldDebt>
-    ensures found { result ≡ find (is_at place) held.old.items }
-    ensures rest { held.new.items ≡ remove_key (is_at place) held.old.items }
+// Takes out the debt at that ticket.
+pub(crate) fn take_at(held: &mut VecDeque<HeldDebt>, ticket: u64) -> Option<HeldDebt>
+    ensures found { result ≡ find (is_at ticket) held.old.items }
+    ensures rest { held.new.items ≡ remove_key (is_at ticket) held.old.items }
     ensures unchanged { IfNone result (held.new ≡ held.old) }
     ensures len { MatchOption result (deque_len held.new ≡ deque_len held.old)
         (λ _. deque_len held.new + 1 ≡ deque_len held.old) }
     ensures capacity { deque_capacity held.new ≡ deque_capacity held.old }
 {
-    match first_at(held, place) {
+    match first_at(held, ticket) {
         Some(i) => held.remove(i),
         None => None,
     }
@@ -130,7 +130,7 @@ pub(crate) fn debt_wanting<'a>(
         ≡ held_for held.now.items (find (is_of number) wanted.now.items) }
 {
     match wanted_of(wanted, number) {
-        Some(want) => debt_at(held, want.place()),
+        Some(want) => debt_at(held, want.ticket()),
         None => None,
     }
 }

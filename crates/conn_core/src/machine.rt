@@ -3,8 +3,9 @@ ghost use Rattle.std.specs.Prelude.{◌≡◌, ◌≤◌, ◌<◌, ◌&&◌, ◌
 ghost use Rattle.std.specs.Prelude.{option_map, slice_get, is_none, is_some, find, IfOk, IfErr, OnOk, OnErr};
 ghost use Rattle.conn_core.specs.Commands.{Want, check_of, is_of, want_of};
 ghost use Rattle.conn_core.specs.History.{is_mode, is_streaming, room};
-ghost use Rattle.conn_core.specs.Machine.{TakesOne, asked, asked_to_quit, faulted, fresh, is_awaiting, leave, newly};
-ghost use Rattle.conn_core.specs.Machine.{offered, ready_at, sent_off, shut, ticked};
+ghost use Rattle.conn_core.specs.Machine.{TakesOne, asked, asked_to_quit, fresh, is_awaiting, newly, on_fault};
+ghost use Rattle.conn_core.specs.Machine.{quit_if_due};
+ghost use Rattle.conn_core.specs.Machine.{offered, ready_at, sent_off, close, ticked};
 ghost use Rattle.conn_core.specs.Kept.{with_newly};
 ghost use Rattle.conn_core.specs.Mode.{mode_at, mode_in};
 ghost use Rattle.conn_core.specs.State.{output_of};
@@ -178,8 +179,8 @@ impl Machine {
     // Takes a debt, while it is ready. An `Err` hands it back and changes nothing.
     pub(crate) fn offer(&mut self, debt: Debt) -> Result<(), Debt>
         ensures ok { OnOk result (self.new ≡ offered self.old debt) }
-        ensures err { OnErr result (self.new ≡ self.old) }
-        ensures back { IfErr result (λ back. back ≡ debt) }
+        ensures unchanged { OnErr result (self.new ≡ self.old) }
+        ensures returned { IfErr result (λ back. back ≡ debt) }
     {
         if self.accepted == u64::MAX {
             return Err(debt);
@@ -196,8 +197,8 @@ impl Machine {
         requires { self.old.accepted < u64.MAX }
         ensures ok { OnOk result
             (self.new ≡ asked (with_newly self.old debt) (check_of (newly self.old debt))) }
-        ensures err { OnErr result (self.new ≡ self.old) }
-        ensures back { IfErr result (λ back. back ≡ debt) }
+        ensures unchanged { OnErr result (self.new ≡ self.old) }
+        ensures returned { IfErr result (λ back. back ≡ debt) }
     {
         let Ok(id) = debt.id().clone() else {
             return Err(debt);
@@ -227,8 +228,8 @@ impl Machine {
         ensures ok { OnOk result
             (self.new ≡ record (with_newly self.old debt)
             { wanted = self.old.wanted ++ want_of (newly self.old debt) ∷ [] }) }
-        ensures err { OnErr result (self.new ≡ self.old) }
-        ensures back { IfErr result (λ back. back ≡ debt) }
+        ensures unchanged { OnErr result (self.new ≡ self.old) }
+        ensures returned { IfErr result (λ back. back ≡ debt) }
     {
         if self.held.reserve(1).is_err()
             || self.found.reserve(self.held.len() + 1).is_err()
@@ -268,8 +269,8 @@ impl Machine {
     }
 
     // Puts QUIT out where it is due (RFC 3977, section 5.4).
-    fn leave(&mut self)
-        ensures { self.new ≡ leave self.old }
+    fn quit_if_due(&mut self)
+        ensures { self.new ≡ quit_if_due self.old }
     {
         if self.quitting && is_mode(self.phase) && self.held.is_empty() && self.closed.is_none() {
             self.phase = Phase::Leaving;
@@ -278,18 +279,18 @@ impl Machine {
     }
 
     // Closes for this reason: all that is held comes out from now on.
-    fn shut(&mut self, reason: Reason)
-        ensures { self.new ≡ shut reason self.old }
+    fn close(&mut self, reason: Reason)
+        ensures { self.new ≡ close reason self.old }
     {
         self.closed = Some(reason);
         self.output.clear();
     }
 
     // A fault of the reader, while it is open.
-    pub(crate) fn faulted(&mut self, fault: ReplyFault)
-        ensures { self.new ≡ faulted self.old fault }
+    pub(crate) fn on_fault(&mut self, fault: ReplyFault)
+        ensures { self.new ≡ on_fault self.old fault }
     {
-        self.shut(Reason::Reader(fault));
+        self.close(Reason::Reader(fault));
     }
 
     // Whether an answer is awaited: the greeting, the mode, or that of a command.
@@ -309,17 +310,17 @@ impl Machine {
         let awaiting = self.is_awaiting();
         let silent = self.clock.tick(awaiting, now);
         if awaiting && self.options.response_timeout <= silent {
-            self.shut(Reason::Timeout);
+            self.close(Reason::Timeout);
         }
-        self.leave();
+        self.quit_if_due();
     }
 
     // It broke: once closed nothing changes.
     pub(crate) fn broken(&mut self)
-        ensures { self.new ≡ (if is_some self.old.closed then self.old else shut Broken self.old) }
+        ensures { self.new ≡ (if is_some self.old.closed then self.old else close Broken self.old) }
     {
         if self.closed.is_none() {
-            self.shut(Reason::Broken);
+            self.close(Reason::Broken);
         }
     }
 
@@ -332,7 +333,7 @@ impl Machine {
             return;
         }
         self.quitting = true;
-        self.leave();
+        self.quit_if_due();
     }
 
     // Whether checks are on.

@@ -6,14 +6,14 @@ use Rattle.std.proofs.lemmas.Bool.{ltb-true}
 use Rattle.conn_core.specs.Commands.{Command, Quit}
 use Rattle.conn_core.specs.History.{Event, Offered, Put, Came, Faulted, Handed, Sent, Tick, Broke, Leave, Taken, after}
 use Rattle.conn_core.specs.History.{closes, is_mode, is_quit_due, outside, phase, puts, reason, room, with_puts}
-use Rattle.conn_core.specs.Stands.{Arises, Starts, Offers, Receives_reply, Receives_fault, Is_handed, Sends, Ticks}
-use Rattle.conn_core.specs.Stands.{Breaks, Leaves, Takes_one, ready_when}
+use Rattle.conn_core.specs.Stands.{Arises, Starts, Goes_on}
+use Rattle.conn_core.specs.Stands.{ready_when}
 use Rattle.conn_core.specs.declared.options.Options.{Options}
 use Rattle.conn_core.specs.declared.phase.Phase.{Phase}
 use Rattle.conn_core.specs.declared.phase.Phase.TheVariants.{Greeting, Asking, Streaming, OneByOne, Leaving}
 use Rattle.conn_core.specs.declared.ready.Ready.TheVariants.{Yes}
 use Rattle.conn_core.specs.declared.reason.Reason.{Reason}
-use Rattle.conn_core.proofs.Closed.{needed-open, ready-open}
+use Rattle.conn_core.specs.ClosingLaws.{needed-open, ready-open}
 use Rattle.conn_laws.proofs.Once.{ends_by}
 
 -- an event that ends no debt and closes nothing, whenever it comes
@@ -111,17 +111,18 @@ module _ (options : Options) (P : List Event → Type 0) (starts : P [])
 
   pub of-arising : (h : List Event) → Arises options h → P h
   of-arising h Starts = starts
-  of-arising h (Offers g debt a ready) =
+  of-arising h (Goes_on g (Offered debt) a ready) =
       behind g (Offered debt)
       (going g (Offered debt) (ready-open (reason options g) _ _ ready)
       (ready-mode options (phase options g) _ _ _ ready) (of-arising g a))
-  of-arising h (Receives_reply g reply a) = from-outside g (Came reply) tt (reason options g) refl (of-arising g a)
-  of-arising h (Receives_fault g fault a) = from-outside g (Faulted fault) tt (reason options g) refl (of-arising g a)
-  of-arising h (Is_handed g number handing a some) =
+  of-arising h (Goes_on g (Came reply) a can) = from-outside g (Came reply) tt (reason options g) refl (of-arising g a)
+  of-arising h (Goes_on g (Faulted fault) a can) = from-outside g (Faulted fault) tt (reason options g) refl (of-arising g a)
+  of-arising h (Goes_on g (Handed number handing) a some) =
       behind g (Handed number handing)
       (going g (Handed number handing) (needed-open (reason options g) _ some) tt (of-arising g a))
-  of-arising h (Sends g count a few) = counted-sent g count (is_some (reason options g)) (of-arising g a)
-  of-arising h (Ticks g now a) = from-outside g (Tick now) tt (reason options g) refl (of-arising g a)
-  of-arising h (Breaks g a) = from-outside g Broke tt (reason options g) refl (of-arising g a)
-  of-arising h (Leaves g a) = from-outside g Leave tt (reason options g) refl (of-arising g a)
-  of-arising h (Takes_one g a few) = quiet g Taken tt (of-arising g a)
+  of-arising h (Goes_on g (Sent count) a few) = counted-sent g count (is_some (reason options g)) (of-arising g a)
+  of-arising h (Goes_on g (Tick now) a can) = from-outside g (Tick now) tt (reason options g) refl (of-arising g a)
+  of-arising h (Goes_on g Broke a can) = from-outside g Broke tt (reason options g) refl (of-arising g a)
+  of-arising h (Goes_on g Leave a can) = from-outside g Leave tt (reason options g) refl (of-arising g a)
+  of-arising h (Goes_on g (Put command) a never) = absurd never
+  of-arising h (Goes_on g Taken a few) = quiet g Taken tt (of-arising g a)

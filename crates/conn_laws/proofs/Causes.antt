@@ -14,15 +14,14 @@ use Rattle.conn_core.specs.History.{accepted, after, answered, answered_ask, ask
 use Rattle.conn_core.specs.History.{held_wanting, is_mode, is_streaming, newcomer, phase, puts_answer, puts_article}
 use Rattle.conn_core.specs.History.{puts_block, puts_greeting, reason, story, wants_at_once, wants_by_answer}
 use Rattle.conn_core.specs.History.{wants_by_meaning, with_puts}
-use Rattle.conn_core.specs.Stands.{Arises, Starts, Offers, Receives_reply, Receives_fault, Is_handed, Sends, Ticks}
-use Rattle.conn_core.specs.Stands.{Breaks, Leaves, Takes_one}
+use Rattle.conn_core.specs.Stands.{Arises, Starts, Goes_on}
 use Rattle.conn_core.specs.declared.codes.Verb.{Verb}
 use Rattle.conn_core.specs.declared.codes.Verb.TheVariants.{Check, Takethis, Ihave, Block}
 use Rattle.conn_core.specs.declared.codes.Meaning.{Meaning}
 use Rattle.conn_core.specs.declared.codes.Meaning.TheVariants.{Wanted, SendBlock, Later, Final}
 use Rattle.conn_core.specs.declared.options.Options.{Options}
-use Rattle.conn_core.proofs.HeldBack.{find-is_at}
-use Rattle.conn_core.proofs.UsedUp.{first_left-is}
+use Rattle.conn_core.specs.HeldLaws.{find-is_at}
+use Rattle.conn_core.specs.UsedLaws.{first_left-is}
 use Rattle.conn_laws.specs.Laws.{AllHaveTheirCause, IsAnswered, IsCheckOf, IsHandedFor, IsUnchecked, IsWanted}
 use Rattle.conn_laws.proofs.Arising.{IsQuiet, MayCome, of-arising}
 use Rattle.conn_laws.proofs.Behind.{greeting-none, holds-after, holds-greeted}
@@ -32,9 +31,9 @@ use Rattle.conn_laws.proofs.Right.{answer-now, answer_is_first, answered-more}
 
 -- each want has its reason
 
-unchecked-more : (options : Options) (h : List Event) (e : Event) (place : ℕ) → IsUnchecked options h place
-    → IsUnchecked options (e ∷ h) place
-unchecked-more options h e place a = record {
+unchecked-more : (options : Options) (h : List Event) (e : Event) (ticket : ℕ) → IsUnchecked options h ticket
+    → IsUnchecked options (e ∷ h) ticket
+unchecked-more options h e ticket a = record {
   later = e ∷ a.later;
   earlier = a.earlier;
   debt = a.debt;
@@ -44,13 +43,13 @@ unchecked-more options h e place a = record {
   off = a.off;
 }
 
-wanted-more : (options : Options) (h : List Event) (e : Event) (place : ℕ) → IsWanted options h place
-    → IsWanted options (e ∷ h) place
-wanted-more options h e place (inl a) = inl (unchecked-more options h e place a)
-wanted-more options h e place (inr a) = inr (answered-more options h e place 238 Wanted a)
+wanted-more : (options : Options) (h : List Event) (e : Event) (ticket : ℕ) → IsWanted options h ticket
+    → IsWanted options (e ∷ h) ticket
+wanted-more options h e ticket (inl a) = inl (unchecked-more options h e ticket a)
+wanted-more options h e ticket (inr a) = inr (answered-more options h e ticket 238 Wanted a)
 
 abbrev IsOf : Options → List Event → Want → Type 0
-IsOf options h want = IsWanted options h want.place
+IsOf options h want = IsWanted options h want.ticket
 
 abbrev AllWanted : Options → List Event → Type 0
 AllWanted options h = AllByRecursion (IsOf options h) (story options h).wants
@@ -58,7 +57,7 @@ AllWanted options h = AllByRecursion (IsOf options h) (story options h).wants
 lifted : (options : Options) (h : List Event) (e : Event) → AllWanted options h
     → AllByRecursion (IsOf options (e ∷ h)) (story options h).wants
 lifted options h e all =
-    All-map (IsOf options h) (IsOf options (e ∷ h)) (λ want w. wanted-more options h e want.place w)
+    All-map (IsOf options h) (IsOf options (e ∷ h)) (λ want w. wanted-more options h e want.ticket w)
     (story options h).wants all
 
 unchecked-off : (a b : Bool) → not (a && b) ≡ true → (a ≡ false) ⊎ (b ≡ false)
@@ -141,13 +140,13 @@ block-code Block n e =
 by_meaning-wanted : (options : Options) (h : List Event) (reply : Given) (command : ℕ × Ask) (m : Option Meaning)
     (o : Option Held) → reason options h ≡ None
     → answered_ask options h reply ≡ Some command → meaning command.1.verb reply.code ≡ m
-    → find (is_at command.1.place) (held options h) ≡ o
+    → find (is_at command.1.ticket) (held options h) ≡ o
     → AllByRecursion (IsOf options (Came reply ∷ h)) (wants_by_meaning m o)
 by_meaning-wanted options h reply command None o running e em eo = tt
 by_meaning-wanted options h reply command (Some Wanted) None running e em eo = tt
 by_meaning-wanted options h reply command (Some Wanted) (Some x) running e em eo =
     let said = answer-now options h reply command x Wanted running e em eo in (
-      inr (subst (λ n. IsAnswered options (Came reply ∷ h) x.place n Wanted)
+      inr (subst (λ n. IsAnswered options (Came reply ∷ h) x.ticket n Wanted)
           (wanted-code command.1.verb reply.code em) said),
       tt,
     )
@@ -259,13 +258,13 @@ after-came options h reply (Some command) e all =
 
 with-verb : (streaming : Bool) (x : Held) (block : List ℕ)
     → ((ask_with streaming x block).verb ≡ (if streaming then Takethis else Ihave)) ×
-    ((ask_with streaming x block).place ≡ x.place) × ((ask_with streaming x block).block ≡ block)
+    ((ask_with streaming x block).ticket ≡ x.ticket) × ((ask_with streaming x block).block ≡ block)
 with-verb true x block = (refl, refl, refl)
 with-verb false x block = (refl, refl, refl)
 
 -- a want that is found has its reason
 found-wanted : (options : Options) (h : List Event) (number : ℕ) (want : ℕ × Want) → AllWanted options h
-    → first_want (story options h) number ≡ Some want → IsWanted options h want.1.place
+    → first_want (story options h) number ≡ Some want → IsWanted options h want.1.ticket
 found-wanted options h number want all first =
     let f = first_left-is (is_of number) (story options h).handed 0 (story options h).wants want.0 want.1 first in
     All-get (IsOf options h) (story options h).wants f.index want.1 all f.item
@@ -281,8 +280,8 @@ article-caused options h number (Sendable block) None (Some x) wants first e all
 article-caused options h number (Sendable block) (Some want) (Some x) wants first e all =
     let s = is_streaming (phase options h) in
     let sends = with-verb (is_streaming (phase options h)) x block in
-    let there : want.1.place ≡ (ask_with (is_streaming (phase options h)) x block).place =
-    sym (find-is_at want.1.place (held options h) x e).0 ∙ sym sends.1 in
+    let there : want.1.ticket ≡ (ask_with (is_streaming (phase options h)) x block).ticket =
+    sym (find-is_at want.1.ticket (held options h) x e).0 ∙ sym sends.1 in
     let cause : IsHandedFor options h number (Sendable block) (ask_with (is_streaming (phase options h)) x block) =
     record {
       want = want;
@@ -316,27 +315,28 @@ event-caused options g e old new = either options (is_some (reason options g)) g
 
 pub all_caused : (options : Options) (h : List Event) → Arises options h → AllHaveTheirCause options h
 all_caused options h Starts = tt
-all_caused options h (Offers g debt a ready) =
+all_caused options h (Goes_on g (Offered debt) a ready) =
     after-offered options g debt (wants_at_once options g) refl (all_caused options g a)
-all_caused options h (Receives_reply g reply a) =
+all_caused options h (Goes_on g (Came reply) a can) =
     event-caused options g (Came reply) (all_caused options g a)
     (after-came options g reply (answered_ask options g reply) refl (all_caused options g a))
-all_caused options h (Receives_fault g fault a) =
+all_caused options h (Goes_on g (Faulted fault) a can) =
     event-caused options g (Faulted fault) (all_caused options g a)
     (holds-after options (AllHaveTheirCause options) (put-other options) g (Faulted fault) [] refl
     (all_caused options g a))
-all_caused options h (Is_handed g number handing a some) =
+all_caused options h (Goes_on g (Handed number handing) a some) =
     after-handed options g number handing (all_wanted options g a) (all_caused options g a)
-all_caused options h (Sends g count a few) =
+all_caused options h (Goes_on g (Sent count) a few) =
     either options (is_some (reason options g)) g (Sent count ∷ g) (all_caused options g a) (all_caused options g a)
-all_caused options h (Ticks g now a) =
+all_caused options h (Goes_on g (Tick now) a can) =
     event-caused options g (Tick now) (all_caused options g a)
     (holds-after options (AllHaveTheirCause options) (put-other options) g (Tick now) [] refl
     (all_caused options g a))
-all_caused options h (Breaks g a) =
+all_caused options h (Goes_on g Broke a can) =
     event-caused options g Broke (all_caused options g a)
     (holds-after options (AllHaveTheirCause options) (put-other options) g Broke [] refl (all_caused options g a))
-all_caused options h (Leaves g a) =
+all_caused options h (Goes_on g Leave a can) =
     event-caused options g Leave (all_caused options g a)
     (holds-after options (AllHaveTheirCause options) (put-other options) g Leave [] refl (all_caused options g a))
-all_caused options h (Takes_one g a few) = all_caused options g a
+all_caused options h (Goes_on g (Put command) a never) = absurd never
+all_caused options h (Goes_on g Taken a few) = all_caused options g a

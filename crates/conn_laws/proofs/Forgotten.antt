@@ -8,29 +8,29 @@ use Rattle.ledger_core.specs.State.{Owing}
 use Rattle.conn_core.specs.Codes.{meaning}
 use Rattle.conn_core.specs.Used.{left_from, times}
 use Rattle.conn_core.specs.Commands.{Ask, Command, Asks, Handing, Sendable, Gone, Unsendable, Held, Want, ask_with, block_of, check_of, held_for, is_at, want_of}
-use Rattle.conn_core.specs.History.{Event, Offered, Put, Came, Faulted, Handed, Sent, Tick, Broke, Leave, Taken, accepted, after, answered, answered_ask, asks, closes, ended_places, ends, ends_at_close, ends_by_answer, ends_by_loss, first_reason, first_want, held, is_streaming, newcomer, outside, phase, puts_answer, puts_article, puts_block, puts_greeting, reason, story, wanted, wants_at_once, wants_by_answer, window, with_puts}
+use Rattle.conn_core.specs.History.{Event, Offered, Put, Came, Faulted, Handed, Sent, Tick, Broke, Leave, Taken, accepted, after, answered, answered_ask, asks, closes, ended_tickets, ends, ends_at_close, ends_by_answer, ends_by_loss, first_reason, first_want, held, is_streaming, newcomer, outside, phase, puts_answer, puts_article, puts_block, puts_greeting, reason, story, wanted, wants_at_once, wants_by_answer, window, with_puts}
 use Rattle.conn_laws.specs.Laws.{fits_in, open_commands, open_wants, times_held, times_out}
-use Rattle.conn_core.specs.Stands.{Arises, Starts, Offers, Receives_reply, Receives_fault, Is_handed, Sends, Ticks, Breaks, Leaves, Takes_one}
+use Rattle.conn_core.specs.Stands.{Arises, Starts, Goes_on}
 use Rattle.conn_core.specs.declared.codes.Meaning.{Meaning}
 use Rattle.conn_core.specs.declared.codes.Meaning.TheVariants.{Wanted, SendBlock, Later, Final}
 use Rattle.conn_core.specs.declared.options.Options.{Options}
 use Rattle.conn_core.specs.declared.reason.Reason.{Reason}
-use Rattle.conn_core.proofs.HeldBack.{find-is_at, places}
-use Rattle.conn_laws.proofs.Once.{ends_by, held_or_out, neither-beyond, places-more, times-append}
-use Rattle.conn_core.proofs.Closed.{first_reason-none, needed-open, ready-open, reason-after}
+use Rattle.conn_core.specs.HeldLaws.{find-is_at, tickets}
+use Rattle.conn_laws.proofs.Once.{ends_by, held_or_out, neither-beyond, tickets-more, times-append}
+use Rattle.conn_core.specs.ClosingLaws.{first_reason-none, needed-open, ready-open, reason-after}
 use Rattle.conn_laws.proofs.Right.{answer_is_first}
 use Rattle.conn_laws.proofs.Tallies.{tally, times-tally, wanted-handed, wanted-more, wanted-none, window-came, window-none, window-put}
 use Rattle.conn_laws.proofs.Behind.{article-none, greeting-none, holds-after, holds-greeted}
 use Rattle.conn_laws.proofs.Twice.{came-nothing, came-wanted, offered-wanted, one_at, wants_at}
 
--- 1 for a command about this place
+-- 1 for a command about this ticket
 abbrev asks_at : ℕ → Ask → ℕ
-asks_at p ask = one_at p ask.place
+asks_at p ask = one_at p ask.ticket
 
 abbrev Matches : Options → ℕ → List Event → Type 0
 Matches options p h = tally (asks_at p) (window options h) + tally (wants_at p) (wanted options h) ≡ times_held options h p
 
--- how many debts were accepted at a place
+-- how many debts were accepted at a ticket
 abbrev below : ℕ → ℕ → ℕ
 below p n = if nat_lt p n then 1 else 0
 
@@ -52,11 +52,11 @@ accounts options h p =
 
 -- how often a debt comes out by an event
 abbrev ended_at : Options → List Event → Event → ℕ → ℕ
-ended_at options h e p = times (ended_places (ends_by options h e)) p
+ended_at options h e p = times (ended_tickets (ends_by options h e)) p
 
 out-more : (options : Options) (h : List Event) (e : Event) (p : ℕ) → times_out options (e ∷ h) p ≡ times_out options h p + ended_at options h e p
 out-more options h e p =
-    ap (λ ps. times ps p) (places-more options h e) ∙ times-append (ended_places (ends options h)) (ended_places (ends_by options h e)) p
+    ap (λ ps. times ps p) (tickets-more options h e) ∙ times-append (ended_tickets (ends options h)) (ended_tickets (ends_by options h e)) p
 
 -- what is held once some came out
 held-less : (options : Options) (h : List Event) (e : Event) (p : ℕ) → accepted (e ∷ h) ≡ accepted h → times_held options (e ∷ h) p + ended_at options h e p ≡ times_held options h p
@@ -71,14 +71,14 @@ held-less options h e p same =
 held-same : (options : Options) (h : List Event) (e : Event) (p : ℕ) → accepted (e ∷ h) ≡ accepted h → ends_by options h e ≡ [] → times_held options (e ∷ h) p ≡ times_held options h p
 held-same options h e p same none =
     let less = held-less options h e p same in
-    let nothing : ended_at options h e p ≡ 0 = ap (λ es. times (ended_places es) p) none in
+    let nothing : ended_at options h e p ≡ 0 = ap (λ es. times (ended_tickets es) p) none in
     omega (arith, less, nothing)
 
-held-one : (options : Options) (h : List Event) (e : Event) (p place : ℕ) → accepted (e ∷ h) ≡ accepted h → ended_places (ends_by options h e) ≡ place ∷ []
-    → times_held options (e ∷ h) p + one_at p place ≡ times_held options h p
-held-one options h e p place same one =
+held-one : (options : Options) (h : List Event) (e : Event) (p ticket : ℕ) → accepted (e ∷ h) ≡ accepted h → ended_tickets (ends_by options h e) ≡ ticket ∷ []
+    → times_held options (e ∷ h) p + one_at p ticket ≡ times_held options h p
+held-one options h e p ticket same one =
     let less = held-less options h e p same in
-    let once : ended_at options h e p ≡ one_at p place + 0 = ap (λ ps. times ps p) one in
+    let once : ended_at options h e p ≡ one_at p ticket + 0 = ap (λ ps. times ps p) one in
     omega (arith, less, once)
 
 held-more : (options : Options) (h : List Event) (debt : Owing) (p : ℕ) → times_held options (Offered debt ∷ h) p ≡ times_held options h p + one_at p (length (accepted h))
@@ -97,16 +97,16 @@ missing-step : (b : Bool) (y : Held) (rest : Option Held) (n : ℕ) → cond b (
 missing-step true y rest n e later = cc
 missing-step false y rest n e later = let none = later e in omega (arith, none)
 
-missing : (k : ℕ) (hs : List Held) → find (is_at k) hs ≡ None → times (places hs) k ≡ 0
+missing : (k : ℕ) (hs : List Held) → find (is_at k) hs ≡ None → times (tickets hs) k ≡ 0
 missing k [] e = refl
-missing k (y ∷ hs) e = missing-step (y.place == k) y _ _ e (missing k hs)
+missing k (y ∷ hs) e = missing-step (y.ticket == k) y _ _ e (missing k hs)
 
 one-here : (k : ℕ) → one_at k k ≡ 1
 one-here k = rw (eq-eqb k k refl) refl
 
 -- a command about a debt goes out
 put-ask : (options : Options) (p : ℕ) (g : List Event) (ask : Ask)
-    → tally (asks_at p) (window options g) + one_at p ask.place + tally (wants_at p) (wanted options g) ≡ times_held options g p → Matches options p (Put (Asks ask) ∷ g)
+    → tally (asks_at p) (window options g) + one_at p ask.ticket + tally (wants_at p) (wanted options g) ≡ times_held options g p → Matches options p (Put (Asks ask) ∷ g)
 unfolding story
 put-ask options p g ask e = let c = window-put options (asks_at p) g ask in omega (arith, c, e)
 
@@ -153,12 +153,12 @@ came-ended options h reply o e still =
 module _ (options : Options) (h : List Event) (reply : Given) (command : ℕ × Ask) (e : answered_ask options h reply ≡ Some command)
     (still : closes options h (Came reply) ≡ None) (all : (p : ℕ) → Matches options p h) where
   -- the command that a reply answers is about a debt held
-  is-held : find (is_at command.1.place) (held options h) ≡ None → ⊥
+  is-held : find (is_at command.1.ticket) (held options h) ≡ None → ⊥
   is-held none =
-      let less = window-came options (asks_at command.1.place) h reply command e in
-      let here = one-here command.1.place in
-      let matched = all command.1.place in
-      let gone = missing command.1.place (held options h) none in
+      let less = window-came options (asks_at command.1.ticket) h reply command e in
+      let here = one-here command.1.ticket in
+      let matched = all command.1.ticket in
+      let gone = missing command.1.ticket (held options h) none in
       omega (arith, less, here, matched, gone)
 
   is-meant : meaning command.1.verb reply.code ≡ None → ⊥
@@ -168,21 +168,21 @@ module _ (options : Options) (h : List Event) (reply : Given) (command : ℕ × 
       let f : false ≡ true = rw none at some in
       cc
 
-  came-puts : (p : ℕ) (m : Option Meaning) (o : Option Held) → meaning command.1.verb reply.code ≡ m → find (is_at command.1.place) (held options h) ≡ o
+  came-puts : (p : ℕ) (m : Option Meaning) (o : Option Held) → meaning command.1.verb reply.code ≡ m → find (is_at command.1.ticket) (held options h) ≡ o
       → Matches options p (with_puts (puts_block m command.1) (Came reply ∷ h))
   came-puts p m None em eo = absurd (is-held eo)
   came-puts p None (Some x) em eo = absurd (is-meant em)
   came-puts p (Some Wanted) (Some x) em eo =
-      let there : x.place ≡ command.1.place = (find-is_at command.1.place (held options h) x eo).0 in
+      let there : x.ticket ≡ command.1.ticket = (find-is_at command.1.ticket (held options h) x eo).0 in
       let same : wants_by_answer (held options h) reply.code (Some command) ≡ want_of x ∷ [] = rw (em, eo) refl in
-      let wants : tally (wants_at p) (wanted options (Came reply ∷ h)) ≡ tally (wants_at p) (wanted options h) + one_at p x.place =
+      let wants : tally (wants_at p) (wanted options (Came reply ∷ h)) ≡ tally (wants_at p) (wanted options h) + one_at p x.ticket =
       ap (tally (wants_at p)) (came-wanted options h reply (Some command) e ∙ ap (λ ws. left_from 0 ((story options h).wants ++ ws) (story options h).handed) same)
       ∙ wanted-more options (wants_at p) h (want_of x)
       in
       let none : ends_by_answer (held options h) reply.code (Some command) ≡ [] = rw (em, eo) refl in
       let hold = held-same options h (Came reply) p refl (came-ended options h reply (Some command) e still ∙ none) in
       let less = window-came options (asks_at p) h reply command e in
-      let one : one_at p x.place ≡ one_at p command.1.place = ap (one_at p) there in
+      let one : one_at p x.ticket ≡ one_at p command.1.ticket = ap (one_at p) there in
       let matched = all p in
       omega (arith, wants, hold, less, one, matched)
   came-puts p (Some SendBlock) (Some x) em eo =
@@ -194,23 +194,23 @@ module _ (options : Options) (h : List Event) (reply : Given) (command : ℕ × 
       let matched = all p in
       put-ask options p (Came reply ∷ h) (block_of command.1) (omega (arith, wants, hold, less, matched))
   came-puts p (Some Later) (Some x) em eo =
-      let there : x.place ≡ command.1.place = (find-is_at command.1.place (held options h) x eo).0 in
+      let there : x.ticket ≡ command.1.ticket = (find-is_at command.1.ticket (held options h) x eo).0 in
       let same : wants_by_answer (held options h) reply.code (Some command) ≡ [] = rw em refl in
       let wants : tally (wants_at p) (wanted options (Came reply ∷ h)) ≡ tally (wants_at p) (wanted options h) = ap (tally (wants_at p)) (came-nothing options h reply (Some command) e same) in
-      let ended : ended_places (ends_by_answer (held options h) reply.code (Some command)) ≡ x.place ∷ [] = rw (em, eo) refl in
-      let hold = held-one options h (Came reply) p x.place refl (ap ended_places (came-ended options h reply (Some command) e still) ∙ ended) in
+      let ended : ended_tickets (ends_by_answer (held options h) reply.code (Some command)) ≡ x.ticket ∷ [] = rw (em, eo) refl in
+      let hold = held-one options h (Came reply) p x.ticket refl (ap ended_tickets (came-ended options h reply (Some command) e still) ∙ ended) in
       let less = window-came options (asks_at p) h reply command e in
-      let one : one_at p x.place ≡ one_at p command.1.place = ap (one_at p) there in
+      let one : one_at p x.ticket ≡ one_at p command.1.ticket = ap (one_at p) there in
       let matched = all p in
       omega (arith, wants, hold, less, one, matched)
   came-puts p (Some (Final code)) (Some x) em eo =
-      let there : x.place ≡ command.1.place = (find-is_at command.1.place (held options h) x eo).0 in
+      let there : x.ticket ≡ command.1.ticket = (find-is_at command.1.ticket (held options h) x eo).0 in
       let same : wants_by_answer (held options h) reply.code (Some command) ≡ [] = rw em refl in
       let wants : tally (wants_at p) (wanted options (Came reply ∷ h)) ≡ tally (wants_at p) (wanted options h) = ap (tally (wants_at p)) (came-nothing options h reply (Some command) e same) in
-      let ended : ended_places (ends_by_answer (held options h) reply.code (Some command)) ≡ x.place ∷ [] = rw (em, eo) refl in
-      let hold = held-one options h (Came reply) p x.place refl (ap ended_places (came-ended options h reply (Some command) e still) ∙ ended) in
+      let ended : ended_tickets (ends_by_answer (held options h) reply.code (Some command)) ≡ x.ticket ∷ [] = rw (em, eo) refl in
+      let hold = held-one options h (Came reply) p x.ticket refl (ap ended_tickets (came-ended options h reply (Some command) e still) ∙ ended) in
       let less = window-came options (asks_at p) h reply command e in
-      let one : one_at p x.place ≡ one_at p command.1.place = ap (one_at p) there in
+      let one : one_at p x.ticket ≡ one_at p command.1.ticket = ap (one_at p) there in
       let matched = all p in
       omega (arith, wants, hold, less, one, matched)
 
@@ -232,9 +232,9 @@ after-came options h reply (Some command) e still all p =
     (came-puts options h reply command e still all p (meaning command.1.verb reply.code) _ refl refl)
 
 -- an article is handed in
-ask-place : (p : ℕ) (streaming : Bool) (x : Held) (block : List ℕ) → one_at p (ask_with streaming x block).place ≡ one_at p x.place
-ask-place p true x block = refl
-ask-place p false x block = refl
+ask-ticket : (p : ℕ) (streaming : Bool) (x : Held) (block : List ℕ) → one_at p (ask_with streaming x block).ticket ≡ one_at p x.ticket
+ask-ticket p true x block = refl
+ask-ticket p false x block = refl
 
 handed-ended : (options : Options) (h : List Event) (number : ℕ) (handing : Handing) (o : Option (ℕ × Want)) → first_want (story options h) number ≡ o
     → ends_by options h (Handed number handing) ≡ ends_by_loss handing (held_for (held options h) (option_map (λ (w : ℕ × Want). w.1) o))
@@ -243,44 +243,44 @@ handed-ended options h number handing o e =
 
 module _ (options : Options) (h : List Event) (number : ℕ) (want : ℕ × Want) (e : first_want (story options h) number ≡ Some want) (all : (p : ℕ) → Matches options p h) where
   -- the article that is handed in is wanted for a debt held
-  is-wanted : find (is_at want.1.place) (held options h) ≡ None → ⊥
+  is-wanted : find (is_at want.1.ticket) (held options h) ≡ None → ⊥
   is-wanted none =
-      let less = wanted-handed options (wants_at want.1.place) h number Gone want e in
-      let here = one-here want.1.place in
-      let matched = all want.1.place in
-      let gone = missing want.1.place (held options h) none in
+      let less = wanted-handed options (wants_at want.1.ticket) h number Gone want e in
+      let here = one-here want.1.ticket in
+      let matched = all want.1.ticket in
+      let gone = missing want.1.ticket (held options h) none in
       omega (arith, less, here, matched, gone)
 
-  handed-lost : (p : ℕ) (handing : Handing) (x : Held) → find (is_at want.1.place) (held options h) ≡ Some x → ended_places (ends_by options h (Handed number handing)) ≡ x.place ∷ []
+  handed-lost : (p : ℕ) (handing : Handing) (x : Held) → find (is_at want.1.ticket) (held options h) ≡ Some x → ended_tickets (ends_by options h (Handed number handing)) ≡ x.ticket ∷ []
       → Matches options p (Handed number handing ∷ h)
   handed-lost p handing x eo ended =
-      let there : x.place ≡ want.1.place = (find-is_at want.1.place (held options h) x eo).0 in
-      let hold = held-one options h (Handed number handing) p x.place refl ended in
+      let there : x.ticket ≡ want.1.ticket = (find-is_at want.1.ticket (held options h) x eo).0 in
+      let hold = held-one options h (Handed number handing) p x.ticket refl ended in
       let less = wanted-handed options (wants_at p) h number handing want e in
-      let one : one_at p x.place ≡ one_at p want.1.place = ap (one_at p) there in
+      let one : one_at p x.ticket ≡ one_at p want.1.ticket = ap (one_at p) there in
       let matched = all p in
       omega (arith, hold, less, one, matched)
 
-  handed-puts : (p : ℕ) (handing : Handing) (o : Option Held) → find (is_at want.1.place) (held options h) ≡ o
+  handed-puts : (p : ℕ) (handing : Handing) (o : Option Held) → find (is_at want.1.ticket) (held options h) ≡ o
       → Matches options p (with_puts (puts_article (is_streaming (phase options h)) handing o) (Handed number handing ∷ h))
   handed-puts p handing None eo = absurd (is-wanted eo)
   handed-puts p (Sendable block) (Some x) eo =
-      let there : x.place ≡ want.1.place = (find-is_at want.1.place (held options h) x eo).0 in
+      let there : x.ticket ≡ want.1.ticket = (find-is_at want.1.ticket (held options h) x eo).0 in
       let none : ends_by options h (Handed number (Sendable block)) ≡ [] =
       handed-ended options h number (Sendable block) (Some want) e ∙ ap (λ (o : Option Held). ends_by_loss (Sendable block) o) eo
       in
       let hold = held-same options h (Handed number (Sendable block)) p refl none in
       let less = wanted-handed options (wants_at p) h number (Sendable block) want e in
-      let one : one_at p x.place ≡ one_at p want.1.place = ap (one_at p) there in
-      let placed = ask-place p (is_streaming (phase options h)) x block in
+      let one : one_at p x.ticket ≡ one_at p want.1.ticket = ap (one_at p) there in
+      let placed = ask-ticket p (is_streaming (phase options h)) x block in
       let matched = all p in
       put-ask options p (Handed number (Sendable block) ∷ h) (ask_with (is_streaming (phase options h)) x block) (omega (arith, hold, less, one, placed, matched))
   handed-puts p Gone (Some x) eo =
       handed-lost p Gone x eo
-      (ap ended_places (handed-ended options h number Gone (Some want) e ∙ ap (λ (o : Option Held). ends_by_loss Gone o) eo))
+      (ap ended_tickets (handed-ended options h number Gone (Some want) e ∙ ap (λ (o : Option Held). ends_by_loss Gone o) eo))
   handed-puts p Unsendable (Some x) eo =
       handed-lost p Unsendable x eo
-      (ap ended_places (handed-ended options h number Unsendable (Some want) e ∙ ap (λ (o : Option Held). ends_by_loss Unsendable o) eo))
+      (ap ended_tickets (handed-ended options h number Unsendable (Some want) e ∙ ap (λ (o : Option Held). ends_by_loss Unsendable o) eo))
 
 after-handed : (options : Options) (h : List Event) (number : ℕ) (handing : Handing) (o : Option (ℕ × Want)) → first_want (story options h) number ≡ o
     → ((p : ℕ) → Matches options p h) → (p : ℕ) → Matches options p (after options h (Handed number handing))
@@ -293,7 +293,7 @@ after-handed options h number handing None e all p =
     (ap (λ (o : Option (ℕ × Want)). puts_article (is_streaming (phase options h)) handing (held_for (held options h) (option_map (λ (w : ℕ × Want). w.1) o))) e ∙ article-none (is_streaming (phase options h)) handing)
     here
 after-handed options h number handing (Some want) e all p =
-    holds-after options (Matches options p) (put-other options p) h (Handed number handing) (puts_article (is_streaming (phase options h)) handing (find (is_at want.1.place) (held options h)))
+    holds-after options (Matches options p) (put-other options p) h (Handed number handing) (puts_article (is_streaming (phase options h)) handing (find (is_at want.1.ticket) (held options h)))
     (ap (λ (o : Option (ℕ × Want)). puts_article (is_streaming (phase options h)) handing (held_for (held options h) (option_map (λ (w : ℕ × Want). w.1) o))) e)
     (handed-puts options h number want e all p handing _ refl)
 
@@ -348,28 +348,29 @@ noted-open options g count before false running p = sent-same options p g count 
 matches : (options : Options) (h : List Event) → Arises options h → reason options h ≡ None → (p : ℕ) → Matches options p h
 unfolding story
 matches options h Starts running p = refl
-matches options h (Offers g debt a ready) running p =
+matches options h (Goes_on g (Offered debt) a ready) running p =
     after-offered options p g debt _ refl (matches options g a (ready-open (reason options g) _ _ ready) p)
-matches options h (Receives_reply g reply a) running p =
+matches options h (Goes_on g (Came reply) a can) running p =
     outside-open options g (Came reply) (matches options g a) (λ still all. after-came options g reply _ refl still all) (reason options g) refl running p
-matches options h (Receives_fault g fault a) running p =
+matches options h (Goes_on g (Faulted fault) a can) running p =
     outside-open options g (Faulted fault) (matches options g a) (λ still all p. cc) (reason options g) refl running p
-matches options h (Is_handed g number handing a some) running p =
+matches options h (Goes_on g (Handed number handing) a some) running p =
     after-handed options g number handing _ refl (matches options g a (needed-open (reason options g) _ some)) p
-matches options h (Sends g count a few) running p = noted-open options g count (matches options g a) (is_some (reason options g)) running p
-matches options h (Ticks g now a) running p =
+matches options h (Goes_on g (Sent count) a few) running p = noted-open options g count (matches options g a) (is_some (reason options g)) running p
+matches options h (Goes_on g (Tick now) a can) running p =
     outside-open options g (Tick now) (matches options g a) (λ still all p. holds-after options (Matches options p) (put-other options p) g (Tick now) [] refl (tick-same options p g now still (all p))) (reason options g) refl running p
-matches options h (Breaks g a) running p =
+matches options h (Goes_on g Broke a can) running p =
     outside-open options g Broke (matches options g a) (λ still all p. cc) (reason options g) refl running p
-matches options h (Leaves g a) running p =
+matches options h (Goes_on g Leave a can) running p =
     outside-open options g Leave (matches options g a) (λ still all p. holds-after options (Matches options p) (put-other options p) g Leave [] refl (leave-same options p g (all p))) (reason options g) refl running p
-matches options h (Takes_one g a few) running p = taken-same options p g (matches options g a (sym (first_reason-none (reason options g)) ∙ running) p)
+matches options h (Goes_on g (Put command) a never) running p = absurd never
+matches options h (Goes_on g Taken a few) running p = taken-same options p g (matches options g a (sym (first_reason-none (reason options g)) ∙ running) p)
 
 -- no debt held is forgotten
-pub none_forgotten : (options : Options) (h : List Event) (place : ℕ) → Arises options h → reason options h ≡ None
-    → open_commands options h place + open_wants options h place ≡ times_held options h place
-none_forgotten options h place a running =
-    let c = times-tally (λ (ask : Ask). ask.place) (window options h) place in
-    let w = times-tally (λ (want : Want). want.place) (wanted options h) place in
-    let all = matches options h a running place in
+pub none_forgotten : (options : Options) (h : List Event) (ticket : ℕ) → Arises options h → reason options h ≡ None
+    → open_commands options h ticket + open_wants options h ticket ≡ times_held options h ticket
+none_forgotten options h ticket a running =
+    let c = times-tally (λ (ask : Ask). ask.ticket) (window options h) ticket in
+    let w = times-tally (λ (want : Want). want.ticket) (wanted options h) ticket in
+    let all = matches options h a running ticket in
     omega (arith, c, w, all)

@@ -1,4 +1,4 @@
--- Each command about a debt names the message-id of the debt that was accepted at its place.
+-- Each command about a debt names the message-id of the debt that was accepted at its ticket.
 use Rattle.std.proofs.Common.{◌≡◌, ℕ, suc, zero, Bool, true, false, List, [], ◌∷◌, ◌++◌, refl, sym, ap, subst, ◌∙◌, Option, Some, None}
 use Rattle.std.specs.Prelude.{if◌then◌else◌, is_some, option_map, slice_get}
 use Rattle.std.specs.List.{AllByRecursion}
@@ -6,8 +6,8 @@ use Rattle.reply_reader.specs.Stream.{Given}
 use Rattle.ledger_core.specs.State.{Owing}
 use Rattle.conn_core.specs.Codes.{meaning}
 use Rattle.conn_core.specs.Commands.{Ask, Command, Asks, Handing, Sendable, Gone, Unsendable, Held, Want, ask_with, block_of, check_of, held_for}
-use Rattle.conn_core.specs.History.{Event, Offered, Put, Came, Faulted, Handed, Sent, Tick, Broke, Leave, accepted, after, answered, answered_ask, asks, first_want, held, held_wanting, is_streaming, newcomer, phase, puts_answer, puts_article, puts_block, puts_greeting, reason, story, wants_at_once, with_puts}
-use Rattle.conn_core.specs.Stands.{Arises, Starts, Offers, Receives_reply, Receives_fault, Is_handed, Sends, Ticks, Breaks, Leaves, Takes_one}
+use Rattle.conn_core.specs.History.{Event, Offered, Put, Came, Faulted, Handed, Sent, Tick, Broke, Leave, accepted, after, answered, answered_ask, asks, first_want, held, held_wanting, is_streaming, newcomer, phase, puts_answer, puts_article, puts_block, puts_greeting, reason, story, wants_at_once, with_puts, Taken}
+use Rattle.conn_core.specs.Stands.{Arises, Starts, Goes_on}
 use Rattle.conn_core.specs.declared.codes.Meaning.{Meaning}
 use Rattle.conn_core.specs.declared.codes.Meaning.TheVariants.{Wanted, SendBlock, Later, Final}
 use Rattle.conn_core.specs.declared.options.Options.{Options}
@@ -20,7 +20,7 @@ abbrev id_in : Owing → List ℕ
 id_in debt = debt.1.1
 
 abbrev IsNamed : List Owing → Ask → Type 0
-IsNamed debts ask = option_map id_in (slice_get debts ask.place) ≡ Some ask.id
+IsNamed debts ask = option_map id_in (slice_get debts ask.ticket) ≡ Some ask.id
 
 abbrev AllNamed : List Event → Type 0
 AllNamed h = AllByRecursion (IsNamed (accepted h)) (asks h)
@@ -39,7 +39,7 @@ put-ask g ask all this = All-append (IsNamed (accepted g)) (asks g) (ask ∷ [])
 after-offered : (options : Options) (h : List Event) (debt : Owing) (b : Bool) → wants_at_once options h ≡ b → AllNamed h → AllNamed (after options h (Offered debt))
 after-offered options h debt b e all =
     let more : AllNamed (Offered debt ∷ h) =
-    All-map (IsNamed (accepted h)) (IsNamed (accepted h ++ debt ∷ [])) (λ ask q. named-more (accepted h) (debt ∷ []) ask.place ask.id q) (asks h) all
+    All-map (IsNamed (accepted h)) (IsNamed (accepted h ++ debt ∷ [])) (λ ask q. named-more (accepted h) (debt ∷ []) ask.ticket ask.id q) (asks h) all
     in
     holds-after options AllNamed put-other h (Offered debt) (if b then [] else Asks (check_of (newcomer h debt)) ∷ []) (rw e refl)
     (elim b as (λ v. AllNamed (with_puts (if v then [] else Asks (check_of (newcomer h debt)) ∷ []) (Offered debt ∷ h))) [
@@ -78,7 +78,7 @@ article-named options h number (Sendable block) want None e all = all
 article-named options h number (Sendable block) None (Some x) e all = cc
 article-named options h number (Sendable block) (Some want) (Some x) e all =
     put-ask (Handed number (Sendable block) ∷ h) (ask_with (is_streaming (phase options h)) x block) all
-    (with-named (accepted h) (is_streaming (phase options h)) x block (find-own (accepted h) want.place (held options h) x (held-own options h) e))
+    (with-named (accepted h) (is_streaming (phase options h)) x block (find-own (accepted h) want.ticket (held options h) x (held-own options h) e))
 article-named options h number Gone want o e all = all
 article-named options h number Unsendable want o e all = all
 
@@ -91,19 +91,20 @@ either : (b : Bool) (h g : List Event) → AllNamed h → AllNamed g → AllName
 either true h g k q = k
 either false h g k q = q
 
-pub all_named : (options : Options) (h : List Event) → Arises options h → AllByRecursion (λ (ask : Ask). option_map (λ (debt : Owing). debt.1.1) (slice_get (accepted h) ask.place) ≡ Some ask.id) (asks h)
+pub all_named : (options : Options) (h : List Event) → Arises options h → AllByRecursion (λ (ask : Ask). option_map (λ (debt : Owing). debt.1.1) (slice_get (accepted h) ask.ticket) ≡ Some ask.id) (asks h)
 all_named options h Starts = tt
-all_named options h (Offers g debt a ready) = after-offered options g debt _ refl (all_named options g a)
-all_named options h (Receives_reply g reply a) =
+all_named options h (Goes_on g (Offered debt) a ready) = after-offered options g debt _ refl (all_named options g a)
+all_named options h (Goes_on g (Came reply) a can) =
     either (is_some (reason options g)) g (after options g (Came reply)) (all_named options g a) (after-came options g reply _ refl (all_named options g a))
-all_named options h (Receives_fault g fault a) =
+all_named options h (Goes_on g (Faulted fault) a can) =
     either (is_some (reason options g)) g (after options g (Faulted fault)) (all_named options g a) (holds-after options AllNamed put-other g (Faulted fault) [] refl (all_named options g a))
-all_named options h (Is_handed g number handing a some) = after-handed options g number handing (all_named options g a)
-all_named options h (Sends g count a few) = either (is_some (reason options g)) g (Sent count ∷ g) (all_named options g a) (all_named options g a)
-all_named options h (Ticks g now a) =
+all_named options h (Goes_on g (Handed number handing) a some) = after-handed options g number handing (all_named options g a)
+all_named options h (Goes_on g (Sent count) a few) = either (is_some (reason options g)) g (Sent count ∷ g) (all_named options g a) (all_named options g a)
+all_named options h (Goes_on g (Tick now) a can) =
     either (is_some (reason options g)) g (after options g (Tick now)) (all_named options g a) (holds-after options AllNamed put-other g (Tick now) [] refl (all_named options g a))
-all_named options h (Breaks g a) =
+all_named options h (Goes_on g Broke a can) =
     either (is_some (reason options g)) g (after options g Broke) (all_named options g a) (holds-after options AllNamed put-other g Broke [] refl (all_named options g a))
-all_named options h (Leaves g a) =
+all_named options h (Goes_on g Leave a can) =
     either (is_some (reason options g)) g (after options g Leave) (all_named options g a) (holds-after options AllNamed put-other g Leave [] refl (all_named options g a))
-all_named options h (Takes_one g a few) = all_named options g a
+all_named options h (Goes_on g (Put command) a never) = absurd never
+all_named options h (Goes_on g Taken a few) = all_named options g a

@@ -10,17 +10,17 @@ use Rattle.conn_core.specs.History.{Event, Offered, Put, Came, Faulted, Handed, 
 use Rattle.conn_core.specs.declared.codes.Meaning.{Meaning}
 use Rattle.conn_core.specs.declared.codes.Meaning.TheVariants.{Wanted, SendBlock, Later, Final}
 use Rattle.conn_core.specs.declared.options.Options.{Options}
-use Rattle.conn_core.proofs.UsedUp.{first_left-is}
-use Rattle.conn_core.proofs.HeldBack.{find-is_at}
+use Rattle.conn_core.specs.UsedLaws.{first_left-is}
+use Rattle.conn_core.specs.HeldLaws.{find-is_at}
 use Rattle.conn_laws.proofs.Once.{All-append, All-map, IsOwn, find-own, held-own}
 
 -- the number of a debt
 abbrev number_in : Owing → ℕ
 number_in debt = debt.0
 
--- a want is of the number of the debt that was accepted at its place
+-- a want is of the number of the debt that was accepted at its ticket
 abbrev IsNumbered : List Owing → Want → Type 0
-IsNumbered debts want = option_map number_in (slice_get debts want.place) ≡ Some want.number
+IsNumbered debts want = option_map number_in (slice_get debts want.ticket) ≡ Some want.number
 
 numbered-more : (xs ys : List Owing) (k n : ℕ) → option_map number_in (slice_get xs k) ≡ Some n → option_map number_in (slice_get (xs ++ ys) k) ≡ Some n
 numbered-more [] ys k n e = cc
@@ -46,7 +46,7 @@ by_meaning-numbered debts k hs (Some (Final code)) o e own = tt
 by_answer-numbered : (debts : List Owing) (hs : List Held) (code : ℕ) (o : Option (ℕ × Ask)) → AllByRecursion (IsOwn debts) hs
     → AllByRecursion (IsNumbered debts) (wants_by_answer hs code o)
 by_answer-numbered debts hs code None own = tt
-by_answer-numbered debts hs code (Some command) own = by_meaning-numbered debts command.1.place hs (meaning command.1.verb code) _ refl own
+by_answer-numbered debts hs code (Some command) own = by_meaning-numbered debts command.1.ticket hs (meaning command.1.verb code) _ refl own
 
 offered-step : (debts : List Owing) (b : Bool) (old : Story) (want : Want) → AllByRecursion (IsNumbered debts) old.wants → IsNumbered debts want
     → AllByRecursion (IsNumbered debts) (if b then record old { wants = old.wants ++ want ∷ [] } else old).wants
@@ -58,7 +58,7 @@ unfolding story
 all_numbered options [] = tt
 all_numbered options (Offered debt ∷ h) =
     offered-step (accepted h ++ debt ∷ []) (wants_at_once options h) (story options h) (want_of (newcomer h debt))
-    (All-map (IsNumbered (accepted h)) (IsNumbered (accepted h ++ debt ∷ [])) (λ want e. numbered-more (accepted h) (debt ∷ []) want.place want.number e) (story options h).wants (all_numbered options h))
+    (All-map (IsNumbered (accepted h)) (IsNumbered (accepted h ++ debt ∷ [])) (λ want e. numbered-more (accepted h) (debt ∷ []) want.ticket want.number e) (story options h).wants (all_numbered options h))
     (ap (option_map number_in) (get-last (accepted h) debt))
 all_numbered options (Came reply ∷ h) =
     All-append (IsNumbered (accepted h)) (story options h).wants (wants_by_answer (held options h) reply.code (answered_ask options h reply)) (all_numbered options h)
@@ -79,14 +79,14 @@ All-get P (y ∷ xs) (suc k) x all e = All-get P xs k x all.1 e
 
 -- the debt that the first want of a number is about has that number
 pub number-held : (options : Options) (h : List Event) (number : ℕ) (want : ℕ × Want) (x : Held) → first_want (story options h) number ≡ Some want
-    → find (is_at want.1.place) (held options h) ≡ Some x → x.debt.0 ≡ number
+    → find (is_at want.1.ticket) (held options h) ≡ Some x → x.debt.0 ≡ number
 number-held options h number want x first at =
     let f = first_left-is (is_of number) (story options h).handed 0 (story options h).wants want.0 want.1 first in
     let is : want.1.number ≡ number = eqb-true want.1.number number f.passes in
     let numbered = All-get (IsNumbered (accepted h)) (story options h).wants f.index want.1 (all_numbered options h) f.item in
-    let there : x.place ≡ want.1.place = (find-is_at want.1.place (held options h) x at).0 in
-    let own : IsOwn (accepted h) x = find-own (accepted h) want.1.place (held options h) x (held-own options h) at in
-    let mine : option_map number_in (slice_get (accepted h) want.1.place) ≡ Some x.debt.0 =
+    let there : x.ticket ≡ want.1.ticket = (find-is_at want.1.ticket (held options h) x at).0 in
+    let own : IsOwn (accepted h) x = find-own (accepted h) want.1.ticket (held options h) x (held-own options h) at in
+    let mine : option_map number_in (slice_get (accepted h) want.1.ticket) ≡ Some x.debt.0 =
     ap (λ k. option_map number_in (slice_get (accepted h) k)) (sym there) ∙ ap (option_map number_in) own
     in
     let same : Some x.debt.0 ≡ Some want.1.number = sym mine ∙ numbered in

@@ -9,7 +9,7 @@ use Rattle.ledger_core.specs.State.{Owing}
 use Rattle.conn_core.specs.Codes.{meaning}
 use Rattle.conn_core.specs.Used.{has, times}
 use Rattle.conn_core.specs.Commands.{Ask, Held, Want, Handing, Sendable, Gone, Unsendable, debt_in, held_for, is_at}
-use Rattle.conn_core.specs.History.{Event, Offered, Put, Came, Faulted, Handed, Sent, Tick, Broke, Leave, Taken, accepted, asks, answered, answered_now, answered_ask, phase, closes, closes_in, reason, story, ends, held, held_from, End, ended_places, backs, ends_by_meaning, ends_by_answer, ends_by_loss, held_wanting, ends_at_close, first_want}
+use Rattle.conn_core.specs.History.{Event, Offered, Put, Came, Faulted, Handed, Sent, Tick, Broke, Leave, Taken, accepted, asks, answered, answered_now, answered_ask, phase, closes, closes_in, reason, story, ends, held, held_from, End, ended_tickets, backs, ends_by_meaning, ends_by_answer, ends_by_loss, held_wanting, ends_at_close, first_want}
 use Rattle.conn_core.specs.Stands.{Arises}
 use Rattle.conn_laws.specs.Laws.{AllAreTheirOwn, times_held, times_out}
 use Rattle.conn_core.specs.declared.options.Options.{Options}
@@ -19,153 +19,153 @@ use Rattle.conn_core.specs.declared.reason.Reason.{Reason}
 use Rattle.conn_core.specs.declared.reason.Reason.TheVariants.{Quit as Left}
 use Rattle.conn_core.specs.declared.codes.Meaning.{Meaning}
 use Rattle.conn_core.specs.declared.codes.Meaning.TheVariants.{Wanted, SendBlock, Later, Final}
-use Rattle.conn_core.proofs.Closed.{none_held}
-use Rattle.conn_core.proofs.HeldBack.{find-is_at, in-held, places, ended_places-backs}
-use Rattle.conn_core.proofs.Facts.{ended_places-append, ends_below, places-below}
+use Rattle.conn_core.specs.ClosingLaws.{none_held}
+use Rattle.conn_core.specs.HeldLaws.{find-is_at, in-held, tickets, ended_tickets-backs}
+use Rattle.conn_core.specs.StoryLaws.{ended_tickets-append, ends_below, tickets-below}
 
-pub times-append : (xs ys : List ℕ) (place : ℕ) → times (xs ++ ys) place ≡ times xs place + times ys place
-times-append [] ys place = omega arith
-times-append (x ∷ xs) ys place = omega (arith, times-append xs ys place)
+pub times-append : (xs ys : List ℕ) (ticket : ℕ) → times (xs ++ ys) ticket ≡ times xs ticket + times ys ticket
+times-append [] ys ticket = omega arith
+times-append (x ∷ xs) ys ticket = omega (arith, times-append xs ys ticket)
 
 zero-step : (b : Bool) (n : ℕ) (more : Bool) → (b || more) ≡ false → (more ≡ false → n ≡ 0) → cond b 1 0 + n ≡ 0
 zero-step true n more e rest = cc
 zero-step false n more e rest = rw (rest e) refl
 
-pub times-none : (xs : List ℕ) (place : ℕ) → has xs place ≡ false → times xs place ≡ 0
-times-none [] place e = refl
-times-none (x ∷ xs) place e = zero-step (x == place) _ _ e (times-none xs place)
+pub times-none : (xs : List ℕ) (ticket : ℕ) → has xs ticket ≡ false → times xs ticket ≡ 0
+times-none [] ticket e = refl
+times-none (x ∷ xs) ticket e = zero-step (x == ticket) _ _ e (times-none xs ticket)
 
 some-step : (b : Bool) (n : ℕ) (more : Bool) → (b || more) ≡ true → (more ≡ true → 1 ≤ n) → 1 ≤ cond b 1 0 + n
 some-step true n more e rest = omega arith
 some-step false n more e rest = let r = rest e in omega arith
 
-pub times-some : (xs : List ℕ) (place : ℕ) → has xs place ≡ true → 1 ≤ times xs place
-times-some [] place e = cc
-times-some (x ∷ xs) place e = some-step (x == place) _ _ e (times-some xs place)
+pub times-some : (xs : List ℕ) (ticket : ℕ) → has xs ticket ≡ true → 1 ≤ times xs ticket
+times-some [] ticket e = cc
+times-some (x ∷ xs) ticket e = some-step (x == ticket) _ _ e (times-some xs ticket)
 
--- more places, none of which was there
-more-step : (b : Bool) (gone more : List ℕ) (place : ℕ) → has more place ≡ b → times gone place ≤ 1 → times more place ≤ 1
-    → (has more place ≡ true → has gone place ≡ false) → times gone place + times more place ≤ 1
-more-step true gone more place e one once fresh = rw (times-none gone place (fresh e)) (omega arith)
-more-step false gone more place e one once fresh = rw (times-none more place e) (omega arith)
+-- more tickets, none of which was there
+more-step : (b : Bool) (gone more : List ℕ) (ticket : ℕ) → has more ticket ≡ b → times gone ticket ≤ 1 → times more ticket ≤ 1
+    → (has more ticket ≡ true → has gone ticket ≡ false) → times gone ticket + times more ticket ≤ 1
+more-step true gone more ticket e one once fresh = rw (times-none gone ticket (fresh e)) (omega arith)
+more-step false gone more ticket e one once fresh = rw (times-none more ticket e) (omega arith)
 
-once-more : (gone more : List ℕ) (place : ℕ) → times gone place ≤ 1 → times more place ≤ 1
-    → (has more place ≡ true → has gone place ≡ false) → times (gone ++ more) place ≤ 1
-once-more gone more place one once fresh =
-    rw (times-append gone more place) (more-step (has more place) gone more place refl one once fresh)
+once-more : (gone more : List ℕ) (ticket : ℕ) → times gone ticket ≤ 1 → times more ticket ≤ 1
+    → (has more ticket ≡ true → has gone ticket ≡ false) → times (gone ++ more) ticket ≤ 1
+once-more gone more ticket one once fresh =
+    rw (times-append gone more ticket) (more-step (has more ticket) gone more ticket refl one once fresh)
 
 -- the debts held have not come out
-fresh-step : (b : Bool) (y : Held) (left : List Held) (gone : List ℕ) (place : ℕ) → has gone y.place ≡ b
-    → (has (places left) place ≡ true → has gone place ≡ false) → has (places (if b then left else y ∷ left)) place ≡ true → has gone place ≡ false
-fresh-step true y left gone place e rest h = rest h
-fresh-step false y left gone place e rest h =
-    elim (eqb_tells y.place place) [
+fresh-step : (b : Bool) (y : Held) (left : List Held) (gone : List ℕ) (ticket : ℕ) → has gone y.ticket ≡ b
+    → (has (tickets left) ticket ≡ true → has gone ticket ≡ false) → has (tickets (if b then left else y ∷ left)) ticket ≡ true → has gone ticket ≡ false
+fresh-step true y left gone ticket e rest h = rest h
+fresh-step false y left gone ticket e rest h =
+    elim (eqb_tells y.ticket ticket) [
       | inl same ↦ rw (← same.1) e
       | inr other ↦ rest (rw (other.0) at h)
     ]
 
-held-fresh : (gone : List ℕ) (n : ℕ) (debts : List Owing) (place : ℕ) → has (places (held_from n debts gone)) place ≡ true → has gone place ≡ false
-held-fresh gone n [] place h = cc
-held-fresh gone n (d ∷ debts) place h = fresh-step (has gone n) _ _ gone place refl (held-fresh gone (n + 1) debts place) h
+held-fresh : (gone : List ℕ) (n : ℕ) (debts : List Owing) (ticket : ℕ) → has (tickets (held_from n debts gone)) ticket ≡ true → has gone ticket ≡ false
+held-fresh gone n [] ticket h = cc
+held-fresh gone n (d ∷ debts) ticket h = fresh-step (has gone n) _ _ gone ticket refl (held-fresh gone (n + 1) debts ticket) h
 
 -- and each stands once
-none-before-step : (b : Bool) (y : Held) (left : List Held) (place : ℕ) → (y.place ≡ place → ⊥) → has (places left) place ≡ false
-    → has (places (if b then left else y ∷ left)) place ≡ false
-none-before-step true y left place other rest = rest
-none-before-step false y left place other rest = rw (ne_eqb y.place place other) rest
+none-before-step : (b : Bool) (y : Held) (left : List Held) (ticket : ℕ) → (y.ticket ≡ ticket → ⊥) → has (tickets left) ticket ≡ false
+    → has (tickets (if b then left else y ∷ left)) ticket ≡ false
+none-before-step true y left ticket other rest = rest
+none-before-step false y left ticket other rest = rw (ne_eqb y.ticket ticket other) rest
 
-none-before : (gone : List ℕ) (n : ℕ) (debts : List Owing) (place : ℕ) → place < n → has (places (held_from n debts gone)) place ≡ false
-none-before gone n [] place h = refl
-none-before gone n (d ∷ debts) place h = none-before-step (has gone n) _ _ place (λ e. omega arith) (none-before gone (n + 1) debts place (omega arith))
+none-before : (gone : List ℕ) (n : ℕ) (debts : List Owing) (ticket : ℕ) → ticket < n → has (tickets (held_from n debts gone)) ticket ≡ false
+none-before gone n [] ticket h = refl
+none-before gone n (d ∷ debts) ticket h = none-before-step (has gone n) _ _ ticket (λ e. omega arith) (none-before gone (n + 1) debts ticket (omega arith))
 
-once-step : (b : Bool) (y : Held) (left : List Held) (place : ℕ) → times (places left) place ≤ 1
-    → (y.place ≡ place → has (places left) place ≡ false) → times (places (if b then left else y ∷ left)) place ≤ 1
-once-step true y left place one alone = one
-once-step false y left place one alone =
-    elim (eqb_tells y.place place) [
-      | inl same ↦ rw (same.0, times-none (places left) place (alone same.1)) (omega arith)
+once-step : (b : Bool) (y : Held) (left : List Held) (ticket : ℕ) → times (tickets left) ticket ≤ 1
+    → (y.ticket ≡ ticket → has (tickets left) ticket ≡ false) → times (tickets (if b then left else y ∷ left)) ticket ≤ 1
+once-step true y left ticket one alone = one
+once-step false y left ticket one alone =
+    elim (eqb_tells y.ticket ticket) [
+      | inl same ↦ rw (same.0, times-none (tickets left) ticket (alone same.1)) (omega arith)
       | inr other ↦ rw (other.0) (omega arith)
     ]
 
-pub held-once : (gone : List ℕ) (n : ℕ) (debts : List Owing) (place : ℕ) → times (places (held_from n debts gone)) place ≤ 1
-held-once gone n [] place = omega arith
-held-once gone n (d ∷ debts) place =
-    once-step (has gone n) _ _ place (held-once gone (n + 1) debts place) (λ e. none-before gone (n + 1) debts place (omega arith))
+pub held-once : (gone : List ℕ) (n : ℕ) (debts : List Owing) (ticket : ℕ) → times (tickets (held_from n debts gone)) ticket ≤ 1
+held-once gone n [] ticket = omega arith
+held-once gone n (d ∷ debts) ticket =
+    once-step (has gone n) _ _ ticket (held-once gone (n + 1) debts ticket) (λ e. none-before gone (n + 1) debts ticket (omega arith))
 
 -- a debt that came out is not held
-out-step : (b : Bool) (hs : List Held) (gone : List ℕ) (place : ℕ) → has (places hs) place ≡ b → (has (places hs) place ≡ true → has gone place ≡ false)
-    → has gone place ≡ true → has (places hs) place ≡ false
-out-step true hs gone place e fresh h = absurd (false≢true (sym (fresh e) ∙ h))
-out-step false hs gone place e fresh h = e
+out-step : (b : Bool) (hs : List Held) (gone : List ℕ) (ticket : ℕ) → has (tickets hs) ticket ≡ b → (has (tickets hs) ticket ≡ true → has gone ticket ≡ false)
+    → has gone ticket ≡ true → has (tickets hs) ticket ≡ false
+out-step true hs gone ticket e fresh h = absurd (false≢true (sym (fresh e) ∙ h))
+out-step false hs gone ticket e fresh h = e
 
 -- what one event brings out is among the debts held, each once
-pub record Fresh (held : List Held) (more : List ℕ) (place : ℕ) : Type 0 where
-  once : times more place ≤ 1
-  among : has more place ≡ true → has (places held) place ≡ true
+pub record Fresh (held : List Held) (more : List ℕ) (ticket : ℕ) : Type 0 where
+  once : times more ticket ≤ 1
+  among : has more ticket ≡ true → has (tickets held) ticket ≡ true
 
-nothing-fresh : (hs : List Held) (place : ℕ) → Fresh hs [] place
-nothing-fresh hs place = record { once = omega arith; among = λ e. cc }
+nothing-fresh : (hs : List Held) (ticket : ℕ) → Fresh hs [] ticket
+nothing-fresh hs ticket = record { once = omega arith; among = λ e. cc }
 
 one-step : (b : Bool) → (cond b 1 0 + 0 ≤ 1)
 one-step true = omega arith
 one-step false = omega arith
 
-one-fresh : (hs : List Held) (k place : ℕ) (x : Held) → find (is_at k) hs ≡ Some x → Fresh hs (x.place ∷ []) place
-one-fresh hs k place x e =
+one-fresh : (hs : List Held) (k ticket : ℕ) (x : Held) → find (is_at k) hs ≡ Some x → Fresh hs (x.ticket ∷ []) ticket
+one-fresh hs k ticket x e =
     let f = find-is_at k hs x e in
     record {
-      once = one-step (x.place == place);
-      among = λ h. elim (eqb_tells x.place place) [
-        | inl same ↦ (let s : k ≡ place = sym f.0 ∙ same.1 in rw (← s) f.1)
+      once = one-step (x.ticket == ticket);
+      among = λ h. elim (eqb_tells x.ticket ticket) [
+        | inl same ↦ (let s : k ≡ ticket = sym f.0 ∙ same.1 in rw (← s) f.1)
         | inr other ↦ (let n : false ≡ true = rw other.0 at h in absurd (false≢true n))
       ];
     }
 
-by_meaning-fresh : (hs : List Held) (k place : ℕ) (m : Option Meaning) (o : Option Held) → find (is_at k) hs ≡ o → Fresh hs (ended_places (ends_by_meaning m o)) place
-by_meaning-fresh hs k place m None e = nothing-fresh hs place
-by_meaning-fresh hs k place None (Some x) e = nothing-fresh hs place
-by_meaning-fresh hs k place (Some Wanted) (Some x) e = nothing-fresh hs place
-by_meaning-fresh hs k place (Some SendBlock) (Some x) e = nothing-fresh hs place
-by_meaning-fresh hs k place (Some Later) (Some x) e = one-fresh hs k place x e
-by_meaning-fresh hs k place (Some (Final code)) (Some x) e = one-fresh hs k place x e
+by_meaning-fresh : (hs : List Held) (k ticket : ℕ) (m : Option Meaning) (o : Option Held) → find (is_at k) hs ≡ o → Fresh hs (ended_tickets (ends_by_meaning m o)) ticket
+by_meaning-fresh hs k ticket m None e = nothing-fresh hs ticket
+by_meaning-fresh hs k ticket None (Some x) e = nothing-fresh hs ticket
+by_meaning-fresh hs k ticket (Some Wanted) (Some x) e = nothing-fresh hs ticket
+by_meaning-fresh hs k ticket (Some SendBlock) (Some x) e = nothing-fresh hs ticket
+by_meaning-fresh hs k ticket (Some Later) (Some x) e = one-fresh hs k ticket x e
+by_meaning-fresh hs k ticket (Some (Final code)) (Some x) e = one-fresh hs k ticket x e
 
-by_loss-fresh : (hs : List Held) (k place : ℕ) (handing : Handing) (o : Option Held) → find (is_at k) hs ≡ o → Fresh hs (ended_places (ends_by_loss handing o)) place
-by_loss-fresh hs k place handing None e = nothing-fresh hs place
-by_loss-fresh hs k place (Sendable block) (Some x) e = nothing-fresh hs place
-by_loss-fresh hs k place Gone (Some x) e = one-fresh hs k place x e
-by_loss-fresh hs k place Unsendable (Some x) e = one-fresh hs k place x e
+by_loss-fresh : (hs : List Held) (k ticket : ℕ) (handing : Handing) (o : Option Held) → find (is_at k) hs ≡ o → Fresh hs (ended_tickets (ends_by_loss handing o)) ticket
+by_loss-fresh hs k ticket handing None e = nothing-fresh hs ticket
+by_loss-fresh hs k ticket (Sendable block) (Some x) e = nothing-fresh hs ticket
+by_loss-fresh hs k ticket Gone (Some x) e = one-fresh hs k ticket x e
+by_loss-fresh hs k ticket Unsendable (Some x) e = one-fresh hs k ticket x e
 
-by_want-fresh : (hs : List Held) (place : ℕ) (handing : Handing) (want : Option (ℕ × Want))
-    → Fresh hs (ended_places (ends_by_loss handing (held_for hs (option_map (λ (w : ℕ × Want). w.1) want)))) place
-by_want-fresh hs place handing None = nothing-fresh hs place
-by_want-fresh hs place handing (Some want) = by_loss-fresh hs want.1.place place handing _ refl
+by_want-fresh : (hs : List Held) (ticket : ℕ) (handing : Handing) (want : Option (ℕ × Want))
+    → Fresh hs (ended_tickets (ends_by_loss handing (held_for hs (option_map (λ (w : ℕ × Want). w.1) want)))) ticket
+by_want-fresh hs ticket handing None = nothing-fresh hs ticket
+by_want-fresh hs ticket handing (Some want) = by_loss-fresh hs want.1.ticket ticket handing _ refl
 
-backs-fresh : (gone : List ℕ) (debts : List Owing) (place : ℕ) → Fresh (held_from 0 debts gone) (ended_places (backs (held_from 0 debts gone))) place
-backs-fresh gone debts place = rw (ended_places-backs (held_from 0 debts gone)) (record { once = held-once gone 0 debts place; among = λ e. e })
+backs-fresh : (gone : List ℕ) (debts : List Owing) (ticket : ℕ) → Fresh (held_from 0 debts gone) (ended_tickets (backs (held_from 0 debts gone))) ticket
+backs-fresh gone debts ticket = rw (ended_tickets-backs (held_from 0 debts gone)) (record { once = held-once gone 0 debts ticket; among = λ e. e })
 
-at_close-fresh : (gone : List ℕ) (debts : List Owing) (place : ℕ) (o : Option Reason) → Fresh (held_from 0 debts gone) (ended_places (ends_at_close o (held_from 0 debts gone))) place
-at_close-fresh gone debts place None = nothing-fresh _ place
-at_close-fresh gone debts place (Some reason) = backs-fresh gone debts place
+at_close-fresh : (gone : List ℕ) (debts : List Owing) (ticket : ℕ) (o : Option Reason) → Fresh (held_from 0 debts gone) (ended_tickets (ends_at_close o (held_from 0 debts gone))) ticket
+at_close-fresh gone debts ticket None = nothing-fresh _ ticket
+at_close-fresh gone debts ticket (Some reason) = backs-fresh gone debts ticket
 
-answer-fresh : (hs : List Held) (place code : ℕ) (command : ℕ × Ask) → Fresh hs (ended_places (ends_by_answer hs code (Some command) ++ [])) place
-answer-fresh hs place code command =
-    rw (append-nil (ends_by_answer hs code (Some command))) (by_meaning-fresh hs command.1.place place (meaning command.1.verb code) _ refl)
+answer-fresh : (hs : List Held) (ticket code : ℕ) (command : ℕ × Ask) → Fresh hs (ended_tickets (ends_by_answer hs code (Some command) ++ [])) ticket
+answer-fresh hs ticket code command =
+    rw (append-nil (ends_by_answer hs code (Some command))) (by_meaning-fresh hs command.1.ticket ticket (meaning command.1.verb code) _ refl)
 
 -- a reply either answers a command or closes, never both
-mode-fresh : (gone : List ℕ) (debts : List Owing) (place : ℕ) (p : Phase) (code : ℕ) (o : Option (ℕ × Ask))
+mode-fresh : (gone : List ℕ) (debts : List Owing) (ticket : ℕ) (p : Phase) (code : ℕ) (o : Option (ℕ × Ask))
     → ((c : ℕ × Ask) → closes_in p (Some c) code ≡ None)
-    → Fresh (held_from 0 debts gone) (ended_places (ends_by_answer (held_from 0 debts gone) code o ++ ends_at_close (closes_in p o code) (held_from 0 debts gone))) place
-mode-fresh gone debts place p code None still = at_close-fresh gone debts place (closes_in p None code)
-mode-fresh gone debts place p code (Some command) still = rw (still command) (answer-fresh (held_from 0 debts gone) place code command)
+    → Fresh (held_from 0 debts gone) (ended_tickets (ends_by_answer (held_from 0 debts gone) code o ++ ends_at_close (closes_in p o code) (held_from 0 debts gone))) ticket
+mode-fresh gone debts ticket p code None still = at_close-fresh gone debts ticket (closes_in p None code)
+mode-fresh gone debts ticket p code (Some command) still = rw (still command) (answer-fresh (held_from 0 debts gone) ticket code command)
 
-reply-fresh : (gone : List ℕ) (debts : List Owing) (place : ℕ) (p : Phase) (reply : Given) (done : List ℕ) (sent : List Ask)
+reply-fresh : (gone : List ℕ) (debts : List Owing) (ticket : ℕ) (p : Phase) (reply : Given) (done : List ℕ) (sent : List Ask)
     → Fresh (held_from 0 debts gone)
-    (ended_places (ends_by_answer (held_from 0 debts gone) reply.code (answered_now p reply done sent) ++ ends_at_close (closes_in p (answered_now p reply done sent) reply.code) (held_from 0 debts gone))) place
-reply-fresh gone debts place Greeting reply done sent = at_close-fresh gone debts place (closes_in Greeting None reply.code)
-reply-fresh gone debts place Asking reply done sent = at_close-fresh gone debts place (closes_in Asking None reply.code)
-reply-fresh gone debts place Streaming reply done sent = mode-fresh gone debts place Streaming reply.code (answered_now Streaming reply done sent) (λ c. refl)
-reply-fresh gone debts place OneByOne reply done sent = mode-fresh gone debts place OneByOne reply.code (answered_now OneByOne reply done sent) (λ c. refl)
-reply-fresh gone debts place Leaving reply done sent = at_close-fresh gone debts place (Some Left)
+    (ended_tickets (ends_by_answer (held_from 0 debts gone) reply.code (answered_now p reply done sent) ++ ends_at_close (closes_in p (answered_now p reply done sent) reply.code) (held_from 0 debts gone))) ticket
+reply-fresh gone debts ticket Greeting reply done sent = at_close-fresh gone debts ticket (closes_in Greeting None reply.code)
+reply-fresh gone debts ticket Asking reply done sent = at_close-fresh gone debts ticket (closes_in Asking None reply.code)
+reply-fresh gone debts ticket Streaming reply done sent = mode-fresh gone debts ticket Streaming reply.code (answered_now Streaming reply done sent) (λ c. refl)
+reply-fresh gone debts ticket OneByOne reply done sent = mode-fresh gone debts ticket OneByOne reply.code (answered_now OneByOne reply done sent) (λ c. refl)
+reply-fresh gone debts ticket Leaving reply done sent = at_close-fresh gone debts ticket (Some Left)
 
 -- what comes out by an event
 abbrev pub ends_by : Options → List Event → Event → List End
@@ -199,59 +199,59 @@ ends-more options h (Sent count) = sym (append-nil (ends options h))
 ends-more options h Leave = sym (append-nil (ends options h))
 ends-more options h Taken = sym (append-nil (ends options h))
 
-pub by-fresh : (options : Options) (h : List Event) (e : Event) (place : ℕ) → Fresh (held options h) (ended_places (ends_by options h e)) place
-by-fresh options h (Came reply) place =
-    reply-fresh (ended_places (ends options h)) (accepted h) place (phase options h) reply (answered options h) (asks h)
-by-fresh options h (Handed number handing) place = by_want-fresh (held options h) place handing (first_want (story options h) number)
-by-fresh options h (Faulted fault) place = at_close-fresh (ended_places (ends options h)) (accepted h) place (closes options h (Faulted fault))
-by-fresh options h (Tick now) place = at_close-fresh (ended_places (ends options h)) (accepted h) place (closes options h (Tick now))
-by-fresh options h Broke place = at_close-fresh (ended_places (ends options h)) (accepted h) place (closes options h Broke)
-by-fresh options h (Offered debt) place = nothing-fresh (held options h) place
-by-fresh options h (Put command) place = nothing-fresh (held options h) place
-by-fresh options h (Sent count) place = nothing-fresh (held options h) place
-by-fresh options h Leave place = nothing-fresh (held options h) place
-by-fresh options h Taken place = nothing-fresh (held options h) place
+pub by-fresh : (options : Options) (h : List Event) (e : Event) (ticket : ℕ) → Fresh (held options h) (ended_tickets (ends_by options h e)) ticket
+by-fresh options h (Came reply) ticket =
+    reply-fresh (ended_tickets (ends options h)) (accepted h) ticket (phase options h) reply (answered options h) (asks h)
+by-fresh options h (Handed number handing) ticket = by_want-fresh (held options h) ticket handing (first_want (story options h) number)
+by-fresh options h (Faulted fault) ticket = at_close-fresh (ended_tickets (ends options h)) (accepted h) ticket (closes options h (Faulted fault))
+by-fresh options h (Tick now) ticket = at_close-fresh (ended_tickets (ends options h)) (accepted h) ticket (closes options h (Tick now))
+by-fresh options h Broke ticket = at_close-fresh (ended_tickets (ends options h)) (accepted h) ticket (closes options h Broke)
+by-fresh options h (Offered debt) ticket = nothing-fresh (held options h) ticket
+by-fresh options h (Put command) ticket = nothing-fresh (held options h) ticket
+by-fresh options h (Sent count) ticket = nothing-fresh (held options h) ticket
+by-fresh options h Leave ticket = nothing-fresh (held options h) ticket
+by-fresh options h Taken ticket = nothing-fresh (held options h) ticket
 
-pub places-more : (options : Options) (h : List Event) (e : Event)
-    → ended_places (ends options (e ∷ h)) ≡ ended_places (ends options h) ++ ended_places (ends_by options h e)
-places-more options h e = ap ended_places (ends-more options h e) ∙ ended_places-append (ends options h) (ends_by options h e)
+pub tickets-more : (options : Options) (h : List Event) (e : Event)
+    → ended_tickets (ends options (e ∷ h)) ≡ ended_tickets (ends options h) ++ ended_tickets (ends_by options h e)
+tickets-more options h e = ap ended_tickets (ends-more options h e) ∙ ended_tickets-append (ends options h) (ends_by options h e)
 
 -- each debt comes out at most once
-pub at_most_once : (options : Options) (h : List Event) (place : ℕ) → times_out options h place ≤ 1
+pub at_most_once : (options : Options) (h : List Event) (ticket : ℕ) → times_out options h ticket ≤ 1
 unfolding story
-at_most_once options [] place = omega arith
-at_most_once options (e ∷ h) place =
-    let f = by-fresh options h e place in
-    let gone : List ℕ = ended_places (ends options h) in
-    let more : List ℕ = ended_places (ends_by options h e) in
-    subst (λ ps. times ps place ≤ 1) (sym (places-more options h e))
-    (once-more gone more place (at_most_once options h place) f.once (λ q. held-fresh gone 0 (accepted h) place (f.among q)))
+at_most_once options [] ticket = omega arith
+at_most_once options (e ∷ h) ticket =
+    let f = by-fresh options h e ticket in
+    let gone : List ℕ = ended_tickets (ends options h) in
+    let more : List ℕ = ended_tickets (ends_by options h e) in
+    subst (λ ps. times ps ticket ≤ 1) (sym (tickets-more options h e))
+    (once-more gone more ticket (at_most_once options h ticket) f.once (λ q. held-fresh gone 0 (accepted h) ticket (f.among q)))
 
 -- held or out, once
-held-or-out-step : (options : Options) (h : List Event) (place : ℕ) (b : Bool) → has (ended_places (ends options h)) place ≡ b → place < length (accepted h)
-    → times_held options h place + times_out options h place ≡ 1
-held-or-out-step options h place true e few =
-    let gone : List ℕ = ended_places (ends options h) in
-    let out = times-some gone place e in
-    let most = at_most_once options h place in
-    let none = times-none (places (held options h)) place (out-step _ (held options h) gone place refl (held-fresh gone 0 (accepted h) place) e) in
+held-or-out-step : (options : Options) (h : List Event) (ticket : ℕ) (b : Bool) → has (ended_tickets (ends options h)) ticket ≡ b → ticket < length (accepted h)
+    → times_held options h ticket + times_out options h ticket ≡ 1
+held-or-out-step options h ticket true e few =
+    let gone : List ℕ = ended_tickets (ends options h) in
+    let out = times-some gone ticket e in
+    let most = at_most_once options h ticket in
+    let none = times-none (tickets (held options h)) ticket (out-step _ (held options h) gone ticket refl (held-fresh gone 0 (accepted h) ticket) e) in
     omega arith
-held-or-out-step options h place false e few =
-    let gone : List ℕ = ended_places (ends options h) in
-    let none = times-none gone place e in
-    let one = held-once gone 0 (accepted h) place in
-    let some = times-some (places (held options h)) place (in-held gone 0 (accepted h) place (omega arith) (omega arith) e) in
+held-or-out-step options h ticket false e few =
+    let gone : List ℕ = ended_tickets (ends options h) in
+    let none = times-none gone ticket e in
+    let one = held-once gone 0 (accepted h) ticket in
+    let some = times-some (tickets (held options h)) ticket (in-held gone 0 (accepted h) ticket (omega arith) (omega arith) e) in
     omega arith
 
-pub held_or_out : (options : Options) (h : List Event) (place : ℕ) → place < length (accepted h)
-    → times_held options h place + times_out options h place ≡ 1
-held_or_out options h place few = held-or-out-step options h place _ refl few
+pub held_or_out : (options : Options) (h : List Event) (ticket : ℕ) → ticket < length (accepted h)
+    → times_held options h ticket + times_out options h ticket ≡ 1
+held_or_out options h ticket few = held-or-out-step options h ticket _ refl few
 
-pub neither-beyond : (options : Options) (h : List Event) (place : ℕ) → length (accepted h) ≤ place
-    → times_held options h place + times_out options h place ≡ 0
-neither-beyond options h place far =
-    let out = times-none (ended_places (ends options h)) place (ends_below options h place far) in
-    let hold = times-none (places (held options h)) place (places-below options h place far) in
+pub neither-beyond : (options : Options) (h : List Event) (ticket : ℕ) → length (accepted h) ≤ ticket
+    → times_held options h ticket + times_out options h ticket ≡ 0
+neither-beyond options h ticket far =
+    let out = times-none (ended_tickets (ends options h)) ticket (ends_below options h ticket far) in
+    let hold = times-none (tickets (held options h)) ticket (tickets-below options h ticket far) in
     omega arith
 
 -- each of some items is, and each of others
@@ -263,9 +263,9 @@ pub All-map : {X : Type 0} (P Q : X → Type 0) → ((x : X) → P x → Q x) �
 All-map P Q f [] p = tt
 All-map P Q f (x ∷ xs) p = (f x p.0, All-map P Q f xs p.1)
 
--- a debt held is the one accepted at its place
+-- a debt held is the one accepted at its ticket
 abbrev pub IsOwn : List Owing → Held → Type 0
-IsOwn debts x = slice_get debts x.place ≡ Some x.debt
+IsOwn debts x = slice_get debts x.ticket ≡ Some x.debt
 
 own-step : (all : List Owing) (b : Bool) (y : Held) (left : List Held) → IsOwn all y → AllByRecursion (IsOwn all) left
     → AllByRecursion (IsOwn all) (if b then left else y ∷ left)
@@ -286,11 +286,11 @@ own-found all false y x rest e p later = later e
 
 pub find-own : (all : List Owing) (k : ℕ) (hs : List Held) (x : Held) → AllByRecursion (IsOwn all) hs → find (is_at k) hs ≡ Some x → IsOwn all x
 find-own all k [] x p e = cc
-find-own all k (y ∷ hs) x p e = own-found all (y.place == k) y x _ e p.0 (find-own all k hs x p.1)
+find-own all k (y ∷ hs) x p e = own-found all (y.ticket == k) y x _ e p.0 (find-own all k hs x p.1)
 
 -- a debt that came out is, too
 abbrev IsOwnEnd : List Owing → End → Type 0
-IsOwnEnd debts x = slice_get debts x.place ≡ Some (debt_in x.outcome)
+IsOwnEnd debts x = slice_get debts x.ticket ≡ Some (debt_in x.outcome)
 
 own-backs : (all : List Owing) (hs : List Held) → AllByRecursion (IsOwn all) hs → AllByRecursion (IsOwnEnd all) (backs hs)
 own-backs all [] p = tt
@@ -311,7 +311,7 @@ own-meaning all k hs (Some (Final code)) (Some x) e p = (find-own all k hs x p e
 
 own-answer : (all : List Owing) (hs : List Held) (code : ℕ) (o : Option (ℕ × Ask)) → AllByRecursion (IsOwn all) hs → AllByRecursion (IsOwnEnd all) (ends_by_answer hs code o)
 own-answer all hs code None p = tt
-own-answer all hs code (Some command) p = own-meaning all command.1.place hs (meaning command.1.verb code) _ refl p
+own-answer all hs code (Some command) p = own-meaning all command.1.ticket hs (meaning command.1.verb code) _ refl p
 
 own-loss : (all : List Owing) (k : ℕ) (hs : List Held) (handing : Handing) (o : Option Held) → find (is_at k) hs ≡ o → AllByRecursion (IsOwn all) hs
     → AllByRecursion (IsOwnEnd all) (ends_by_loss handing o)
@@ -323,11 +323,11 @@ own-loss all k hs Unsendable (Some x) e p = (find-own all k hs x p e, tt)
 own-want : (all : List Owing) (hs : List Held) (handing : Handing) (want : Option (ℕ × Want)) → AllByRecursion (IsOwn all) hs
     → AllByRecursion (IsOwnEnd all) (ends_by_loss handing (held_for hs (option_map (λ (w : ℕ × Want). w.1) want)))
 own-want all hs handing None p = tt
-own-want all hs handing (Some want) p = own-loss all want.1.place hs handing _ refl p
+own-want all hs handing (Some want) p = own-loss all want.1.ticket hs handing _ refl p
 
 pub held-own : (options : Options) (h : List Event) → AllByRecursion (IsOwn (accepted h)) (held options h)
 held-own options h =
-    own-held (accepted h) (ended_places (ends options h)) 0 (accepted h) (λ k d e. let here : 0 + k ≡ k = omega arith in rw here e)
+    own-held (accepted h) (ended_tickets (ends options h)) 0 (accepted h) (λ k d e. let here : 0 + k ≡ k = omega arith in rw here e)
 
 own-by : (options : Options) (h : List Event) (e : Event) → AllByRecursion (IsOwnEnd (accepted h)) (ends_by options h e)
 own-by options h (Came reply) =
@@ -350,7 +350,7 @@ get-more (y ∷ xs) ys zero x e = e
 get-more (y ∷ xs) ys (suc k) x e = get-more xs ys k x e
 
 still-own : (h : List Event) (e : Event) (x : End) → IsOwnEnd (accepted h) x → IsOwnEnd (accepted (e ∷ h)) x
-still-own h (Offered debt) x p = get-more (accepted h) (debt ∷ []) x.place (debt_in x.outcome) p
+still-own h (Offered debt) x p = get-more (accepted h) (debt ∷ []) x.ticket (debt_in x.outcome) p
 still-own h (Came reply) x p = p
 still-own h (Handed number handing) x p = p
 still-own h (Faulted fault) x p = p
@@ -371,9 +371,9 @@ all_own options (e ∷ h) =
     (All-map (IsOwnEnd (accepted h)) (IsOwnEnd (accepted (e ∷ h))) (still-own h e) (ends options h ++ ends_by options h e) all)
 
 -- once closed, each debt accepted has come out exactly once
-pub exactly_once : (options : Options) (h : List Event) (place : ℕ) → Arises options h → is_some (reason options h) ≡ true → place < length (accepted h)
-    → times_out options h place ≡ 1
-exactly_once options h place a closed few =
-    let none : times_held options h place ≡ 0 = ap (λ hs. times (places hs) place) (none_held options h a closed) in
-    let both = held_or_out options h place few in
+pub exactly_once : (options : Options) (h : List Event) (ticket : ℕ) → Arises options h → is_some (reason options h) ≡ true → ticket < length (accepted h)
+    → times_out options h ticket ≡ 1
+exactly_once options h ticket a closed few =
+    let none : times_held options h ticket ≡ 0 = ap (λ hs. times (tickets hs) ticket) (none_held options h a closed) in
+    let both = held_or_out options h ticket few in
     omega arith

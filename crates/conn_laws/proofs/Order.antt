@@ -9,7 +9,7 @@ use Rattle.conn_core.specs.Codes.{meaning}
 use Rattle.conn_core.specs.Used.{has}
 use Rattle.conn_core.specs.Commands.{Ask, Held, Handing, Sendable, Gone, Unsendable, is_at}
 use Rattle.conn_core.specs.History.{Event, Offered, Put, Came, Faulted, Handed, Sent, Tick, Broke, Leave, Taken}
-use Rattle.conn_core.specs.History.{accepted, answered_ask, backs, closes, End, ended_places, ends, ends_at_close}
+use Rattle.conn_core.specs.History.{accepted, answered_ask, backs, closes, End, ended_tickets, ends, ends_at_close}
 use Rattle.conn_core.specs.History.{ends_by_answer, ends_by_loss, ends_by_meaning, first_reason, held, held_from}
 use Rattle.conn_core.specs.History.{held_wanting, reason, story}
 use Rattle.conn_core.specs.Stands.{Arises}
@@ -17,13 +17,13 @@ use Rattle.conn_core.specs.declared.options.Options.{Options}
 use Rattle.conn_core.specs.declared.reason.Reason.{Reason}
 use Rattle.conn_core.specs.declared.codes.Meaning.{Meaning}
 use Rattle.conn_core.specs.declared.codes.Meaning.TheVariants.{Wanted, SendBlock, Later, Final}
-use Rattle.conn_core.proofs.Closed.{first_reason-none}
-use Rattle.conn_core.proofs.HeldBack.{places, ended_places-backs}
+use Rattle.conn_core.specs.ClosingLaws.{first_reason-none}
+use Rattle.conn_core.specs.HeldLaws.{tickets, ended_tickets-backs}
 use Rattle.conn_laws.specs.Laws.{ReturnsLast, is_back}
 use Rattle.conn_laws.proofs.Once.{All-append, ends_by, ends-more}
 use Rattle.conn_laws.proofs.Arising.{IsQuiet, of-arising, quiet-closes, quiet-ends}
 
--- each place is above those before it, and none is below n
+-- each ticket is above those before it, and none is below n
 abbrev RisesFrom : ℕ → List ℕ → Type 0
 RisesFrom n [] = Unit {0}
 RisesFrom n (x ∷ xs) = (n ≤ x) × RisesFrom (x + 1) xs
@@ -44,21 +44,21 @@ increasing n (x ∷ y ∷ xs) r (suc k) few =
     let next : slice_index (y ∷ xs) k < slice_index (y ∷ xs) (suc k) = rw here at later in
     rw there next
 
-rises-step : (b : Bool) (n : ℕ) (debt : Owing) (left : List Held) → RisesFrom (n + 1) (places left)
-    → RisesFrom n (places (if b then left else record { place = n; debt = debt } ∷ left))
-rises-step true n debt left r = rises-lower n (n + 1) (places left) (omega arith) r
+rises-step : (b : Bool) (n : ℕ) (debt : Owing) (left : List Held) → RisesFrom (n + 1) (tickets left)
+    → RisesFrom n (tickets (if b then left else record { ticket = n; debt = debt } ∷ left))
+rises-step true n debt left r = rises-lower n (n + 1) (tickets left) (omega arith) r
 rises-step false n debt left r = (omega arith, r)
 
-held-rises : (gone : List ℕ) (n : ℕ) (debts : List Owing) → RisesFrom n (places (held_from n debts gone))
+held-rises : (gone : List ℕ) (n : ℕ) (debts : List Owing) → RisesFrom n (tickets (held_from n debts gone))
 held-rises gone n [] = tt
 held-rises gone n (debt ∷ debts) = rises-step (has gone n) n debt _ (held-rises gone (n + 1) debts)
 
 close-rises : (o : Option Reason) (gone : List ℕ) (debts : List Owing)
-    → IsStrictlyIncreasing (ended_places (ends_at_close o (held_from 0 debts gone)))
+    → IsStrictlyIncreasing (ended_tickets (ends_at_close o (held_from 0 debts gone)))
 close-rises None gone debts = increasing 0 [] tt
 close-rises (Some why) gone debts =
-    rw (ended_places-backs (held_from 0 debts gone))
-    (increasing 0 (places (held_from 0 debts gone)) (held-rises gone 0 debts))
+    rw (ended_tickets-backs (held_from 0 debts gone))
+    (increasing 0 (tickets (held_from 0 debts gone)) (held-rises gone 0 debts))
 
 abbrev IsFound : End → Type 0
 IsFound x = is_back x.outcome ≡ false
@@ -84,7 +84,7 @@ meaning-found (Some (Final code)) (Some x) = (refl, tt)
 
 answer-found : (hs : List Held) (code : ℕ) (o : Option (ℕ × Ask)) → AllByRecursion IsFound (ends_by_answer hs code o)
 answer-found hs code None = tt
-answer-found hs code (Some command) = meaning-found (meaning command.1.verb code) (find (is_at command.1.place) hs)
+answer-found hs code (Some command) = meaning-found (meaning command.1.verb code) (find (is_at command.1.ticket) hs)
 
 loss-found : (handing : Handing) (o : Option Held) → AllByRecursion IsFound (ends_by_loss handing o)
 loss-found handing None = tt
@@ -154,7 +154,7 @@ order-open options h e running r =
           ∙ sym (append_assoc r.found (found_by options h e) (ends_at_close (closes options h e) (held options h)));
       none_back = All-append IsFound r.found (found_by options h e) r.none_back (by-found options h e);
       all_back = close-returns (closes options h e) (held options h);
-      in_order = close-rises (closes options h e) (ended_places (ends options h)) (accepted h);
+      in_order = close-rises (closes options h e) (ended_tickets (ends options h)) (accepted h);
       while_open =
           λ still. none-back (closes options h e) (held options h)
           (still-none (reason options h) (closes options h e) running still);

@@ -3,9 +3,9 @@ use Rattle.std.proofs.Common.{◌≡◌, ℕ, ◌+◌, ◌≤◌, Bool, true, fa
 use Rattle.std.specs.Prelude.{◌==◌, ◌&&◌, if◌then◌else◌, is_some}
 use Rattle.conn_core.specs.Codes.{is_welcome, meaning}
 use Rattle.conn_core.specs.Commands.{Ask, Command, ModeStream, Asks, Quit, Handing, Sendable, Gone, Unsendable, Held, check_of}
-use Rattle.conn_core.specs.History.{Event, Offered, Put, Came, Faulted, Handed, Sent, Tick, Broke, Leave, after, answered_ask, held_wanting, is_leaving, is_mode, is_quit_due, is_streaming, newcomer, phase, phase_after, put_out, puts, puts_answer, puts_article, puts_block, puts_greeting, reason, story, wants_at_once, with_puts}
+use Rattle.conn_core.specs.History.{Event, Offered, Put, Came, Faulted, Handed, Sent, Tick, Broke, Leave, after, answered_ask, held_wanting, is_leaving, is_mode, is_quit_due, is_streaming, newcomer, phase, phase_after, put_out, puts, puts_answer, puts_article, puts_block, puts_greeting, reason, story, wants_at_once, with_puts, Taken}
 use Rattle.conn_laws.specs.Laws.{is_mode_stream, is_quit, times_put}
-use Rattle.conn_core.specs.Stands.{Arises, Starts, Offers, Receives_reply, Receives_fault, Is_handed, Sends, Ticks, Breaks, Leaves, Takes_one}
+use Rattle.conn_core.specs.Stands.{Arises, Starts, Goes_on}
 use Rattle.conn_core.specs.declared.codes.Meaning.{Meaning}
 use Rattle.conn_core.specs.declared.codes.Meaning.TheVariants.{Wanted, SendBlock, Later, Final}
 use Rattle.conn_core.specs.declared.options.Options.{Options}
@@ -147,25 +147,26 @@ either options false h g k q = q
 
 is_once : (options : Options) (h : List Event) → Arises options h → IsOnce options h
 is_once options h Starts = record { mode = omega arith; quit = omega arith }
-is_once options h (Offers g debt a ready) =
+is_once options h (Goes_on g (Offered debt) a ready) =
     closed-up options g (Offered debt) (put-asks options (puts options g (Offered debt)) (Offered debt ∷ g) (offered-asks (wants_at_once options g) (newcomer g debt)) (is_once options g a))
-is_once options h (Receives_reply g reply a) =
+is_once options h (Goes_on g (Came reply) a can) =
     either options (is_some (reason options g)) g (after options g (Came reply)) (is_once options g a)
     (closed-up options g (Came reply)
     (replied options (Came reply ∷ g) (phase options g) reply.code (puts_answer reply.code (answered_ask options g reply)) refl (is_once options g a) (answer-asks reply.code (answered_ask options g reply))))
-is_once options h (Receives_fault g fault a) =
+is_once options h (Goes_on g (Faulted fault) a can) =
     either options (is_some (reason options g)) g (after options g (Faulted fault)) (is_once options g a) (closed-up options g (Faulted fault) (is_once options g a))
-is_once options h (Is_handed g number handing a some) =
+is_once options h (Goes_on g (Handed number handing) a some) =
     closed-up options g (Handed number handing)
     (put-asks options (puts options g (Handed number handing)) (Handed number handing ∷ g) (article-asks (is_streaming (phase options g)) handing (held_wanting g (story options g) number)) (is_once options g a))
-is_once options h (Sends g count a few) = either options (is_some (reason options g)) g (Sent count ∷ g) (is_once options g a) (is_once options g a)
-is_once options h (Ticks g now a) =
+is_once options h (Goes_on g (Sent count) a few) = either options (is_some (reason options g)) g (Sent count ∷ g) (is_once options g a) (is_once options g a)
+is_once options h (Goes_on g (Tick now) a can) =
     either options (is_some (reason options g)) g (after options g (Tick now)) (is_once options g a) (closed-up options g (Tick now) (is_once options g a))
-is_once options h (Breaks g a) =
+is_once options h (Goes_on g Broke a can) =
     either options (is_some (reason options g)) g (after options g Broke) (is_once options g a) (closed-up options g Broke (is_once options g a))
-is_once options h (Leaves g a) =
+is_once options h (Goes_on g Leave a can) =
     either options (is_some (reason options g)) g (after options g Leave) (is_once options g a) (closed-up options g Leave (is_once options g a))
-is_once options h (Takes_one g a few) = is_once options g a
+is_once options h (Goes_on g (Put command) a never) = absurd never
+is_once options h (Goes_on g Taken a few) = is_once options g a
 
 at-most-left : (f : Phase) → has_left f ≤ 1
 at-most-left Greeting = omega arith

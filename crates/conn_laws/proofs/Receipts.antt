@@ -5,22 +5,22 @@ use Rattle.std.proofs.lemmas.Bool.{false≢true}
 use Rattle.funnel.specs.Stream.{IsUnended}
 use Rattle.funnel.specs.StreamLaws.{first_line_once, whole_line_ends}
 use Rattle.dot_codec.specs.Block.{written}
-use Rattle.dot_codec.proofs.Texts.{lines_once}
+use Rattle.dot_codec.specs.TextLaws.{lines_once}
 use Rattle.article_store.specs.declared.store.Found.{Found}
 use Rattle.article_store.specs.declared.store.Found.TheVariants.{Article, Gone as NotThere, Unsendable as Unfit}
 use Rattle.reply_reader.specs.Reply.{IsReplyLine, IsNoReply}
 use Rattle.reply_reader.specs.Stream.{BeginsWithReply, Given, IsAnswer, IsShort}
 use Rattle.reply_reader.specs.declared.fault.ReplyFault.{ReplyFault}
 use Rattle.reply_reader.specs.declared.fault.ReplyFault.TheVariants.{TooLong, NoCode, NoMemory, Failed}
-use Rattle.reply_reader.proofs.Ends.{part-is-not-long, short-is-not-long}
-use Rattle.reply_reader.proofs.Lines.{line-apart, line-once}
+use Rattle.reply_reader.specs.LengthLaws.{part-is-not-long, short-is-not-long}
+use Rattle.reply_reader.specs.LineLaws.{line-apart, line-once}
 use Rattle.conn_core.specs.Commands.{Handing, Sendable, Gone, Unsendable}
 use Rattle.conn_core.specs.History.{Event, Came, Faulted, first_reason, reason, after}
 use Rattle.conn_core.specs.Receipt.{BeginsWithFault, IsHandedAs, Receives, Is_closed, Waits, Reads, Fails}
 use Rattle.conn_core.specs.declared.options.Options.{Options}
 use Rattle.conn_core.specs.declared.reason.Reason.{Reason}
 use Rattle.conn_core.specs.declared.reason.Reason.TheVariants.{Reader}
-use Rattle.conn_core.proofs.Closed.{reason-after}
+use Rattle.conn_core.specs.ClosingLaws.{reason-after}
 
 abbrev made : ℕ → Option (List ℕ) → List ℕ → Given
 made code id text = record { code = code; id = id; text = text }

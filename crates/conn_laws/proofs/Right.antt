@@ -18,7 +18,7 @@ use Rattle.conn_core.specs.Used.{first_left, has}
 use Rattle.conn_core.specs.Commands.{Ask, Held, Want, Handing, Sendable, Gone, Unsendable, held_for, is_at}
 use Rattle.conn_core.specs.History.{Event, Offered, Put, Came, Faulted, Handed, Sent, Tick, Broke, Leave, Taken, asks}
 use Rattle.conn_core.specs.History.{answered, answered_now, accepted, answered_ask, phase, is_mode, is_streaming}
-use Rattle.conn_core.specs.History.{closes, ended_places, reason, story, ends, held, End, backs, ends_by_meaning}
+use Rattle.conn_core.specs.History.{closes, ended_tickets, reason, story, ends, held, End, backs, ends_by_meaning}
 use Rattle.conn_core.specs.History.{ends_by_answer, ends_by_loss, ends_at_close, first_want}
 use Rattle.conn_core.specs.Stands.{Arises}
 use Rattle.conn_laws.specs.Laws.{IsFirstOpen, IsAnswered, IsLost, IsReturned, IsRightAt, AllRight, cause_of, fits_in}
@@ -33,15 +33,15 @@ use Rattle.conn_core.specs.declared.outcome.Outcome.{Outcome}
 use Rattle.conn_core.specs.declared.outcome.Outcome.TheVariants.{Final as Ended_by, Deferred, Lost, Back}
 use Rattle.conn_core.specs.declared.codes.Meaning.{Meaning}
 use Rattle.conn_core.specs.declared.codes.Meaning.TheVariants.{Wanted, SendBlock, Later, Final}
-use Rattle.conn_core.proofs.UsedUp.{first_left-is}
-use Rattle.conn_core.proofs.HeldBack.{find-is_at, places}
+use Rattle.conn_core.specs.UsedLaws.{first_left-is}
+use Rattle.conn_core.specs.HeldLaws.{find-is_at, tickets}
 use Rattle.conn_laws.proofs.Arising.{of-arising, quiet-ends}
 use Rattle.conn_laws.proofs.Once.{All-append, All-map, ends-more, ends_by, held-once, times-some}
 use Rattle.conn_laws.proofs.Numbered.{number-held}
 
-pub answered-more : (options : Options) (h : List Event) (e : Event) (place code : ℕ) (says : Meaning)
-    → IsAnswered options h place code says → IsAnswered options (e ∷ h) place code says
-answered-more options h e place code says a = record {
+pub answered-more : (options : Options) (h : List Event) (e : Event) (ticket code : ℕ) (says : Meaning)
+    → IsAnswered options h ticket code says → IsAnswered options (e ∷ h) ticket code says
+answered-more options h e ticket code says a = record {
   later = e ∷ a.later;
   earlier = a.earlier;
   reply = a.reply;
@@ -54,9 +54,9 @@ answered-more options h e place code says a = record {
   meant = a.meant;
 }
 
-lost-more : (options : Options) (h : List Event) (e : Event) (place : ℕ) (debt : Owing) (cause : Cause)
-    → IsLost options h place debt cause → IsLost options (e ∷ h) place debt cause
-lost-more options h e place debt cause a = record {
+lost-more : (options : Options) (h : List Event) (e : Event) (ticket : ℕ) (debt : Owing) (cause : Cause)
+    → IsLost options h ticket debt cause → IsLost options (e ∷ h) ticket debt cause
+lost-more options h e ticket debt cause a = record {
   later = e ∷ a.later;
   earlier = a.earlier;
   number = a.number;
@@ -70,9 +70,9 @@ lost-more options h e place debt cause a = record {
   caused = a.caused;
 }
 
-returned-more : (options : Options) (h : List Event) (e : Event) (place : ℕ) → IsReturned options h place
-    → IsReturned options (e ∷ h) place
-returned-more options h e place a = record {
+returned-more : (options : Options) (h : List Event) (e : Event) (ticket : ℕ) → IsReturned options h ticket
+    → IsReturned options (e ∷ h) ticket
+returned-more options h e ticket a = record {
   later = e ∷ a.later;
   earlier = a.earlier;
   event = a.event;
@@ -82,17 +82,17 @@ returned-more options h e place a = record {
   was_held = a.was_held;
 }
 
-right-more : (options : Options) (h : List Event) (e : Event) (place : ℕ) (outcome : Outcome)
-    → IsRightAt options h place outcome → IsRightAt options (e ∷ h) place outcome
-right-more options h e place (Ended_by verdict) r =
-    answered-more options h e place (code_number verdict.code) (Final verdict.code) r
-right-more options h e place (Deferred deferral) r = (r.0, answered-more options h e place r.0 Later r.1)
-right-more options h e place (Lost debt cause) r = lost-more options h e place debt cause r
-right-more options h e place (Back debt) r = returned-more options h e place r
+right-more : (options : Options) (h : List Event) (e : Event) (ticket : ℕ) (outcome : Outcome)
+    → IsRightAt options h ticket outcome → IsRightAt options (e ∷ h) ticket outcome
+right-more options h e ticket (Ended_by verdict) r =
+    answered-more options h e ticket (code_number verdict.code) (Final verdict.code) r
+right-more options h e ticket (Deferred deferral) r = (r.0, answered-more options h e ticket r.0 Later r.1)
+right-more options h e ticket (Lost debt cause) r = lost-more options h e ticket debt cause r
+right-more options h e ticket (Back debt) r = returned-more options h e ticket r
 
 -- an outcome that came out is right
 abbrev IsRight : Options → List Event → End → Type 0
-IsRight options h x = IsRightAt options h x.place x.outcome
+IsRight options h x = IsRightAt options h x.ticket x.outcome
 
 -- an answer comes only where a mode stands
 answer-mode : (p : Phase) (reply : Given) (done : List ℕ) (sent : List Ask) (command : ℕ × Ask)
@@ -118,7 +118,7 @@ pub answer_is_first : (options : Options) (h : List Event) (reply : Given) (comm
 answer_is_first options h reply command e =
     let f = first_left-is (fits_in (is_streaming (phase options h)) reply) (answered options h) 0
     (asks h) command.0 command.1 (answer_in (phase options h) reply (answered options h) (asks h) command e) in
-    let here : command.0 ≡ f.index = omega (arith, f.place) in
+    let here : command.0 ≡ f.index = omega (arith, f.ticket) in
     record {
       mode = answer-mode (phase options h) reply (answered options h) (asks h) command e;
       is_command = rw here f.item;
@@ -128,11 +128,11 @@ answer_is_first options h reply command e =
     }
 
 -- a debt held is held once
-held-one : (options : Options) (h : List Event) (place : ℕ) → has (places (held options h)) place ≡ true
-    → times_held options h place ≡ 1
-held-one options h place e =
-    let some = times-some (places (held options h)) place e in
-    let once = held-once (ended_places (ends options h)) 0 (accepted h) place in
+held-one : (options : Options) (h : List Event) (ticket : ℕ) → has (tickets (held options h)) ticket ≡ true
+    → times_held options h ticket ≡ 1
+held-one options h ticket e =
+    let some = times-some (tickets (held options h)) ticket e in
+    let once = held-once (ended_tickets (ends options h)) 0 (accepted h) ticket in
     omega (arith, some, once)
 
 or-right : (a b : Bool) → b ≡ true → (a || b) ≡ true
@@ -141,7 +141,7 @@ or-right false b e = e
 
 backs-right : (options : Options) (h : List Event) (e : Event) (hs : List Held) → reason options h ≡ None
     → is_some (closes options h e) ≡ true
-    → ((place : ℕ) → has (places hs) place ≡ true → has (places (held options h)) place ≡ true)
+    → ((ticket : ℕ) → has (tickets hs) ticket ≡ true → has (tickets (held options h)) ticket ≡ true)
     → AllByRecursion (IsRight options (e ∷ h)) (backs hs)
 backs-right options h e [] running now among = tt
 backs-right options h e (x ∷ hs) running now among = (
@@ -152,10 +152,10 @@ backs-right options h e (x ∷ hs) running now among = (
     split = refl;
     running = running;
     closing = now;
-    was_held = held-one options h x.place (among x.place (rw (eq-eqb x.place x.place refl) refl));
+    was_held = held-one options h x.ticket (among x.ticket (rw (eq-eqb x.ticket x.ticket refl) refl));
   },
   backs-right options h e hs running now
-      (λ place m. among place (or-right (x.place == place) (has (places hs) place) m)),
+      (λ ticket m. among ticket (or-right (x.ticket == ticket) (has (tickets hs) ticket) m)),
 )
 
 at_close-right : (options : Options) (h : List Event) (e : Event) (o : Option Reason) → reason options h ≡ None
@@ -163,7 +163,7 @@ at_close-right : (options : Options) (h : List Event) (e : Event) (o : Option Re
     → AllByRecursion (IsRight options (e ∷ h)) (ends_at_close o (held options h))
 at_close-right options h e None running same = tt
 at_close-right options h e (Some why) running same =
-    backs-right options h e (held options h) running (rw same refl) (λ place m. m)
+    backs-right options h e (held options h) running (rw same refl) (λ ticket m. m)
 
 close-right : (options : Options) (h : List Event) (e : Event) → reason options h ≡ None
     → AllByRecursion (IsRight options (e ∷ h)) (ends_at_close (closes options h e) (held options h))
@@ -171,9 +171,9 @@ close-right options h e running = at_close-right options h e (closes options h e
 
 lost-now : (options : Options) (h : List Event) (number : ℕ) (handing : Handing) (want : ℕ × Want) (cause : Cause)
     (x : Held) → reason options h ≡ None
-    → first_want (story options h) number ≡ Some want → find (is_at want.1.place) (held options h) ≡ Some x
+    → first_want (story options h) number ≡ Some want → find (is_at want.1.ticket) (held options h) ≡ Some x
     → cause_of handing ≡ Some cause
-    → IsLost options (Handed number handing ∷ h) x.place x.debt cause
+    → IsLost options (Handed number handing ∷ h) x.ticket x.debt cause
 lost-now options h number handing want cause x running first at caused = record {
   later = [];
   earlier = h;
@@ -183,14 +183,14 @@ lost-now options h number handing want cause x running first at caused = record 
   split = refl;
   running = running;
   first = first;
-  about = sym (find-is_at want.1.place (held options h) x at).0;
+  about = sym (find-is_at want.1.ticket (held options h) x at).0;
   numbered = number-held options h number want x first at;
   caused = caused;
 }
 
 by_loss-right : (options : Options) (h : List Event) (number : ℕ) (handing : Handing) (want : ℕ × Want)
     (o : Option Held) → reason options h ≡ None
-    → first_want (story options h) number ≡ Some want → find (is_at want.1.place) (held options h) ≡ o
+    → first_want (story options h) number ≡ Some want → find (is_at want.1.ticket) (held options h) ≡ o
     → AllByRecursion (IsRight options (Handed number handing ∷ h)) (ends_by_loss handing o)
 by_loss-right options h number handing want None running first at = tt
 by_loss-right options h number (Sendable block) want (Some x) running first at = tt
@@ -209,8 +209,8 @@ by_want-right options h number handing (Some want) running first =
 
 pub answer-now : (options : Options) (h : List Event) (reply : Given) (command : ℕ × Ask) (x : Held) (says : Meaning)
     → reason options h ≡ None → answered_ask options h reply ≡ Some command
-    → meaning command.1.verb reply.code ≡ Some says → find (is_at command.1.place) (held options h) ≡ Some x
-    → IsAnswered options (Came reply ∷ h) x.place reply.code says
+    → meaning command.1.verb reply.code ≡ Some says → find (is_at command.1.ticket) (held options h) ≡ Some x
+    → IsAnswered options (Came reply ∷ h) x.ticket reply.code says
 answer-now options h reply command x says running e em eo = record {
   later = [];
   earlier = h;
@@ -219,7 +219,7 @@ answer-now options h reply command x says running e em eo = record {
   split = refl;
   running = running;
   first = answer_is_first options h reply command e;
-  about = sym (find-is_at command.1.place (held options h) x eo).0;
+  about = sym (find-is_at command.1.ticket (held options h) x eo).0;
   code_is = refl;
   meant = em;
 }
@@ -260,7 +260,7 @@ number-of Block n code e =
 
 by_meaning-right : (options : Options) (h : List Event) (reply : Given) (command : ℕ × Ask) (m : Option Meaning)
     (o : Option Held) → reason options h ≡ None → answered_ask options h reply ≡ Some command
-    → meaning command.1.verb reply.code ≡ m → find (is_at command.1.place) (held options h) ≡ o
+    → meaning command.1.verb reply.code ≡ m → find (is_at command.1.ticket) (held options h) ≡ o
     → AllByRecursion (IsRight options (Came reply ∷ h)) (ends_by_meaning m o)
 by_meaning-right options h reply command m None running e em eo = tt
 by_meaning-right options h reply command None (Some x) running e em eo = tt
@@ -270,7 +270,7 @@ by_meaning-right options h reply command (Some Later) (Some x) running e em eo =
     ((reply.code, answer-now options h reply command x Later running e em eo), tt)
 by_meaning-right options h reply command (Some (Final code)) (Some x) running e em eo =
     let said = answer-now options h reply command x (Final code) running e em eo in (
-      subst (λ n. IsAnswered options (Came reply ∷ h) x.place n (Final code))
+      subst (λ n. IsAnswered options (Came reply ∷ h) x.ticket n (Final code))
           (number-of command.1.verb reply.code code em) said,
       tt,
     )
@@ -305,7 +305,7 @@ right-step : (options : Options) (h : List Event) (e : Event)
     → AllByRecursion (IsRight options (e ∷ h)) (ends_by options h e) → AllRight options h → AllRight options (e ∷ h)
 right-step options h e now all =
     let earlier =
-    All-map (IsRight options h) (IsRight options (e ∷ h)) (λ x r. right-more options h e x.place x.outcome r)
+    All-map (IsRight options h) (IsRight options (e ∷ h)) (λ x r. right-more options h e x.ticket x.outcome r)
     (ends options h) all in
     subst (λ xs. AllByRecursion (IsRight options (e ∷ h)) xs) (sym (ends-more options h e))
     (All-append (IsRight options (e ∷ h)) (ends options h) (ends_by options h e) earlier now)

@@ -3,14 +3,14 @@ use Rattle.std.proofs.Common.{◌≡◌, ℕ, ◌+◌, ◌≤◌, Bool, true, fa
 use Rattle.std.specs.Prelude.{◌==◌, ◌&&◌, if◌then◌else◌, option_map}
 use Rattle.std.specs.Set.{remove_key}
 use Rattle.reply_reader.specs.Stream.{Given}
-use Rattle.conn_core.specs.Used.{first_left, left_from, times, with_place}
+use Rattle.conn_core.specs.Used.{first_left, left_from, times, with_ticket}
 use Rattle.conn_core.specs.Commands.{Ask, Asks, Handing, Want, is_of}
 use Rattle.conn_core.specs.History.{Event, Came, Handed, Put, answered, answered_ask, asks, first_want, is_streaming, phase, story, wanted, window}
 use Rattle.conn_laws.specs.Laws.{fits_in, times_asked}
 use Rattle.conn_core.specs.declared.codes.Verb.{Verb}
 use Rattle.conn_core.specs.declared.options.Options.{Options}
-use Rattle.conn_core.proofs.UsedUp.{AllBelow, find-left_from, left_from-append, left_from-used}
-use Rattle.conn_core.proofs.Facts.{answered_below, handed_below}
+use Rattle.conn_core.specs.UsedLaws.{AllBelow, find-left_from, left_from-append, left_from-used}
+use Rattle.conn_core.specs.StoryLaws.{answered_below, handed_below}
 use Rattle.conn_laws.proofs.Right.{answer_in}
 
 module _ {A : Type 0} where
@@ -37,7 +37,7 @@ module _ {A : Type 0} where
   tally-removed f test [] a e = cc
   tally-removed f test (x ∷ xs) a e = removed-step (test x) f x a _ xs (remove_key test xs) e (tally-removed f test xs a)
 
-  -- one place more is used up
+  -- one ticket more is used up
   pub tally-used : (f : A → ℕ) (test : A → Bool) (used : List ℕ) (xs : List A) (i : ℕ) (a : A) → first_left test used 0 xs ≡ Some (i, a)
       → tally f (left_from 0 xs (i ∷ used)) + f a ≡ tally f (left_from 0 xs used)
   tally-used f test used xs i a e =
@@ -52,13 +52,13 @@ module _ {A : Type 0} where
       let parts = tally-append f (left_from 0 xs used) (x ∷ []) in
       omega arith
 
-  pub times-tally : (place : A → ℕ) (xs : List A) (p : ℕ) → times (map place xs) p ≡ tally (λ x. if place x == p then 1 else 0) xs
-  times-tally place [] p = refl
-  times-tally place (x ∷ xs) p = ap (λ n. (if place x == p then 1 else 0) + n) (times-tally place xs p)
+  pub times-tally : (ticket : A → ℕ) (xs : List A) (p : ℕ) → times (map ticket xs) p ≡ tally (λ x. if ticket x == p then 1 else 0) xs
+  times-tally ticket [] p = refl
+  times-tally ticket (x ∷ xs) p = ap (λ n. (if ticket x == p then 1 else 0) + n) (times-tally ticket xs p)
 
--- what a command counts that is about the debt at a place and has such a verb
+-- what a command counts that is about the debt at a ticket and has such a verb
 abbrev pub asked : (Verb → Bool) → ℕ → Ask → ℕ
-asked test p ask = if test ask.verb && ask.place == p then 1 else 0
+asked test p ask = if test ask.verb && ask.ticket == p then 1 else 0
 
 pub asked-tally : (test : Verb → Bool) (p : ℕ) (xs : List Ask) → times_asked test p xs ≡ tally (asked test p) xs
 asked-tally test p [] = refl
@@ -76,12 +76,12 @@ window-put options f g ask = tally-more f (answered options g) (asks g) ask (ans
 pub window-came : (options : Options) (f : Ask → ℕ) (h : List Event) (reply : Given) (command : ℕ × Ask) → answered_ask options h reply ≡ Some command
     → tally f (window options (Came reply ∷ h)) + f command.1 ≡ tally f (window options h)
 window-came options f h reply command e =
-    subst (λ (o : Option (ℕ × Ask)). tally f (left_from 0 (asks h) (with_place o (answered options h))) + f command.1 ≡ tally f (window options h)) (sym e)
+    subst (λ (o : Option (ℕ × Ask)). tally f (left_from 0 (asks h) (with_ticket o (answered options h))) + f command.1 ≡ tally f (window options h)) (sym e)
     (tally-used f (fits_in (is_streaming (phase options h)) reply) (answered options h) (asks h) command.0 command.1
     (answer_in (phase options h) reply (answered options h) (asks h) command e))
 
 pub window-none : (options : Options) (h : List Event) (reply : Given) → answered_ask options h reply ≡ None → window options (Came reply ∷ h) ≡ window options h
-window-none options h reply e = ap (λ (o : Option (ℕ × Ask)). left_from 0 (asks h) (with_place o (answered options h))) e
+window-none options h reply e = ap (λ (o : Option (ℕ × Ask)). left_from 0 (asks h) (with_ticket o (answered options h))) e
 
 -- an article is wanted
 pub wanted-more : (options : Options) (f : Want → ℕ) (h : List Event) (want : Want)
@@ -93,11 +93,11 @@ pub wanted-handed : (options : Options) (f : Want → ℕ) (h : List Event) (num
     → tally f (wanted options (Handed number handing ∷ h)) + f want.1 ≡ tally f (wanted options h)
 unfolding story
 wanted-handed options f h number handing want e =
-    subst (λ (o : Option (ℕ × Want)). tally f (left_from 0 (story options h).wants (with_place o (story options h).handed)) + f want.1 ≡ tally f (wanted options h)) (sym e)
+    subst (λ (o : Option (ℕ × Want)). tally f (left_from 0 (story options h).wants (with_ticket o (story options h).handed)) + f want.1 ≡ tally f (wanted options h)) (sym e)
     (tally-used f (is_of number) (story options h).handed (story options h).wants want.0 want.1 e)
 
 pub wanted-none : (options : Options) (h : List Event) (number : ℕ) (handing : Handing) → first_want (story options h) number ≡ None
     → wanted options (Handed number handing ∷ h) ≡ wanted options h
 unfolding story
 wanted-none options h number handing e =
-    ap (λ (o : Option (ℕ × Want)). left_from 0 (story options h).wants (with_place o (story options h).handed)) e
+    ap (λ (o : Option (ℕ × Want)). left_from 0 (story options h).wants (with_ticket o (story options h).handed)) e

@@ -11,24 +11,24 @@ use Rattle.conn_core.specs.Used.{left_from}
 use Rattle.conn_core.specs.Commands.{Ask, Command, Asks, Handing, Sendable, Gone, Unsendable, Held, Want, ask_with, block_of, check_of, held_for, is_at, want_of}
 use Rattle.conn_core.specs.History.{Event, Offered, Put, Came, Faulted, Handed, Sent, Tick, Broke, Leave, Taken, accepted, answered, answered_ask, asks, after, first_want, held, is_streaming, newcomer, phase, puts_answer, puts_article, puts_block, puts_greeting, reason, story, wanted, wants_at_once, wants_by_answer, window, with_puts}
 use Rattle.conn_laws.specs.Laws.{is_verb, offers_article, sends_block, times_asked}
-use Rattle.conn_core.specs.Stands.{Arises, Starts, Offers, Receives_reply, Receives_fault, Is_handed, Sends, Ticks, Breaks, Leaves, Takes_one}
+use Rattle.conn_core.specs.Stands.{Arises, Starts, Goes_on}
 use Rattle.conn_core.specs.declared.codes.Verb.{Verb}
 use Rattle.conn_core.specs.declared.codes.Verb.TheVariants.{Check, Takethis, Ihave, Block}
 use Rattle.conn_core.specs.declared.codes.Meaning.{Meaning}
 use Rattle.conn_core.specs.declared.codes.Meaning.TheVariants.{Wanted, SendBlock, Later, Final}
 use Rattle.conn_core.specs.declared.options.Options.{Options}
 use Rattle.conn_laws.proofs.Behind.{article-none, greeting-none, holds-after, holds-greeted}
-use Rattle.conn_core.proofs.HeldBack.{find-is_at}
+use Rattle.conn_core.specs.HeldLaws.{find-is_at}
 use Rattle.conn_laws.proofs.Tallies.{asked, asked-tally, asks-put, tally, tally-least, wanted-handed, wanted-more, wanted-none, window-came, window-none, window-put}
 
--- 1 for this place
+-- 1 for this ticket
 abbrev pub one_at : ℕ → ℕ → ℕ
-one_at p place = if place == p then 1 else 0
+one_at p ticket = if ticket == p then 1 else 0
 
 abbrev pub wants_at : ℕ → Want → ℕ
-wants_at p want = one_at p want.place
+wants_at p want = one_at p want.ticket
 
--- 1 while no debt has been accepted at the place
+-- 1 while no debt has been accepted at the ticket
 abbrev pub to_come : ℕ → ℕ → ℕ
 to_come p count = if nat_lt p count then 0 else 1
 
@@ -88,9 +88,9 @@ new-want p n m out open_ones wants more e grown b =
     let x = b.blocks in
     record { checks = omega (arith, less, k); offered = omega (arith, less, grown, o); blocks = omega (arith, less, grown, x) }
 
-new-check : (p m : ℕ) (out open_ones : List Ask) (wants : List Want) (x : Held) → m ≡ x.place + 1 → Budget p x.place out open_ones wants → Room p m out open_ones wants (check_of x)
+new-check : (p m : ℕ) (out open_ones : List Ask) (wants : List Want) (x : Held) → m ≡ x.ticket + 1 → Budget p x.ticket out open_ones wants → Room p m out open_ones wants (check_of x)
 new-check p m out open_ones wants x e b =
-    let less = comes p x.place m e in
+    let less = comes p x.ticket m e in
     let k = b.checks in
     let o = b.offered in
     let z = b.blocks in
@@ -145,9 +145,9 @@ block-ihave Block code e =
     meant-step (code == 235) (Final IhaveReceived) SendBlock _ (λ s. cc)
     (λ f. meant-step (code == 437) (Final IhaveRejected) SendBlock _ (λ s. cc) (λ g. meant-step (code == 436) Later SendBlock None (λ s. cc) (λ k. cc) g) f) e
 
-asked-is : (verb : Verb) (p : ℕ) (a : Ask) → is_verb verb verb ≡ true → a.verb ≡ verb → asked (is_verb verb) p a ≡ one_at p a.place
+asked-is : (verb : Verb) (p : ℕ) (a : Ask) → is_verb verb verb ≡ true → a.verb ≡ verb → asked (is_verb verb) p a ≡ one_at p a.ticket
 asked-is verb p a same e =
-    ap (λ v. if is_verb verb v && (a.place == p) then 1 else 0) e ∙ ap (λ b. if b && (a.place == p) then 1 else 0) same
+    ap (λ v. if is_verb verb v && (a.ticket == p) then 1 else 0) e ∙ ap (λ b. if b && (a.ticket == p) then 1 else 0) same
 
 -- a command has an answer
 module _ (p n : ℕ) (out old new : List Ask) (wants : List Want) (a : Ask)
@@ -160,13 +160,13 @@ module _ (p n : ℕ) (out old new : List Ask) (wants : List Want) (a : Ask)
       let z = b.blocks in
       record { checks = k; offered = omega (arith, checks_less, o); blocks = omega (arith, checks_less, ihaves_less, z) }
 
-  answered-wanted : (want : Want) (more : List Want) → a.verb ≡ Check → want.place ≡ a.place → tally (wants_at p) more ≡ tally (wants_at p) wants + wants_at p want
+  answered-wanted : (want : Want) (more : List Want) → a.verb ≡ Check → want.ticket ≡ a.ticket → tally (wants_at p) more ≡ tally (wants_at p) wants + wants_at p want
       → Budget p n out new more
   answered-wanted want more is_check there grown =
       let k = b.checks in
       let o = b.offered in
       let z = b.blocks in
-      let one : asked (is_verb Check) p a ≡ one_at p want.place = asked-is Check p a refl is_check ∙ ap (one_at p) (sym there) in
+      let one : asked (is_verb Check) p a ≡ one_at p want.ticket = asked-is Check p a refl is_check ∙ ap (one_at p) (sym there) in
       record { checks = k; offered = omega (arith, checks_less, grown, one, o); blocks = omega (arith, checks_less, ihaves_less, grown, one, z) }
 
   answered-block : a.verb ≡ Ihave → Room p n out new wants (block_of a)
@@ -174,7 +174,7 @@ module _ (p n : ℕ) (out old new : List Ask) (wants : List Want) (a : Ask)
       let k = b.checks in
       let o = b.offered in
       let z = b.blocks in
-      let one : asked (is_verb Ihave) p a ≡ one_at p a.place = asked-is Ihave p a refl is_ihave in
+      let one : asked (is_verb Ihave) p a ≡ one_at p a.ticket = asked-is Ihave p a refl is_ihave in
       record { checks = omega (arith, k); offered = omega (arith, checks_less, o); blocks = omega (arith, checks_less, ihaves_less, one, z) }
 
 -- what is wanted behind a reply
@@ -201,7 +201,7 @@ module _ (options : Options) (p : ℕ) (h : List Event) (reply : Given) (command
   came-quiet none =
       subst (λ v. Budget p (length (accepted h)) (asks h) (window options (Came reply ∷ h)) v) (sym (came-nothing options h reply (Some command) e none)) came-less
 
-  came-puts : (m : Option Meaning) (o : Option Held) → meaning command.1.verb reply.code ≡ m → find (is_at command.1.place) (held options h) ≡ o
+  came-puts : (m : Option Meaning) (o : Option Held) → meaning command.1.verb reply.code ≡ m → find (is_at command.1.ticket) (held options h) ≡ o
       → Keeps options p (with_puts (puts_block m command.1) (Came reply ∷ h))
   came-puts None o em eo = came-quiet (rw em refl)
   came-puts (Some Later) o em eo = came-quiet (rw em refl)
@@ -214,7 +214,7 @@ module _ (options : Options) (p : ℕ) (h : List Event) (reply : Given) (command
       in
       answered-wanted p (length (accepted h)) (asks h) (window options h) (window options (Came reply ∷ h)) (wanted options h) command.1
       (window-came options (asked (is_verb Check) p) h reply command e) (window-came options (asked (is_verb Ihave) p) h reply command e) k (want_of x)
-      (wanted options (Came reply ∷ h)) (wanted-check command.1.verb reply.code em) (find-is_at command.1.place (held options h) x eo).0
+      (wanted options (Came reply ∷ h)) (wanted-check command.1.verb reply.code em) (find-is_at command.1.ticket (held options h) x eo).0
       (ap (tally (wants_at p)) all ∙ wanted-more options (wants_at p) h (want_of x))
   came-puts (Some SendBlock) o em eo =
       let room =
@@ -243,16 +243,16 @@ after-came options p h reply (Some command) e k =
 
 -- an article is handed in
 handed-ask : (p n : ℕ) (out open_ones : List Ask) (old new : List Want) (want : Want) (x : Held) (block : List ℕ) (streaming : Bool)
-    → tally (wants_at p) new + wants_at p want ≡ tally (wants_at p) old → x.place ≡ want.place → Budget p n out open_ones old
+    → tally (wants_at p) new + wants_at p want ≡ tally (wants_at p) old → x.ticket ≡ want.ticket → Budget p n out open_ones old
     → Room p n out open_ones new (ask_with streaming x block)
 handed-ask p n out open_ones old new want x block true less there b =
-    let one : one_at p x.place ≡ wants_at p want = ap (one_at p) there in
+    let one : one_at p x.ticket ≡ wants_at p want = ap (one_at p) there in
     let k = b.checks in
     let o = b.offered in
     let z = b.blocks in
     record { checks = omega (arith, k); offered = omega (arith, less, one, o); blocks = omega (arith, less, one, z) }
 handed-ask p n out open_ones old new want x block false less there b =
-    let one : one_at p x.place ≡ wants_at p want = ap (one_at p) there in
+    let one : one_at p x.ticket ≡ wants_at p want = ap (one_at p) there in
     let k = b.checks in
     let o = b.offered in
     let z = b.blocks in
@@ -267,12 +267,12 @@ handed-less p n out open_ones old new count less b =
     record { checks = k; offered = omega (arith, less, o); blocks = omega (arith, less, z) }
 
 handed-puts : (options : Options) (p : ℕ) (h : List Event) (number : ℕ) (handing : Handing) (want : ℕ × Want) (o : Option Held) → first_want (story options h) number ≡ Some want
-    → find (is_at want.1.place) (held options h) ≡ o → Keeps options p h
+    → find (is_at want.1.ticket) (held options h) ≡ o → Keeps options p h
     → Keeps options p (with_puts (puts_article (is_streaming (phase options h)) handing o) (Handed number handing ∷ h))
 handed-puts options p h number (Sendable block) want (Some x) e eo k =
     put-ask options p (Handed number (Sendable block) ∷ h) (ask_with (is_streaming (phase options h)) x block)
     (handed-ask p (length (accepted h)) (asks h) (window options h) (wanted options h) _ want.1 x block (is_streaming (phase options h))
-    (wanted-handed options (wants_at p) h number (Sendable block) want e) (find-is_at want.1.place (held options h) x eo).0 k)
+    (wanted-handed options (wants_at p) h number (Sendable block) want e) (find-is_at want.1.ticket (held options h) x eo).0 k)
 handed-puts options p h number (Sendable block) want None e eo k =
     handed-less p (length (accepted h)) (asks h) (window options h) (wanted options h) _ _ (wanted-handed options (wants_at p) h number (Sendable block) want e) k
 handed-puts options p h number Gone want o e eo k =
@@ -287,7 +287,7 @@ after-handed options p h number handing None e k =
     (ap (λ (o : Option (ℕ × Want)). puts_article (is_streaming (phase options h)) handing (held_for (held options h) (option_map (λ (w : ℕ × Want). w.1) o))) e ∙ article-none (is_streaming (phase options h)) handing)
     (subst (λ v. Budget p (length (accepted h)) (asks h) (window options h) v) (sym (wanted-none options h number handing e)) k)
 after-handed options p h number handing (Some want) e k =
-    holds-after options (Keeps options p) (put-other options p) h (Handed number handing) (puts_article (is_streaming (phase options h)) handing (find (is_at want.1.place) (held options h)))
+    holds-after options (Keeps options p) (put-other options p) h (Handed number handing) (puts_article (is_streaming (phase options h)) handing (find (is_at want.1.ticket) (held options h)))
     (ap (λ (o : Option (ℕ × Want)). puts_article (is_streaming (phase options h)) handing (held_for (held options h) (option_map (λ (w : ℕ × Want). w.1) o))) e)
     (handed-puts options p h number handing want _ e refl k)
 
@@ -333,20 +333,21 @@ start-keeps options p =
 
 keeps : (options : Options) (p : ℕ) (h : List Event) → Arises options h → Keeps options p h
 keeps options p h Starts = start-keeps options p
-keeps options p h (Offers g debt a ready) = after-offered options p g debt _ refl (keeps options p g a)
-keeps options p h (Receives_reply g reply a) =
+keeps options p h (Goes_on g (Offered debt) a ready) = after-offered options p g debt _ refl (keeps options p g a)
+keeps options p h (Goes_on g (Came reply) a can) =
     either options p (is_some (reason options g)) g (after options g (Came reply)) (keeps options p g a) (after-came options p g reply _ refl (keeps options p g a))
-keeps options p h (Receives_fault g fault a) =
+keeps options p h (Goes_on g (Faulted fault) a can) =
     either options p (is_some (reason options g)) g (after options g (Faulted fault)) (keeps options p g a) (after-faulted options p g fault (keeps options p g a))
-keeps options p h (Is_handed g number handing a some) = after-handed options p g number handing _ refl (keeps options p g a)
-keeps options p h (Sends g count a few) = sent-keeps options p g count (is_some (reason options g)) (keeps options p g a)
-keeps options p h (Ticks g now a) =
+keeps options p h (Goes_on g (Handed number handing) a some) = after-handed options p g number handing _ refl (keeps options p g a)
+keeps options p h (Goes_on g (Sent count) a few) = sent-keeps options p g count (is_some (reason options g)) (keeps options p g a)
+keeps options p h (Goes_on g (Tick now) a can) =
     either options p (is_some (reason options g)) g (after options g (Tick now)) (keeps options p g a) (after-tick options p g now (keeps options p g a))
-keeps options p h (Breaks g a) =
+keeps options p h (Goes_on g Broke a can) =
     either options p (is_some (reason options g)) g (after options g Broke) (keeps options p g a) (after-broke options p g (keeps options p g a))
-keeps options p h (Leaves g a) =
+keeps options p h (Goes_on g Leave a can) =
     either options p (is_some (reason options g)) g (after options g Leave) (keeps options p g a) (after-leave options p g (keeps options p g a))
-keeps options p h (Takes_one g a few) = taken-keeps options p g (keeps options p g a)
+keeps options p h (Goes_on g (Put command) a never) = absurd never
+keeps options p h (Goes_on g Taken a few) = taken-keeps options p g (keeps options p g a)
 
 -- one of two verbs is the other
 less-step : (a b c : Bool) → (a ≡ true → b ≡ true) → (if a && c then 1 else 0) ≤ (if b && c then 1 else 0)
@@ -374,7 +375,7 @@ is-block Block e = refl
 offers-once : (options : Options) (p : ℕ) (verb : Verb) (h : List Event) → offers_article verb ≡ true → Arises options h → tally (asked (is_verb verb) p) (asks h) ≤ 1
 offers-once options p verb h o a =
     let k = (keeps options p h a).offered in
-    let less = tally-least (asked (is_verb verb) p) (asked offers_article p) (λ ask. less-step (is_verb verb ask.verb) (offers_article ask.verb) (ask.place == p) (is-offer verb ask.verb o)) (asks h) in
+    let less = tally-least (asked (is_verb verb) p) (asked offers_article p) (λ ask. less-step (is_verb verb ask.verb) (offers_article ask.verb) (ask.ticket == p) (is-offer verb ask.verb o)) (asks h) in
     omega (arith, k, less)
 
 blocks-once : (options : Options) (p : ℕ) (h : List Event) → Arises options h → tally (asked sends_block p) (asks h) ≤ 1
@@ -386,14 +387,14 @@ verb-once options p Takethis h a = offers-once options p Takethis h refl a
 verb-once options p Ihave h a = offers-once options p Ihave h refl a
 verb-once options p Block h a =
     let k = blocks-once options p h a in
-    let less = tally-least (asked (is_verb Block) p) (asked sends_block p) (λ ask. less-step (is_verb Block ask.verb) (sends_block ask.verb) (ask.place == p) (is-block ask.verb)) (asks h) in
+    let less = tally-least (asked (is_verb Block) p) (asked sends_block p) (λ ask. less-step (is_verb Block ask.verb) (sends_block ask.verb) (ask.ticket == p) (is-block ask.verb)) (asks h) in
     omega (arith, k, less)
 
-pub asked_once : (options : Options) (h : List Event) (place : ℕ) (verb : Verb) → Arises options h → times_asked (is_verb verb) place (asks h) ≤ 1
-asked_once options h place verb a = rw (asked-tally (is_verb verb) place (asks h)) (verb-once options place verb h a)
+pub asked_once : (options : Options) (h : List Event) (ticket : ℕ) (verb : Verb) → Arises options h → times_asked (is_verb verb) ticket (asks h) ≤ 1
+asked_once options h ticket verb a = rw (asked-tally (is_verb verb) ticket (asks h)) (verb-once options ticket verb h a)
 
-pub sent_once : (options : Options) (h : List Event) (place : ℕ) → Arises options h → times_asked sends_block place (asks h) ≤ 1
-sent_once options h place a = rw (asked-tally sends_block place (asks h)) (blocks-once options place h a)
+pub sent_once : (options : Options) (h : List Event) (ticket : ℕ) → Arises options h → times_asked sends_block ticket (asks h) ≤ 1
+sent_once options h ticket a = rw (asked-tally sends_block ticket (asks h)) (blocks-once options ticket h a)
 
-pub offered_once : (options : Options) (h : List Event) (place : ℕ) → Arises options h → times_asked offers_article place (asks h) ≤ 1
-offered_once options h place a = rw (asked-tally offers_article place (asks h)) (let k = (keeps options place h a).offered in omega (arith, k))
+pub offered_once : (options : Options) (h : List Event) (ticket : ℕ) → Arises options h → times_asked offers_article ticket (asks h) ≤ 1
+offered_once options h ticket a = rw (asked-tally offers_article ticket (asks h)) (let k = (keeps options ticket h a).offered in omega (arith, k))

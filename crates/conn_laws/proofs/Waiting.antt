@@ -16,8 +16,8 @@ use Rattle.funnel.specs.declared.line.LineFault.TheVariants.{NoToken, BadToken, 
 use Rattle.reply_reader.specs.Reply.{IsReplyLine}
 use Rattle.reply_reader.specs.Stream.{BeginsWithNoReply, BeginsWithReply, Given, IsFaulty, IsShort, IsTooLong}
 use Rattle.reply_reader.specs.Stream.{longest_reply}
-use Rattle.reply_reader.proofs.Ends.{long-front, long-line, part-is-not-long, short-is-not-long}
-use Rattle.reply_reader.proofs.Lines.{line-apart, line-either}
+use Rattle.reply_reader.specs.LengthLaws.{long-front, long-line, part-is-not-long, short-is-not-long}
+use Rattle.reply_reader.specs.LineLaws.{line-apart, line-either}
 
 pub long-apart : (unread : List ℕ) → IsTooLong unread → BeginsWithNoReply unread → ⊥
 long-apart unread long (line, rest, e, short, none) = short-is-not-long unread line rest e short long

@@ -10,7 +10,7 @@ use Rattle.conn_core.specs.Used.{has, times}
 use Rattle.ledger_core.specs.declared.note.Cause.{Cause}
 use Rattle.ledger_core.specs.declared.note.Cause.TheVariants.{Missing, Unsendable as Unfit}
 use Rattle.conn_core.specs.Commands.{Ask, Command, ModeStream, Asks, Quit, Handing, Sendable, Gone, Unsendable, Held, Want, block_of, check_of, debt_in, fits_ask, belongs_to}
-use Rattle.conn_core.specs.History.{Event, Offered, Put, Came, Faulted, Handed, Sent, Tick, Broke, Leave, Taken, End, accepted, asks, answered, checks, closes, ends, ended_places, held, is_mode, is_streaming, newcomer, phase, reason, wanted, window, story, first_want}
+use Rattle.conn_core.specs.History.{Event, Offered, Put, Came, Faulted, Handed, Sent, Tick, Broke, Leave, Taken, End, accepted, asks, answered, checks, closes, ends, ended_tickets, held, is_mode, is_streaming, newcomer, phase, reason, wanted, window, story, first_want}
 use Rattle.conn_core.specs.declared.codes.Verb.{Verb}
 use Rattle.conn_core.specs.declared.codes.Verb.TheVariants.{Check, Takethis, Ihave, Block}
 use Rattle.conn_core.specs.declared.codes.Meaning.{Meaning}
@@ -19,31 +19,31 @@ use Rattle.conn_core.specs.declared.options.Options.{Options}
 use Rattle.conn_core.specs.declared.outcome.Outcome.{Outcome}
 use Rattle.conn_core.specs.declared.outcome.Outcome.TheVariants.{Final as Ended_by, Deferred, Lost, Back}
 
--- how often the debt at a place came out (profile)
+-- how often the debt at a ticket came out (profile)
 abbrev pub times_out : Options → List Event → ℕ → ℕ
-times_out options h place = times (ended_places (ends options h)) place
+times_out options h ticket = times (ended_tickets (ends options h)) ticket
 
 -- how often it is among those held (profile)
 abbrev pub times_held : Options → List Event → ℕ → ℕ
-times_held options h place = times (map (λ (x : Held). x.place) (held options h)) place
+times_held options h ticket = times (map (λ (x : Held). x.ticket) (held options h)) ticket
 
 -- how many commands about it have no answer (profile)
 abbrev pub open_commands : Options → List Event → ℕ → ℕ
-open_commands options h place = times (map (λ (ask : Ask). ask.place) (window options h)) place
+open_commands options h ticket = times (map (λ (ask : Ask). ask.ticket) (window options h)) ticket
 
 -- how many articles are wanted for it (profile)
 abbrev pub open_wants : Options → List Event → ℕ → ℕ
-open_wants options h place = times (map (λ (want : Want). want.place) (wanted options h)) place
+open_wants options h ticket = times (map (λ (want : Want). want.ticket) (wanted options h)) ticket
 
--- each command about a debt names the message-id of the debt that was accepted at its place (RFC 4644, sections 2.4 and
+-- each command about a debt names the message-id of the debt that was accepted at its ticket (RFC 4644, sections 2.4 and
 -- 2.5)
 abbrev pub AllNameTheirDebt : List Event → Type 0
 AllNameTheirDebt h =
-    AllByRecursion (λ (ask : Ask). option_map (λ (debt : Owing). debt.1.1) (slice_get (accepted h) ask.place) ≡ Some ask.id) (asks h)
+    AllByRecursion (λ (ask : Ask). option_map (λ (debt : Owing). debt.1.1) (slice_get (accepted h) ask.ticket) ≡ Some ask.id) (asks h)
 
--- each outcome is about the very debt that was accepted at its place (profile)
+-- each outcome is about the very debt that was accepted at its ticket (profile)
 abbrev pub AllAreTheirOwn : Options → List Event → Type 0
-AllAreTheirOwn options h = AllByRecursion (λ (x : End). slice_get (accepted h) x.place ≡ Some (debt_in x.outcome)) (ends options h)
+AllAreTheirOwn options h = AllByRecursion (λ (x : End). slice_get (accepted h) x.ticket ≡ Some (debt_in x.outcome)) (ends options h)
 
 -- whether a reply fits a command: in streaming mode by its code and its id, else by its code (RFC 4644, sections 2.4 and
 -- 2.5; RFC 3977, section 6.3.2)
@@ -66,9 +66,9 @@ FitsNoneOpen options h reply =
     (k : ℕ) (ask : Ask) → slice_get (asks h) k ≡ Some ask → fits_in (is_streaming (phase options h)) reply ask ≡ true
     → has (answered options h) k ≡ true
 
--- a reply, when it came, answered a command about the debt at that place, and its code meant this; the connection was open
+-- a reply, when it came, answered a command about the debt at that ticket, and its code meant this; the connection was open
 -- (RFC 3977, section 3.2)
-pub record IsAnswered (options : Options) (h : List Event) (place : ℕ) (code : ℕ) (says : Meaning) : Type 0 where
+pub record IsAnswered (options : Options) (h : List Event) (ticket : ℕ) (code : ℕ) (says : Meaning) : Type 0 where
   pub later : List Event
   pub earlier : List Event
   pub reply : Given
@@ -76,7 +76,7 @@ pub record IsAnswered (options : Options) (h : List Event) (place : ℕ) (code :
   pub split : h ≡ later ++ Came reply ∷ earlier
   pub running : reason options earlier ≡ None
   pub first : IsFirstOpen options earlier reply command
-  pub about : command.1.place ≡ place
+  pub about : command.1.ticket ≡ ticket
   pub code_is : reply.code ≡ code
   pub meant : meaning command.1.verb code ≡ Some says
 
@@ -88,7 +88,7 @@ cause_of Unsendable = Some Unfit
 
 -- an article of the debt's number was handed in for that very debt, whose want was the first of the number, and this was why
 -- it is lost (profile)
-pub record IsLost (options : Options) (h : List Event) (place : ℕ) (debt : Owing) (cause : Cause) : Type 0 where
+pub record IsLost (options : Options) (h : List Event) (ticket : ℕ) (debt : Owing) (cause : Cause) : Type 0 where
   pub later : List Event
   pub earlier : List Event
   pub number : ℕ
@@ -97,31 +97,31 @@ pub record IsLost (options : Options) (h : List Event) (place : ℕ) (debt : Owi
   pub split : h ≡ later ++ Handed number handing ∷ earlier
   pub running : reason options earlier ≡ None
   pub first : first_want (story options earlier) number ≡ Some want
-  pub about : want.1.place ≡ place
+  pub about : want.1.ticket ≡ ticket
   pub numbered : debt.0 ≡ number
   pub caused : cause_of handing ≡ Some cause
 
 -- the connection was open and held the debt, and then something came that closed it (profile)
-pub record IsReturned (options : Options) (h : List Event) (place : ℕ) : Type 0 where
+pub record IsReturned (options : Options) (h : List Event) (ticket : ℕ) : Type 0 where
   pub later : List Event
   pub earlier : List Event
   pub event : Event
   pub split : h ≡ later ++ event ∷ earlier
   pub running : reason options earlier ≡ None
   pub closing : is_some (closes options earlier event) ≡ true
-  pub was_held : times_held options earlier place ≡ 1
+  pub was_held : times_held options earlier ticket ≡ 1
 
 -- an outcome is right: a final answer says what the verdict says, and a later answer what the deferral does; an article that is
 -- lost was handed in as that; what comes back was held as the connection was closed (RFC 3977, section 6.3.2; RFC 4644, section 2)
 abbrev pub IsRightAt : Options → List Event → ℕ → Outcome → Type 0
-IsRightAt options h place (Ended_by verdict) = IsAnswered options h place (code_number verdict.code) (Final verdict.code)
-IsRightAt options h place (Deferred deferral) = (code : ℕ) × IsAnswered options h place code Later
-IsRightAt options h place (Lost debt cause) = IsLost options h place debt cause
-IsRightAt options h place (Back debt) = IsReturned options h place
+IsRightAt options h ticket (Ended_by verdict) = IsAnswered options h ticket (code_number verdict.code) (Final verdict.code)
+IsRightAt options h ticket (Deferred deferral) = (code : ℕ) × IsAnswered options h ticket code Later
+IsRightAt options h ticket (Lost debt cause) = IsLost options h ticket debt cause
+IsRightAt options h ticket (Back debt) = IsReturned options h ticket
 
 -- each outcome of a transcript is right (profile)
 abbrev pub AllRight : Options → List Event → Type 0
-AllRight options h = AllByRecursion (λ (x : End). IsRightAt options h x.place x.outcome) (ends options h)
+AllRight options h = AllByRecursion (λ (x : End). IsRightAt options h x.ticket x.outcome) (ends options h)
 
 -- whether a debt came back (profile)
 abbrev pub is_back : Outcome → Bool
@@ -138,23 +138,23 @@ pub record ReturnsLast (options : Options) (h : List Event) : Type 0 where
   pub split : ends options h ≡ found ++ returned
   pub none_back : AllByRecursion (λ (x : End). is_back x.outcome ≡ false) found
   pub all_back : AllByRecursion (λ (x : End). is_back x.outcome ≡ true) returned
-  pub in_order : IsStrictlyIncreasing (ended_places returned)
+  pub in_order : IsStrictlyIncreasing (ended_tickets returned)
   pub while_open : reason options h ≡ None → returned ≡ []
 
--- the debt at that place was accepted in IHAVE mode, or while checks were off (RFC 4644, section 2.5; innfeed.conf(5),
+-- the debt at that ticket was accepted in IHAVE mode, or while checks were off (RFC 4644, section 2.5; innfeed.conf(5),
 -- no-check-high)
-pub record IsUnchecked (options : Options) (h : List Event) (place : ℕ) : Type 0 where
+pub record IsUnchecked (options : Options) (h : List Event) (ticket : ℕ) : Type 0 where
   pub later : List Event
   pub earlier : List Event
   pub debt : Owing
   pub split : h ≡ later ++ Offered debt ∷ earlier
-  pub about : length (accepted earlier) ≡ place
+  pub about : length (accepted earlier) ≡ ticket
   pub mode : is_mode (phase options earlier) ≡ true
   pub off : (is_streaming (phase options earlier) ≡ false) ⊎ (checks options earlier ≡ false)
 
--- why the article of the debt at that place is wanted: no CHECK goes before it, or 238 answered the CHECK (RFC 4644, section 2.4)
+-- why the article of the debt at that ticket is wanted: no CHECK goes before it, or 238 answered the CHECK (RFC 4644, section 2.4)
 abbrev pub IsWanted : Options → List Event → ℕ → Type 0
-IsWanted options h place = IsUnchecked options h place ⊎ IsAnswered options h place 238 Wanted
+IsWanted options h ticket = IsUnchecked options h ticket ⊎ IsAnswered options h ticket 238 Wanted
 
 -- a CHECK of the debt that is accepted now, in streaming mode while checks are on (RFC 4644, section 2.4; innfeed.conf(5),
 -- no-check-high)
@@ -168,8 +168,8 @@ pub record IsCheckOf (options : Options) (h : List Event) (debt : Owing) (ask : 
 pub record IsHandedFor (options : Options) (h : List Event) (number : ℕ) (handing : Handing) (ask : Ask) : Type 0 where
   pub want : ℕ × Want
   pub first : first_want (story options h) number ≡ Some want
-  pub about : want.1.place ≡ ask.place
-  pub reason : IsWanted options h ask.place
+  pub about : want.1.ticket ≡ ask.ticket
+  pub reason : IsWanted options h ask.ticket
   pub block : handing ≡ Sendable ask.block
   pub verb : ask.verb ≡ (if is_streaming (phase options h) then Takethis else Ihave)
 
@@ -223,10 +223,10 @@ offers_article Takethis = true
 offers_article Ihave = true
 offers_article Block = false
 
--- how many of these commands are about the debt at that place and have such a verb (profile)
+-- how many of these commands are about the debt at that ticket and have such a verb (profile)
 abbrev pub times_asked : (Verb → Bool) → ℕ → List Ask → ℕ
-times_asked test place [] = 0
-times_asked test place (ask ∷ asks) = (if test ask.verb && ask.place == place then 1 else 0) + times_asked test place asks
+times_asked test ticket [] = 0
+times_asked test ticket (ask ∷ asks) = (if test ask.verb && ask.ticket == ticket then 1 else 0) + times_asked test ticket asks
 
 -- whether it is MODE STREAM (RFC 4644, section 2.3)
 abbrev pub is_mode_stream : Command → Bool

@@ -4,8 +4,8 @@
 //! reading, or one fault.
 //!
 //! Runs nothing: each function has an empty body, and its contract is a law on the definitions of `conn_core`, above
-//! all `Stands` (`conn_core/specs/Stands.antt`), by which each call of `Conn` says what it makes of a transcript. The
-//! words that the laws add are in `specs/Laws.antt`. The crate stands beside the station and not below it: whoever
+//! all `StandsFor` (`conn_core/specs/Stands.antt`), by which each call of `Conn` says what it makes of a transcript.
+//! The words that the laws add are in `specs/Laws.antt`. The crate stands beside the station and not below it: whoever
 //! promises something of a whole exchange, and not of one call, cites these laws.
 #![tactic(auto)]
 
@@ -20,7 +20,7 @@ ghost use Rattle.conn_core.specs.Commands.{Ask, Handing};
 ghost use Rattle.conn_core.specs.History.{Event, Came, accepted, answered_ask, asks, closes};
 ghost use Rattle.conn_core.specs.History.{is_mode, phase, put_out, reason};
 ghost use Rattle.conn_core.specs.Receipt.{IsHandedAs, Receives};
-ghost use Rattle.conn_core.specs.Stands.{Arises, Stands};
+ghost use Rattle.conn_core.specs.Stands.{Arises, StandsFor};
 ghost use Rattle.conn_core.specs.State.{Holding};
 ghost use Rattle.conn_core.specs.declared.codes.Verb.{Verb};
 ghost use Rattle.conn_core.specs.declared.options.Options.{Options};
@@ -32,14 +32,15 @@ ghost use Rattle.conn_laws.specs.Laws.{open_commands, open_wants, times_asked, t
 /// Each debt accepted is held or came out, once: so it comes out at most once, and once closed exactly once. What
 /// comes out is the debt that was accepted.
 pub fn each_debt_comes_out_once()
-    ensures at_most { (options : Options) (h : List Event) (place : ℕ)
-        → times_out options h place ≤ 1 }
-    ensures held_or_out { (options : Options) (h : List Event) (place : ℕ)
-        → place < length (accepted h) → times_held options h place + times_out options h place ≡ 1 }
+    ensures at_most { (options : Options) (h : List Event) (ticket : ℕ)
+        → times_out options h ticket ≤ 1 }
+    ensures held_or_out { (options : Options) (h : List Event) (ticket : ℕ)
+        → ticket < length (accepted h)
+        → times_held options h ticket + times_out options h ticket ≡ 1 }
     ensures exactly { (options : Options) (conn : Holding) (unread : List ℕ) (h : List Event)
-        (place : ℕ) → Stands options conn unread h
-        → is_some (reason options h) ≡ true → place < length (accepted h)
-        → times_out options h place ≡ 1 }
+        (ticket : ℕ) → StandsFor options conn unread h
+        → is_some (reason options h) ≡ true → ticket < length (accepted h)
+        → times_out options h ticket ≡ 1 }
     ensures own { (options : Options) (h : List Event) → AllAreTheirOwn options h }
 {}
 
@@ -47,7 +48,7 @@ pub fn each_debt_comes_out_once()
 /// connection is open.
 pub fn returns_come_last_in_order()
     ensures { (options : Options) (conn : Holding) (unread : List ℕ) (h : List Event)
-        → Stands options conn unread h → ReturnsLast options h }
+        → StandsFor options conn unread h → ReturnsLast options h }
 {}
 
 /// A verdict is a final answer to a command about that very debt which had none, a deferral a later one; for a debt
@@ -57,7 +58,7 @@ pub fn returns_come_last_in_order()
 /// as one, exactly where it fits none.
 pub fn verdicts_are_right()
     ensures right { (options : Options) (conn : Holding) (unread : List ℕ) (h : List Event)
-        → Stands options conn unread h → AllRight options h }
+        → StandsFor options conn unread h → AllRight options h }
     ensures arises { (options : Options) (h : List Event) → Arises options h → AllRight options h }
     ensures first { (options : Options) (h : List Event) (reply : Given) (command : ℕ × Ask)
         → answered_ask options h reply ≡ Some command ↔ IsFirstOpen options h reply command }
@@ -72,37 +73,40 @@ pub fn verdicts_are_right()
 /// a 335 to its IHAVE.
 pub fn commands_have_their_cause()
     ensures { (options : Options) (conn : Holding) (unread : List ℕ) (h : List Event)
-        → Stands options conn unread h → AllHaveTheirCause options h }
+        → StandsFor options conn unread h → AllHaveTheirCause options h }
 {}
 
-/// Each command about a debt names the message-id of the debt that was accepted at its place.
+/// Each command about a debt names the message-id of the debt that was accepted at its ticket.
 pub fn commands_name_their_debts()
     ensures { (options : Options) (conn : Holding) (unread : List ℕ) (h : List Event)
-        → Stands options conn unread h → AllNameTheirDebt h }
+        → StandsFor options conn unread h → AllNameTheirDebt h }
 {}
 
 /// While the connection is open, each debt held has exactly one command without an answer or one wanted article, and
 /// no other debt has any.
 pub fn no_debt_is_forgotten()
-    ensures { (options : Options) (conn : Holding) (unread : List ℕ) (h : List Event) (place : ℕ)
-        → Stands options conn unread h → reason options h ≡ None
-        → open_commands options h place + open_wants options h place ≡ times_held options h place }
+    ensures { (options : Options) (conn : Holding) (unread : List ℕ) (h : List Event) (ticket : ℕ)
+        → StandsFor options conn unread h → reason options h ≡ None
+        → open_commands options h ticket + open_wants options h ticket
+        ≡ times_held options h ticket }
 {}
 
 /// Nothing is put out twice: no command of one verb about one debt, no block of one debt, neither MODE STREAM nor
 /// QUIT. And a debt gets a TAKETHIS or an IHAVE, never both.
 pub fn nothing_is_put_out_twice()
     ensures asks { (options : Options) (conn : Holding) (unread : List ℕ) (h : List Event)
-        (place : ℕ) (verb : Verb) → Stands options conn unread h
-        → times_asked (is_verb verb) place (asks h) ≤ 1 }
+        (ticket : ℕ) (verb : Verb) → StandsFor options conn unread h
+        → times_asked (is_verb verb) ticket (asks h) ≤ 1 }
     ensures blocks { (options : Options) (conn : Holding) (unread : List ℕ) (h : List Event)
-        (place : ℕ) → Stands options conn unread h → times_asked sends_block place (asks h) ≤ 1 }
+        (ticket : ℕ) → StandsFor options conn unread h
+        → times_asked sends_block ticket (asks h) ≤ 1 }
     ensures offers { (options : Options) (conn : Holding) (unread : List ℕ) (h : List Event)
-        (place : ℕ) → Stands options conn unread h → times_asked offers_article place (asks h) ≤ 1 }
+        (ticket : ℕ) → StandsFor options conn unread h
+        → times_asked offers_article ticket (asks h) ≤ 1 }
     ensures mode { (options : Options) (conn : Holding) (unread : List ℕ) (h : List Event)
-        → Stands options conn unread h → times_put is_mode_stream (put_out h) ≤ 1 }
+        → StandsFor options conn unread h → times_put is_mode_stream (put_out h) ≤ 1 }
     ensures quit { (options : Options) (conn : Holding) (unread : List ℕ) (h : List Event)
-        → Stands options conn unread h → times_put is_quit (put_out h) ≤ 1 }
+        → StandsFor options conn unread h → times_put is_quit (put_out h) ≤ 1 }
 {}
 
 /// The octets that come in decide, and not the pieces that they come in: two pieces, one after another, are what they

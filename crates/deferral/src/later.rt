@@ -57,7 +57,7 @@ impl Later {
     pub fn put(&mut self, number: u64, due: u64) -> Result<(), AllocError>
         requires { due_of self.old number ≡ None }
         ensures ok { OnOk result (self.new ≡ added self.old number (Some due)) }
-        ensures err { OnErr result (self.new ≡ self.old) }
+        ensures unchanged { OnErr result (self.new ≡ self.old) }
     {
         let entry = Entry {
             number,

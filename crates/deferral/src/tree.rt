@@ -173,7 +173,7 @@ impl Fork {
     fn put(&mut self, alloc: Global, entry: Entry) -> Result<(), AllocError>
         requires { due_of (both self.old) entry.number ≡ None }
         ensures ok { OnOk result (both self.new ≡ added (both self.old) entry.number entry.due) }
-        ensures err { OnErr result (both self.new ≡ both self.old) }
+        ensures unchanged { OnErr result (both self.new ≡ both self.old) }
     {
         if entry.number < self.split {
             self.left.put(alloc, entry)?;
@@ -314,7 +314,7 @@ impl Tree {
         requires { IsBeside split entry.number (waiting_in self.old) }
         ensures ok { OnOk result
             (waiting_in self.new ≡ added (waiting_in self.old) entry.number entry.due) }
-        ensures err { OnErr result (waiting_in self.new ≡ waiting_in self.old) }
+        ensures unchanged { OnErr result (waiting_in self.new ≡ waiting_in self.old) }
     {
         let leaf = Tree::Leaf(entry);
         let old = mem::replace(self, Tree::Leaf(entry));
@@ -343,7 +343,7 @@ impl Tree {
         requires { due_of (waiting_in self.old) entry.number ≡ None }
         ensures ok { OnOk result
             (waiting_in self.new ≡ added (waiting_in self.old) entry.number entry.due) }
-        ensures err { OnErr result (waiting_in self.new ≡ waiting_in self.old) }
+        ensures unchanged { OnErr result (waiting_in self.new ≡ waiting_in self.old) }
     {
         if let Some(split) = self.split_beside(entry.number) {
             return self.grow(alloc, entry, split);

@@ -28,7 +28,7 @@ pub struct MemDisk {
 fn keep(moments: &mut Vec<Moment>, moment: Moment) -> Result<(), NoMemory>
     ensures ok { OnOk result
         (log_of moments.new.items ≡ event_of moment ∷ log_of moments.old.items) }
-    ensures err { OnErr result (moments.new.items ≡ moments.old.items) }
+    ensures unchanged { OnErr result (moments.new.items ≡ moments.old.items) }
     ensures full { OnErr result (vec_capacity moments.old ≤ vec_len moments.old) }
 {
     moments.push(moment)?;
@@ -127,7 +127,7 @@ impl Disk for MemDisk {
         ensures log { Writes at from.now (events self.old) result (events self.new) }
         ensures cause { CountsFaults (faults_told self.old) (faults_told self.new) result }
         ensures quiet { OnOk result (faults_told self.new ≡ faults_told self.old) }
-        ensures refused { IsRefusedWhole self.old self.new result }
+        ensures unchanged { IsRefusedWhole self.old self.new result }
     {
         match self.try_write(at, from) {
             Ok(()) => Ok(()),
@@ -141,7 +141,7 @@ impl Disk for MemDisk {
         ensures log { Cuts len (events self.old) result (events self.new) }
         ensures cause { CountsFaults (faults_told self.old) (faults_told self.new) result }
         ensures quiet { OnOk result (faults_told self.new ≡ faults_told self.old) }
-        ensures refused { IsRefusedWhole self.old self.new result }
+        ensures unchanged { IsRefusedWhole self.old self.new result }
     {
         match self.try_cut(len) {
             Ok(()) => Ok(()),
@@ -154,7 +154,7 @@ impl Disk for MemDisk {
         ensures log { Syncs (events self.old) result (events self.new) }
         ensures cause { CountsFaults (faults_told self.old) (faults_told self.new) result }
         ensures quiet { OnOk result (faults_told self.new ≡ faults_told self.old) }
-        ensures refused { IsRefusedWhole self.old self.new result }
+        ensures unchanged { IsRefusedWhole self.old self.new result }
     {
         match keep(&mut self.moments, Moment::Sync) {
             Ok(()) => Ok(()),
@@ -228,7 +228,8 @@ impl MemDisk {
         requires { at ≤ length self.old.octets.items }
         ensures ok { OnOk result
             (log_of self.new.moments.items ≡ Wrote at from.now ∷ log_of self.old.moments.items) }
-        ensures err { OnErr result (log_of self.new.moments.items ≡ log_of self.old.moments.items) }
+        ensures unchanged { OnErr result
+            (log_of self.new.moments.items ≡ log_of self.old.moments.items) }
         ensures faults { self.new.faults ≡ self.old.faults }
     {
         let octets = Vec::from_slice(self.alloc, from)?;
@@ -242,7 +243,8 @@ impl MemDisk {
         requires { len ≤ length self.old.octets.items }
         ensures ok { OnOk result
             (log_of self.new.moments.items ≡ WasCut len ∷ log_of self.old.moments.items) }
-        ensures err { OnErr result (log_of self.new.moments.items ≡ log_of self.old.moments.items) }
+        ensures unchanged { OnErr result
+            (log_of self.new.moments.items ≡ log_of self.old.moments.items) }
         ensures faults { self.new.faults ≡ self.old.faults }
     {
         keep(&mut self.moments, Moment::Cut { len })?;

@@ -9,7 +9,7 @@ use crate::NoMemory;
 // a growth that is refused changes nothing.
 pub(crate) fn overwrite(octets: &mut Vec<u8>, at: usize, from: &[u8]) -> Result<(), NoMemory>
     ensures ok { OnOk result (octets.new.items ≡ overwritten octets.old.items at from.now) }
-    ensures err { OnErr result (octets.new.items ≡ octets.old.items) }
+    ensures unchanged { OnErr result (octets.new.items ≡ octets.old.items) }
 {
     let at = at.min(octets.len());
     let (within, behind) = from.split_at(from.len().min(octets.len() - at));

@@ -49,7 +49,7 @@ pub trait RawFile {
         ensures within { IfOk result (λ n. done + n ≤ length into.new) }
         ensures read { honest self.old → IsRead (content (log self.old)) at done into.old
             → IfOk result (λ n. IsRead (content (log self.old)) at (done + n) into.new) }
-        ensures waits { honest self.old → IsRead (content (log self.old)) at done into.old
+        ensures err { honest self.old → IsRead (content (log self.old)) at done into.old
             → OnErr result (IsRead (content (log self.old)) at done into.new) }
         ensures log { honest self.old → log self.new ≡ log self.old };
 

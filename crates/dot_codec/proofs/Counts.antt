@@ -3,7 +3,7 @@ use Rattle.std.proofs.Common.{◌≡◌, ℕ, ◌+◌, ◌-◌, ◌<◌, ◌≤�
 use Rattle.std.proofs.lemmas.List.{append-nil, take_at}
 use Rattle.dot_codec.specs.Lines.{IsLine, IsFirstLine, HasLines, text_of}
 use Rattle.dot_codec.specs.Block.{stuffed, written, end_of_block, IsLineForm, HasForms, IsReadForm}
-use Rattle.dot_codec.proofs.Texts.{lines_behind, none_of_nothing}
+use Rattle.dot_codec.specs.TextLaws.{lines_behind, none_of_nothing}
 use Rattle.dot_codec.proofs.Forms.{IsFinal, end_is_final, forms_once, forms_more, forms_behind, forms_follow, read_form_of}
 
 -- the lines before the rest of a text are written

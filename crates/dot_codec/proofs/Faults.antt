@@ -5,7 +5,7 @@ use Rattle.dot_codec.specs.Fault.{IsFaultAt, IsFaultyLine, HasBlockFault}
 use Rattle.dot_codec.specs.Scan.{EndsRun}
 use Rattle.dot_codec.specs.declared.fault.BlockFault.{BlockFault}
 use Rattle.dot_codec.specs.declared.fault.BlockFault.TheVariants.{Unfinished, BareCr, BareLf, Nul, NoMemory}
-use Rattle.dot_codec.proofs.Cuts.{cut_once}
+use Rattle.dot_codec.specs.TextLaws.{cut_once}
 use Rattle.dot_codec.proofs.Forms.{IsFinal, end_is_final, forms_once, forms_follow}
 
 fault_ends : (fault : BlockFault) (tail : List ℕ) → IsFaultAt fault tail → EndsRun tail

@@ -6,8 +6,7 @@ use Rattle.std.proofs.lemmas.List.{append_cancel_right, append_cancel_left}
 use Rattle.dot_codec.specs.Lines.{IsLine, HasLines}
 use Rattle.dot_codec.specs.Block.{begins_with_dot, stuffed, end_of_block, written, IsLineForm, HasForms, IsReadForm}
 use Rattle.dot_codec.specs.Scan.{EndsRun}
-use Rattle.dot_codec.proofs.Cuts.{cut_once, IsLine-cons}
-use Rattle.dot_codec.proofs.Texts.{lines_each}
+use Rattle.dot_codec.specs.TextLaws.{cut_once, IsLine-cons, lines_each}
 
 pub form_is_line : (line form : List ℕ) → IsLine line → IsLineForm line form → IsLine form
 form_is_line line form is_line is_form = elim is_form [

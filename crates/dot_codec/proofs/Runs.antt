@@ -8,10 +8,9 @@ use Rattle.dot_codec.specs.Lines.{is_line_octet, IsLine, IsFirstLine, HasLines}
 use Rattle.dot_codec.specs.Fault.{IsFaultyLine}
 use Rattle.dot_codec.specs.Scan.{IsStop, IsRun, EndsRun}
 use Rattle.dot_codec.specs.declared.fault.BlockFault.TheVariants.{BareCr}
-use Rattle.dot_codec.specs.declared.scan.Stop.{Stop}
-use Rattle.dot_codec.specs.declared.scan.Stop.TheVariants.{End, Nul, Lf, CrLf, Cr}
-use Rattle.dot_codec.proofs.Cuts.{cut_once}
-use Rattle.dot_codec.proofs.Texts.{EndsLine, EndsRun-from_line, tail_of}
+use Rattle.dot_codec.specs.declared.scan.RunEnd.{RunEnd}
+use Rattle.dot_codec.specs.declared.scan.RunEnd.TheVariants.{End, Nul, Lf, CrLf, Cr}
+use Rattle.dot_codec.specs.TextLaws.{cut_once, EndsLine, EndsRun-from_line, tail_of}
 
 line_before : (octets : List ℕ) (n : ℕ) → ((k : ℕ) → k < n → k < length octets → is_byte3 0 10 13 (get_or octets k 0) ≡ true → ⊥) → IsLine (take n octets)
 line_before [] zero none = refl
@@ -90,7 +89,7 @@ run_found octets line lf found first ends none =
     subst P is (line_found line (13 ∷ rest) (λ k below at. no_lf octets lf first k (omega arith) (ap (λ (o : List ℕ). is_byte 10 (get_or o k 0)) (sym is) ∙ at)) refl found none))
     ends
 
-stop_ends : (stop : Stop) (tail rest : List ℕ) → IsStop stop tail rest → EndsRun tail
+stop_ends : (stop : RunEnd) (tail rest : List ℕ) → IsStop stop tail rest → EndsRun tail
 stop_ends End tail rest is = subst EndsRun (sym is.0) tt
 stop_ends Nul tail rest is = subst EndsRun (sym is) refl
 stop_ends Lf tail rest is = subst EndsRun (sym is) refl
@@ -98,7 +97,7 @@ stop_ends CrLf tail rest is = subst EndsRun (sym is) refl
 stop_ends Cr tail rest is = subst EndsRun (sym is.0) refl
 
 -- a text that has a first line has it up to the first stop
-line_at_stop : (text run rest line next : List ℕ) (stop : Stop) → IsRun text run stop rest → IsFirstLine text line next → (tail : List ℕ) × IsStop stop tail rest × EndsLine tail next
+line_at_stop : (text run rest line next : List ℕ) (stop : RunEnd) → IsRun text run stop rest → IsFirstLine text line next → (tail : List ℕ) × IsStop stop tail rest × EndsLine tail next
 line_at_stop text run rest line next stop (tail, is, is_line, at) first =
     let other = tail_of text line next first in
     let cut = cut_once run line tail other.0 is_line first.0 (stop_ends stop tail rest at) (EndsRun-from_line other.0 next other.2) (sym is ∙ other.1) in

@@ -6,8 +6,7 @@ use Rattle.std.proofs.lemmas.List.{drop_all, append-nil}
 use Rattle.memchr.specs.Find.{is_byte2, places, places_from}
 use Rattle.dot_codec.specs.Lines.{is_line_octet, IsLine, HasLines}
 use Rattle.dot_codec.specs.Scan.{begins_with_crlf}
-use Rattle.dot_codec.proofs.Cuts.{IsLine-cons}
-use Rattle.dot_codec.proofs.Texts.{lines_behind}
+use Rattle.dot_codec.specs.TextLaws.{IsLine-cons, lines_behind}
 
 -- each NUL or CR is a CR directly before an LF
 abbrev clean : List ℕ → Bool

@@ -2,3 +2,4 @@ pub mod Block
 pub mod Fault
 pub mod Lines
 pub mod Scan
+pub mod TextLaws

@@ -1,11 +1,11 @@
 -- The first run of octets that a line may have, and what ends it.
 use Rattle.std.specs.Prelude.{◌≡◌, ◌≢◌, ◌==◌, ◌&&◌, ℕ, Bool, false, List, [], ◌∷◌, ◌++◌}
 use Rattle.dot_codec.specs.Lines.{is_line_octet, IsLine}
-use Rattle.dot_codec.specs.declared.scan.Stop.{Stop}
-use Rattle.dot_codec.specs.declared.scan.Stop.TheVariants.{End, Nul, Lf, CrLf, Cr}
+use Rattle.dot_codec.specs.declared.scan.RunEnd.{RunEnd}
+use Rattle.dot_codec.specs.declared.scan.RunEnd.TheVariants.{End, Nul, Lf, CrLf, Cr}
 
 -- the octets stand where a run ends: the stop, and behind it the rest
-abbrev pub IsStop : Stop → List ℕ → List ℕ → Type 0
+abbrev pub IsStop : RunEnd → List ℕ → List ℕ → Type 0
 IsStop End octets rest = (octets ≡ []) × (rest ≡ [])
 IsStop Nul octets rest = octets ≡ 0 ∷ rest
 IsStop Lf octets rest = octets ≡ 10 ∷ rest
@@ -13,7 +13,7 @@ IsStop CrLf octets rest = octets ≡ 13 ∷ 10 ∷ rest
 IsStop Cr octets rest = (octets ≡ 13 ∷ rest) × ((behind : List ℕ) → rest ≢ 10 ∷ behind)
 
 -- the octets begin with this run, ended by the stop, and behind that stands the rest
-abbrev pub IsRun : List ℕ → List ℕ → Stop → List ℕ → Type 0
+abbrev pub IsRun : List ℕ → List ℕ → RunEnd → List ℕ → Type 0
 IsRun octets run stop rest = (tail : List ℕ) × (octets ≡ run ++ tail) × IsLine run × IsStop stop tail rest
 
 -- a run ends here: nothing follows, or an octet that no line has

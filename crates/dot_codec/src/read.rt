@@ -6,7 +6,7 @@ ghost use Rattle.dot_codec.specs.Block.{IsLineForm, IsReadForm, end_of_block};
 ghost use Rattle.dot_codec.specs.Fault.{HasBlockFault, IsFaultyLine};
 
 use crate::fault::BlockFault;
-use crate::scan::{Line, Stop, first_run};
+use crate::scan::{Line, RunEnd, first_run};
 use std::alloc::{AllocError, Global};
 
 /// The lines of the block that the octets begin with, each with LF, and how many octets the block has; more octets may
@@ -34,7 +34,7 @@ pub fn from_block(alloc: Global, octets: &[u8]) -> Result<(Vec<u8>, usize), Bloc
     ensures bare_lf { IsErrOf result BlockFault.BareLf
         ↔ HasBlockFault octets.now BlockFault.BareLf }
     ensures nul { IsErrOf result BlockFault.Nul ↔ HasBlockFault octets.now BlockFault.Nul }
-    ensures memory { IsErrOf result BlockFault.NoMemory
+    ensures no_memory { IsErrOf result BlockFault.NoMemory
         → (lines : List (List ℕ)) × (form rest : List ℕ) × IsReadForm lines form
         × (octets.now ≡ form ++ rest) }
 {
@@ -99,18 +99,18 @@ fn next_line(octets: &[u8]) -> Result<Option<Line<'_>>, BlockFault>
 {
     let run = first_run(octets);
     match run.stop {
-        Stop::CrLf => match line_of(run.octets) {
+        RunEnd::CrLf => match line_of(run.octets) {
             Some(octets) => Ok(Some(Line {
                 octets,
                 rest: run.rest,
             })),
             None => Ok(None),
         },
-        Stop::Nul => Err(BlockFault::Nul),
-        Stop::Lf => Err(BlockFault::BareLf),
-        Stop::Cr if !run.rest.is_empty() => Err(BlockFault::BareCr),
-        Stop::Cr => Err(BlockFault::Unfinished),
-        Stop::End => Err(BlockFault::Unfinished),
+        RunEnd::Nul => Err(BlockFault::Nul),
+        RunEnd::Lf => Err(BlockFault::BareLf),
+        RunEnd::Cr if !run.rest.is_empty() => Err(BlockFault::BareCr),
+        RunEnd::Cr => Err(BlockFault::Unfinished),
+        RunEnd::End => Err(BlockFault::Unfinished),
     }
 }
 

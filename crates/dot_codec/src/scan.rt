@@ -7,7 +7,7 @@ use memchr::{memchr, memchr2};
 
 /// What ends a run of octets that a line may have.
 #[derive(Clone, Copy, Debug, PartialEq, Eq)]
-pub(crate) enum Stop {
+pub(crate) enum RunEnd {
     /// The octets end.
     End,
     Nul,
@@ -21,7 +21,7 @@ pub(crate) enum Stop {
 #[derive(Clone, Copy, Debug)]
 pub(crate) struct Run<'t> {
     pub(crate) octets: &'t [u8],
-    pub(crate) stop: Stop,
+    pub(crate) stop: RunEnd,
     pub(crate) rest: &'t [u8],
 }
 
@@ -73,15 +73,15 @@ pub(crate) fn without_cr(line: &[u8]) -> &[u8]
 
 // What ends a run here, and what stands behind it.
 #[inline]
-fn stop_of(tail: &[u8]) -> (Stop, &[u8])
+fn stop_of(tail: &[u8]) -> (RunEnd, &[u8])
     requires { EndsRun tail.now }
     ensures { IsStop result.0 tail.now result.1.now }
 {
     match tail {
-        [] => (Stop::End, tail),
-        [b'\0', rest @ ..] => (Stop::Nul, rest),
-        [b'\n', rest @ ..] => (Stop::Lf, rest),
-        [b'\r', b'\n', rest @ ..] => (Stop::CrLf, rest),
-        [_, rest @ ..] => (Stop::Cr, rest),
+        [] => (RunEnd::End, tail),
+        [b'\0', rest @ ..] => (RunEnd::Nul, rest),
+        [b'\n', rest @ ..] => (RunEnd::Lf, rest),
+        [b'\r', b'\n', rest @ ..] => (RunEnd::CrLf, rest),
+        [_, rest @ ..] => (RunEnd::Cr, rest),
     }
 }

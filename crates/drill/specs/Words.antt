@@ -4,27 +4,13 @@ use Rattle.recovery.specs.declared.fault.TapeFault.{TapeFault}
 use Rattle.recovery.specs.declared.fault.TapeFault.TheVariants.{Damaged, Disk, Broken, TapeFull, GenerationFull}
 use Rattle.recovery.specs.declared.fault.TapeFault.TheVariants.{PendingFull}
 use Rattle.recovery.specs.declared.fault.TapeFault.TheVariants.{NoMemory as NoTapeMemory, Note}
-use Rattle.script.specs.declared.fault.Reason.{Reason}
-use Rattle.script.specs.declared.fault.Reason.TheVariants.{NoStep, NoPeer as NoOnePeer, PeerBehindStep, DeclaredTwice}
-use Rattle.script.specs.declared.fault.Reason.TheVariants.{NoTape, TapeBehindStep, NoPeerOfTape, TapeTwice, Unended}
+use Rattle.script.specs.Faults.{reason_words}
 use Rattle.world_core.specs.declared.fault.Fault.{Fault}
 use Rattle.world_core.specs.declared.fault.Fault.TheVariants.{NoPeer, NoConnection, Stopped, Running, NotNeeded, Tape}
 use Rattle.world_core.specs.declared.fault.Fault.TheVariants.{CountFull}
 use Rattle.world_core.specs.declared.fault.Fault.TheVariants.{NoMemory, NotFlushed}
 use Rattle.drill.specs.declared.ending.Why.{Why}
 use Rattle.drill.specs.declared.ending.Why.TheVariants.{Script, Step}
-
--- why a line breaks the rules of a script
-abbrev pub script_words : Reason → List ℕ
-script_words NoStep = codes "no step is written so"
-script_words NoOnePeer = codes "the settings are not those of one peer"
-script_words PeerBehindStep = codes "a peer stands behind a step"
-script_words DeclaredTwice = codes "the peer is declared already"
-script_words NoTape = codes "no tape is written so"
-script_words TapeBehindStep = codes "a tape stands behind a step"
-script_words NoPeerOfTape = codes "the peer of the tape is not declared before it"
-script_words TapeTwice = codes "the tape of the peer is given already"
-script_words Unended = codes "the last line has no end"
 
 -- why a tape refused
 abbrev pub tape_words : TapeFault → List ℕ
@@ -50,5 +36,5 @@ step_words NoMemory = codes "memory was refused"
 step_words NotFlushed = codes "no number is kept, or a peer was not flushed since"
 
 abbrev pub why_words : Why → List ℕ
-why_words (Script reason) = script_words reason
+why_words (Script reason) = reason_words reason
 why_words (Step fault) = step_words fault

@@ -1,6 +1,6 @@
 // How a drill ends.
 ghost use Rattle.std.specs.Prelude.{◌≡◌};
-ghost use Rattle.drill.specs.Words.{script_words, step_words, tape_words, why_words};
+ghost use Rattle.drill.specs.Words.{step_words, tape_words, why_words};
 
 use funnel::PeerName;
 use recovery::TapeFault;
@@ -33,7 +33,7 @@ pub struct TapeRefusal {
 /// Which line of a script was refused, and why.
 #[derive(Clone, Copy, Debug, PartialEq, Eq)]
 pub struct Refusal {
-    /// The place of the line among all lines of the script, from 1.
+    /// The number of the line among all lines of the script, from 1.
     pub line: usize,
     /// Why it was refused.
     pub why: Why,
@@ -54,26 +54,9 @@ impl Why {
         ensures { result.now ≡ why_words self }
     {
         match self {
-            Why::Script(reason) => script_words(reason),
+            Why::Script(reason) => reason.words(),
             Why::Step(fault) => step_words(fault),
         }
-    }
-}
-
-// Why a line breaks the rules of a script.
-fn script_words(reason: Reason) -> &'static str
-    ensures { result.now ≡ script_words reason }
-{
-    match reason {
-        Reason::NoStep => "no step is written so",
-        Reason::NoPeer => "the settings are not those of one peer",
-        Reason::PeerBehindStep => "a peer stands behind a step",
-        Reason::DeclaredTwice => "the peer is declared already",
-        Reason::NoTape => "no tape is written so",
-        Reason::TapeBehindStep => "a tape stands behind a step",
-        Reason::NoPeerOfTape => "the peer of the tape is not declared before it",
-        Reason::TapeTwice => "the tape of the peer is given already",
-        Reason::Unended => "the last line has no end",
     }
 }
 

@@ -102,7 +102,7 @@ fn done(alloc: Global, report: &Report, steps: usize) -> Result<Played, AllocErr
 fn refused(alloc: Global, lines: &[usize], fault: &WorldFault) -> Result<Played, AllocError>
     ensures prints { IfOk result (λ played. played.printed.items
         ≡ steps_text (said_by fault.now.lines.items) ++ refused_text fault.now.step fault.now.kind) }
-    ensures memory { fault.now.kind ≡ Fault.NoMemory
+    ensures no_memory { fault.now.kind ≡ Fault.NoMemory
         → IfOk result (λ played. played.ending ≡ Ending.NoMemory) }
     ensures refused { fault.now.kind ≢ Fault.NoMemory → IfOk result (λ played. played.ending
         ≡ Ending.Refused (record {
@@ -121,7 +121,7 @@ fn refused(alloc: Global, lines: &[usize], fault: &WorldFault) -> Result<Played,
 
 // How a drill ends whose step was refused, the steps standing on these lines.
 fn ending_of(lines: &[usize], step: usize, kind: Fault) -> Ending
-    ensures memory { kind ≡ Fault.NoMemory → result ≡ Ending.NoMemory }
+    ensures no_memory { kind ≡ Fault.NoMemory → result ≡ Ending.NoMemory }
     ensures refused { kind ≢ Fault.NoMemory → result ≡ Ending.Refused (record {
       line = line_of lines.now step;
       why = Why.Step kind;

@@ -2,11 +2,10 @@
 ghost use Rattle.std.specs.Prelude.{◌≡◌, ◌++◌, OnOk, decimal as digits_of, flat_map, map};
 ghost use Rattle.world_core.specs.Stands.{counts_in};
 ghost use Rattle.world_core.specs.Told.{said_by, said_of};
-ghost use Rattle.drill.specs.Printed.{broken_text, end_text, kind_text, refused_text, step_text, steps_text, tape_kind};
+ghost use Rattle.drill.specs.Printed.{broken_text, end_text, refused_text, step_text, steps_text};
 ghost use Rattle.drill.specs.Printed.{totals_text};
 
-use ledger_core::{LedgerFault, Totals};
-use recovery::TapeFault;
+use ledger_core::Totals;
 use std::alloc::AllocError;
 use world_core::{Fault, PeerTotals, Told};
 
@@ -88,7 +87,7 @@ pub fn add_refused(out: &mut Vec<u8>, step: usize, kind: Fault) -> Result<(), Al
 {
     add_count(out, b"step ", step as u64)?;
     out.extend_from_slice(b": ")?;
-    out.extend_from_slice(kind_text(kind))?;
+    out.extend_from_slice(kind.name().as_bytes())?;
     out.push(b'\n')?;
     Ok(())
 }
@@ -99,40 +98,4 @@ fn add_count(out: &mut Vec<u8>, word: &[u8], number: u64) -> Result<(), AllocErr
 {
     out.extend_from_slice(word)?;
     out.extend_from_slice(itoa::Buffer::new().format(number).as_bytes())
-}
-
-// The name of why a step is refused, with that of a fault within.
-fn kind_text(kind: Fault) -> &'static [u8]
-    ensures { result.now ≡ kind_text kind }
-{
-    match kind {
-        Fault::NoPeer => b"NoPeer",
-        Fault::NoConnection => b"NoConnection",
-        Fault::Stopped => b"Stopped",
-        Fault::Running => b"Running",
-        Fault::NotNeeded => b"NotNeeded",
-        Fault::Tape(fault) => tape_kind(fault),
-        Fault::CountFull => b"CountFull",
-        Fault::NoMemory => b"NoMemory",
-        Fault::NotFlushed => b"NotFlushed",
-    }
-}
-
-// The name of why a tape refused.
-fn tape_kind(fault: TapeFault) -> &'static [u8]
-    ensures { result.now ≡ tape_kind fault }
-{
-    match fault {
-        TapeFault::Damaged { .. } => b"Tape Damaged",
-        TapeFault::Disk => b"Tape Disk",
-        TapeFault::Broken => b"Tape Broken",
-        TapeFault::TapeFull => b"Tape TapeFull",
-        TapeFault::GenerationFull => b"Tape GenerationFull",
-        TapeFault::PendingFull => b"Tape PendingFull",
-        TapeFault::NoMemory => b"Tape NoMemory",
-        TapeFault::Note(LedgerFault::OldNumber) => b"Tape Note OldNumber",
-        TapeFault::Note(LedgerFault::NotOwed) => b"Tape Note NotOwed",
-        TapeFault::Note(LedgerFault::CountFull) => b"Tape Note CountFull",
-        TapeFault::Note(LedgerFault::NoMemory) => b"Tape Note NoMemory",
-    }
 }

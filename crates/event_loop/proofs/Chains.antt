@@ -5,7 +5,7 @@ use Rattle.std.specs.Prelude.{◌&&◌, ◌⊎◌, not, is_some, OnOk, OnErr}
 use Rattle.std.proofs.lemmas.List.{length-take-le}
 use Rattle.conn_core.specs.History.{Event, Broke, output, after}
 use Rattle.conn_core.specs.Receipt.{Receives, ReceivesSome}
-use Rattle.conn_core.specs.Stands.{Stands}
+use Rattle.conn_core.specs.Stands.{StandsFor}
 use Rattle.conn_core.specs.State.{Holding}
 use Rattle.conn_core.specs.declared.options.Options.{Options}
 use Rattle.event_loop.specs.Link.{moved, is_wait, Tells}
@@ -16,14 +16,14 @@ use Rattle.event_loop.specs.declared.moved.Moved.TheVariants.{Done, Later, Close
 
 -- what came was received, or memory was refused
 pub input_made : {T E : Type 0} (r : Result T E) (conn new : Holding) (octets : List ℕ)
-    → OnOk r ((options : Options) (unread : List ℕ) (h : List Event) → Stands options conn unread h
+    → OnOk r ((options : Options) (unread : List ℕ) (h : List Event) → StandsFor options conn unread h
     → (later : List Event) × (left : List ℕ) × Receives options (unread ++ octets) h later left
-    × Stands options new left later)
-    → OnErr r ((options : Options) (unread : List ℕ) (h : List Event) → Stands options conn unread h
+    × StandsFor options new left later)
+    → OnErr r ((options : Options) (unread : List ℕ) (h : List Event) → StandsFor options conn unread h
     → (later : List Event) × ReceivesSome options (unread ++ octets) h later
-    × Stands options new [] (after options later Broke))
-    → (options : Options) (unread : List ℕ) (h : List Event) → Stands options conn unread h
-    → (left : List ℕ) × (later : List Event) × Stands options new left later
+    × StandsFor options new [] (after options later Broke))
+    → (options : Options) (unread : List ℕ) (h : List Event) → StandsFor options conn unread h
+    → (left : List ℕ) × (later : List Event) × StandsFor options new left later
     × Input options (unread ++ octets) h left later
 input_made (Ok x) conn new octets received refused options unread h stands =
     let a = received options unread h stands in (a.1, a.0, a.3, Is_received a.0 a.1 a.2)

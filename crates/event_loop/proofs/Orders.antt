@@ -10,7 +10,7 @@ use Rattle.std.proofs.Math.Seq.{take-add}
 use Rattle.funnel.specs.Stream.{ended}
 use Rattle.reply_reader.specs.Stream.{Given, IsAnswer}
 use Rattle.conn_core.specs.History.{Event, Sent, Broke, put_octets, sent, reason, output, after, outside}
-use Rattle.conn_core.specs.Stands.{Stands}
+use Rattle.conn_core.specs.Stands.{StandsFor}
 use Rattle.conn_core.specs.State.{Holding}
 use Rattle.conn_core.specs.declared.options.Options.{Options}
 use Rattle.conn_core.specs.declared.reason.Reason.{Reason}
@@ -146,9 +146,9 @@ took-all options unread h before gave left later now given steps few
 -- in order, none left out, none twice
 pub took_in_order : (options : Options) (conn : Holding) (unread left : List ℕ) (h later : List Event)
     (gave now given : Option (List ℕ)) (before : List ℕ) (steps : List Step)
-    → Stands options conn unread h → Moves options unread h (Some before) gave steps left later now given
+    → StandsFor options conn unread h → Moves options unread h (Some before) gave steps left later now given
     → TookInOrder h later before now
-unfolding Stands
+unfolding StandsFor
 took_in_order options conn unread left h later gave now given before steps stands moves =
     (took-all options unread h before gave left later now given steps
     (λ e. (stands.2.while_open e).sent_few) moves).took_is

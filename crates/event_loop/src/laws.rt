@@ -4,7 +4,7 @@ ghost use Rattle.std.specs.Prelude.{List, Option, Some, ℕ};
 ghost use Rattle.event_loop.specs.Chain.{Moves, Step};
 ghost use Rattle.event_loop.specs.Laws.{GaveReplies, TookInOrder};
 ghost use Rattle.conn_core.specs.History.{Event};
-ghost use Rattle.conn_core.specs.Stands.{Stands};
+ghost use Rattle.conn_core.specs.Stands.{StandsFor};
 ghost use Rattle.conn_core.specs.State.{Holding};
 ghost use Rattle.conn_core.specs.declared.options.Options.{Options};
 
@@ -12,7 +12,7 @@ ghost use Rattle.conn_core.specs.declared.options.Options.{Options};
 pub fn took_in_order()
     ensures { (options : Options) (conn : Holding) (unread left : List ℕ) (h later : List Event)
         (gave now given : Option (List ℕ)) (before : List ℕ) (steps : List Step)
-        → Stands options conn unread h
+        → StandsFor options conn unread h
         → Moves options unread h (Some before) gave steps left later now given
         → TookInOrder h later before now }
 {}

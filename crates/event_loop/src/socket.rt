@@ -46,7 +46,7 @@ impl SocketLink {
     /// # Errors
     /// What the system says where it can't be registered.
     pub fn register(&mut self, registry: &Registry, token: Token) -> io::Result<()>
-        ensures same { self.new ≡ self.old }
+        ensures unchanged { self.new ≡ self.old }
     {
         registry.register(
             &mut self.stream,

@@ -3,7 +3,7 @@ ghost use Rattle.std.specs.Prelude.{◌≡◌, ◌≤◌, ◌⊎◌, ◌&&◌, �
 ghost use Rattle.event_loop.specs.Link.{moved, is_wait, Tells};
 ghost use Rattle.event_loop.specs.Chain.{Moves, Step, TakesIn, IsAnswered, after_send, are_turns, left_by};
 ghost use Rattle.conn_core.specs.History.{Event, output};
-ghost use Rattle.conn_core.specs.Stands.{Stands};
+ghost use Rattle.conn_core.specs.Stands.{StandsFor};
 ghost use Rattle.conn_core.specs.declared.options.Options.{Options};
 
 use crate::link::Link;
@@ -25,13 +25,13 @@ pub enum Driven {
 /// connection broke.
 pub fn put_out<L: Link>(conn: &mut Conn, link: &mut L) -> Moved
     ensures stands { (options : Options) (unread : List ℕ) (h : List Event)
-        → Stands options conn.old unread h
-        → Stands options conn.new (left_by result unread) (after_send options h result)
+        → StandsFor options conn.old unread h
+        → StandsFor options conn.new (left_by result unread) (after_send options h result)
         × (moved result ≤ length (output options h))
         × Tells (L.took link.old) (take (moved result) (output options h)) (L.took link.new) }
     ensures gave { L.gave link.new ≡ L.gave link.old }
     ensures full { (options : Options) (unread : List ℕ) (h : List Event)
-        → Stands options conn.old unread h
+        → StandsFor options conn.old unread h
         → result ≡ Moved.Later → (output options h ≡ []) ⊎ L.full link.new }
     ensures same_id { conn.new.id ≡ conn.old.id }
 {
@@ -51,8 +51,8 @@ pub fn put_out<L: Link>(conn: &mut Conn, link: &mut L) -> Moved
 /// where memory is refused it is closed as by `broken`, and the answer is still `Done`.
 pub fn take_in<L: Link>(conn: &mut Conn, link: &mut L, buffer: &mut [u8]) -> Moved
     ensures stands { (options : Options) (unread : List ℕ) (h : List Event)
-        → Stands options conn.old unread h
-        → (left : List ℕ) × (later : List Event) × Stands options conn.new left later
+        → StandsFor options conn.old unread h
+        → (left : List ℕ) × (later : List Event) × StandsFor options conn.new left later
         × TakesIn options result (take (moved result) buffer.new) unread h left later }
     ensures within { moved result ≤ length buffer.new }
     ensures gave { Tells (L.gave link.old) (take (moved result) buffer.new) (L.gave link.new) }
@@ -75,9 +75,9 @@ pub fn take_in<L: Link>(conn: &mut Conn, link: &mut L, buffer: &mut [u8]) -> Mov
 /// Makes at most so many turns, each a send and a receipt, until neither can move or the connection is closed.
 pub fn drive<L: Link>(conn: &mut Conn, link: &mut L, buffer: &mut [u8], turns: u64) -> Driven
     ensures stands { (options : Options) (unread : List ℕ) (h : List Event)
-        → Stands options conn.old unread h
+        → StandsFor options conn.old unread h
         → (left : List ℕ) × (later : List Event) × (steps : List Step)
-        × Stands options conn.new left later
+        × StandsFor options conn.new left later
         × Moves options unread h (L.took link.old) (L.gave link.old)
         steps left later (L.took link.new) (L.gave link.new)
         × (are_turns steps ≡ true)

@@ -58,20 +58,20 @@ pub(crate) fn plans_of(
     addresses: &[Vec<SocketAddr>],
 ) -> Result<Vec<PeerPlan>, AllocError> {
     let mut plans = Vec::new(alloc);
-    for (place, (peer, found)) in peers.iter().zip(addresses).enumerate() {
-        plans.push(plan_of(alloc, place, peer, found)?)?;
+    for (index, (peer, found)) in peers.iter().zip(addresses).enumerate() {
+        plans.push(plan_of(alloc, index, peer, found)?)?;
     }
     Ok(plans)
 }
 
 fn plan_of(
     alloc: Global,
-    place: usize,
+    index: usize,
     peer: &PeerConf,
     addresses: &[SocketAddr],
 ) -> Result<PeerPlan, AllocError> {
     Ok(PeerPlan {
-        peer: place,
+        peer: index,
         name: peer.name.clone()?,
         host: String::from_str(alloc, str::from_utf8(&peer.ip_name).unwrap_or(""))?,
         port: port_of(peer),

@@ -227,30 +227,30 @@ reading-bounded lines state e =
 
 -- ---- what is looked up
 
-place-key : (key : Key) → slice_get all_keys (row_of key).place ≡ Some key
-place-key IpName = refl
-place-key PortNumber = refl
-place-key Streaming = refl
-place-key MaxConnections = refl
-place-key MaxQueueSize = refl
-place-key NoCheckHigh = refl
-place-key NoCheckLow = refl
-place-key NoCheckFilter = refl
-place-key ResponseTimeout = refl
-place-key InitialReconnectTime = refl
-place-key MaxReconnectTime = refl
-place-key DropDeferred = refl
-place-key BacklogLimit = refl
-place-key BacklogLimitHighwater = refl
-place-key BacklogFactor = refl
-place-key NewsSpool = refl
-place-key BacklogDirectory = refl
-place-key StatusFile = refl
+index-key : (key : Key) → slice_get all_keys (row_of key).index ≡ Some key
+index-key IpName = refl
+index-key PortNumber = refl
+index-key Streaming = refl
+index-key MaxConnections = refl
+index-key MaxQueueSize = refl
+index-key NoCheckHigh = refl
+index-key NoCheckLow = refl
+index-key NoCheckFilter = refl
+index-key ResponseTimeout = refl
+index-key InitialReconnectTime = refl
+index-key MaxReconnectTime = refl
+index-key DropDeferred = refl
+index-key BacklogLimit = refl
+index-key BacklogLimitHighwater = refl
+index-key BacklogFactor = refl
+index-key NewsSpool = refl
+index-key BacklogDirectory = refl
+index-key StatusFile = refl
 
--- no two keys have one place
-place-once : (one other : Key) → (row_of one).place ≡ (row_of other).place → one ≡ other
-place-once one other e =
-    let both : Some one ≡ Some other = sym (place-key one) ∙ ap (slice_get all_keys) e ∙ place-key other in
+-- no two keys have one index
+index-once : (one other : Key) → (row_of one).index ≡ (row_of other).index → one ≡ other
+index-once one other e =
+    let both : Some one ≡ Some other = sym (index-key one) ∙ ap (slice_get all_keys) e ∙ index-key other in
     cc
 
 default-within : (key : Key) (name : List ℕ) → number ((row_of key).default name) ≤ greatest (row_of key).kind
@@ -284,27 +284,27 @@ later-within key None other h k = k
 later-within key (Some value) other h k = h
 
 at-step : (b : Bool) (block : ℕ) (key : Key) (entry : Use)
-    → (entry.block == block && (row_of entry.key).place == (row_of key).place) ≡ b →
+    → (entry.block == block && (row_of entry.key).index == (row_of key).index) ≡ b →
     number entry.value ≤ greatest (row_of entry.key).kind → IsWithin key (cond b (Some entry.value) None)
 at-step false block key entry e h = tt
 at-step true block key entry e h =
-    let places = (and_parts (entry.block == block) ((row_of entry.key).place == (row_of key).place) e).1 in
+    let indexes = (and_parts (entry.block == block) ((row_of entry.key).index == (row_of key).index) e).1 in
     subst (λ (k : Key). number entry.value ≤ greatest (row_of k).kind)
-    (place-once entry.key key (eqb-true (row_of entry.key).place (row_of key).place places)) h
+    (index-once entry.key key (eqb-true (row_of entry.key).index (row_of key).index indexes)) h
 
 last-within : (uses : List Use) (block : ℕ) (key : Key) → AreBounded uses
-    → IsWithin key (last_value block (row_of key).place uses)
+    → IsWithin key (last_value block (row_of key).index uses)
 last-within [] block key h = tt
 last-within (entry ∷ uses) block key h =
-    later-within key (last_value block (row_of key).place uses) (value_at block (row_of key).place entry)
+    later-within key (last_value block (row_of key).index uses) (value_at block (row_of key).index entry)
     (last-within uses block key h.1)
-    (at-step (entry.block == block && (row_of entry.key).place == (row_of key).place) block key entry refl h.0)
+    (at-step (entry.block == block && (row_of entry.key).index == (row_of key).index) block key entry refl h.0)
 
 along-within : (uses : List Use) (path : List ℕ) (key : Key) → AreBounded uses
-    → IsWithin key (value_along (row_of key).place uses path)
+    → IsWithin key (value_along (row_of key).index uses path)
 along-within uses [] key h = last-within uses 0 key h
 along-within uses (block ∷ outer) key h =
-    later-within key (last_value block (row_of key).place uses) (value_along (row_of key).place uses outer)
+    later-within key (last_value block (row_of key).index uses) (value_along (row_of key).index uses outer)
     (last-within uses block key h)
     (along-within uses outer key h)
 
@@ -317,7 +317,7 @@ or-default key (Some value) name h = h
 pub value-within : (uses : List Use) (outer : List ℕ) (peer : Declared) (key : Key) → AreBounded uses
     → number (value_of uses outer peer key) ≤ greatest (row_of key).kind
 value-within uses outer peer key h =
-    or-default key (value_along (row_of key).place uses (path_of outer peer.block)) peer.name
+    or-default key (value_along (row_of key).index uses (path_of outer peer.block)) peer.name
     (along-within uses (path_of outer peer.block) key h)
 
 -- the product of a backlog's limit and its factor is a number of 64 bits

@@ -1,9 +1,9 @@
 pub mod Scans
+pub mod Walks
 pub mod Decimals
 pub mod Lines
 pub mod Firsts
 pub mod Names
-pub mod TokenLaws
 pub mod Tables
 pub mod Lookups
 pub mod Judging

@@ -7,38 +7,39 @@ use Rattle.std.specs.Slice.{IsItemAt}
 use Rattle.std.specs.Borrow.{Bor}
 use Rattle.std.proofs.lemmas.Option.{slice_get_past, slice_get_read}
 use Rattle.std.specs.Str.{bytes_eq}
-use Rattle.feed_conf.specs.Tokens.{Token}
+use Rattle.feed_conf.specs.Lexemes.{Lexeme}
 use Rattle.feed_conf.specs.Items.{Nothing, items, items_of}
-use Rattle.feed_conf.specs.Scan.{tokens_of}
-use Rattle.feed_conf.specs.Reading.{Use, Declared, HaveTokens}
-use Rattle.feed_conf.specs.ReaderView.{place_of}
+use Rattle.feed_conf.specs.Scan.{lexemes_of}
+use Rattle.feed_conf.specs.Reading.{Use, Declared, HaveLexemes}
+use Rattle.feed_conf.specs.ReaderView.{index_of}
 use Rattle.feed_conf.specs.Settings.{Settings, settings_of}
 use Rattle.feed_conf.specs.ConfView.{find_settings}
-use Rattle.feed_conf.proofs.TokenLaws.{tokens-are, has-tokens}
+use Rattle.feed_conf.specs.LexemeLaws.{lexemes-are}
+use Rattle.feed_conf.proofs.Walks.{has-lexemes}
 
--- the values at a place
-abbrev pub at_place : Option ℕ → List Settings → Option Settings
-at_place None peers = None
-at_place (Some place) peers = slice_get peers place
+-- the values at a index
+abbrev pub at_index : Option ℕ → List Settings → Option Settings
+at_index None peers = None
+at_index (Some index) peers = slice_get peers index
 
-next-place : (o : Option ℕ) (peer : Settings) (peers : List Settings)
-    → at_place (option_map (λ place. place + 1) o) (peer ∷ peers) ≡ at_place o peers
-next-place None peer peers = refl
-next-place (Some n) peer peers = rw add-one refl
+next-index : (o : Option ℕ) (peer : Settings) (peers : List Settings)
+    → at_index (option_map (λ index. index + 1) o) (peer ∷ peers) ≡ at_index o peers
+next-index None peer peers = refl
+next-index (Some n) peer peers = rw add-one refl
 
 find-step : (b : Bool) (o : Option ℕ) (found : Option Settings) (peer : Settings) (peers : List Settings)
-    → found ≡ at_place o peers →
-    cond b (Some peer) found ≡ at_place (cond b (Some 0) (option_map (λ place. place + 1) o)) (peer ∷ peers)
+    → found ≡ at_index o peers →
+    cond b (Some peer) found ≡ at_index (cond b (Some 0) (option_map (λ index. index + 1) o)) (peer ∷ peers)
 find-step true o found peer peers h = refl
-find-step false o found peer peers h = h ∙ sym (next-place o peer peers)
+find-step false o found peer peers h = h ∙ sym (next-index o peer peers)
 
--- the values of the first peer of a name are those at its place
-pub find-place : (octets : List ℕ) (peers : List Settings)
-    → find_settings octets peers ≡ at_place (place_of octets (map (λ (peer : Settings). peer.name) peers)) peers
-find-place octets [] = refl
-find-place octets (peer ∷ peers) =
-    find-step (bytes_eq octets peer.name) (place_of octets (map (λ (p : Settings). p.name) peers))
-    (find_settings octets peers) peer peers (find-place octets peers)
+-- the values of the first peer of a name are those at its index
+pub find-index : (octets : List ℕ) (peers : List Settings)
+    → find_settings octets peers ≡ at_index (index_of octets (map (λ (peer : Settings). peer.name) peers)) peers
+find-index octets [] = refl
+find-index octets (peer ∷ peers) =
+    find-step (bytes_eq octets peer.name) (index_of octets (map (λ (p : Settings). p.name) peers))
+    (find_settings octets peers) peer peers (find-index octets peers)
 
 -- the values of peers have their names
 pub names-kept : (uses : List Use) (outer : List ℕ) (peers : List Declared)
@@ -47,22 +48,22 @@ pub names-kept : (uses : List Use) (outer : List ℕ) (peers : List Declared)
 names-kept uses outer [] = refl
 names-kept uses outer (peer ∷ peers) = ap (λ z. peer.name ∷ z) (names-kept uses outer peers)
 
--- lines say what their tokens say
-pub items-are : (lines : List (List ℕ)) (tokens : List (List Token)) → HaveTokens lines tokens
-    → map (λ ts. items ts Nothing) tokens ≡ map items_of lines
+-- lines say what their lexemes say
+pub items-are : (lines : List (List ℕ)) (lexemes : List (List Lexeme)) → HaveLexemes lines lexemes
+    → map (λ ts. items ts Nothing) lexemes ≡ map items_of lines
 items-are [] [] h = refl
-items-are [] (ts ∷ tokens) h = absurd h
+items-are [] (ts ∷ lexemes) h = absurd h
 items-are (line ∷ lines) [] h = absurd h
-items-are (line ∷ lines) (ts ∷ tokens) h =
-    ap (λ z. items z Nothing ∷ map (λ us. items us Nothing) tokens) (sym (tokens-are line ts h.0))
-    ∙ ap (λ z. items_of line ∷ z) (items-are lines tokens h.1)
+items-are (line ∷ lines) (ts ∷ lexemes) h =
+    ap (λ z. items z Nothing ∷ map (λ us. items us Nothing) lexemes) (sym (lexemes-are line ts h.0))
+    ∙ ap (λ z. items_of line ∷ z) (items-are lines lexemes h.1)
 
--- lines have tokens
-pub have-tokens : (lines : List (List ℕ)) → HaveTokens lines (map tokens_of lines)
-have-tokens [] = tt
-have-tokens (line ∷ lines) = (has-tokens line, have-tokens lines)
+-- lines have lexemes
+pub have-lexemes : (lines : List (List ℕ)) → HaveLexemes lines (map lexemes_of lines)
+have-lexemes [] = tt
+have-lexemes (line ∷ lines) = (has-lexemes line, have-lexemes lines)
 
--- what is lent of a list at a place
+-- what is lent of a list at a index
 pub item-copied : {X : Type 0} (xs : List X) (i : ℕ) (r : Option (Bor X)) → IsItemAt xs i r
     → option_copied r ≡ slice_get xs i
 item-copied xs i None h = sym (slice_get_past xs i h.3)

@@ -11,7 +11,7 @@ use Rattle.feed_conf.specs.Reading.{Use}
 use Rattle.feed_conf.specs.Values.{Value}
 use Rattle.feed_conf.specs.Settings.{block_around, later, value_at, last_value, path_within, value_along}
 use Rattle.feed_conf.specs.ValueView.{value_view}
-use Rattle.feed_conf.specs.TableView.{place_cmp}
+use Rattle.feed_conf.specs.TableView.{index_cmp}
 use Rattle.feed_conf.specs.declared.value.Value.{Value as Held}
 use Rattle.feed_conf.specs.declared.reader.Use.{Use as HeldUse}
 use Rattle.feed_conf.specs.Keys.{row_of}
@@ -27,12 +27,12 @@ later-none : (a : Option Value) → later a None ≡ a
 later-none None = refl
 later-none (Some v) = refl
 
-pub last-push : (block place : ℕ) (uses : List Use) (new : Use)
-    → last_value block place (uses ++ new ∷ []) ≡ later (value_at block place new) (last_value block place uses)
-last-push block place [] new = sym (later-none (value_at block place new))
-last-push block place (first ∷ uses) new =
-    ap (λ z. later z (value_at block place first)) (last-push block place uses new)
-    ∙ later-assoc (value_at block place new) (last_value block place uses) (value_at block place first)
+pub last-push : (block index : ℕ) (uses : List Use) (new : Use)
+    → last_value block index (uses ++ new ∷ []) ≡ later (value_at block index new) (last_value block index uses)
+last-push block index [] new = sym (later-none (value_at block index new))
+last-push block index (first ∷ uses) new =
+    ap (λ z. later z (value_at block index first)) (last-push block index uses new)
+    ∙ later-assoc (value_at block index new) (last_value block index uses) (value_at block index first)
 
 -- one more use
 pub table-step : (b : Bool) (value : Held) (old : Option Held) (last : Option Value)
@@ -52,26 +52,26 @@ scope-path : (most : ℕ) (outer : List ℕ) → path_within most outer 0 ≡ []
 scope-path zero outer = refl
 scope-path (suc most) outer = refl
 
-pub along-scope : (place : ℕ) (uses : List Use) (outer : List ℕ) (most at : ℕ) → at ≡ 0
-    → value_along place uses (path_within most outer at) ≡ last_value 0 place uses
-along-scope place uses outer most at e = rw e (ap (value_along place uses) (scope-path most outer))
+pub along-scope : (index : ℕ) (uses : List Use) (outer : List ℕ) (most at : ℕ) → at ≡ 0
+    → value_along index uses (path_within most outer at) ≡ last_value 0 index uses
+along-scope index uses outer most at e = rw e (ap (value_along index uses) (scope-path most outer))
 
 -- in a block that has a value
-pub along-some : (place : ℕ) (uses : List Use) (outer : List ℕ) (left most at : ℕ) (value : Value) → left ≡ suc most
-    → (at ≡ 0 → ⊥) → Some value ≡ last_value at place uses
-    → value_along place uses (path_within left outer at) ≡ Some value
-along-some place uses outer left most zero value e some h = absurd (some refl)
-along-some place uses outer left most (suc at) value e some h =
-    rw e (ap (λ z. later z (value_along place uses (path_within most outer (block_around outer (suc at))))) (sym h))
+pub along-some : (index : ℕ) (uses : List Use) (outer : List ℕ) (left most at : ℕ) (value : Value) → left ≡ suc most
+    → (at ≡ 0 → ⊥) → Some value ≡ last_value at index uses
+    → value_along index uses (path_within left outer at) ≡ Some value
+along-some index uses outer left most zero value e some h = absurd (some refl)
+along-some index uses outer left most (suc at) value e some h =
+    rw e (ap (λ z. later z (value_along index uses (path_within most outer (block_around outer (suc at))))) (sym h))
 
 -- a block further out
-pub along-none : (place : ℕ) (uses : List Use) (outer : List ℕ) (left most at : ℕ) → left ≡ suc most → (at ≡ 0 → ⊥)
-    → None ≡ last_value at place uses
-    → value_along place uses (path_within left outer at) ≡ value_along place uses
+pub along-none : (index : ℕ) (uses : List Use) (outer : List ℕ) (left most at : ℕ) → left ≡ suc most → (at ≡ 0 → ⊥)
+    → None ≡ last_value at index uses
+    → value_along index uses (path_within left outer at) ≡ value_along index uses
     (path_within most outer (block_around outer at))
-along-none place uses outer left most zero e some h = absurd (some refl)
-along-none place uses outer left most (suc at) e some h =
-    rw e (ap (λ z. later z (value_along place uses (path_within most outer (block_around outer (suc at))))) (sym h))
+along-none index uses outer left most zero e some h = absurd (some refl)
+along-none index uses outer left most (suc at) e some h =
+    rw e (ap (λ z. later z (value_along index uses (path_within most outer (block_around outer (suc at))))) (sym h))
 
 is_eq-nat : (x y : ℕ) → is_eq (nat_cmp x y) ≡ (x == y)
 is_eq-nat x y =
@@ -83,37 +83,37 @@ is_eq-nat x y =
       ]
     ]
 
--- two places in a table are the same
-pub same-place : (block place other_block other_place : ℕ)
-    → is_eq (place_cmp (block, place) (other_block, other_place)) ≡ (block == other_block && place == other_place)
-same-place block place other_block other_place =
-    sym (tied_then (nat_cmp block other_block) (nat_cmp place other_place))
-    ∙ ap (λ z. z && is_eq (nat_cmp place other_place)) (is_eq-nat block other_block)
-    ∙ ap (λ z. (block == other_block) && z) (is_eq-nat place other_place)
+-- two indexes in a table are the same
+pub same-index : (block index other_block other_index : ℕ)
+    → is_eq (index_cmp (block, index) (other_block, other_index)) ≡ (block == other_block && index == other_index)
+same-index block index other_block other_index =
+    sym (tied_then (nat_cmp block other_block) (nat_cmp index other_index))
+    ∙ ap (λ z. z && is_eq (nat_cmp index other_index)) (is_eq-nat block other_block)
+    ∙ ap (λ z. (block == other_block) && z) (is_eq-nat index other_index)
 
 -- the table after one more use
 pub table-more : (values new : BTreeMap (ℕ × ℕ) Held) (uses : List HeldUse) (i : ℕ) (d : HeldUse) (at : ℕ)
-    → i < length uses → at ≡ (row_of (get_or uses i d).key).place →
+    → i < length uses → at ≡ (row_of (get_or uses i d).key).index →
     ((q : ℕ × ℕ)
-    → get place_cmp new q ≡ cond (is_eq (place_cmp ((get_or uses i d).block, at) q)) (Some (get_or uses i d).value)
-    (get place_cmp values q)) →
-    ((block place : ℕ)
-    → option_map value_view (get place_cmp values (block, place)) ≡ last_value block place
+    → get index_cmp new q ≡ cond (is_eq (index_cmp ((get_or uses i d).block, at) q)) (Some (get_or uses i d).value)
+    (get index_cmp values q)) →
+    ((block index : ℕ)
+    → option_map value_view (get index_cmp values (block, index)) ≡ last_value block index
     (map use_view (take i uses))) →
-    (block place : ℕ)
-    → option_map value_view (get place_cmp new (block, place)) ≡ last_value block place
+    (block index : ℕ)
+    → option_map value_view (get index_cmp new (block, index)) ≡ last_value block index
     (map use_view (take (i + 1) uses))
-table-more values new uses i d at h k updates inv block place =
+table-more values new uses i d at h k updates inv block index =
     let held = get_or uses i d in
-    let before = get place_cmp values (block, place) in
-    let here : get place_cmp new (block, place) ≡ cond (held.block == block && (row_of held.key).place == place)
+    let before = get index_cmp values (block, index) in
+    let here : get index_cmp new (block, index) ≡ cond (held.block == block && (row_of held.key).index == index)
     (Some held.value) before =
-    updates (block, place)
+    updates (block, index)
     ∙ ap (λ z. cond z (Some held.value) before)
-    (same-place held.block at block place ∙ ap (λ z. held.block == block && z == place) k) in
+    (same-index held.block at block index ∙ ap (λ z. held.block == block && z == index) k) in
     let more : map use_view (take (i + 1) uses) ≡ map use_view (take i uses) ++ use_view held ∷ [] =
     ap (map use_view) (take_more uses i d h) ∙ map-append use_view (take i uses) (held ∷ []) in
     ap (option_map value_view) here
-    ∙ table-step (held.block == block && (row_of held.key).place == place) held.value before
-    (last_value block place (map use_view (take i uses))) (inv block place)
-    ∙ sym (ap (last_value block place) more ∙ last-push block place (map use_view (take i uses)) (use_view held))
+    ∙ table-step (held.block == block && (row_of held.key).index == index) held.value before
+    (last_value block index (map use_view (take i uses))) (inv block index)
+    ∙ sym (ap (last_value block index) more ∙ last-push block index (map use_view (take i uses)) (use_view held))

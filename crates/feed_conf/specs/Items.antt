@@ -1,8 +1,8 @@
 -- What the lines of settings say (profile).
 use Rattle.std.specs.Prelude.{◌==◌, ◌+◌, ℕ, Bool, true, false, List, [], ◌∷◌, Option, None, Some, position, take, drop, codes, if◌then◌else◌}
 use Rattle.std.specs.Str.{bytes_eq}
-use Rattle.feed_conf.specs.Tokens.{Token, Word, Quoted, Open, Close, Unclosed}
-use Rattle.feed_conf.specs.Scan.{tokens_of}
+use Rattle.feed_conf.specs.Lexemes.{Lexeme, Word, Quoted, Open, Close, Unclosed}
+use Rattle.feed_conf.specs.Scan.{lexemes_of}
 use Rattle.feed_conf.specs.declared.fault.ConfFaultKind.{ConfFaultKind}
 use Rattle.feed_conf.specs.declared.fault.ConfFaultKind.TheVariants.{NoValue, Unbalanced}
 
@@ -57,8 +57,8 @@ word_items (Pair key []) next = next (KeyBegun key)
 word_items (Pair key (octet ∷ value)) next = Uses key (Some (octet ∷ value)) ∷ next Nothing
 word_items Plain next = Stops NoValue ∷ []
 
--- What the tokens of a line say behind what it has begun.
-abbrev pub items : List Token → Begun → List Item
+-- What the lexemes of a line say behind what it has begun.
+abbrev pub items : List Lexeme → Begun → List Item
 items [] Nothing = []
 items (Word word ∷ rest) Nothing = word_items (sort_of word) (items rest)
 items (Quoted octets ∷ rest) Nothing = Stops NoValue ∷ []
@@ -98,4 +98,4 @@ items (Unclosed ∷ rest) (KeyBegun key) = Stops Unbalanced ∷ []
 
 -- what a line says
 abbrev pub items_of : List ℕ → List Item
-items_of line = items (tokens_of line) Nothing
+items_of line = items (lexemes_of line) Nothing

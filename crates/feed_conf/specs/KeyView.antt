@@ -13,7 +13,7 @@ default_view (Some value) = λ peer. value_view value
 
 abbrev pub row_view : HeldRow → Row
 row_view row = record {
-  place = row.place;
+  index = row.index;
   name = row.name.now;
   kind = row.kind;
   of_file = row.of_file;

@@ -10,8 +10,8 @@ use Rattle.feed_conf.specs.declared.key.Kind.TheVariants.{AnyText, ShortText, Sw
 
 -- what the profile says of a key
 pub record Row : Type 0 where
-  -- its place in this table
-  pub place : ℕ
+  -- its index in this table
+  pub index : ℕ
   pub name : List ℕ
   -- how its value is written, with the least and the greatest value
   pub kind : Kind
@@ -21,24 +21,24 @@ pub record Row : Type 0 where
   pub default : List ℕ → Value
 
 abbrev pub row_of : Key → Row
-row_of IpName = record { place = 0; name = codes "ip-name"; kind = ShortText; of_file = false; default = λ peer. TextOf peer }
-row_of PortNumber = record { place = 1; name = codes "port-number"; kind = Number 1 65535; of_file = false; default = λ peer. NumberOf 119 }
-row_of Streaming = record { place = 2; name = codes "streaming"; kind = Switch; of_file = false; default = λ peer. SwitchOf true }
-row_of MaxConnections = record { place = 3; name = codes "max-connections"; kind = Connections; of_file = false; default = λ peer. NumberOf 2 }
-row_of MaxQueueSize = record { place = 4; name = codes "max-queue-size"; kind = Number 1 1000; of_file = false; default = λ peer. NumberOf 20 }
-row_of NoCheckHigh = record { place = 5; name = codes "no-check-high"; kind = Fraction 0 10000; of_file = false; default = λ peer. NumberOf 9500 }
-row_of NoCheckLow = record { place = 6; name = codes "no-check-low"; kind = Fraction 0 10000; of_file = false; default = λ peer. NumberOf 9000 }
-row_of NoCheckFilter = record { place = 7; name = codes "no-check-filter"; kind = Whole 1 1000; of_file = false; default = λ peer. NumberOf 50 }
-row_of ResponseTimeout = record { place = 8; name = codes "response-timeout"; kind = Number 1 86400; of_file = false; default = λ peer. NumberOf 300 }
-row_of InitialReconnectTime = record { place = 9; name = codes "initial-reconnect-time"; kind = Number 1 86400; of_file = false; default = λ peer. NumberOf 30 }
-row_of MaxReconnectTime = record { place = 10; name = codes "max-reconnect-time"; kind = Number 1 86400; of_file = false; default = λ peer. NumberOf 3600 }
-row_of DropDeferred = record { place = 11; name = codes "drop-deferred"; kind = Switch; of_file = false; default = λ peer. SwitchOf false }
-row_of BacklogLimit = record { place = 12; name = codes "backlog-limit"; kind = Number 0 4294967296; of_file = false; default = λ peer. NumberOf 0 }
-row_of BacklogLimitHighwater = record { place = 13; name = codes "backlog-limit-highwater"; kind = Number 0 4294967296; of_file = false; default = λ peer. NumberOf 0 }
-row_of BacklogFactor = record { place = 14; name = codes "backlog-factor"; kind = Fraction 100 10000; of_file = false; default = λ peer. NumberOf 110 }
-row_of NewsSpool = record { place = 15; name = codes "news-spool"; kind = AnyText; of_file = true; default = λ peer. TextOf (codes "articles") }
-row_of BacklogDirectory = record { place = 16; name = codes "backlog-directory"; kind = AnyText; of_file = true; default = λ peer. TextOf (codes "innfeed") }
-row_of StatusFile = record { place = 17; name = codes "status-file"; kind = AnyText; of_file = true; default = λ peer. TextOf (codes "innfeed.status") }
+row_of IpName = record { index = 0; name = codes "ip-name"; kind = ShortText; of_file = false; default = λ peer. TextOf peer }
+row_of PortNumber = record { index = 1; name = codes "port-number"; kind = Number 1 65535; of_file = false; default = λ peer. NumberOf 119 }
+row_of Streaming = record { index = 2; name = codes "streaming"; kind = Switch; of_file = false; default = λ peer. SwitchOf true }
+row_of MaxConnections = record { index = 3; name = codes "max-connections"; kind = Connections; of_file = false; default = λ peer. NumberOf 2 }
+row_of MaxQueueSize = record { index = 4; name = codes "max-queue-size"; kind = Number 1 1000; of_file = false; default = λ peer. NumberOf 20 }
+row_of NoCheckHigh = record { index = 5; name = codes "no-check-high"; kind = Fraction 0 10000; of_file = false; default = λ peer. NumberOf 9500 }
+row_of NoCheckLow = record { index = 6; name = codes "no-check-low"; kind = Fraction 0 10000; of_file = false; default = λ peer. NumberOf 9000 }
+row_of NoCheckFilter = record { index = 7; name = codes "no-check-filter"; kind = Whole 1 1000; of_file = false; default = λ peer. NumberOf 50 }
+row_of ResponseTimeout = record { index = 8; name = codes "response-timeout"; kind = Number 1 86400; of_file = false; default = λ peer. NumberOf 300 }
+row_of InitialReconnectTime = record { index = 9; name = codes "initial-reconnect-time"; kind = Number 1 86400; of_file = false; default = λ peer. NumberOf 30 }
+row_of MaxReconnectTime = record { index = 10; name = codes "max-reconnect-time"; kind = Number 1 86400; of_file = false; default = λ peer. NumberOf 3600 }
+row_of DropDeferred = record { index = 11; name = codes "drop-deferred"; kind = Switch; of_file = false; default = λ peer. SwitchOf false }
+row_of BacklogLimit = record { index = 12; name = codes "backlog-limit"; kind = Number 0 4294967296; of_file = false; default = λ peer. NumberOf 0 }
+row_of BacklogLimitHighwater = record { index = 13; name = codes "backlog-limit-highwater"; kind = Number 0 4294967296; of_file = false; default = λ peer. NumberOf 0 }
+row_of BacklogFactor = record { index = 14; name = codes "backlog-factor"; kind = Fraction 100 10000; of_file = false; default = λ peer. NumberOf 110 }
+row_of NewsSpool = record { index = 15; name = codes "news-spool"; kind = AnyText; of_file = true; default = λ peer. TextOf (codes "articles") }
+row_of BacklogDirectory = record { index = 16; name = codes "backlog-directory"; kind = AnyText; of_file = true; default = λ peer. TextOf (codes "innfeed") }
+row_of StatusFile = record { index = 17; name = codes "status-file"; kind = AnyText; of_file = true; default = λ peer. TextOf (codes "innfeed.status") }
 
 abbrev pub all_keys : List Key
 all_keys =

@@ -1,4 +1,4 @@
-pub mod Tokens
+pub mod Lexemes
 pub mod Scan
 pub mod View
 pub mod Values
@@ -14,3 +14,5 @@ pub mod TableView
 pub mod PeerView
 pub mod ConfView
 pub mod Bounds
+pub mod LexemeLaws
+pub mod Faults

@@ -6,7 +6,7 @@ use Rattle.std.specs.declared.string.String.{String}
 use Rattle.std.specs.declared.vec.Vec.{Vec}
 use Rattle.std.specs.declared.alloc.Global.{Global}
 use Rattle.feed_conf.specs.Reading.{Use, Declared}
-use Rattle.feed_conf.specs.ReaderView.{place_of}
+use Rattle.feed_conf.specs.ReaderView.{index_of}
 use Rattle.feed_conf.specs.Settings.{Settings, settings_of, is_low_above_high}
 use Rattle.feed_conf.specs.declared.conf.PeerConf.{PeerConf}
 use Rattle.feed_conf.specs.declared.fault.ConfFault.{ConfFault}
@@ -39,4 +39,4 @@ Judges uses outer peers made = MatchResult made
 
 -- the map finds each peer by its name
 abbrev pub FindsNames : BTreeMap (String Global) ℕ → List Settings → Type 0
-FindsNames names peers = (octets : List ℕ) → get_by_text names octets ≡ place_of octets (map (λ (peer : Settings). peer.name) peers)
+FindsNames names peers = (octets : List ℕ) → get_by_text names octets ≡ index_of octets (map (λ (peer : Settings). peer.name) peers)

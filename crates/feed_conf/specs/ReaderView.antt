@@ -32,15 +32,15 @@ reader_view reader = record {
   reports = map report_view reader.ignored.items;
 }
 
--- the place of the first of these names that has these octets
-abbrev pub place_of : List ℕ → List (List ℕ) → Option ℕ
-place_of octets [] = None
-place_of octets (name ∷ names) = if bytes_eq octets name then Some 0 else option_map (λ place. place + 1) (place_of octets names)
+-- the index of the first of these names that has these octets
+abbrev pub index_of : List ℕ → List (List ℕ) → Option ℕ
+index_of octets [] = None
+index_of octets (name ∷ names) = if bytes_eq octets name then Some 0 else option_map (λ index. index + 1) (index_of octets names)
 
 -- the reader finds each peer by its name
 abbrev pub IsNamed : Reader → Type 0
 IsNamed reader =
-    (octets : List ℕ) → get_by_text reader.names octets ≡ place_of octets (map (λ (peer : Declared). peer.name) (map declared_view reader.peers.items))
+    (octets : List ℕ) → get_by_text reader.names octets ≡ index_of octets (map (λ (peer : Declared). peer.name) (map declared_view reader.peers.items))
 
 -- what is made is what is to be made, memory aside
 abbrev pub Steps : Result State ConfFaultKind → Result Reader ConfFaultKind → Type 0

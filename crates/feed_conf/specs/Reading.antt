@@ -4,7 +4,7 @@ use Rattle.std.specs.Prelude.{Option, None, Some, Result, Ok, Err, if◌then◌e
 use Rattle.std.specs.List.{list_any, slice_get, slice_split}
 use Rattle.std.specs.Str.{bytes_eq}
 use Rattle.funnel.specs.Names.{is_peer_name}
-use Rattle.feed_conf.specs.Tokens.{Token, HasTokens}
+use Rattle.feed_conf.specs.Lexemes.{Lexeme, HasLexemes}
 use Rattle.feed_conf.specs.Items.{Item, Peer, Group, Closes, Uses, Stops, Nothing, items}
 use Rattle.feed_conf.specs.Keys.{row_of, key_of}
 use Rattle.feed_conf.specs.Values.{Value, Taken, taken_of}
@@ -159,13 +159,13 @@ finish state = closed (innermost state.around) state
 abbrev pub lines_of : List ℕ → List (List ℕ)
 lines_of text = slice_split (λ octet. octet == 10) text
 
--- each line has these tokens
-abbrev pub HaveTokens : List (List ℕ) → List (List Token) → Type 0
-HaveTokens [] [] = Unit {0}
-HaveTokens [] (tokens ∷ rest) = ⊥
-HaveTokens (line ∷ lines) [] = ⊥
-HaveTokens (line ∷ lines) (tokens ∷ rest) = HasTokens line tokens × HaveTokens lines rest
+-- each line has these lexemes
+abbrev pub HaveLexemes : List (List ℕ) → List (List Lexeme) → Type 0
+HaveLexemes [] [] = Unit {0}
+HaveLexemes [] (lexemes ∷ rest) = ⊥
+HaveLexemes (line ∷ lines) [] = ⊥
+HaveLexemes (line ∷ lines) (lexemes ∷ rest) = HasLexemes line lexemes × HaveLexemes lines rest
 
--- what lines with these tokens make, or their first fault in reading order
-abbrev pub reading : List (List Token) → Result State ConfFault
-reading lines = then_on (run_lines (map (λ tokens. items tokens Nothing) lines) start 1) finish
+-- what lines with these lexemes make, or their first fault in reading order
+abbrev pub reading : List (List Lexeme) → Result State ConfFault
+reading lines = then_on (run_lines (map (λ lexemes. items lexemes Nothing) lines) start 1) finish

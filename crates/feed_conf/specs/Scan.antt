@@ -1,15 +1,15 @@
--- The tokens of a line by one walk over its octets: those that `HasTokens` has, as the laws say.
+-- The lexemes of a line by one walk over its octets: those that `HasLexemes` has, as the laws say.
 use Rattle.std.specs.Prelude.{◌≡◌, ◌==◌, ℕ, Bool, true, false, List, [], ◌∷◌, ◌++◌, if◌then◌else◌}
-use Rattle.feed_conf.specs.Tokens.{Token, Word, Quoted, Open, Close, Unclosed, is_blank, is_word_octet}
+use Rattle.feed_conf.specs.Lexemes.{Lexeme, Word, Quoted, Open, Close, Unclosed, is_blank, is_word_octet}
 
--- where the walk stands: between tokens, or within a word or a quote of which these octets were met
-pub data Place : Type 0 where
-  Between : Place
-  InWord : List ℕ → Place
-  InQuote : List ℕ → Place
+-- where the walk stands: between lexemes, or within a word or a quote of which these octets were met
+pub data Walk : Type 0 where
+  Between : Walk
+  InWord : List ℕ → Walk
+  InQuote : List ℕ → Walk
 
--- the tokens from an octet on that stands between tokens
-abbrev pub scan_first : ℕ → (Place → List Token) → List Token
+-- the lexemes from an octet on that stands between lexemes
+abbrev pub scan_first : ℕ → (Walk → List Lexeme) → List Lexeme
 scan_first octet next =
     if is_blank octet then next Between else (
     if octet == 35 then [] else (
@@ -18,7 +18,7 @@ scan_first octet next =
     if octet == 125 then Close ∷ next Between else
     next (InWord (octet ∷ []))))))
 
-abbrev pub scan : List ℕ → Place → List Token
+abbrev pub scan : List ℕ → Walk → List Lexeme
 scan [] Between = []
 scan [] (InWord word) = Word word ∷ []
 scan [] (InQuote octets) = Unclosed ∷ []
@@ -28,9 +28,9 @@ scan (octet ∷ rest) (InWord word) =
 scan (octet ∷ rest) (InQuote octets) =
     if octet == 34 then Quoted octets ∷ scan rest Between else scan rest (InQuote (octets ++ octet ∷ []))
 
--- the tokens of a line
-abbrev pub tokens_of : List ℕ → List Token
-tokens_of line = scan line Between
+-- the lexemes of a line
+abbrev pub lexemes_of : List ℕ → List Lexeme
+lexemes_of line = scan line Between
 
 -- nothing, or an octet first that does not pass the test
 abbrev pub StopsAt : (ℕ → Bool) → List ℕ → Type 0

@@ -2,7 +2,7 @@
 use Rattle.std.specs.Prelude.{◌==◌, ◌&&◌, ◌-◌, ◌*◌, ◌/◌, ℕ, suc, zero, Bool, false, List, [], ◌∷◌, nat_lt, map, Option}
 use Rattle.std.specs.Prelude.{None, Some, Result, Ok, Err, unwrap_or, if◌then◌else◌}
 use Rattle.std.specs.List.{find, slice_index}
-use Rattle.feed_conf.specs.Tokens.{Token}
+use Rattle.feed_conf.specs.Lexemes.{Lexeme}
 use Rattle.feed_conf.specs.Keys.{row_of}
 use Rattle.feed_conf.specs.Values.{Value, TextOf, SwitchOf, NumberOf}
 use Rattle.feed_conf.specs.Reading.{Use, Declared, Report, State, reading}
@@ -20,15 +20,15 @@ abbrev pub later : Option Value → Option Value → Option Value
 later None earlier = earlier
 later (Some value) earlier = Some value
 
--- the value of a use, where it is one of this key in this block; a key is known by its place in the table
+-- the value of a use, where it is one of this key in this block; a key is known by its index in the table
 abbrev pub value_at : ℕ → ℕ → Use → Option Value
-value_at block place entry =
-    if entry.block == block && (row_of entry.key).place == place then Some entry.value else None
+value_at block index entry =
+    if entry.block == block && (row_of entry.key).index == index then Some entry.value else None
 
 -- the value of the last use in a block
 abbrev pub last_value : ℕ → ℕ → List Use → Option Value
-last_value block place [] = None
-last_value block place (entry ∷ uses) = later (last_value block place uses) (value_at block place entry)
+last_value block index [] = None
+last_value block index (entry ∷ uses) = later (last_value block index uses) (value_at block index entry)
 
 -- the number of the block that this one stands in, 0 for the scope of the file
 abbrev pub block_around : List ℕ → ℕ → ℕ
@@ -47,18 +47,18 @@ path_of outer block = path_within block outer block
 -- The value along blocks, from the inside out, of which an inner one goes before an outer one, and the scope of the
 -- file, which is block 0, comes last.
 abbrev pub value_along : ℕ → List Use → List ℕ → Option Value
-value_along place uses [] = last_value 0 place uses
-value_along place uses (block ∷ outer) = later (last_value block place uses) (value_along place uses outer)
+value_along index uses [] = last_value 0 index uses
+value_along index uses (block ∷ outer) = later (last_value block index uses) (value_along index uses outer)
 
 -- The value of a key at a peer: the last use in its own block, else in its innermost group, and so outward, else in
 -- the scope of the file, else the default.
 abbrev pub value_of : List Use → (outer : List ℕ) → Declared → Key → Value
 value_of uses outer peer key =
-    unwrap_or (value_along (row_of key).place uses (path_of outer peer.block)) ((row_of key).default peer.name)
+    unwrap_or (value_along (row_of key).index uses (path_of outer peer.block)) ((row_of key).default peer.name)
 
 -- the value of a key of the file
 abbrev pub value_in_file : List Use → Key → Value
-value_in_file uses key = unwrap_or (last_value 0 (row_of key).place uses) ((row_of key).default [])
+value_in_file uses key = unwrap_or (last_value 0 (row_of key).index uses) ((row_of key).default [])
 
 -- what a value holds (each key has values of one kind alone)
 abbrev pub number : Value → ℕ
@@ -155,6 +155,6 @@ abbrev pub judged : Result State ConfFault → Result Outcome ConfFault
 judged (Ok state) = judged_by (find (is_low_above_high state.uses state.outer) state.peers) state
 judged (Err fault) = Err fault
 
--- what lines with these tokens say, or their first fault
-abbrev pub meaning : List (List Token) → Result Outcome ConfFault
+-- what lines with these lexemes say, or their first fault
+abbrev pub meaning : List (List Lexeme) → Result Outcome ConfFault
 meaning lines = judged (reading lines)

@@ -1,11 +1,11 @@
--- What a token of the reader stands for.
-use Rattle.feed_conf.specs.Tokens.{Token}
-use Rattle.feed_conf.specs.declared.token.Token.{Token as Held}
-use Rattle.feed_conf.specs.declared.token.Token.TheVariants.{Word, Quoted, Open, Close, Unclosed}
+-- What a lexeme of the reader stands for.
+use Rattle.feed_conf.specs.Lexemes.{Lexeme}
+use Rattle.feed_conf.specs.declared.lexeme.Lexeme.{Lexeme as Held}
+use Rattle.feed_conf.specs.declared.lexeme.Lexeme.TheVariants.{Word, Quoted, Open, Close, Unclosed}
 
-abbrev pub token_of : Held → Token
-token_of (Word octets) = Token.Word octets.now
-token_of (Quoted octets) = Token.Quoted octets.now
-token_of Open = Token.Open
-token_of Close = Token.Close
-token_of Unclosed = Token.Unclosed
+abbrev pub lexeme_of : Held → Lexeme
+lexeme_of (Word octets) = Lexeme.Word octets.now
+lexeme_of (Quoted octets) = Lexeme.Quoted octets.now
+lexeme_of Open = Lexeme.Open
+lexeme_of Close = Lexeme.Close
+lexeme_of Unclosed = Lexeme.Unclosed

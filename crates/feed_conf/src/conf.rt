@@ -60,7 +60,7 @@ pub struct Conf {
     pub(crate) status_file: Vec<u8>,
     pub(crate) peers: Vec<PeerConf>,
     pub(crate) ignored: Vec<Ignored>,
-    // The place of each peer by its name.
+    // The index of each peer by its name.
     pub(crate) names: BTreeMap<String, usize>,
     ghost named: { FindsNames names (map settings_view peers.items) },
 }
@@ -81,7 +81,7 @@ impl Conf {
     {
         match self.names.get(text_of(name)) {
             None => None,
-            Some(place) => self.peers.get(*place),
+            Some(index) => self.peers.get(*index),
         }
     }
 

@@ -1,5 +1,6 @@
 // Why settings could not be read.
 ghost use Rattle.std.specs.Prelude.{◌≡◌};
+ghost use Rattle.feed_conf.specs.Faults.{conf_fault_name};
 ghost use Rattle.feed_conf.specs.declared.fault.ConfFaultKind.TheVariants.{NoMemory};
 
 use std::alloc::{AllocError, AllocFailed};
@@ -7,34 +8,45 @@ use thiserror::Error;
 
 /// What is wrong with the settings, in the order in which the kinds are numbered.
 #[derive(Clone, Copy, Debug, PartialEq, Eq, Error)]
+#[error("{}", self.name())]
 pub enum ConfFaultKind {
     /// A key of the profile has no value, or a word that is no key stands where a key should.
-    #[error("NoValue")]
     NoValue,
     /// A value is no number, or where one is allowed no fraction.
-    #[error("BadNumber")]
     BadNumber,
     /// A value is none of the words for true and false.
-    #[error("BadBoolean")]
     BadBoolean,
     /// A quote or a brace has no counterpart, or a block stands in a peer.
-    #[error("Unbalanced")]
     Unbalanced,
     /// The name of a peer is missing, or is none.
-    #[error("BadPeerName")]
     BadPeerName,
     /// A peer of that name was declared before.
-    #[error("SamePeer")]
     SamePeer,
     /// A peer's `no-check-low` is above its `no-check-high`.
-    #[error("LowAboveHigh")]
     LowAboveHigh,
     /// A number is below the least value of its key, or a text is too long or too short.
-    #[error("Range")]
     Range,
     /// Memory was refused.
-    #[error("NoMemory")]
     NoMemory,
+}
+
+impl ConfFaultKind {
+    /// The word by which messages tell it.
+    pub fn name(self) -> &'static str
+        ensures { result.now ≡ conf_fault_name self }
+    {
+        match self {
+            ConfFaultKind::NoValue => "NoValue",
+            ConfFaultKind::BadNumber => "BadNumber",
+            ConfFaultKind::BadBoolean => "BadBoolean",
+            ConfFaultKind::Unbalanced => "Unbalanced",
+            ConfFaultKind::BadPeerName => "BadPeerName",
+            ConfFaultKind::SamePeer => "SamePeer",
+            ConfFaultKind::LowAboveHigh => "LowAboveHigh",
+            ConfFaultKind::Range => "Range",
+            ConfFaultKind::NoMemory => "NoMemory",
+        }
+    }
 }
 
 /// The first fault of settings, in reading order.

@@ -4,11 +4,11 @@ ghost use Rattle.std.specs.Prelude.{position};
 ghost use Rattle.std.specs.Str.{bytes_eq};
 ghost use Rattle.feed_conf.specs.Items.{sort_of, split_pair, word_items, items, items_of, PeerBegun, PeerNamed};
 ghost use Rattle.feed_conf.specs.Items.{GroupBegun, GroupNamed, KeyBegun};
-ghost use Rattle.feed_conf.specs.Scan.{tokens_of};
+ghost use Rattle.feed_conf.specs.Scan.{lexemes_of};
 ghost use Rattle.feed_conf.specs.ItemView.{item_view, sort_view};
 
 use crate::fault::ConfFaultKind;
-use crate::token::{Token, next_token};
+use crate::lexeme::{Lexeme, next_lexeme};
 
 /// One thing that a line says.
 #[derive(Clone, Copy, Debug)]
@@ -78,70 +78,70 @@ fn sort_word(word: &[u8]) -> Sort<'_>
 
 // What stands behind the name of a peer.
 fn peer_named<'t>(name: &'t [u8], line: &'t [u8]) -> (Item<'t>, &'t [u8])
-    ensures items { items (tokens_of line.now) (PeerNamed name.now)
+    ensures items { items (lexemes_of line.now) (PeerNamed name.now)
         ≡ item_view result.0 ∷ items_of result.1.now }
     ensures within { length result.1.now ≤ length line.now }
 {
-    match next_token(line) {
-        Some((Token::Open, rest)) => (Item::Peer(name, true), rest),
+    match next_lexeme(line) {
+        Some((Lexeme::Open, rest)) => (Item::Peer(name, true), rest),
         _ => (Item::Peer(name, false), &[]),
     }
 }
 
 // What stands behind the word `peer`.
 fn peer_begun(line: &[u8]) -> (Item<'_>, &[u8])
-    ensures items { items (tokens_of line.now) PeerBegun
+    ensures items { items (lexemes_of line.now) PeerBegun
         ≡ item_view result.0 ∷ items_of result.1.now }
     ensures within { length result.1.now ≤ length line.now }
 {
-    match next_token(line) {
-        Some((Token::Word(name), rest)) => peer_named(name, rest),
-        Some((Token::Unclosed, _)) => (Item::Stops(ConfFaultKind::Unbalanced), &[]),
+    match next_lexeme(line) {
+        Some((Lexeme::Word(name), rest)) => peer_named(name, rest),
+        Some((Lexeme::Unclosed, _)) => (Item::Stops(ConfFaultKind::Unbalanced), &[]),
         _ => (Item::Peer(&[], false), &[]),
     }
 }
 
 // What stands behind the name of a group.
 fn group_named(line: &[u8]) -> (Item<'_>, &[u8])
-    ensures items { items (tokens_of line.now) GroupNamed
+    ensures items { items (lexemes_of line.now) GroupNamed
         ≡ item_view result.0 ∷ items_of result.1.now }
     ensures within { length result.1.now ≤ length line.now }
 {
-    match next_token(line) {
-        Some((Token::Open, rest)) => (Item::Group, rest),
+    match next_lexeme(line) {
+        Some((Lexeme::Open, rest)) => (Item::Group, rest),
         _ => (Item::Stops(ConfFaultKind::Unbalanced), &[]),
     }
 }
 
 // What stands behind the word `group`.
 fn group_begun(line: &[u8]) -> (Item<'_>, &[u8])
-    ensures items { items (tokens_of line.now) GroupBegun
+    ensures items { items (lexemes_of line.now) GroupBegun
         ≡ item_view result.0 ∷ items_of result.1.now }
     ensures within { length result.1.now ≤ length line.now }
 {
-    match next_token(line) {
-        Some((Token::Word(_), rest)) => group_named(rest),
+    match next_lexeme(line) {
+        Some((Lexeme::Word(_), rest)) => group_named(rest),
         _ => (Item::Stops(ConfFaultKind::Unbalanced), &[]),
     }
 }
 
 // What stands behind a key whose word ends at the colon.
 fn key_begun<'t>(key: &'t [u8], line: &'t [u8]) -> (Item<'t>, &'t [u8])
-    ensures items { items (tokens_of line.now) (KeyBegun key.now)
+    ensures items { items (lexemes_of line.now) (KeyBegun key.now)
         ≡ item_view result.0 ∷ items_of result.1.now }
     ensures within { length result.1.now ≤ length line.now }
 {
-    match next_token(line) {
-        Some((Token::Word(value), rest)) => (Item::Uses(key, Some(value)), rest),
-        Some((Token::Quoted(value), rest)) => (Item::Uses(key, Some(value)), rest),
-        Some((Token::Unclosed, _)) => (Item::Stops(ConfFaultKind::Unbalanced), &[]),
+    match next_lexeme(line) {
+        Some((Lexeme::Word(value), rest)) => (Item::Uses(key, Some(value)), rest),
+        Some((Lexeme::Quoted(value), rest)) => (Item::Uses(key, Some(value)), rest),
+        Some((Lexeme::Unclosed, _)) => (Item::Stops(ConfFaultKind::Unbalanced), &[]),
         _ => (Item::Uses(key, None), line),
     }
 }
 
 // What a word begins that stands where a new item may.
 fn word_begun<'t>(word: &'t [u8], line: &'t [u8]) -> (Item<'t>, &'t [u8])
-    ensures items { word_items (sort_of word.now) (items (tokens_of line.now))
+    ensures items { word_items (sort_of word.now) (items (lexemes_of line.now))
         ≡ item_view result.0 ∷ items_of result.1.now }
     ensures within { length result.1.now ≤ length line.now }
 {
@@ -160,12 +160,12 @@ pub(crate) fn next_item(line: &[u8]) -> Option<(Item<'_>, &[u8])>
         (λ r. items_of line.now ≡ item_view r.0 ∷ items_of r.1.now) }
     ensures shorter { IfSome result (λ r. length r.1.now < length line.now) }
 {
-    match next_token(line) {
+    match next_lexeme(line) {
         None => None,
-        Some((Token::Word(word), rest)) => Some(word_begun(word, rest)),
-        Some((Token::Quoted(_), _)) => Some((Item::Stops(ConfFaultKind::NoValue), &[])),
-        Some((Token::Close, rest)) => Some((Item::Closes, rest)),
-        Some((Token::Open, _)) => Some((Item::Stops(ConfFaultKind::Unbalanced), &[])),
-        Some((Token::Unclosed, _)) => Some((Item::Stops(ConfFaultKind::Unbalanced), &[])),
+        Some((Lexeme::Word(word), rest)) => Some(word_begun(word, rest)),
+        Some((Lexeme::Quoted(_), _)) => Some((Item::Stops(ConfFaultKind::NoValue), &[])),
+        Some((Lexeme::Close, rest)) => Some((Item::Closes, rest)),
+        Some((Lexeme::Open, _)) => Some((Item::Stops(ConfFaultKind::Unbalanced), &[])),
+        Some((Lexeme::Unclosed, _)) => Some((Item::Stops(ConfFaultKind::Unbalanced), &[])),
     }
 }

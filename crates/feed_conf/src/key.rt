@@ -94,8 +94,8 @@ const KEYS: [Key; 18] = [
 // What the profile says of a key.
 #[derive(Clone, Copy, Debug)]
 struct Row {
-    // Its place in the table of keys.
-    place: usize,
+    // Its index in the table of keys.
+    index: usize,
     // How it is written in settings.
     name: &'static [u8],
     // How its value is written.
@@ -113,10 +113,10 @@ const SECONDS: Kind = Kind::Number(1, 86_400);
 const OCTETS: Kind = Kind::Number(0, 4_294_967_296);
 
 // A boolean of a peer.
-fn switch(place: usize, name: &'static [u8], default: bool) -> Row
+fn switch(index: usize, name: &'static [u8], default: bool) -> Row
     ensures { row_view result
         ≡ record {
-          place = place;
+          index = index;
           name = name.now;
           kind = Switch;
           of_file = false;
@@ -124,7 +124,7 @@ fn switch(place: usize, name: &'static [u8], default: bool) -> Row
         } }
 {
     Row {
-        place,
+        index,
         name,
         kind: Kind::Switch,
         of_file: false,
@@ -133,10 +133,10 @@ fn switch(place: usize, name: &'static [u8], default: bool) -> Row
 }
 
 // A number of a peer.
-fn number(place: usize, name: &'static [u8], kind: Kind, default: u64) -> Row
+fn number(index: usize, name: &'static [u8], kind: Kind, default: u64) -> Row
     ensures { row_view result
         ≡ record {
-          place = place;
+          index = index;
           name = name.now;
           kind = kind;
           of_file = false;
@@ -144,7 +144,7 @@ fn number(place: usize, name: &'static [u8], kind: Kind, default: u64) -> Row
         } }
 {
     Row {
-        place,
+        index,
         name,
         kind,
         of_file: false,
@@ -153,10 +153,10 @@ fn number(place: usize, name: &'static [u8], kind: Kind, default: u64) -> Row
 }
 
 // A text of the file.
-fn file_text(place: usize, name: &'static [u8], default: &'static [u8]) -> Row
+fn file_text(index: usize, name: &'static [u8], default: &'static [u8]) -> Row
     ensures { row_view result
         ≡ record {
-          place = place;
+          index = index;
           name = name.now;
           kind = AnyText;
           of_file = true;
@@ -164,7 +164,7 @@ fn file_text(place: usize, name: &'static [u8], default: &'static [u8]) -> Row
         } }
 {
     Row {
-        place,
+        index,
         name,
         kind: Kind::AnyText,
         of_file: true,
@@ -179,7 +179,7 @@ impl Key {
     {
         match self {
             Key::IpName => Row {
-                place: 0,
+                index: 0,
                 name: b"ip-name",
                 kind: Kind::ShortText,
                 of_file: false,
@@ -205,11 +205,11 @@ impl Key {
         }
     }
 
-    /// Its place in the table of keys.
-    pub(crate) fn place(self) -> usize
-        ensures { result ≡ (row_of self).place }
+    /// Its index in the table of keys.
+    pub(crate) fn index(self) -> usize
+        ensures { result ≡ (row_of self).index }
     {
-        self.row().place
+        self.row().index
     }
 
     /// How it is written in settings.

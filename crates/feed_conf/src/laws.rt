@@ -1,14 +1,15 @@
 //! The laws of the words in which settings are defined.
 ghost use Rattle.std.specs.Prelude.{◌≡◌, ℕ, List};
-ghost use Rattle.feed_conf.specs.Tokens.{HasTokens, Token};
+ghost use Rattle.feed_conf.specs.Lexemes.{HasLexemes, Lexeme};
 
-/// A line has tokens.
-pub fn tokens_exist()
-    ensures { (line : List ℕ) → (tokens : List Token) × HasTokens line tokens }
+/// A line has lexemes.
+pub fn lexemes_exist()
+    ensures { (line : List ℕ) → (lexemes : List Lexeme) × HasLexemes line lexemes }
 {}
 
-/// A line has one list of tokens.
-pub fn tokens_once()
-    ensures { (line : List ℕ) (one other : List Token) → HasTokens line one → HasTokens line other
+/// A line has one list of lexemes.
+pub fn lexemes_once()
+    ensures { (line : List ℕ) (one other : List Lexeme)
+        → HasLexemes line one → HasLexemes line other
         → one ≡ other }
 {}

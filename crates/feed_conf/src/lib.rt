@@ -2,7 +2,7 @@
 //!
 //! May touch nothing but memory; it stands on `funnel` for the names of peers, on `memchr` for the search for line
 //! ends. The crates above use `read_conf`, which gives what `specs/Settings.antt` has as the meaning of the text's
-//! tokens (`specs/Tokens.antt`, `specs/Items.antt`, `specs/Reading.antt`), or names its first fault, what `Conf`
+//! lexemes (`specs/Lexemes.antt`, `specs/Items.antt`, `specs/Reading.antt`), or names its first fault, what `Conf`
 //! answers of it, and `read_digits`, which reads a number in digits.
 #![tactic(auto)]
 
@@ -12,12 +12,12 @@ mod fault;
 mod item;
 mod key;
 pub mod laws;
+mod lexeme;
 mod peers;
 mod read;
 mod reader;
 mod settings;
 mod table;
-mod token;
 mod value;
 
 pub use conf::{Conf, Ignored, PeerConf};

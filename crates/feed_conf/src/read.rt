@@ -80,7 +80,7 @@ fn read_lines(alloc: Global, text: &[u8]) -> Result<Reader<'_>, ConfFault>
 // At the end no block may be open.
 fn finish(reader: Reader<'_>) -> Result<Reader<'_>, ConfFault>
     ensures state { Runs (finish (reader_view reader.entry)) result }
-    ensures kept { IfOk result
+    ensures keeps_names { IfOk result
         (λ r. (r.names ≡ reader.entry.names) × (r.peers ≡ reader.entry.peers)) }
 {
     match reader.innermost() {

@@ -62,7 +62,7 @@ pub(crate) struct Reader<'t> {
     pub(crate) uses: Vec<Use<'t>>,
     pub(crate) peers: Vec<Declared>,
     pub(crate) ignored: Vec<Ignored>,
-    /// The place of each peer by its name.
+    /// The index of each peer by its name.
     pub(crate) names: BTreeMap<String, usize>,
 }
 
@@ -135,7 +135,7 @@ impl<'t> Reader<'t> {
         ensures state { MatchResult result
             (λ r. reader_view r ≡ open_block (reader_view self.entry)
             (block_at (reader_view self.entry) line is_peer)) (λ kind. kind ≡ NoMemory) }
-        ensures kept { IfOk result
+        ensures keeps_names { IfOk result
             (λ r. (r.names ≡ self.entry.names) × (r.peers ≡ self.entry.peers)) }
     {
         let outer = self.number();
@@ -154,7 +154,7 @@ impl<'t> Reader<'t> {
     fn open_group(self, line: u64) -> Result<Self, ConfFaultKind>
         requires { self.opened < 2 ^ 63 }
         ensures state { Steps (step (reader_view self.entry) line Group) result }
-        ensures kept { IfOk result
+        ensures keeps_names { IfOk result
             (λ r. (r.names ≡ self.entry.names) × (r.peers ≡ self.entry.peers)) }
         ensures opened { IfOk result (λ r. r.opened ≤ self.entry.opened + 1) }
     {
@@ -168,7 +168,7 @@ impl<'t> Reader<'t> {
     fn close(mut self) -> Result<Self, ConfFaultKind>
         ensures state { Steps
             (close_block (innermost self.entry.around.items) (reader_view self.entry)) result }
-        ensures kept { IfOk result
+        ensures keeps_names { IfOk result
             (λ r. (r.names ≡ self.entry.names) × (r.peers ≡ self.entry.peers)) }
         ensures opened { IfOk result (λ r. r.opened ≡ self.entry.opened) }
     {
@@ -187,7 +187,7 @@ impl<'t> Reader<'t> {
         ensures state { MatchResult result
             (λ r. reader_view r ≡ report (reader_view self.entry) line key.now limited)
             (λ kind. kind ≡ NoMemory) }
-        ensures kept { IfOk result
+        ensures keeps_names { IfOk result
             (λ r. (r.names ≡ self.entry.names) × (r.peers ≡ self.entry.peers)) }
         ensures opened { IfOk result (λ r. r.opened ≡ self.entry.opened) }
     {
@@ -207,12 +207,12 @@ impl<'t> Reader<'t> {
         ensures named { IfOk result (λ r. IsNamed r) }
     {
         let alloc = self.alloc;
-        let place = self.peers.len();
+        let index = self.peers.len();
         let key = String::from_str(alloc, text_of(&name))?;
         let block = self.opened + 1;
         let mut reader = self.open(line, true)?;
         reader.peers.push(Declared { name, line, block })?;
-        reader.names.insert(key, place)?;
+        reader.names.insert(key, index)?;
         Ok(reader)
     }
 
@@ -251,7 +251,7 @@ impl<'t> Reader<'t> {
     ) -> Result<Self, ConfFaultKind>
         ensures state { Steps (use_taken (reader_view self.entry) line name.now key
             (Ok (taken_view taken.entry))) result }
-        ensures kept { IfOk result
+        ensures keeps_names { IfOk result
             (λ r. (r.names ≡ self.entry.names) × (r.peers ≡ self.entry.peers)) }
         ensures opened { IfOk result (λ r. r.opened ≡ self.entry.opened) }
     {
@@ -278,7 +278,7 @@ impl<'t> Reader<'t> {
     ) -> Result<Self, ConfFaultKind>
         ensures state { Steps (use_value (reader_view self.entry) line name.now key
             (option_map (λ v. v.now) value.entry)) result }
-        ensures kept { IfOk result
+        ensures keeps_names { IfOk result
             (λ r. (r.names ≡ self.entry.names) × (r.peers ≡ self.entry.peers)) }
         ensures opened { IfOk result (λ r. r.opened ≡ self.entry.opened) }
     {
@@ -300,7 +300,7 @@ impl<'t> Reader<'t> {
     ) -> Result<Self, ConfFaultKind>
         ensures state { Steps (use_key (reader_view self.entry) line name.now
             (option_map (λ v. v.now) value.entry) (key_of name.now)) result }
-        ensures kept { IfOk result
+        ensures keeps_names { IfOk result
             (λ r. (r.names ≡ self.entry.names) × (r.peers ≡ self.entry.peers)) }
         ensures opened { IfOk result (λ r. r.opened ≡ self.entry.opened) }
     {

@@ -1,8 +1,8 @@
 // Reads settings whole.
 ghost use Rattle.std.specs.Prelude.{◌≡◌, List, Ok};
 ghost use Rattle.feed_conf.specs.Bounds.{AreBounded};
-ghost use Rattle.feed_conf.specs.Tokens.{Token};
-ghost use Rattle.feed_conf.specs.Reading.{HaveTokens, lines_of};
+ghost use Rattle.feed_conf.specs.Lexemes.{Lexeme};
+ghost use Rattle.feed_conf.specs.Reading.{HaveLexemes, lines_of};
 ghost use Rattle.feed_conf.specs.ReaderView.{IsNamed, reader_view};
 ghost use Rattle.feed_conf.specs.Settings.{judged, meaning};
 ghost use Rattle.feed_conf.specs.ConfView.{Makes};
@@ -53,9 +53,9 @@ fn make_conf(alloc: Global, reader: Reader<'_>) -> Result<Conf, ConfFault>
 /// The first fault in reading order; a peer whose shares are crossed is one only where the whole text has no other, at
 /// the line of its word, the first such peer. `NoMemory` where memory was refused.
 pub fn read_conf(alloc: Global, text: &[u8]) -> Result<Conf, ConfFault>
-    ensures meaning { (lines : List (List Token)) → HaveTokens (lines_of text.now) lines
+    ensures meaning { (lines : List (List Lexeme)) → HaveLexemes (lines_of text.now) lines
         → Makes (meaning lines) result }
-    ensures tokens { (lines : List (List Token)) × HaveTokens (lines_of text.now) lines }
+    ensures lexemes { (lines : List (List Lexeme)) × HaveLexemes (lines_of text.now) lines }
 {
     match read_text(alloc, text) {
         Ok(reader) => make_conf(alloc, reader),

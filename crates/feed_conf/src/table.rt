@@ -15,7 +15,7 @@ use crate::value::Value;
 use std::alloc::{AllocError, Global};
 use std::collections::BTreeMap;
 
-/// The value of each key's last use in each block, by the block's number and the key's place.
+/// The value of each key's last use in each block, by the block's number and the key's index.
 #[derive(Debug, Drop)]
 pub(crate) struct Table<'t> {
     values: BTreeMap<(usize, usize), Value<'t>>,
@@ -30,9 +30,9 @@ pub(crate) fn table_of<'t>(alloc: Global, uses: &[Use<'t>]) -> Result<Table<'t>,
 {
     let mut values = BTreeMap::new(alloc);
     for held in uses {
-        let place = (held.block, held.key.place());
+        let index = (held.block, held.key.index());
         let value = held.value;
-        values.insert(place, value)?;
+        values.insert(index, value)?;
     }
     Ok(Table { values })
 }
@@ -51,16 +51,16 @@ impl<'t> Table<'t> {
     // The value of a key's last use in a block.
     fn last_value(&self, block: usize, key: Key) -> Option<Value<'t>>
         ensures { (uses : List Noted) → IsTableOf self.now uses
-            → option_map value_view result ≡ last_value block (row_of key).place uses }
+            → option_map value_view result ≡ last_value block (row_of key).index uses }
     {
-        self.values.get(&(block, key.place())).copied()
+        self.values.get(&(block, key.index())).copied()
     }
 
     // The value of a key in a block, else in those that it stands in, from the inside out.
     fn value_along(&self, outer: &[usize], block: usize, key: Key) -> Option<Value<'t>>
         ensures { (uses : List Noted) → IsTableOf self.now uses
             → option_map value_view result
-            ≡ value_along (row_of key).place uses (path_of outer.now block) }
+            ≡ value_along (row_of key).index uses (path_of outer.now block) }
     {
         let mut at = block;
         for step in 0..block {

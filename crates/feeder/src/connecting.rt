@@ -14,41 +14,41 @@ use std::io::{self, ErrorKind};
 use std::net::{Net, ToSocketAddrs};
 
 impl<S: Articles + Drop, C: Net + Drop, N: Naming> Feeder<S, C, N> {
-    /// Begins to connect each place that is due.
+    /// Begins to connect each slot that is due.
     pub(crate) fn connect_due<R: Log>(&mut self, rt: &R, now: u64, last_phase: bool) {
-        for at in 0..self.places.len() {
+        for at in 0..self.slots.len() {
             self.connect_if_due(rt, at, now, last_phase);
         }
     }
 
-    // Begins to connect a place, where it is due. One that fails at once is lost.
+    // Begins to connect a slot, where it is due. One that fails at once is lost.
     fn connect_if_due<R: Log>(&mut self, rt: &R, at: usize, now: u64, last_phase: bool) {
-        let is_due = match self.places.get(at) {
-            Some(place) => place.is_due(now, last_phase),
+        let is_due = match self.slots.get(at) {
+            Some(slot) => slot.is_due(now, last_phase),
             None => false,
         };
         if is_due
             && let Err(error) = self.connect(at)
-            && let Some(place) = self.places.get_mut(at)
+            && let Some(slot) = self.slots.get_mut(at)
         {
-            place.lost(now);
-            tell_unmade(rt, name_of(&self.plans, place.plan()), &error);
+            slot.lost(now);
+            tell_unmade(rt, name_of(&self.plans, slot.plan()), &error);
         }
     }
 
-    // Begins to connect a place, to the next address of its peer.
+    // Begins to connect a slot, to the next address of its peer.
     fn connect(&mut self, at: usize) -> io::Result<()> {
-        let Some(place) = self.places.get_mut(at) else {
+        let Some(slot) = self.slots.get_mut(at) else {
             return Err(io::Error::from(ErrorKind::NotFound));
         };
-        let Some(plan) = self.plans.get_mut(place.plan()) else {
+        let Some(plan) = self.plans.get_mut(slot.plan()) else {
             return Err(io::Error::from(ErrorKind::NotFound));
         };
-        if place.is_waiting() {
+        if slot.is_waiting() {
             let _ = look_up_again(self.alloc, &self.net, plan);
         }
-        let address = plan.address(place.tries());
-        place.tried();
+        let address = plan.address(slot.tries());
+        slot.tried();
         let Some(address) = address else {
             return Err(io::Error::from(ErrorKind::AddrNotAvailable));
         };
@@ -66,7 +66,7 @@ impl<S: Articles + Drop, C: Net + Drop, N: Naming> Feeder<S, C, N> {
     }
 }
 
-// Looks a peer's host up again. What is found takes the place of its addresses; else they stay.
+// Looks a peer's host up again. What is found replaces its addresses; else they stay.
 fn look_up_again<C: Net>(alloc: Global, net: &C, plan: &mut PeerPlan) -> io::Result<()> {
     let found = (plan.host.as_str(), plan.port).to_socket_addrs(net)?;
     let mut addresses = Vec::new(alloc);

@@ -26,10 +26,10 @@ pub(crate) struct Connection {
     address: SocketAddr,
     // Why it could not be made.
     failure: Option<io::Error>,
-    // The place of its peer at the post.
+    // The index of its peer at the post.
     peer: usize,
-    // Its place among the feeder's.
-    place: usize,
+    // The index of its slot among the feeder's.
+    slot: usize,
     // The socket was not yet reported ready.
     is_connecting: bool,
     is_greeted: bool,
@@ -46,14 +46,14 @@ pub(crate) struct Connection {
 }
 
 impl Connection {
-    /// One that is being made to this address, for this place of this peer.
+    /// One that is being made to this address, for this slot of this peer.
     pub fn new(
         alloc: Global,
         conn: Conn,
         link: SocketLink,
         address: SocketAddr,
         peer: usize,
-        place: usize,
+        slot: usize,
     ) -> Self {
         Connection {
             conn,
@@ -61,7 +61,7 @@ impl Connection {
             address,
             failure: None,
             peer,
-            place,
+            slot,
             is_connecting: true,
             is_greeted: false,
             is_touched: false,
@@ -77,14 +77,14 @@ impl Connection {
         self.conn.id()
     }
 
-    /// The place of its peer at the post.
+    /// The index of its peer at the post.
     pub fn peer(&self) -> usize {
         self.peer
     }
 
-    /// Its place among the feeder's.
-    pub fn place(&self) -> usize {
-        self.place
+    /// The index of its slot among the feeder's.
+    pub fn slot(&self) -> usize {
+        self.slot
     }
 
     /// The peer's address.

@@ -8,7 +8,7 @@ use peer_queue::StationFault;
 use recovery::TapeFault;
 use std::sync::Wait;
 
-/// A post, as one feeder asks it at one moment. A peer is named by its place at the post, and a wrong one is refused.
+/// A post, as one feeder asks it at one moment. A peer is named by its index at the post, and a wrong one is refused.
 #[derive(Drop)]
 pub(crate) struct Desk<'a, D: Disk, N: Naming, P: Pace> {
     pub post: &'a Post<D, N>,
@@ -61,7 +61,7 @@ impl<D: Disk, N: Naming, P: Pace> Desk<'_, D, N, P> {
         if peer >= self.post.peers() {
             return Err((outcome, FeederFault::NoPeer));
         }
-        self.pace.turn(self.who, flusher::Place::BeforeSettle);
+        self.pace.turn(self.who, flusher::Point::BeforeSettle);
         let ended = if self.waits {
             self.post
                 .finish(rt, peer, connection, outcome, self.now, share)
@@ -69,7 +69,7 @@ impl<D: Disk, N: Naming, P: Pace> Desk<'_, D, N, P> {
             self.post
                 .try_finish(rt, peer, connection, outcome, self.now, share)
         };
-        self.pace.turn(self.who, flusher::Place::AfterSettle);
+        self.pace.turn(self.who, flusher::Point::AfterSettle);
         match ended {
             Ok(_) => Ok(()),
             Err((outcome, fault)) => Err((outcome, FeederFault::Post(fault))),

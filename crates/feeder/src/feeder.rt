@@ -1,8 +1,8 @@
-// A feeder: its connections, their places, and what it works with.
+// A feeder: its connections, their slots, and what it works with.
 ghost use Rattle.std.specs.Prelude.{◌≡◌, ◌+◌, ◌-◌, ◌/◌, ◌%◌};
 
 use crate::connection::Connection;
-use crate::{FeederFault, PeerPlan, Place};
+use crate::{FeederFault, PeerPlan, Slot};
 use article_store::Articles;
 use flusher::{FeederShare, Naming};
 use mio::{Events, Poll, Token, Waker};
@@ -35,7 +35,7 @@ pub struct Feeder<S: Articles + Drop, C: Net + Drop, N: Naming> {
     pub(crate) start: Instant,
     pub(crate) which: u8,
     pub(crate) plans: Vec<PeerPlan>,
-    pub(crate) places: Vec<Place>,
+    pub(crate) slots: Vec<Slot>,
     pub(crate) connections: Slab<Connection>,
     pub(crate) poll: Poll,
     pub(crate) events: Events,
@@ -64,7 +64,7 @@ impl<S: Articles + Drop, C: Net + Drop, N: Naming> Feeder<S, C, N> {
         let poll = Poll::new(&net)?;
         let events = Events::with_capacity(alloc, EVENTS)?;
         let buffer = vec![in alloc; 0u8; BUFFER]?;
-        let places = places_of(alloc, &plans, which)?;
+        let slots = slots_of(alloc, &plans, which)?;
         Ok(Feeder {
             share,
             fault: None,
@@ -74,7 +74,7 @@ impl<S: Articles + Drop, C: Net + Drop, N: Naming> Feeder<S, C, N> {
             start,
             which,
             plans,
-            places,
+            slots,
             connections: Slab::new(alloc),
             poll,
             events,
@@ -93,16 +93,16 @@ impl<S: Articles + Drop, C: Net + Drop, N: Naming> Feeder<S, C, N> {
     }
 }
 
-// The places of all peers that are this feeder's.
-fn places_of(alloc: Global, plans: &Vec<PeerPlan>, which: u8) -> Result<Vec<Place>, AllocError> {
-    let mut places = Vec::new(alloc);
+// The slots of all peers that are this feeder's.
+fn slots_of(alloc: Global, plans: &Vec<PeerPlan>, which: u8) -> Result<Vec<Slot>, AllocError> {
+    let mut slots = Vec::new(alloc);
     for at in 0..plans.len() {
         let plan = &plans[at];
         for _ in 0..share_of(plan.connections, which) {
-            places.push(Place::new(at, plan.first_wait, plan.most_wait))?;
+            slots.push(Slot::new(at, plan.first_wait, plan.most_wait))?;
         }
     }
-    Ok(places)
+    Ok(slots)
 }
 
 // How many of so many connections, numbered from 0, are this feeder's: those whose number mod 2 it is.

@@ -2,7 +2,7 @@
 //!
 //! May touch sockets, the clock, a store of articles and the stations behind a post, and wait for their locks.
 //! The crates above make a [`Feeder`] for each thread and run it as a [`flusher::Work`]; connection k of each peer is
-//! feeder k mod 2's. What is decided apart from sockets, when a place is tried again ([`Place`]) and how long a feeder
+//! feeder k mod 2's. What is decided apart from sockets, when a slot is tried again ([`Slot`]) and how long a feeder
 //! sleeps, has contracts; connections and links have theirs in `conn_core` and `event_loop`.
 #![tactic(auto)]
 
@@ -13,13 +13,13 @@ mod fault;
 mod feeder;
 mod leaving;
 mod moment;
-mod place;
 mod plan;
+mod slot;
 mod telling;
 mod turn;
 mod visit;
 
 pub use fault::FeederFault;
 pub use feeder::Feeder;
-pub use place::Place;
 pub use plan::PeerPlan;
+pub use slot::Slot;

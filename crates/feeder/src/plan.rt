@@ -6,7 +6,7 @@ use std::net::SocketAddr;
 /// How a peer is fed.
 #[derive(Drop)]
 pub struct PeerPlan {
-    /// The place of its station at the post.
+    /// The index of its station at the post.
     pub peer: usize,
     /// Its name.
     pub name: PeerName,
@@ -20,7 +20,7 @@ pub struct PeerPlan {
     pub options: Options,
     /// How many connections it is to have (`max-connections`).
     pub connections: u64,
-    /// How long a place waits after its first failure, in seconds (`initial-reconnect-time`).
+    /// How long a slot waits after its first failure, in seconds (`initial-reconnect-time`).
     pub first_wait: u64,
     /// How long it waits at most, in seconds (`max-reconnect-time`).
     pub most_wait: u64,

@@ -80,7 +80,7 @@ impl<S: Articles + Drop, C: Net + Drop, N: Naming> Feeder<S, C, N> {
         }
     }
 
-    // Where a second has passed, tells each connection, and connects the places that are due.
+    // Where a second has passed, tells each connection, and connects the slots that are due.
     fn pass_second<R: Log>(&mut self, rt: &R, now: u64, last_phase: bool) {
         if self.ticked == Some(now) {
             return;
@@ -100,9 +100,9 @@ impl<S: Articles + Drop, C: Net + Drop, N: Naming> Feeder<S, C, N> {
         connection.tick(now);
         let deferred = connection.take_deferred();
         if deferred > 0
-            && let Some(place) = self.places.get(connection.place())
+            && let Some(slot) = self.slots.get(connection.slot())
         {
-            tell_deferred(rt, name_of(&self.plans, place.plan()), deferred);
+            tell_deferred(rt, name_of(&self.plans, slot.plan()), deferred);
         }
     }
 
@@ -140,10 +140,10 @@ impl<S: Articles + Drop, C: Net + Drop, N: Naming> Feeder<S, C, N> {
             &mut self.share,
         )?;
         if connection.is_newly_greeted()
-            && let Some(place) = self.places.get_mut(connection.place())
+            && let Some(slot) = self.slots.get_mut(connection.slot())
         {
-            place.greeted();
-            let name = name_of(&self.plans, place.plan());
+            slot.greeted();
+            let name = name_of(&self.plans, slot.plan());
             tell_connected(rt, name, connection.address(), connection.mode());
         }
         if connection.is_over() {
@@ -153,7 +153,7 @@ impl<S: Articles + Drop, C: Net + Drop, N: Naming> Feeder<S, C, N> {
     }
 
     /// Drops a connection, at the next turn where its station is in use. What it may still hold is ready again, and its
-    /// place waits, but where it was left in good order.
+    /// slot waits, but where it was left in good order.
     pub(crate) fn remove<D: Disk, R: Wait + Log, P: Pace>(
         &mut self,
         rt: &R,
@@ -170,12 +170,12 @@ impl<S: Articles + Drop, C: Net + Drop, N: Naming> Feeder<S, C, N> {
         let Some(connection) = self.connections.try_remove(key) else {
             return;
         };
-        if let Some(place) = self.places.get_mut(connection.place()) {
+        if let Some(slot) = self.slots.get_mut(connection.slot()) {
             match connection.closed() {
-                Some(Reason::Quit) => place.left(),
-                _ => place.lost(desk.now),
+                Some(Reason::Quit) => slot.left(),
+                _ => slot.lost(desk.now),
             }
-            tell_over(rt, name_of(&self.plans, place.plan()), &connection);
+            tell_over(rt, name_of(&self.plans, slot.plan()), &connection);
         }
     }
 
@@ -196,11 +196,11 @@ impl<S: Articles + Drop, C: Net + Drop, N: Naming> Feeder<S, C, N> {
         Ok(true)
     }
 
-    // Whether in the last phase each of its places of this peer is given up.
+    // Whether in the last phase each of its slots of this peer is given up.
     fn is_given_up(&self, plan: usize) -> bool {
-        self.places
+        self.slots
             .iter()
-            .all(|place| place.plan() != plan || place.is_given_up(true))
+            .all(|slot| slot.plan() != plan || slot.is_given_up(true))
     }
 
     // Tells of each of its peers that it gives up, where it is the last feeder of the peer to do so.
@@ -208,7 +208,7 @@ impl<S: Articles + Drop, C: Net + Drop, N: Naming> Feeder<S, C, N> {
         for at in 0..self.plans.len() {
             let plan = &self.plans[at];
             if self.is_given_up(at)
-                && self.places.iter().any(|place| place.plan() == at)
+                && self.slots.iter().any(|slot| slot.plan() == at)
                 && desk.give_up(plan.peer, plan.feeders())
             {
                 tell_given_up(rt, name_of(&self.plans, at));

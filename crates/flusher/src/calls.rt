@@ -7,7 +7,7 @@ ghost use Rattle.flusher.specs.Marks.{IsRaised, IsRaisedBy, IsTakenAt, rises};
 use crate::desk::Desk;
 use crate::fault::TakeFault;
 use crate::naming::TakenByIntake;
-use crate::pace::{Pace, Place, Who};
+use crate::pace::{Pace, Point, Who};
 use crate::post::Intake;
 use crate::share::{FeederShare, IntakeShare};
 use crate::{Naming, Post, PostFault};
@@ -192,7 +192,7 @@ impl<D: Disk, N: Naming> Post<D, N> {
         requires { peer < length self.now.names }
         ensures counted { IfOk result
             (λ settled. IsCounted outcome now settled mine.old mine.new) }
-        ensures handed { IfErr result (λ e. e.0 ≡ outcome) }
+        ensures returned { IfErr result (λ e. e.0 ≡ outcome) }
         ensures unchanged { OnErr result
             ((mine.new.answered ≡ mine.old.answered) × (mine.new.dropped ≡ mine.old.dropped)) }
     {
@@ -216,7 +216,7 @@ impl<D: Disk, N: Naming> Post<D, N> {
         requires { peer < length self.now.names }
         ensures counted { IfOk result
             (λ settled. IsCounted outcome now settled mine.old mine.new) }
-        ensures handed { IfErr result (λ e. e.0 ≡ outcome) }
+        ensures returned { IfErr result (λ e. e.0 ≡ outcome) }
         ensures unchanged { OnErr result
             ((mine.new.answered ≡ mine.old.answered) × (mine.new.dropped ≡ mine.old.dropped)) }
     {
@@ -242,7 +242,7 @@ impl<D: Disk, N: Naming> Post<D, N> {
         requires { peer < length self.now.names }
         ensures counted { IfOk result
             (λ settled. IsCounted outcome now settled mine.old mine.new) }
-        ensures handed { IfErr result (λ e. e.0 ≡ outcome) }
+        ensures returned { IfErr result (λ e. e.0 ≡ outcome) }
         ensures unchanged { OnErr result
             ((mine.new.answered ≡ mine.old.answered) × (mine.new.dropped ≡ mine.old.dropped)) }
     {
@@ -419,7 +419,7 @@ impl<D: Disk, N: Naming> Post<D, N> {
         let number = self.intake.lock(rt).last;
         for peer in 0..self.peers.len() {
             self.flush_one(rt, pace, peer)?;
-            pace.turn(Who::Flusher, Place::AfterFlush);
+            pace.turn(Who::Flusher, Point::AfterFlush);
         }
         match self.intake.lock(rt).seal(number) {
             Ok(()) => Ok(Receipt { number }),
@@ -463,7 +463,7 @@ impl<D: Disk, N: Naming> Post<D, N> {
         requires { peer < length self.now.names }
     {
         let mut desk = self.peers[peer].desk.lock(rt);
-        pace.turn(Who::Flusher, Place::InFlush);
+        pace.turn(Who::Flusher, Point::InFlush);
         match desk.flush() {
             Ok(_) => Ok(()),
             Err(fault) => Err(PostFault::Station { peer, fault }),

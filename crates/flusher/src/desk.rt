@@ -86,7 +86,7 @@ impl<D: Disk, N: Naming> Desk<D, N> {
             (Finishes connection.0 now outcome self.old.station self.new.station) }
         ensures counted { IfOk result
             (λ settled. IsCounted outcome now settled mine.old mine.new) }
-        ensures handed { IfErr result (λ e. e.0 ≡ outcome) }
+        ensures returned { IfErr result (λ e. e.0 ≡ outcome) }
         ensures unchanged { OnErr result
             (IsSame self.old.station self.new.station × (mine.new ≡ mine.old)) }
     {

@@ -21,7 +21,7 @@ pub use calls::Receipt;
 pub use fault::PostFault;
 pub use flushes::Flusher;
 pub use naming::{Blanks, Naming};
-pub use pace::{Free, Pace, Place, Who};
+pub use pace::{Free, Pace, Point, Who};
 pub use peer::{Peer, Sums};
 pub use post::{Closed, ClosedPeer, Post, Unclosed};
 pub use share::{FeederShare, IntakeShare};

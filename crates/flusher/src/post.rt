@@ -316,7 +316,7 @@ impl<D: Disk + Drop, N: Naming> Post<D, N> {
         ensures names { IfOk result
             (λ r. (map (λ p. p.name) r.peers.items ≡ self.names)
             × (map (λ p. p.opened) r.peers.items ≡ self.opened)) }
-        ensures back { IfErr result
+        ensures returned { IfErr result
             (λ e. (e.post ≡ self) × (e.intake ≡ intake) × (e.first ≡ first) × (e.second ≡ second)
             × (e.third ≡ third)) }
     {

@@ -7,7 +7,7 @@ use crate::shared::{Ending, intake, outcome, peer};
 use conn_core::{CxnId, Outcome};
 use disk_model::{Disk, MemDisk};
 use flusher::{
-    Blanks, Closed, FeederShare, Flusher, IntakeShare, Naming, NoThread, Pace, Peer, Place, Post,
+    Blanks, Closed, FeederShare, Flusher, IntakeShare, Naming, NoThread, Pace, Peer, Point, Post,
     PostFault, Signals, Sums, Who, Work, run_threads,
 };
 use ledger_core::FinalCode;
@@ -30,7 +30,7 @@ const UNLIMITED: Limits = Limits {
     drop_deferred: false,
 };
 
-// What a worker does between its two places.
+// What a worker does between its two points.
 #[derive(Clone, Copy)]
 enum Job {
     Nothing,
@@ -106,9 +106,9 @@ impl<D: Disk, N: Naming> Work<D, N> for Hand<N> {
         _signals: &Signals,
         pace: &P,
     ) {
-        pace.turn(self.who, Place::BeforeSettle);
+        pace.turn(self.who, Point::BeforeSettle);
         self.done(rt, post, pace);
-        pace.turn(self.who, Place::AfterSettle);
+        pace.turn(self.who, Point::AfterSettle);
     }
 }
 
@@ -138,7 +138,7 @@ impl<D: Disk, N: Naming> Work<D, N> for Taker<N> {
         signals: &Signals,
         pace: &P,
     ) {
-        pace.turn(Who::Intake, Place::BeforeSettle);
+        pace.turn(Who::Intake, Point::BeforeSettle);
         match self.turn {
             Turn::Nothing => {}
             Turn::Take => {
@@ -153,7 +153,7 @@ impl<D: Disk, N: Naming> Work<D, N> for Taker<N> {
                 }
             }
         }
-        pace.turn(Who::Intake, Place::AfterSettle);
+        pace.turn(Who::Intake, Point::AfterSettle);
         signals.begin_last_phase();
     }
 }
@@ -367,15 +367,15 @@ const ROWS: [Row; 3] = [
         turn: Turn::Order,
         first: At {
             who: Who::Feeder(0),
-            place: Place::BeforeSettle,
+            point: Point::BeforeSettle,
         },
         second: At {
             who: Who::Feeder(1),
-            place: Place::BeforeSettle,
+            point: Point::BeforeSettle,
         },
         last: At {
             who: Who::Feeder(1),
-            place: Place::BeforeSettle,
+            point: Point::BeforeSettle,
         },
         told: Told {
             first: Some(NOT_WANTED),
@@ -400,15 +400,15 @@ const ROWS: [Row; 3] = [
         turn: Turn::Nothing,
         first: At {
             who: Who::Flusher,
-            place: Place::InFlush,
+            point: Point::InFlush,
         },
         second: At {
             who: Who::Feeder(1),
-            place: Place::BeforeSettle,
+            point: Point::BeforeSettle,
         },
         last: At {
             who: Who::Feeder(1),
-            place: Place::AfterSettle,
+            point: Point::AfterSettle,
         },
         told: Told {
             first: None,
@@ -433,15 +433,15 @@ const ROWS: [Row; 3] = [
         turn: Turn::Take,
         first: At {
             who: Who::Flusher,
-            place: Place::AfterFlush,
+            point: Point::AfterFlush,
         },
         second: At {
             who: Who::Intake,
-            place: Place::BeforeSettle,
+            point: Point::BeforeSettle,
         },
         last: At {
             who: Who::Intake,
-            place: Place::AfterSettle,
+            point: Point::AfterSettle,
         },
         told: Told {
             first: None,

@@ -5,3 +5,4 @@ pub mod Stream
 pub mod StreamLaws
 pub mod WordLaws
 pub mod Words
+pub mod Faults

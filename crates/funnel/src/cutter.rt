@@ -56,7 +56,7 @@ impl LineCutter {
         ensures fed { OnOk result
             ((fed : List ℕ) (given : List (List ℕ)) → StandsFor self.old fed given
             → StandsFor self.new (fed ++ piece.now) given) }
-        ensures refused { OnErr result (self.new ≡ self.old) }
+        ensures unchanged { OnErr result (self.new ≡ self.old) }
     {
         match first_line(piece) {
             Some((end, behind)) => self.feed_lines(end, behind),
@@ -74,7 +74,7 @@ impl LineCutter {
         ensures none { IfNone result
             ((fed : List ℕ) (given : List (List ℕ)) → StandsFor self.old fed given
             → (rest : List ℕ) × Splits fed given rest) }
-        ensures same { IfNone result (self.new ≡ self.old) }
+        ensures unchanged { IfNone result (self.new ≡ self.old) }
     {
         self.lines.pop_front()
     }
@@ -85,7 +85,7 @@ impl LineCutter {
         ensures fed { OnOk result
             ((fed : List ℕ) (given : List (List ℕ)) → StandsFor self.old fed given
             → StandsFor self.new (fed ++ (end.now ++ 10 ∷ behind.now)) given) }
-        ensures refused { OnErr result (self.new ≡ self.old) }
+        ensures unchanged { OnErr result (self.new ≡ self.old) }
     {
         let alloc = *self.rest.allocator();
         let LineCutter { mut lines, rest } = LineCutter::of(alloc, behind)?;
@@ -140,7 +140,7 @@ fn extend_clipped(kept: &mut Vec<u8>, octets: &[u8]) -> Result<(), NoMemory>
     ensures fed { OnOk result
         ((line : List ℕ) → kept.old.items ≡ clipped line
         → kept.new.items ≡ clipped (line ++ octets.now)) }
-    ensures refused { OnErr result (kept.new.items ≡ kept.old.items) }
+    ensures unchanged { OnErr result (kept.new.items ≡ kept.old.items) }
 {
     let room = MOST_KEPT.saturating_sub(kept.len());
     kept.extend_from_slice(&octets[..room.min(octets.len())])

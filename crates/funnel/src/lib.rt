@@ -14,7 +14,7 @@ mod words;
 
 pub use cutter::{LineCutter, first_line, splits_once};
 pub use line::{FunnelLine, LONGEST_LINE, LineFault, read_line, reads_once, without_cr};
-pub use names::{MsgId, PeerName, Token};
+pub use names::{Form, MsgId, MsgIdForm, Name, PeerName, PeerNameForm, Token, TokenForm};
 /// Memory was refused.
 pub use std::alloc::AllocError as NoMemory;
 pub use words::next_word;

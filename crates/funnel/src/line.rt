@@ -1,32 +1,44 @@
 // Funnel lines.
 ghost use Rattle.std.specs.Prelude.{◌≡◌, ◌↔◌, ℕ, List, IfOk, IsErrOf, IsTrue, Contains, MatchResult};
+ghost use Rattle.funnel.specs.Faults.{line_fault_name};
 ghost use Rattle.funnel.specs.Line.{IsFunnelLine, HasFault, without_cr};
 ghost use Rattle.funnel.specs.LineLaws.{HasParts, HasPeers, IsFaultOf};
 ghost use Rattle.funnel.specs.Names.{is_msg_id, is_token};
 
-use crate::names::{MsgId, PeerName, Token, is_msg_id, is_token};
+use crate::names::{Form, MsgId, MsgIdForm, PeerName, Token, TokenForm};
 use crate::words::next_word;
 use std::alloc::{AllocError, Global};
 use thiserror::Error;
 
 /// Why a funnel line is not good. The first that holds is told, `TooLong` before the others.
 #[derive(Clone, Copy, Debug, PartialEq, Eq, Error)]
+#[error("{}", self.name())]
 pub enum LineFault {
     /// It has no word.
-    #[error("NoToken")]
     NoToken,
     /// Its first word is no token.
-    #[error("BadToken")]
     BadToken,
     /// Its second word is no message-id, or is missing.
-    #[error("BadId")]
     BadId,
     /// It has over 8,192 octets before its LF, a CR among them.
-    #[error("TooLong")]
     TooLong,
     /// Memory was refused.
-    #[error("NoMemory")]
     NoMemory,
+}
+
+impl LineFault {
+    /// The word by which messages and scripts tell it.
+    pub fn name(self) -> &'static str
+        ensures { result.now ≡ line_fault_name self }
+    {
+        match self {
+            Self::NoToken => "NoToken",
+            Self::BadToken => "BadToken",
+            Self::BadId => "BadId",
+            Self::TooLong => "TooLong",
+            Self::NoMemory => "NoMemory",
+        }
+    }
 }
 
 impl From<AllocError> for LineFault {
@@ -108,13 +120,13 @@ impl<'a> Parts<'a> {
         let Some((token, behind)) = next_word(without_cr(line)) else {
             return Err(LineFault::NoToken);
         };
-        if !is_token(token) {
+        if !TokenForm::holds(token) {
             return Err(LineFault::BadToken);
         }
         let Some((id, others)) = next_word(behind) else {
             return Err(LineFault::BadId);
         };
-        if !is_msg_id(id) {
+        if !MsgIdForm::holds(id) {
             return Err(LineFault::BadId);
         }
         Ok(Parts { token, id, others })

@@ -1,12 +1,14 @@
 -- No two notes have one spelling.
-use Rattle.std.proofs.Common.{false, ◌==◌, Option, None, IsSome, is_some, ◌≡◌, ℕ, zero, suc, ◌<◌, ◌≤◌, ◌+◌, ◌*◌, ◌^◌, List, [], ◌∷◌, ◌++◌, length, get_or, take, drop, IsTrue, sym, ap, ◌∙◌, arith, length-take}
-use Rattle.std.proofs.lemmas.List.{append-nil, take-append-drop}
+use Rattle.std.proofs.Common.{false, true, ◌==◌, Option, None, Some, IsSome, is_some, ◌≡◌, ℕ, zero, suc, ◌<◌, ◌≤◌, ◌+◌, ◌*◌, ◌^◌, List, [], ◌∷◌, ◌++◌, length, get_or, take, drop, IsTrue, sym, ap, ◌∙◌, arith, length-take}
+use Rattle.std.proofs.lemmas.List.{append-nil, nil_from_length, take-append-drop}
 use Rattle.std.specs.Int.{to_be_bytes, from_be_bytes, w16, w64}
 use Rattle.std.proofs.lemmas.Nat.{be_bytes_2, be_bytes_8}
 use Rattle.std.proofs.lemmas.Bool.{false≢true}
+use Rattle.std.proofs.lemmas.Bool.Decides.{nat_tests}
 use Rattle.funnel.specs.Names.{is_msg_id, is_token}
 use Rattle.ledger_core.specs.declared.note.Note.TheVariants.{Owe, Final, Drop, Seen}
 use Rattle.ledger_core.specs.SpellingLaws.{head-apart, sized-apart}
+use Rattle.ledger_core.specs.Reading.{Reads}
 use Rattle.ledger_core.specs.Spelling.{SpellsNothing, SpellsOwe, head, sized_text}
 
 -- an Owe is spelled by nothing else than its texts
@@ -19,6 +21,20 @@ owe-none number octets fits none (Owe other token id) is_note e =
 owe-none number octets fits none (Final other code) is_note e = cc
 owe-none number octets fits none (Drop other cause) is_note e = cc
 owe-none number octets fits none (Seen other) is_note e = cc
+
+-- an Owe is spelled by its two texts
+pub owe-some : (number : ℕ) (octets text rest text' more token id : List ℕ) → number < 2 ^ 64
+    → octets ≡ sized_text text ++ rest → rest ≡ sized_text text' ++ more → true ≡ (length more == 0)
+    → (text ≡ token) × IsTrue (is_token token) → (text' ≡ id) × IsTrue (is_msg_id id)
+    → Reads (head 1 number ++ octets) (Some (Owe number token id))
+owe-some number octets text rest text' more token id fits first second empty read read' =
+    let none : length more ≡ 0 = grind (arith, nat_tests) in
+    let behind : rest ≡ sized_text text' =
+    second ∙ ap (λ xs. sized_text text' ++ xs) (nil_from_length more none) ∙ append-nil (sized_text text') in
+    let texts : octets ≡ sized_text token ++ sized_text id =
+    first ∙ ap (λ xs. sized_text text ++ xs) behind ∙ ap (λ xs. sized_text xs ++ sized_text text') read.0
+    ∙ ap (λ xs. sized_text token ++ sized_text xs) read'.0 in
+    ((fits, read.1, read'.1), ap (λ xs. head 1 number ++ xs) texts)
 
 fits-take : (n : ℕ) (xs : List ℕ) → ((i : ℕ) → get_or xs i 0 < 256) → (i : ℕ) → get_or (take n xs) i 0 < 256
 fits-take zero xs fits i = omega arith

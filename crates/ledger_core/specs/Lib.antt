@@ -15,6 +15,6 @@ pub mod Spelling
 pub mod SpellingLaws
 pub mod Spots
 pub mod State
-pub mod Words
 pub mod Written
 pub mod WrittenLaws
+pub mod Faults

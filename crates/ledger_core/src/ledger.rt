@@ -4,6 +4,7 @@ ghost use Rattle.std.specs.Prelude.{IsErrOf, IsOk, IsSome, IsTrue, MatchResult, 
 ghost use Rattle.std.specs.Prelude.{◌-◌, length, min};
 ghost use Rattle.std.specs.List.{All, Contains};
 ghost use Rattle.std.specs.List.Sorted.{IsStrictlyIncreasing};
+ghost use Rattle.ledger_core.specs.Faults.{ledger_fault_name};
 ghost use Rattle.ledger_core.specs.Spots.{debts_of, lacking};
 ghost use Rattle.ledger_core.specs.State.{line_octets, numbers_of, octets_of_debts};
 
@@ -20,19 +21,30 @@ const RECORD_HEAD: u64 = 5;
 
 /// Why a note is refused. The ledger stays as it was.
 #[derive(Clone, Copy, Debug, PartialEq, Eq, Error)]
+#[error("{}", self.name())]
 pub enum LedgerFault {
     /// An Owe or a Seen of a number at or below the mark.
-    #[error("OldNumber")]
     OldNumber,
     /// A Final or a Drop of a number that is not owed.
-    #[error("NotOwed")]
     NotOwed,
     /// A count, or the octets that are owed, would pass the greatest u64.
-    #[error("CountFull")]
     CountFull,
     /// Memory was refused.
-    #[error("NoMemory")]
     NoMemory,
+}
+
+impl LedgerFault {
+    /// The word by which messages and scripts tell it.
+    pub fn name(self) -> &'static str
+        ensures { result.now ≡ ledger_fault_name self }
+    {
+        match self {
+            LedgerFault::OldNumber => "OldNumber",
+            LedgerFault::NotOwed => "NotOwed",
+            LedgerFault::CountFull => "CountFull",
+            LedgerFault::NoMemory => "NoMemory",
+        }
+    }
 }
 
 impl From<AllocError> for LedgerFault {
@@ -122,11 +134,10 @@ impl Ledger {
     ghost use Rattle.ledger_core.specs.Spelling.{spelling};
     ghost use Rattle.ledger_core.specs.State.{State, IsLegal, IsOld, IsOwed, LacksDebt, Overflows, Owing, numbers};
     ghost use Rattle.ledger_core.specs.State.{start, step};
-    ghost use Rattle.ledger_core.specs.Words.{octets_of};
     ghost use Rattle.ledger_core.specs.Index.{Indexes, IsSpotOf, debt_at};
     ghost use Rattle.ledger_core.specs.Ledger.{IsApplied, IsJudged, state_of, totals_of};
     ghost use Rattle.ledger_core.specs.Spots.{Follows, IsPlaced, StandsAt};
-    ghost use Rattle.std.specs.Prelude.{◌++◌, List, None};
+    ghost use Rattle.std.specs.Prelude.{◌++◌, List, None, map, vec_items};
 
     /// The ledger of no note.
     pub fn new(alloc: Global) -> Self
@@ -261,7 +272,7 @@ impl Ledger {
             ↔ LacksDebt (state_of self.now) note.now }
         ensures count_full { IsErrOf result LedgerFault.CountFull
             ↔ Overflows (state_of self.now) note.now }
-        ensures memory { IsErrOf result LedgerFault.NoMemory → ⊥ }
+        ensures no_memory { IsErrOf result LedgerFault.NoMemory → ⊥ }
     {
         match note {
             Note::Owe { number, token, id } => self.check_owe(*number, token, id),
@@ -279,16 +290,17 @@ impl Ledger {
     /// - `NoMemory` where memory was refused.
     pub fn replay(alloc: Global, payloads: &[Vec<u8>]) -> Result<Ledger, ReplayFault>
         // What is read is a list of legal notes, and the ledger is its fold.
-        ensures fold { IfOk result (λ ledger. Leaves (octets_of payloads.now) (state_of ledger)) }
+        ensures fold { IfOk result
+            (λ ledger. Leaves (map vec_items payloads.now) (state_of ledger)) }
         // Each list of legal notes is read, unless memory is refused.
-        ensures all { (state : State) → Leaves (octets_of payloads.now) state
+        ensures all { (state : State) → Leaves (map vec_items payloads.now) state
             → MatchResult result (λ ledger. state_of ledger ≡ state)
             (λ fault. fault ≡ ReplayFault.NoMemory) }
         // The first payload that is no legal note.
         ensures refused { (index : ℕ) → IsErrOf result (ReplayFault.Refused index)
-            → StopsAt (octets_of payloads.now) index }
+            → StopsAt (map vec_items payloads.now) index }
         // Each of its debts is told of where it stands among them.
-        ensures indexes { IfOk result (Indexes (length payloads.now) (octets_of payloads.now)) }
+        ensures indexes { IfOk result (Indexes (length payloads.now) (map vec_items payloads.now)) }
     {
         let mut ledger = Ledger::new(alloc);
         ledger.apply_payloads(alloc, 0, 0, payloads)?;
@@ -305,18 +317,18 @@ impl Ledger {
     ) -> Result<(), ReplayFault>
         requires { first + length payloads.now < 2 ^ 64 }
         ensures fold { OnOk result
-            (LeavesFrom (state_of self.old) (octets_of payloads.now) (state_of self.new)) }
+            (LeavesFrom (state_of self.old) (map vec_items payloads.now) (state_of self.new)) }
         ensures all { (state : State)
-            → LeavesFrom (state_of self.old) (octets_of payloads.now) state
+            → LeavesFrom (state_of self.old) (map vec_items payloads.now) state
             → MatchResult result (λ _. state_of self.new ≡ state)
             (λ fault. fault ≡ ReplayFault.NoMemory) }
         ensures refused { (place : ℕ) → IsErrOf result (ReplayFault.Refused place)
             → (index : ℕ) × (place ≡ first + index)
-            × StopsFrom (state_of self.old) (octets_of payloads.now) index }
+            × StopsFrom (state_of self.old) (map vec_items payloads.now) index }
         ensures indexes { (kept : ℕ) (front : List (List ℕ))
-            → Follows kept front (octets_of payloads.now) offset
-            → Indexes kept (front ++ octets_of payloads.now) self.old
-            → OnOk result (Indexes kept (front ++ octets_of payloads.now) self.new) }
+            → Follows kept front (map vec_items payloads.now) offset
+            → Indexes kept (front ++ map vec_items payloads.now) self.old
+            → OnOk result (Indexes kept (front ++ map vec_items payloads.now) self.new) }
     {
         let mut at = offset;
         for (index, payload) in payloads.iter().enumerate() {
@@ -492,8 +504,9 @@ fn line_octets(token: &Token, id: &MsgId) -> u64
     token.bytes().len() as u64 + id.bytes().len() as u64 + 2
 }
 
-// Where the record behind one of this payload stands, or the greatest u64.
-pub(crate) fn offset_behind(at: u64, payload: &[u8]) -> u64
+/// Where the record behind one of this payload begins, in octets from the segment's start, or the greatest u64; `at` is
+/// where that one begins.
+pub fn offset_behind(at: u64, payload: &[u8]) -> u64
     ensures { result ≡ min (at + (5 + length payload.now)) (2 ^ 64 - 1) }
 {
     at.saturating_add(RECORD_HEAD)

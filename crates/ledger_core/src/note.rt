@@ -1,6 +1,6 @@
 // Debts, and the notes that change a ledger.
 ghost use Rattle.std.specs.Prelude.{◌≡◌, ◌≢◌, ℕ, List, IfNone, IfSome};
-ghost use Rattle.ledger_core.specs.Codes.{code_number, cause_number};
+ghost use Rattle.ledger_core.specs.Codes.{cause_name, code_number, cause_number};
 
 use funnel::{MsgId, Token};
 use std::marker::Model;
@@ -79,6 +79,18 @@ impl Cause {
             3 => Some(Cause::Missing),
             4 => Some(Cause::Unsendable),
             _ => None,
+        }
+    }
+
+    /// The word by which messages and scripts tell it.
+    pub fn name(self) -> &'static str
+        ensures { result.now ≡ cause_name self }
+    {
+        match self {
+            Cause::Limit => "Limit",
+            Cause::Deferred => "Deferred",
+            Cause::Missing => "Missing",
+            Cause::Unsendable => "Unsendable",
         }
     }
 

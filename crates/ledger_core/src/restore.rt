@@ -1,9 +1,8 @@
 // The ledger of a tape that may begin with a Base.
 ghost use Rattle.std.specs.Prelude.{◌≡◌, ◌+◌, ◌<◌, ◌≤◌, ◌^◌, ◌↔◌, ℕ, IfNone, IfOk, IfSome, IsErrOf};
-ghost use Rattle.std.specs.Prelude.{IsTrue, MatchResult, OnOk, drop, length};
+ghost use Rattle.std.specs.Prelude.{IsTrue, MatchResult, OnOk, drop, length, map, vec_items};
 ghost use Rattle.ledger_core.specs.Base.{BeginsWith, HasNoBase, IsSound, LeavesBehind, Restores};
 ghost use Rattle.ledger_core.specs.Base.{RestoreStopsAt, StopsBehind};
-ghost use Rattle.ledger_core.specs.Words.{octets_of};
 
 use crate::base::{Base, decode_base};
 use crate::codec::decode;
@@ -39,8 +38,8 @@ fn is_sound(base: &Base) -> bool
 // The Base that stands first, where one does.
 fn base_of(payloads: &[Vec<u8>]) -> Option<Base>
     ensures some { IfSome result (λ base.
-        BeginsWith (octets_of payloads.now) base (drop 1 (octets_of payloads.now))) }
-    ensures none { IfNone result (HasNoBase (octets_of payloads.now)) }
+        BeginsWith (map vec_items payloads.now) base (drop 1 (map vec_items payloads.now))) }
+    ensures none { IfNone result (HasNoBase (map vec_items payloads.now)) }
 {
     decode_base(payloads.first()?)
 }
@@ -65,17 +64,17 @@ impl Ledger {
     pub fn restore(alloc: Global, payloads: &[Vec<u8>]) -> Result<Restored, ReplayFault>
         // What is read is such a tape.
         ensures ok { IfOk result
-            (λ r. Restores (octets_of payloads.now) r.generation (state_of r.ledger)) }
+            (λ r. Restores (map vec_items payloads.now) r.generation (state_of r.ledger)) }
         // Each such tape is read, unless memory is refused.
         ensures all { (generation : ℕ) (state : State)
-            → Restores (octets_of payloads.now) generation state → MatchResult result
+            → Restores (map vec_items payloads.now) generation state → MatchResult result
             (λ r. (r.generation ≡ generation) × (state_of r.ledger ≡ state))
             (λ fault. fault ≡ ReplayFault.NoMemory) }
         ensures refused { (index : ℕ) → IsErrOf result (ReplayFault.Refused index)
-            → RestoreStopsAt (octets_of payloads.now) index }
+            → RestoreStopsAt (map vec_items payloads.now) index }
         // Each of its debts is told of where it stands among them.
         ensures indexes { IfOk result
-            (λ r. Indexes (length payloads.now) (octets_of payloads.now) r.ledger) }
+            (λ r. Indexes (length payloads.now) (map vec_items payloads.now) r.ledger) }
     {
         let Some(base) = base_of(payloads) else {
             let ledger = Ledger::replay(alloc, payloads)?;
@@ -95,11 +94,11 @@ impl Ledger {
     fn restore_behind(alloc: Global, base: &Base, behind: &[Vec<u8>]) -> Result<Ledger, ReplayFault>
         requires { 1 + length behind.now < 2 ^ 64 }
         ensures ok { IfOk result
-            (λ ledger. LeavesBehind base.now (octets_of behind.now) (state_of ledger)) }
+            (λ ledger. LeavesBehind base.now (map vec_items behind.now) (state_of ledger)) }
         ensures refused { (index : ℕ) → IsErrOf result (ReplayFault.Refused index)
-            → StopsBehind base.now (octets_of behind.now) index }
+            → StopsBehind base.now (map vec_items behind.now) index }
         ensures indexes { IfOk result (Indexes (1 + length behind.now)
-            (base_spelling base.now ∷ octets_of behind.now)) }
+            (base_spelling base.now ∷ map vec_items behind.now)) }
     {
         if !is_sound(base) {
             return Err(ReplayFault::Refused { index: 0 });
@@ -122,14 +121,14 @@ impl Ledger {
     ) -> Result<(Ledger, u64), ReplayFault>
         requires { base.now.answered + base.now.dropped + length payloads.now < 2 ^ 64 }
         ensures ok { IfOk result
-            (λ r. OwesAll base.now (octets_of payloads.now) (state_of r.0)) }
+            (λ r. OwesAll base.now (map vec_items payloads.now) (state_of r.0)) }
         ensures indexes { IfOk result (λ r.
-            (r.1 ≡ min (records_length (base_spelling base.now ∷ octets_of payloads.now))
+            (r.1 ≡ min (records_length (base_spelling base.now ∷ map vec_items payloads.now))
             (2 ^ 64 - 1))
             × ((kept : ℕ) → 1 + length payloads.now ≤ kept
-            → Indexes kept (base_spelling base.now ∷ octets_of payloads.now) r.0)) }
+            → Indexes kept (base_spelling base.now ∷ map vec_items payloads.now) r.0)) }
         ensures refused { (index : ℕ) → IsErrOf result (ReplayFault.Refused index)
-            → OwesSome base.now.mark (octets_of payloads.now) index }
+            → OwesSome base.now.mark (map vec_items payloads.now) index }
     {
         let mut ledger = Ledger {
             debts: BTreeMap::new(alloc),

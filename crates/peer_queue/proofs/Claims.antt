@@ -1,13 +1,13 @@
--- The debt that may be claimed first, and the debt of a number.
-use Rattle.std.proofs.Common.{◌≡◌, ◌==◌, ℕ, zero, ◌<◌, Bool, true, false, cond, Option, Some, None, List, [], ◌∷◌, get_or, refl, sym, ap, ◌∙◌, subst, inl, inr, arith}
+-- The debt of a number, and the numbers that have a place.
+use Rattle.std.proofs.Common.{◌≡◌, ◌==◌, ℕ, zero, Bool, true, false, cond, Option, Some, None, List, [], ◌∷◌, get_or, refl, sym, ap, ◌∙◌, subst, inl, inr, arith}
 use Rattle.std.specs.Prelude.{Err, Ok, OnErr, OnOk, Result, find, option_map}
 use Rattle.std.specs.List.{Contains}
-use Rattle.std.proofs.lemmas.Bool.{eqb-true, eq-eqb, eqb-false, ne_eqb}
+use Rattle.std.proofs.lemmas.Bool.{eqb-true, eqb-false}
 use Rattle.std.proofs.lemmas.List.Elements.{Contains-append_right, Contains-append_cases}
 use Rattle.ledger_core.specs.Index.{debt_at}
 use Rattle.ledger_core.specs.State.{Owing, State, numbers_of}
 use Rattle.recovery.specs.Texts.{HasLengths, lengths_of}
-use Rattle.peer_queue.specs.Place.{AreAbove, AreRising, Held, IsUnheld, Later, Place, Places, Ready, is_candidate, is_held, least_candidate, moved, place_at, placed}
+use Rattle.peer_queue.specs.Place.{Held, Place, Places, is_candidate, least_candidate, moved, placed}
 use Rattle.peer_queue.proofs.Ends.{placed-moved}
 
 -- ---- in lists
@@ -61,7 +61,7 @@ lengths_number n debts d (Some debt) found same =
 pub read_number : (state : State) (n : ℕ) (d : Owing) → HasLengths state n (Some d) → d.0 ≡ n
 read_number state n d same = lengths_number n state.debts d (debt_at state n) refl same
 
--- ---- the least number that may be claimed
+-- ---- the number that may be claimed
 
 placed_step : (n : ℕ) (e : ℕ × Place) (p : Places) (found : Option (ℕ × Place)) (b : Bool) → (option_map (λ (entry : ℕ × Place). entry.0) found ≡ Some n → Contains (placed p) n)
     → option_map (λ (entry : ℕ × Place). entry.0) (cond b (Some e) found) ≡ Some n → Contains (e.0 ∷ placed p) n
@@ -74,34 +74,6 @@ placed_step n e p found false rest is = Contains-tail e.0 (placed p) n (rest is)
 pub candidate_placed : (now n : ℕ) (p : Places) → least_candidate now p ≡ Some n → Contains (placed p) n
 candidate_placed now n [] is = absurd (cc)
 candidate_placed now n (e ∷ p) is = placed_step n e p (find (λ (entry : ℕ × Place). is_candidate now entry.1) p) (is_candidate now e.1) (λ there. candidate_placed now n p there) is
-
-above_step : (n m : ℕ) (e : ℕ × Place) (found : Option (ℕ × Place)) (b : Bool) → m < e.0 → (option_map (λ (entry : ℕ × Place). entry.0) found ≡ Some n → m < n)
-    → option_map (λ (entry : ℕ × Place). entry.0) (cond b (Some e) found) ≡ Some n → m < n
-above_step n m e found true low rest is = let same : e.0 ≡ n = cc in omega (arith, same)
-above_step n m e found false low rest is = rest is
-
-candidate_above : (now n m : ℕ) (p : Places) → AreAbove m p → least_candidate now p ≡ Some n → m < n
-candidate_above now n m [] above is = absurd (cc)
-candidate_above now n m (e ∷ p) above is = above_step n m e (find (λ (entry : ℕ × Place). is_candidate now entry.1) p) (is_candidate now e.1) above.0 (λ there. candidate_above now n m p above.1 there) is
-
-not_held : (now : ℕ) (place : Place) → is_candidate now place ≡ true → is_held place ≡ false
-not_held now Ready may = refl
-not_held now (Held c) may = cc
-not_held now (Later m) may = refl
-
-unheld_step : (now n : ℕ) (e : ℕ × Place) (p : Places) (b : Bool) → is_candidate now e.1 ≡ b → (least_candidate now p ≡ Some n → e.0 < n) → (least_candidate now p ≡ Some n → IsUnheld p n)
-    → option_map (λ (entry : ℕ × Place). entry.0) (cond b (Some e) (find (λ (entry : ℕ × Place). is_candidate now entry.1) p)) ≡ Some n → option_map is_held (cond (e.0 == n) (Some e.1) (place_at p n)) ≡ Some false
-unheld_step now n e p true may above rest is =
-    let same : e.0 ≡ n = cc in
-    ap (λ (t : Bool). option_map is_held (cond t (Some e.1) (place_at p n))) (eq-eqb e.0 n same) ∙ ap (λ (t : Bool). Some t) (not_held now e.1 may)
-unheld_step now n e p false may above rest is =
-    ap (λ (t : Bool). option_map is_held (cond t (Some e.1) (place_at p n))) (ne_eqb e.0 n (λ same. omega (arith, above is, same))) ∙ rest is
-
--- no connection holds it
-pub candidate_unheld : (now n : ℕ) (p : Places) → AreRising p → least_candidate now p ≡ Some n → IsUnheld p n
-candidate_unheld now n [] rising is = absurd (cc)
-candidate_unheld now n (e ∷ p) rising is =
-    unheld_step now n e p (is_candidate now e.1) refl (λ there. candidate_above now n e.0 p rising.0 there) (λ there. candidate_unheld now n p rising.1 there) is
 
 -- the same numbers have a place, whether a connection holds one of them from now on or memory was refused
 pub placed_hold : {T E : Type 0} (result : Result T E) (old new : Places) (n c : ℕ) → OnOk result (new ≡ moved old n (Held c)) → OnErr result (new ≡ old) → placed new ≡ placed old

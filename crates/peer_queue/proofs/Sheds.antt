@@ -1,9 +1,9 @@
--- What is shed: the octets of what stays, and the places of what goes.
-use Rattle.std.proofs.Common.{◌≡◌, ◌==◌, ℕ, zero, suc, ◌+◌, ◌-◌, ◌<◌, ◌≤◌, Bool, true, false, cond, Option, Some, None, List, [], ◌∷◌, ◌++◌, length, take, refl, sym, ap, ◌∙◌, subst, inl, inr, arith}
+-- What is shed: the octets of what stays, and the numbers that are owed.
+use Rattle.std.proofs.Common.{◌≡◌, ◌==◌, ℕ, ◌+◌, ◌-◌, ◌<◌, ◌≤◌, Bool, true, false, cond, Option, Some, None, List, [], ◌∷◌, ◌++◌, length, take, refl, sym, ap, ◌∙◌, subst, inl, inr, arith}
 use Rattle.std.specs.Prelude.{◌⊎◌, find, filter, nat_le, nat_lt, option_map, unwrap_or, ◌||◌}
 use Rattle.std.specs.List.{All, Contains, list_any, slice_get}
 use Rattle.std.proofs.lemmas.Bool.{cases_lt, eqb-true, eqb-false, eq-eqb, ne_eqb}
-use Rattle.std.proofs.lemmas.List.{length_push, take_more}
+use Rattle.std.proofs.lemmas.List.{length_push, take_all, take_more}
 use Rattle.std.proofs.lemmas.List.Sums.{sum_by-cons}
 use Rattle.ledger_core.specs.State.{State, IsOwed, Owing, after, line_octets, numbers, numbers_of, octets_of_debts, owed_bytes, step}
 use Rattle.ledger_core.specs.declared.note.Cause.TheVariants.{Limit}
@@ -15,8 +15,9 @@ use Rattle.recovery.specs.declared.fault.TapeFault.{TapeFault}
 use Rattle.recovery.specs.declared.fault.TapeFault.TheVariants.{Damaged, Disk, Broken as BrokenTape, TapeFull, GenerationFull, PendingFull, NoMemory as NoTapeMemory, Note as RefusedNote}
 use Rattle.peer_queue.specs.Faults.{station_fault}
 use Rattle.peer_queue.specs.declared.fault.StationFault.TheVariants.{NoMemory}
-use Rattle.peer_queue.specs.Place.{AreAbove, AreRising, AreUnheld, IsUnheld, Place, Places, all_gone, gone, is_held, place_at, placed, unheld}
+use Rattle.peer_queue.specs.Place.{AreRising, Places, all_gone, gone, placed, unheld}
 use Rattle.peer_queue.specs.Shed.{IsShedSet, IsWithin, dropped, owed_without}
+use Rattle.peer_queue.specs.ShedLaws.{front_of}
 use Rattle.peer_queue.specs.declared.limits.Limits.{Limits}
 use Rattle.peer_queue.proofs.Ends.{marked_ended, placed_ended}
 use Rattle.peer_queue.proofs.Fronts.{Each, Rise, are_owed_all, at_none, at_some, each_contained, each_take, each_unheld, found_first, found_next, none_before, rise_placed, rise_take, rise_unheld}
@@ -142,75 +143,19 @@ front_more limit state places set n next owed owed' rising same is above found f
 -- it is what is to be shed, where none comes next or enough is shed
 pub front_all : (limits : Limits) (state : State) (places : Places) (set : List ℕ) (next : Option ℕ) (owed : ℕ) → (IsWithin limits state → ⊥) → IsFront limits.backlog_limit state places set next owed
     → (next ≡ None) ⊎ (owed ≤ limits.backlog_limit) → IsShedSet limits state places set
-front_all limits state places set next owed over is ends = record {
-  count = length set;
-  within = is.few;
-  front = is.front;
-  none = λ within. absurd (over within);
-  enough = λ _. elim ends [
-    | inl none ↦ inr (let past = at_none (unheld places) (length set) (sym is.next ∙ none) in omega (arith, past, is.few))
-    | inr enough ↦ inl (omega (arith, is.owed, enough))
-  ];
-  shortest = λ _. is.shortest;
-}
+front_all limits state places set next owed over is ends = inr (
+  over,
+  record {
+    front = is.front;
+    passes = elim ends [
+      | inl none ↦ inr (is.front ∙ take_all (length set) (unheld places) (at_none (unheld places) (length set) (sym is.next ∙ none)))
+      | inr enough ↦ inl (omega (arith, is.owed, enough))
+    ];
+    shortest = λ fewer less passes. omega (arith, is.shortest fewer less, passes);
+  },
+)
 
--- ---- taken out
-
-gone_above : (n : ℕ) (p : Places) → AreAbove n p → gone p n ≡ p
-gone_above n [] above = refl
-gone_above n (e ∷ p) above =
-    ap (λ (b : Bool). cond (cond b false true) (e ∷ gone p n) (gone p n)) (ne_eqb e.0 n (λ same. omega (arith, above.0, same)))
-    ∙ ap (λ (l : Places). e ∷ l) (gone_above n p above.1)
-
-above_step : (m : ℕ) (b : Bool) (e : ℕ × Place) (p : Places) → m < e.0 → AreAbove m p → AreAbove m (cond (cond b false true) (e ∷ p) p)
-above_step m true e p here rest = rest
-above_step m false e p here rest = (here, rest)
-
-above_gone : (m n : ℕ) (p : Places) → AreAbove m p → AreAbove m (gone p n)
-above_gone m n [] above = tt
-above_gone m n (e ∷ p) above = above_step m (e.0 == n) e (gone p n) above.0 (above_gone m n p above.1)
-
-rising_step : (b : Bool) (e : ℕ × Place) (p : Places) → AreAbove e.0 p → AreRising p → AreRising (cond (cond b false true) (e ∷ p) p)
-rising_step true e p above rest = rest
-rising_step false e p above rest = (above, rest)
-
-rising_gone : (n : ℕ) (p : Places) → AreRising p → AreRising (gone p n)
-rising_gone n [] rising = tt
-rising_gone n (e ∷ p) rising = rising_step (e.0 == n) e (gone p n) (above_gone e.0 n p rising.0) (rising_gone n p rising.1)
-
--- the first of those that no connection holds, taken out
-unheld_first : (p : Places) (n : ℕ) (rest : List ℕ) → AreRising p → unheld p ≡ n ∷ rest → IsUnheld p n × (unheld (gone p n) ≡ rest)
-unheld_first [] n rest rising is = cc
-unheld_first (e ∷ p) n rest rising is = on (λ behind. unheld_first p n rest rising.1 behind) (is_held e.1) refl is
-  where
-    free : Places
-    free = filter (λ (entry : ℕ × Place). cond (is_held entry.1) false true) p
-
-    on : (unheld p ≡ n ∷ rest → IsUnheld p n × (unheld (gone p n) ≡ rest)) → (b : Bool) → is_held e.1 ≡ b → placed (cond (cond b false true) (e ∷ free) free) ≡ n ∷ rest → IsUnheld (e ∷ p) n × (unheld (gone (e ∷ p) n) ≡ rest)
-    on within true held behind =
-        let later = within behind in
-        let up : e.0 < n = (subst (λ (l : List ℕ). Each (λ m. e.0 < m) l) behind (each_unheld (λ m. e.0 < m) p (rise_placed (e ∷ p) rising).0)).0 in
-        let apart : (e.0 == n) ≡ false = ne_eqb e.0 n (omega arith) in (
-          ap (λ (b : Bool). option_map is_held (cond b (Some e.1) (place_at p n))) apart ∙ later.0,
-          ap (λ (b : Bool). unheld (cond (cond b false true) (e ∷ gone p n) (gone p n))) apart
-              ∙ (ap (λ (b : Bool). placed (cond (cond b false true) (e ∷ filter (λ (entry : ℕ × Place). cond (is_held entry.1) false true) (gone p n)) (filter (λ (entry : ℕ × Place). cond (is_held entry.1) false true) (gone p n)))) held ∙ later.1),
-        )
-    on within false held behind =
-        let here : e.0 ≡ n = cc in
-        let after_it : unheld p ≡ rest = cc in (
-          ap (λ (b : Bool). option_map is_held (cond b (Some e.1) (place_at p n))) (eq-eqb e.0 n here) ∙ ap (λ (b : Bool). Some b) held,
-          ap (λ (b : Bool). unheld (cond (cond b false true) (e ∷ gone p n) (gone p n))) (eq-eqb e.0 n here)
-              ∙ (ap unheld (gone_above n p (subst (λ (m : ℕ). AreAbove m p) here rising.0)) ∙ after_it),
-        )
-
-are_unheld : (p : Places) (k : ℕ) (l : List ℕ) → AreRising p → unheld p ≡ l → AreUnheld p (take k l)
-are_unheld p zero l rising is = tt
-are_unheld p (suc k) [] rising is = tt
-are_unheld p (suc k) (n ∷ l) rising is = let first = unheld_first p n l rising is in (first.0, are_unheld (gone p n) k l (rising_gone n p rising) first.1)
-
--- a front of them may be taken out one after another
-front_unheld : (p : Places) (k : ℕ) → AreRising p → AreUnheld p (take k (unheld p))
-front_unheld p k rising = are_unheld p k (unheld p) rising refl
+-- ---- dropped
 
 -- the numbers that have a place stay the ledger's
 pub placed_dropped : (p : Places) (state : State) (l : List ℕ) → placed p ≡ numbers state → placed (all_gone p l) ≡ numbers (after state (dropped l))
@@ -226,22 +171,6 @@ front_owed : (p : Places) (state : State) (k : ℕ) → AreRising p → placed p
 front_owed p state k rising same =
     are_owed_all state (take k (unheld p)) (rise_take k (unheld p) (rise_unheld p rising))
     (each_take (IsOwed state) k (unheld p) (subst (λ (l : List ℕ). Each (λ n. Contains l n) (unheld p)) same (each_unheld (Contains (placed p)) p (each_contained (placed p)))))
-
--- ---- what is to be shed, and a front of it
-
-take_both : (k c : ℕ) (l : List ℕ) → (j : ℕ) × (take k (take c l) ≡ take j l)
-take_both zero c l = (0, refl)
-take_both (suc k) zero l = (0, refl)
-take_both (suc k) (suc c) [] = (0, refl)
-take_both (suc k) (suc c) (n ∷ l) = let rest = take_both k c l in (suc rest.0, ap (λ (r : List ℕ). n ∷ r) rest.1)
-
-front_of : (limits : Limits) (state : State) (places : Places) (set : List ℕ) (k : ℕ) → IsShedSet limits state places set → (j : ℕ) × (take k set ≡ take j (unheld places))
-front_of limits state places set k is = let both = take_both k is.count (unheld places) in (both.0, ap (λ (l : List ℕ). take k l) is.front ∙ both.1)
-
-pub shed_unheld : (limits : Limits) (state : State) (places : Places) (set : List ℕ) (k : ℕ) → AreRising places → IsShedSet limits state places set → AreUnheld places (take k set)
-shed_unheld limits state places set k rising is =
-    let front = front_of limits state places set k is in
-    subst (λ (l : List ℕ). AreUnheld places l) (sym front.1) (front_unheld places front.0 rising)
 
 pub shed_owed : (limits : Limits) (state : State) (places : Places) (set : List ℕ) (k : ℕ) → AreRising places → placed places ≡ numbers state → IsShedSet limits state places set → AreOwed state [] (take k set)
 shed_owed limits state places set k rising same is =

@@ -40,7 +40,7 @@ module _ {D : Type 0} {g : Ghosts D} where
     pub broken : IsErrOf result Broken ↔ IsBroken old
     pub full : IsErrOf result (Tape TapeFull) ↔ ((IsBroken old → ⊥) × IsFull old.tape)
     -- all but Tape(Disk) change nothing
-    pub refused : IfErr result (λ e. e ≢ Tape Disk → IsSame old new)
+    pub unchanged : IfErr result (λ e. e ≢ Tape Disk → IsSame old new)
     pub breaks : IsErrOf result (Tape Disk) → IsBroken new
     pub works : OnOk result (IsBroken new → ⊥)
     pub kinds : IfErr result IsFlushFault
@@ -53,7 +53,7 @@ module _ {D : Type 0} {g : Ghosts D} where
     pub full : IsErrOf result (Tape TapeFull)
         ↔ ((IsBroken old → ⊥) × (generation_of old ≢ 2 ^ 64 - 1) × RotatesTooLong old.tape)
     -- all but Tape(Disk) change nothing
-    pub refused : IfErr result (λ e. e ≢ Tape Disk → IsRead old new)
+    pub unchanged : IfErr result (λ e. e ≢ Tape Disk → IsRead old new)
     pub breaks : IsErrOf result (Tape Disk) → IsBroken new
     pub works : OnOk result (IsBroken new → ⊥)
     pub kinds : IfErr result IsRotateFault

@@ -6,3 +6,5 @@ pub mod Words
 pub mod Station
 pub mod Settled
 pub mod Calls
+pub mod ClaimLaws
+pub mod ShedLaws

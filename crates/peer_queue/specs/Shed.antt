@@ -1,5 +1,5 @@
 -- What a peer's backlog sheds above its limit (profile; innfeed.conf(5), backlog-limit).
-use Rattle.std.specs.Prelude.{◌≡◌, ◌⊎◌, ◌==◌, ◌<◌, ◌≤◌, ℕ, true, false, if◌then◌else◌, List, length, take, filter}
+use Rattle.std.specs.Prelude.{◌≡◌, ◌⊎◌, ◌==◌, ◌<◌, ◌≤◌, ℕ, true, false, if◌then◌else◌, List, [], length, take, filter}
 use Rattle.std.specs.List.{list_any}
 use Rattle.ledger_core.specs.declared.note.Note.{Note}
 use Rattle.ledger_core.specs.declared.note.Cause.TheVariants.{Limit}
@@ -16,15 +16,19 @@ owed_without state numbers = octets_of_debts (filter (λ (debt : Owing). if list
 abbrev pub IsWithin : Limits → State → Type 0
 IsWithin limits state = (limits.backlog_limit ≡ 0) ⊎ (owed_bytes state ≤ limits.backlog_high)
 
--- The numbers to shed: of the debts that no connection holds, oldest first, the shortest front without which the octets that are owed
--- are at or below the limit, or all of them where no front is enough.
-pub record IsShedSet (limits : Limits) (state : State) (places : Places) (numbers : List ℕ) : Type 0 where
-  pub count : ℕ
-  pub within : count ≤ length (unheld places)
-  pub front : numbers ≡ take count (unheld places)
-  pub none : IsWithin limits state → count ≡ 0
-  pub enough : (IsWithin limits state → ⊥) → (owed_without state numbers ≤ limits.backlog_limit) ⊎ (count ≡ length (unheld places))
-  pub shortest : (IsWithin limits state → ⊥) → (fewer : ℕ) → fewer < count → limits.backlog_limit < owed_without state (take fewer (unheld places))
+-- ys is the shortest front of xs that passes, or all of xs where none does
+pub record IsShortestFront {A : Type 0} (Passes : List A → Type 0) (xs ys : List A) : Type 0 where
+  pub front : ys ≡ take (length ys) xs
+  pub passes : Passes ys ⊎ (ys ≡ xs)
+  pub shortest : (fewer : ℕ) → fewer < length ys → Passes (take fewer xs) → ⊥
+
+-- The numbers to shed: none within the limit, else of the debts that no connection holds, oldest first, the shortest front
+-- without which the octets that are owed are at or below it.
+abbrev pub IsShedSet : Limits → State → Places → List ℕ → Type 0
+IsShedSet limits state places numbers =
+    (IsWithin limits state × (numbers ≡ []))
+    ⊎ ((IsWithin limits state → ⊥)
+    × IsShortestFront (λ front. owed_without state front ≤ limits.backlog_limit) (unheld places) numbers)
 
 -- the notes that drop these
 abbrev pub dropped : List ℕ → List Note

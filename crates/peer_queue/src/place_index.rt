@@ -63,7 +63,7 @@ impl PlaceIndex {
     pub fn add(&mut self, number: u64) -> Result<(), AllocError>
         requires { AreBelow number self.old }
         ensures ok { OnOk result (self.new ≡ self.old ++ (number, Ready) ∷ []) }
-        ensures err { OnErr result (self.new ≡ self.old) }
+        ensures unchanged { OnErr result (self.new ≡ self.old) }
     {
         // The numbers still rise.
         after_put();
@@ -96,7 +96,7 @@ impl PlaceIndex {
     pub fn hold(&mut self, connection: CxnId, number: u64) -> Result<(), AllocError>
         requires { IsUnheld self.old number }
         ensures ok { OnOk result (self.new ≡ moved self.old number (Held connection.0)) }
-        ensures err { OnErr result (self.new ≡ self.old) }
+        ensures unchanged { OnErr result (self.new ≡ self.old) }
     {
         // The same numbers wait, and they rise.
         after_set();

@@ -118,7 +118,7 @@ impl<D: Disk> Station<D> {
     pub fn owe(&mut self, number: u64, token: &Token, id: &MsgId) -> Result<Owed, StationFault>
         ensures already { (result ≡ Ok Owed.Already)
             ↔ ((IsBroken self.old → ⊥) × (number ≤ (ledger_of self.old).mark)) }
-        ensures same { result ≡ Ok Owed.Already → self.new ≡ self.old }
+        ensures unchanged { result ≡ Ok Owed.Already → self.new ≡ self.old }
         ensures new { result ≡ Ok Owed.New
             → Notes self.old self.new (Note.Owe number token.now id.now) }
         ensures places { result ≡ Ok Owed.New
@@ -187,11 +187,11 @@ impl<D: Disk> Station<D> {
         ensures places { OnOk result
             (IsHeldBy (places_of self.old) connection.0 (number_of verdict)
             × (places_of self.new ≡ gone (places_of self.old) (number_of verdict))) }
-        ensures refused { Refuses self.old connection.0 (number_of verdict) result }
+        ensures refuses { Refuses self.old connection.0 (number_of verdict) result }
         ensures pending_full { Tells result (StationFault.Tape TapeFault.PendingFull)
             ↔ MeetsFull self.old connection.0 (number_of verdict) }
         ensures kinds { IfErr result (λ e. IsEndFault e.1) }
-        ensures handed { IfErr result (λ e. e.0 ≡ verdict) }
+        ensures returned { IfErr result (λ e. e.0 ≡ verdict) }
         ensures unchanged { OnErr result (IsSame self.old self.new) }
     {
         let settled = Settled::Answered(verdict.code());
@@ -213,14 +213,14 @@ impl<D: Disk> Station<D> {
         now: u64,
     ) -> Result<(), (Deferral, StationFault)>
         ensures ok { OnOk result (Defers connection.0 deferral now self.old self.new) }
-        ensures refused { Refuses self.old connection.0 (deferred_number deferral) result }
+        ensures refuses { Refuses self.old connection.0 (deferred_number deferral) result }
         ensures pending_full { Tells result (StationFault.Tape TapeFault.PendingFull)
             ↔ (((limits_of self.old).drop_deferred ≡ true)
             × MeetsFull self.old connection.0 (deferred_number deferral)) }
         ensures no_memory { Tells result StationFault.NoMemory
             → (limits_of self.old).drop_deferred ≡ true }
         ensures kinds { IfErr result (λ e. IsEndFault e.1) }
-        ensures handed { IfErr result (λ e. e.0 ≡ deferral) }
+        ensures returned { IfErr result (λ e. e.0 ≡ deferral) }
         ensures unchanged { OnErr result (IsSame self.old self.new) }
     {
         let settled = Settled::deferred(self.limits, now);
@@ -244,11 +244,11 @@ impl<D: Disk> Station<D> {
         ensures places { OnOk result
             (IsHeldBy (places_of self.old) connection.0 debt.0
             × (places_of self.new ≡ gone (places_of self.old) debt.0)) }
-        ensures refused { Refuses self.old connection.0 debt.0 result }
+        ensures refuses { Refuses self.old connection.0 debt.0 result }
         ensures pending_full { Tells result (StationFault.Tape TapeFault.PendingFull)
             ↔ MeetsFull self.old connection.0 debt.0 }
         ensures kinds { IfErr result (λ e. IsEndFault e.1) }
-        ensures handed { IfErr result (λ e. e.0 ≡ debt) }
+        ensures returned { IfErr result (λ e. e.0 ≡ debt) }
         ensures unchanged { OnErr result (IsSame self.old self.new) }
     {
         match self.settle_as(connection, debt.number(), Settled::Dropped(cause)) {
@@ -265,10 +265,10 @@ impl<D: Disk> Station<D> {
         ensures ok { OnOk result
             (IsSameTape self.old self.new × IsHeldBy (places_of self.old) connection.0 debt.0
             × (places_of self.new ≡ moved (places_of self.old) debt.0 Ready)) }
-        ensures refused { Refuses self.old connection.0 debt.0 result }
+        ensures refuses { Refuses self.old connection.0 debt.0 result }
         ensures kinds { IfErr result
             (λ e. (e.1 ≡ StationFault.Broken) ⊎ (e.1 ≡ StationFault.NotHeld)) }
-        ensures handed { IfErr result (λ e. e.0 ≡ debt) }
+        ensures returned { IfErr result (λ e. e.0 ≡ debt) }
         ensures unchanged { OnErr result (IsSame self.old self.new) }
     {
         match self.settle_as(connection, debt.number(), Settled::Ready) {
@@ -292,14 +292,14 @@ impl<D: Disk> Station<D> {
         ensures settled { IfOk result (λ settled.
             settled ≡ settled_by (limits_of self.old) now outcome) }
         ensures ok { OnOk result (Finishes connection.0 now outcome self.old self.new) }
-        ensures refused { Refuses self.old connection.0 (number_in outcome) result }
+        ensures refuses { Refuses self.old connection.0 (number_in outcome) result }
         ensures pending_full { Tells result (StationFault.Tape TapeFault.PendingFull)
             ↔ (IsEnded (settled_by (limits_of self.old) now outcome)
             × MeetsFull self.old connection.0 (number_in outcome)) }
         ensures no_memory { Tells result StationFault.NoMemory
             → IsEnded (settled_by (limits_of self.old) now outcome) }
         ensures kinds { IfErr result (λ e. IsEndFault e.1) }
-        ensures handed { IfErr result (λ e. e.0 ≡ outcome) }
+        ensures returned { IfErr result (λ e. e.0 ≡ outcome) }
         ensures unchanged { OnErr result (IsSame self.old self.new) }
     {
         let settled = Settled::by(&outcome, self.limits, now);
@@ -579,7 +579,7 @@ impl<D: Disk> Station<D> {
         ensures owed { IfOk result (λ debt. (IsSome debt ↔ IsOwed (ledger_of self.old) number)
             × HasLengths (ledger_of self.old) number debt) }
         ensures broken { IsErrOf result StationFault.Broken ↔ IsBroken self.old }
-        ensures refused { IfErr result
+        ensures refuses { IfErr result
             (λ e. e ≢ StationFault.Broken → IsOwed (ledger_of self.old) number) }
         ensures cause { (h : History) → StandsFor self.old h
             → IsErrOf result (StationFault.Tape TapeFault.Disk)

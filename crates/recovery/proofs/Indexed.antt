@@ -4,11 +4,10 @@ use Rattle.std.specs.Prelude.{min, Result, Ok, Err, OnErr}
 use Rattle.std.proofs.lemmas.List.{append_assoc}
 use Rattle.tape_journal.specs.Segment.{gated, open_gate, records}
 use Rattle.tape_journal.specs.SegmentLaws.{length-sized}
-use Rattle.std.specs.Prelude.{Vec}
+use Rattle.std.specs.Prelude.{Vec, map, vec_items}
 use Rattle.std.specs.declared.alloc.Global.{Global}
 use Rattle.std.proofs.Common.{get_or}
 use Rattle.std.proofs.lemmas.List.{length-map}
-use Rattle.tape_journal.specs.Words.{octets_of}
 use Rattle.ledger_core.specs.declared.ledger.Ledger.{Ledger}
 use Rattle.ledger_core.specs.declared.note.Note.{Note}
 use Rattle.ledger_core.specs.Index.{Indexes}
@@ -35,11 +34,11 @@ pub next_end : (payloads : List (List ℕ)) (end next : ℕ) → next ≡ end �
 next_end payloads end next is ends fits = omega (arith, is, ends, fits, records-long payloads)
 
 -- as many payloads as vectors
-pub indexed_all : (vectors : List (Vec ℕ Global)) (ledger : Ledger) → Indexes (length vectors) (octets_of vectors)
+pub indexed_all : (vectors : List (Vec ℕ Global)) (ledger : Ledger) → Indexes (length vectors) (map vec_items vectors)
     ledger
-    → Indexes (length (octets_of vectors)) (octets_of vectors) ledger
+    → Indexes (length (map vec_items vectors)) (map vec_items vectors) ledger
 indexed_all vectors ledger indexes =
-    subst (λ (n : ℕ). Indexes n (octets_of vectors) ledger) (sym (length-map vectors (λ (v : Vec ℕ Global). v.items)))
+    subst (λ (n : ℕ). Indexes n (map vec_items vectors) ledger) (sym (length-map vectors vec_items))
     indexes
 
 -- ---- what pends grows

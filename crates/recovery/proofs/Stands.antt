@@ -1,6 +1,6 @@
 -- How what a tape stands for goes on.
 use Rattle.std.proofs.Common.{◌≡◌, ℕ, zero, suc, ◌+◌, ◌-◌, ◌≤◌, ◌^◌, true, List, [], ◌∷◌, ◌++◌, length, take, drop, refl, sym, ◌∙◌, ap, subst, arith, length-append, length-drop}
-use Rattle.std.specs.Prelude.{Vec, min}
+use Rattle.std.specs.Prelude.{Vec, min, map, vec_items}
 use Rattle.std.proofs.Math.Bridge.{le_prop}
 use Rattle.std.proofs.Math.Seq.{take-add, take-append-add}
 use Rattle.std.specs.declared.alloc.Global.{Global}
@@ -11,7 +11,6 @@ use Rattle.disk_model.specs.declared.Disk.{Ghosts}
 use Rattle.tape_journal.specs.Journal.{Holds, disk_of as journal_disk}
 use Rattle.tape_journal.specs.Segment.{Reads, ReadsFrom, AllShort, IsShort}
 use Rattle.tape_journal.specs.SegmentLaws.{reads_rest}
-use Rattle.tape_journal.specs.Words.{octets_of}
 use Rattle.ledger_core.specs.declared.note.Note.{Note}
 use Rattle.ledger_core.specs.Base.{Restores}
 use Rattle.ledger_core.specs.Index.{Indexes}
@@ -45,16 +44,18 @@ spellings-take [] (suc n) = refl
 spellings-take (note ∷ notes) (suc n) = ap (λ (l : List (List ℕ)). spelling note ∷ l) (spellings-take notes n)
 
 -- how many notes pend
-pub pending_count : (notes : List Note) (kept : ℕ) (pending : List (Vec ℕ Global)) → octets_of pending ≡ spellings (drop kept notes) → kept ≤ length notes → length pending + kept ≡ length notes
+pub pending_count : (notes : List Note) (kept : ℕ) (pending : List (Vec ℕ Global)) → map vec_items pending ≡ spellings (drop kept notes) → kept ≤ length notes → length pending + kept ≡ length notes
 pending_count notes kept pending is within =
     omega (arith, ap length is, length-map pending (λ (v : Vec ℕ Global). v.items), spellings-length (drop kept notes), length-drop kept notes)
 
 -- one payload more
-pub octets_of-push : (vectors : List (Vec ℕ Global)) (v : Vec ℕ Global) → octets_of (vectors ++ v ∷ []) ≡ octets_of vectors ++ v.items ∷ []
-octets_of-push vectors v = map-append (λ (w : Vec ℕ Global). w.items) vectors (v ∷ [])
+pub items-push : (vectors : List (Vec ℕ Global)) (v : Vec ℕ Global)
+    → map vec_items (vectors ++ v ∷ []) ≡ map vec_items vectors ++ v.items ∷ []
+items-push vectors v = map-append (λ (w : Vec ℕ Global). w.items) vectors (v ∷ [])
 
-pub octets_of-append : (one other : List (Vec ℕ Global)) → octets_of (one ++ other) ≡ octets_of one ++ octets_of other
-octets_of-append one other = map-append (λ (w : Vec ℕ Global). w.items) one other
+pub items-append : (one other : List (Vec ℕ Global))
+    → map vec_items (one ++ other) ≡ map vec_items one ++ map vec_items other
+items-append one other = map-append (λ (w : Vec ℕ Global). w.items) one other
 
 pub AllShort-push : (payloads : List (List ℕ)) (payload : List ℕ) → AllShort payloads → IsShort payload → AllShort (payloads ++ payload ∷ [])
 AllShort-push [] payload all one = (one, tt)
@@ -78,8 +79,8 @@ module _ {D : Type 0} {g : Ghosts D} (tape : Tape D g) (h : History) where
   stands_whole honest legal all ledger payloads holds restores other none count opened indexes next =
       let here : take h.kept h.notes ≡ h.notes = take_all h.kept h.notes (omega (arith, all)) in
       let rest : drop h.kept h.notes ≡ [] = drop_all h.kept h.notes (omega (arith, all)) in
-      let whole : payloads ++ octets_of tape.pending.items ≡ payloads =
-      ap (λ (l : List (Vec ℕ Global)). payloads ++ octets_of l) none ∙ append-nil payloads in
+      let whole : payloads ++ map vec_items tape.pending.items ≡ payloads =
+      ap (λ (l : List (Vec ℕ Global)). payloads ++ map vec_items l) none ∙ append-nil payloads in
       record {
         honest = honest;
         are_legal = legal;
@@ -99,7 +100,7 @@ module _ {D : Type 0} {g : Ghosts D} (tape : Tape D g) (h : History) where
           restores = subst (λ (notes : List Note). Restores payloads (generation_of tape) (after h.base notes))
               (sym here) restores;
           other = other;
-          pending = ap octets_of none ∙ ap spellings (sym rest);
+          pending = ap (map vec_items) none ∙ ap spellings (sym rest);
           indexed = record {
             indexes = subst (λ (l : List (List ℕ)). Indexes (length payloads) l tape.ledger) (sym whole) indexes;
             next = next ∙ ap (λ (l : List (List ℕ)). min (records_length l) (2 ^ 64 - 1)) (sym whole);
@@ -113,8 +114,8 @@ module _ {D : Type 0} {g : Ghosts D} (tape : Tape D g) (h : History) where
   appended : StandsFor tape h → (works : IsBroken tape → ⊥) → (payloads : List (List ℕ)) → Restores payloads
       (generation_of tape) (after h.base (take h.kept h.notes))
       → EachImage (StaysBehind tape.segments.second (generation_of tape)) (other_log tape)
-      → octets_of tape.pending.items ≡ spellings (drop h.kept h.notes)
-      → (c : List ℕ) → ReadsFrom (length payloads) (payloads ++ octets_of tape.pending.items) c
+      → map vec_items tape.pending.items ≡ spellings (drop h.kept h.notes)
+      → (c : List ℕ) → ReadsFrom (length payloads) (payloads ++ map vec_items tape.pending.items) c
       → (d : List ℕ) → Image (other_log tape) d → Survives h (placed tape.segments.second c d)
   appended stands works payloads restores other pending c (n, low, high, reads) d is =
       let m = n - length payloads in
@@ -126,7 +127,7 @@ module _ {D : Type 0} {g : Ghosts D} (tape : Tape D g) (h : History) where
       omega (
         arith,
         high,
-        length-append payloads (octets_of tape.pending.items),
+        length-append payloads (map vec_items tape.pending.items),
         ap length pending,
         spellings-length
             more,
@@ -140,9 +141,9 @@ module _ {D : Type 0} {g : Ghosts D} (tape : Tape D g) (h : History) where
       AreNotes-back (take h.kept h.notes) (take m more) (subst AreNotes front legal.notes_are) in
       let lawful : AllLegal state (take m more) =
       AllLegal-back h.base (take h.kept h.notes) (take m more) (subst (AllLegal h.base) front legal.legal) in
-      let here : take n (payloads ++ octets_of tape.pending.items) ≡ payloads ++ spellings (take m more) =
-      ap (λ (k : ℕ). take k (payloads ++ octets_of tape.pending.items)) plus
-      ∙ (take-append-add payloads (octets_of tape.pending.items) m
+      let here : take n (payloads ++ map vec_items tape.pending.items) ≡ payloads ++ spellings (take m more) =
+      ap (λ (k : ℕ). take k (payloads ++ map vec_items tape.pending.items)) plus
+      ∙ (take-append-add payloads (map vec_items tape.pending.items) m
       ∙ ap (λ (l : List (List ℕ)). payloads ++ l) (ap (take m) pending ∙ spellings-take more m)) in
       let left : after state (take m more) ≡ after h.base (take (h.kept + m) h.notes) =
       sym (after-append h.base (take h.kept h.notes) (take m more)) ∙ ap (after h.base) (sym front) in
@@ -162,12 +163,12 @@ module _ {D : Type 0} {g : Ghosts D} (tape : Tape D g) (h : History) where
   -- at each moment of a flush of a tape that works
   pub flush_moments : (new : List Event) → StandsFor tape h → (IsBroken tape → ⊥)
       → ((all : List (List ℕ)) → Holds (live_segment tape) all → Leaves
-      (ReadsFrom (length all) (all ++ octets_of tape.pending.items)) (live_log tape) new)
+      (ReadsFrom (length all) (all ++ map vec_items tape.pending.items)) (live_log tape) new)
       → TapeLeaves (Survives h) (log_of tape) (placed tape.segments.second new (other_log tape))
   flush_moments new stands works moments =
       let w = stands.working works in
       live_leaves (Survives h) tape.segments.second (live_log tape) new (other_log tape)
-      (Leaves-weaker (ReadsFrom (length w.payloads) (w.payloads ++ octets_of tape.pending.items))
+      (Leaves-weaker (ReadsFrom (length w.payloads) (w.payloads ++ map vec_items tape.pending.items))
       (λ c. (d : List ℕ) → Image (other_log tape) d → Survives h (placed tape.segments.second c d))
       (λ c reads. appended stands works w.payloads w.restores w.other w.pending c reads)
       (live_log tape) new (moments w.payloads w.holds))
@@ -194,7 +195,7 @@ module _ {D : Type 0} {g : Ghosts D} (tape : Tape D g) (h : History) where
 pub stands_noted_all : {D : Type 0} {g : Ghosts D} (old new : Tape D g) (h : History) (notes : List Note)
     (payloads : List (Vec ℕ Global)) → StandsFor old h → new.segments ≡ old.segments → AreNotes notes → AllLegal
     (ledger_of old) notes → ledger_of new ≡ after (ledger_of old) notes
-    → new.pending.items ≡ old.pending.items ++ payloads → octets_of payloads ≡ spellings notes → new.flushed ≡
+    → new.pending.items ≡ old.pending.items ++ payloads → map vec_items payloads ≡ spellings notes → new.flushed ≡
     old.flushed
     → ((kept : List (List ℕ)) → IsIndexed old kept → IsIndexed new kept) → StandsFor new (noted_all h notes)
 stands_noted_all {D} {g} old new h notes payloads stands same are legal stepped pending spelled flushed grows =
@@ -222,8 +223,8 @@ stands_noted_all {D} {g} old new h notes payloads stands same are legal stepped 
                 w.restores);
             other = subst (λ (s : Segments D g). EachImage (StaysBehind s.second s.generation) (g.log s.other))
                 (sym same) w.other;
-            pending = ap octets_of pending ∙ (octets_of-append old.pending.items payloads ∙
-                (ap (λ (l : List (List ℕ)). l ++ octets_of payloads) w.pending ∙
+            pending = ap (map vec_items) pending ∙ (items-append old.pending.items payloads ∙
+                (ap (λ (l : List (List ℕ)). l ++ map vec_items payloads) w.pending ∙
                 (ap (λ (p : List (List ℕ)). spellings (drop h.kept h.notes) ++ p) spelled ∙
                 (sym (spellings-append (drop h.kept h.notes) notes) ∙ sym (ap spellings back)))));
             indexed = grows w.payloads w.indexed;
@@ -234,7 +235,7 @@ stands_noted_all {D} {g} old new h notes payloads stands same are legal stepped 
 
 -- after a call that was refused
 pub stands_refused : {D : Type 0} {g : Ghosts D} (old new : Tape D g) (h : History) → StandsFor old h → AreHonest new
-    → ledger_of new ≡ ledger_of old → octets_of new.pending.items ≡ octets_of old.pending.items → new.flushed ≡
+    → ledger_of new ≡ ledger_of old → map vec_items new.pending.items ≡ map vec_items old.pending.items → new.flushed ≡
     old.flushed
     → TapeLeaves (Survives h) (log_of old) (log_of new) → ((IsBroken new → ⊥) → new.segments ≡ old.segments)
     → ((kept : List (List ℕ)) → IsIndexed old kept → IsIndexed new kept) → StandsFor new h
@@ -263,10 +264,10 @@ stands_refused {D} {g} old new h stands honest ledger pending flushed moments sa
 
 -- A tape whose segments are the same is the same: what else it keeps are facts.
 pub same_tape : {D : Type 0} {g : Ghosts D} (tape : Tape D g) (segments : Segments D g) → segments ≡ tape.segments
-    → (few : length tape.pending.items ≤ most_pending) (short : AllShort (octets_of tape.pending.items))
+    → (few : length tape.pending.items ≤ most_pending) (short : AllShort (map vec_items tape.pending.items))
     → record tape { segments = segments; few = few; short = short } ≡ tape
 same_tape {D} {g} tape segments same few short =
     ap (λ (s : Segments D g). record tape { segments = s; few = few; short = short }) same
     ∙ ap (λ (x : length tape.pending.items ≤ most_pending). record tape { few = x; short = short }) (le_prop few tape.few)
-    ∙ ap (λ (x : AllShort (octets_of tape.pending.items)). record tape { short = x })
-    (AllShort-prop (octets_of tape.pending.items) short tape.short)
+    ∙ ap (λ (x : AllShort (map vec_items tape.pending.items)). record tape { short = x })
+    (AllShort-prop (map vec_items tape.pending.items) short tape.short)

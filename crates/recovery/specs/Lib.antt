@@ -13,3 +13,4 @@ pub mod Flushes
 pub mod Opens
 pub mod Rotates
 pub mod Takes
+pub mod Faults

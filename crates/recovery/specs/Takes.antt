@@ -17,18 +17,18 @@ module _ {D : Type 0} {g : Ghosts D} where
   pub record Takes {E : Type 0} (notes : List Note) (h : History) (new : Tape D g) (result : Result (Unit {0}) E)
       : Type 0 where
     pub ok : OnOk result (StandsFor new (noted_all h notes))
-    pub err : OnErr result (StandsFor new h)
+    pub stays : OnErr result (StandsFor new h)
 
   -- When a note is refused, in the order in which it is tried; then nothing has changed.
-  pub record RefusesNoting {B : Type 0} (note : Note) (old new : Tape D g) (result : Result (Unit {0}) (B × TapeFault))
+  pub record RefusesNoting {B : Type 0} (taken : Note) (old new : Tape D g) (result : Result (Unit {0}) (B × TapeFault))
       : Type 0 where
     pub broken : Tells result Broken ↔ IsBroken old
-    pub refused : (fault : LedgerFault) → Tells result (RefusedNote fault)
-        ↔ ((IsBroken old → ⊥) × RefusesNote (ledger_of old) note fault)
+    pub note : (fault : LedgerFault) → Tells result (RefusedNote fault)
+        ↔ ((IsBroken old → ⊥) × RefusesNote (ledger_of old) taken fault)
     pub pending_full : Tells result PendingFull
-        ↔ ((IsBroken old → ⊥) × IsLegal (ledger_of old) note × (pending_of old ≡ most_pending))
+        ↔ ((IsBroken old → ⊥) × IsLegal (ledger_of old) taken × (pending_of old ≡ most_pending))
     pub no_memory : Tells result NoMemory
-        → (IsBroken old → ⊥) × IsLegal (ledger_of old) note × (pending_of old < most_pending)
+        → (IsBroken old → ⊥) × IsLegal (ledger_of old) taken × (pending_of old < most_pending)
     pub kinds : IfErr result (λ e. IsNoteFault e.1)
     pub unchanged : OnErr result (IsSame old new)
 

@@ -1,12 +1,12 @@
 -- What a tape holds, in words of its own.
 use Rattle.std.specs.Prelude.{◌≡◌, ◌≢◌, ◌⊎◌, ◌↔◌, ◌+◌, ◌*◌, ◌<◌, ◌≤◌, ℕ, [], List, length, Result, IsErrAnd}
+use Rattle.std.specs.Prelude.{map, vec_items}
 use Rattle.disk_model.specs.Disk.{Event, ToldFault}
 use Rattle.disk_model.specs.declared.Disk.{Ghosts}
 use Rattle.tape_journal.specs.Batch.{Gathers}
 use Rattle.tape_journal.specs.Journal.{disk_of as journal_disk, end_of as journal_end, IsBroken as IsBrokenJournal, appending}
 use Rattle.tape_journal.specs.Rewrite.{renewing}
 use Rattle.tape_journal.specs.Segment.{records, longest_segment}
-use Rattle.tape_journal.specs.Words.{octets_of}
 use Rattle.tape_journal.specs.declared.batch.Batch.{Batch}
 use Rattle.tape_journal.specs.declared.journal.Journal.{Journal}
 use Rattle.tape_journal.specs.declared.fault.OpenFault.{OpenFault}
@@ -76,7 +76,7 @@ module _ {D : Type 0} {g : Ghosts D} where
   abbrev pub IsFull : Tape D g → Type 0
   IsFull tape =
       (tape.pending.items ≢ [])
-      × (longest_segment < journal_end tape.segments.live + 1 + length (records (octets_of tape.pending.items)))
+      × (longest_segment < journal_end tape.segments.live + 1 + length (records (map vec_items tape.pending.items)))
 
   -- how long the segment is that a rotation writes, in octets, with its end gate
   abbrev pub rotated_length : Tape D g → ℕ
@@ -111,7 +111,7 @@ module _ {D : Type 0} {g : Ghosts D} where
   pub record IsSame (old new : Tape D g) : Type 0 where
     pub segments : new.segments ≡ old.segments
     pub ledger : ledger_of new ≡ ledger_of old
-    pub pending : octets_of new.pending.items ≡ octets_of old.pending.items
+    pub pending : map vec_items new.pending.items ≡ map vec_items old.pending.items
     pub next : new.next ≡ old.next
     pub flushed : new.flushed ≡ old.flushed
 

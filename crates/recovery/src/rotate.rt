@@ -22,7 +22,7 @@ impl<D: Disk> Tape<D> {
         requires fits { rotated_length self.old ≤ longest_segment }
         ensures ok { (h : History) → StandsFor self.old h
             → OnOk result (StandsFor self.new (flushed h)) }
-        ensures err { (h : History) → StandsFor self.old h → OnErr result (StandsFor self.new h) }
+        ensures stays { (h : History) → StandsFor self.old h → OnErr result (StandsFor self.new h) }
         ensures generation { IfOk result (λ n. (n ≡ generation_of self.old + 1)
             × (generation_of self.new ≡ n)) }
         ensures moments { (h : History) → StandsFor self.old h
@@ -30,7 +30,7 @@ impl<D: Disk> Tape<D> {
         ensures calls { (h : History) → StandsFor self.old h
             → OnOk result (log_of self.new ≡ rotating self.old) }
         ensures none_pends { OnOk result (pending_of self.new ≡ 0) }
-        ensures refused { IfErr result (λ e. e ≢ TapeFault.Disk → IsRead self.old self.new) }
+        ensures keeps { IfErr result (λ e. e ≢ TapeFault.Disk → IsRead self.old self.new) }
         ensures breaks { IsErrOf result TapeFault.Disk → IsBroken self.new }
         ensures works { OnOk result (IsBroken self.new → ⊥) }
         ensures cause { (h : History) → StandsFor self.old h
@@ -60,7 +60,7 @@ impl<D: Disk> Tape<D> {
         requires some { 0 < octets_in batch }
         ensures ok { (h : History) → StandsFor self.old h → Writes self.old batch
             → OnOk result (StandsFor self.new (flushed h)) }
-        ensures err { (h : History) → StandsFor self.old h
+        ensures stays { (h : History) → StandsFor self.old h
             → Writes self.old batch
             → OnErr result (StandsFor self.new h) }
         ensures generation { IfOk result (λ n. (n ≡ generation_of self.old + 1)
@@ -72,7 +72,7 @@ impl<D: Disk> Tape<D> {
             → Writes self.old batch
             → OnOk result (log_of self.new ≡ rotating self.old) }
         ensures none_pends { OnOk result (pending_of self.new ≡ 0) }
-        ensures refused { IfErr result (λ e. e ≢ TapeFault.Disk → self.new ≡ self.old) }
+        ensures unchanged { IfErr result (λ e. e ≢ TapeFault.Disk → self.new ≡ self.old) }
         ensures breaks { IsErrOf result TapeFault.Disk → IsBroken self.new }
         ensures works { OnOk result (IsBroken self.new → ⊥) }
         ensures cause { (h : History) → StandsFor self.old h

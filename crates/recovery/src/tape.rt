@@ -1,10 +1,9 @@
 // Tapes.
 ghost use Rattle.std.specs.Prelude.{◌≡◌, ◌≢◌, ◌+◌, ◌-◌, ◌*◌, ◌^◌, ◌≤◌, ◌<◌, ◌↔◌, ℕ, List, length, IsTrue};
 ghost use Rattle.tape_journal.specs.Segment.{AllShort};
-ghost use Rattle.tape_journal.specs.Words.{octets_of};
 ghost use Rattle.recovery.specs.Notes.{most_pending};
 ghost use Rattle.recovery.specs.Shorts.{AllShort-prop};
-ghost use Rattle.std.specs.Prelude.{IfOk, OnOk};
+ghost use Rattle.std.specs.Prelude.{IfOk, OnOk, map, vec_items};
 ghost use Rattle.std.specs.List.{All, Contains};
 ghost use Rattle.ledger_core.specs.Index.{Indexes};
 ghost use Rattle.ledger_core.specs.Ledger.{state_of};
@@ -20,9 +19,9 @@ use crate::fault::{append_fault, open_fault};
 use crate::read::read_ledger;
 use crate::segments::{Segments, is_second_live};
 use disk_model::Disk;
-use ledger_core::{Cause, Ledger, LedgerFault, Note, Totals, encode};
+use ledger_core::{Cause, Ledger, LedgerFault, Note, Totals, encode, offset_behind};
 use std::alloc::{AllocError, Global};
-use tape_journal::{Journal, LONGEST_SEGMENT, RECORD_HEAD, records_len};
+use tape_journal::{Journal, LONGEST_SEGMENT, records_len};
 
 /// How many notes may pend.
 pub const MOST_PENDING: usize = 65536;
@@ -91,7 +90,7 @@ pub struct Tape<D: Disk> {
     // How many notes were put on the disks since the tape was opened.
     pub(crate) flushed: u64,
     ghost few: { length pending.items ≤ most_pending },
-    ghost short: { AllShort (octets_of pending.items) } by { AllShort-prop (octets_of pending.items) },
+    ghost short: { AllShort (map vec_items pending.items) } by { AllShort-prop (map vec_items pending.items) },
 }
 
 impl<D: Disk> Tape<D> {
@@ -236,7 +235,7 @@ impl<D: Disk> Tape<D> {
             (IsLegal (ledger_of self.old) note
             × (ledger_of self.new ≡ step (ledger_of self.old) note)) }
         ensures pends { OnOk result (pending_of self.new ≡ pending_of self.old + 1) }
-        ensures handed { IfErr result (λ e. e.0 ≡ note) }
+        ensures returned { IfErr result (λ e. e.0 ≡ note) }
         ensures refuses { RefusesNoting note self.old self.new result }
         ensures disks { disks_of self.new ≡ disks_of self.old }
         ensures works { IsBroken self.old ↔ IsBroken self.new }
@@ -255,11 +254,11 @@ impl<D: Disk> Tape<D> {
             (IsLegal (ledger_of self.old) note.now
             × (ledger_of self.new ≡ step (ledger_of self.old) note.now)) }
         ensures pends { OnOk result (pending_of self.new ≡ pending_of self.old + 1) }
-        ensures err { (h : History) → StandsFor self.old h → OnErr result (StandsFor self.new h) }
+        ensures stays { (h : History) → StandsFor self.old h → OnErr result (StandsFor self.new h) }
         ensures unchanged { OnErr result (IsSame self.old self.new) }
 
         ensures broken { IsErrOf result TapeFault.Broken ↔ IsBroken self.old }
-        ensures refused { (fault : LedgerFault) → IsErrOf result (TapeFault.Note fault)
+        ensures note { (fault : LedgerFault) → IsErrOf result (TapeFault.Note fault)
             ↔ ((IsBroken self.old → ⊥) × RefusesNote (ledger_of self.old) note.now fault) }
         ensures pending_full { IsErrOf result TapeFault.PendingFull
             ↔ ((IsBroken self.old → ⊥) × IsLegal (ledger_of self.old) note.now
@@ -292,17 +291,15 @@ impl<D: Disk> Tape<D> {
             → OnOk result (StandsFor self.new (noted h note.now)) }
         ensures ledger { OnOk result (ledger_of self.new ≡ step (ledger_of self.old) note.now) }
         ensures pends { OnOk result (pending_of self.new ≡ pending_of self.old + 1) }
-        ensures err { (h : History) → StandsFor self.old h → OnErr result (StandsFor self.new h) }
+        ensures stays { (h : History) → StandsFor self.old h → OnErr result (StandsFor self.new h) }
         ensures unchanged { OnErr result (IsSame self.old self.new) }
-        ensures memory { IfErr result (λ fault. fault ≡ TapeFault.NoMemory) }
+        ensures kinds { IfErr result (λ fault. fault ≡ TapeFault.NoMemory) }
         ensures segments { self.new.segments ≡ self.old.segments }
     {
         let payload = encode(self.alloc, note)?;
         let at = self.next;
         let slot = self.pending.len() as u32;
-        let next = at
-            .saturating_add(RECORD_HEAD)
-            .saturating_add(payload.len() as u64);
+        let next = offset_behind(at, &payload);
         self.pending.push(payload)?;
         match self.ledger.apply_at(note, at, slot) {
             Ok(()) => {
@@ -372,9 +369,9 @@ impl<D: Disk> Tape<D> {
             (ledger_of self.new ≡ after (ledger_of self.old) (drops cause numbers.now)) }
         ensures pends { OnOk result
             (pending_of self.new ≡ pending_of self.old + length numbers.now) }
-        ensures err { (h : History) → StandsFor self.old h → OnErr result (StandsFor self.new h) }
+        ensures stays { (h : History) → StandsFor self.old h → OnErr result (StandsFor self.new h) }
         ensures unchanged { OnErr result (IsSame self.old self.new) }
-        ensures memory { IfErr result (λ fault. fault ≡ TapeFault.NoMemory) }
+        ensures kinds { IfErr result (λ fault. fault ≡ TapeFault.NoMemory) }
         ensures segments { self.new.segments ≡ self.old.segments }
     {
         let mut payloads = spelled_drops(self.alloc, numbers, cause)?;
@@ -617,7 +614,8 @@ fn taken_of(ledger: &Ledger) -> u64
 
 // The spellings of the notes that drop these debts.
 fn spelled_drops(alloc: Global, numbers: &[u64], cause: Cause) -> Result<Vec<Vec<u8>>, AllocError>
-    ensures spelled { IfOk result (λ v. octets_of v.items ≡ spellings (drops cause numbers.now)) }
+    ensures spelled { IfOk result
+        (λ v. map vec_items v.items ≡ spellings (drops cause numbers.now)) }
     ensures notes { OnOk result (AreNotes (drops cause numbers.now)) }
 {
     let mut payloads = Vec::with_capacity(alloc, numbers.len())?;

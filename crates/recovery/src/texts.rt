@@ -44,7 +44,7 @@ fn debt_as(number: u64, spot: Spot, debt: Debt) -> Result<Debt, TapeFault>
     ensures ok { IfOk result
         (λ d. (d ≡ debt) × (debt.0 ≡ number) × (length debt.1.0 ≡ spot.token_len)
         × (length debt.1.1 ≡ spot.id_len)) }
-    ensures refused { IsErrOf result TapeFault.Disk → debt.0 ≡ number
+    ensures disk { IsErrOf result TapeFault.Disk → debt.0 ≡ number
         → length debt.1.0 ≡ spot.token_len
         → length debt.1.1 ≡ spot.id_len → ⊥ }
     ensures kinds { IfErr result (λ e. e ≡ TapeFault.Disk) }
@@ -66,12 +66,11 @@ impl<D: Disk> Tape<D> {
     ghost use Rattle.ledger_core.specs.Base.{base_spelling};
     ghost use Rattle.ledger_core.specs.Index.{Indexes, IsSpotOf, debt_at, spots_of};
     ghost use Rattle.ledger_core.specs.Spots.{StandsAt};
-    ghost use Rattle.std.specs.Prelude.{List, slice_index_or};
+    ghost use Rattle.std.specs.Prelude.{List, slice_index_or, map, vec_items};
     ghost use Rattle.ledger_core.specs.Ledger.{state_of};
     ghost use Rattle.std.specs.List.Sorted.{IsStrictlyIncreasing};
     ghost use Rattle.ledger_core.specs.State.{IsOwed, numbers};
     ghost use Rattle.tape_journal.specs.Batch.{octets_in};
-    ghost use Rattle.tape_journal.specs.Words.{octets_of};
     ghost use Rattle.recovery.specs.Notes.{History};
     ghost use Rattle.recovery.specs.Tape.{IsRead, StandsFor};
     ghost use Rattle.recovery.specs.Texts.{HasLengths};
@@ -92,7 +91,7 @@ impl<D: Disk> Tape<D> {
         ensures owed { IfOk result (λ debt. (IsSome debt ↔ IsOwed (ledger_of self.old) number)
             × HasLengths (ledger_of self.old) number debt) }
         ensures broken { IsErrOf result TapeFault.Broken ↔ IsBroken self.old }
-        ensures refused { IfErr result
+        ensures refuses { IfErr result
             (λ e. e ≢ TapeFault.Broken → IsOwed (ledger_of self.old) number) }
         ensures cause { (h : History) → StandsFor self.old h
             → IsErrOf result TapeFault.Disk → OneHasRisen (told_of self.old) (told_of self.new) }
@@ -170,7 +169,7 @@ impl<D: Disk> Tape<D> {
     // A copy of the payload that pends in this slot.
     fn pending_at(&self, slot: u32) -> Result<Vec<u8>, TapeFault>
         ensures payload { IfOk result (λ v. (slot < length self.now.pending.items)
-            × (v.items ≡ slice_index_or (octets_of self.now.pending.items) slot [])) }
+            × (v.items ≡ slice_index_or (map vec_items self.now.pending.items) slot [])) }
         ensures none { IsErrOf result TapeFault.Disk → length self.now.pending.items ≤ slot }
         ensures kinds { IfErr result IsReadFault }
     {

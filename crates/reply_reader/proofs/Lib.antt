@@ -1,5 +1,4 @@
 mod Rows
-pub mod Lines
 pub mod Ends
 pub mod Readings
 pub mod Nexts

@@ -11,8 +11,8 @@ use Rattle.reply_reader.specs.Told.{GivesReply, NextIs, RefusesNext, given_of, t
 use Rattle.reply_reader.specs.declared.fault.ReplyFault.{ReplyFault}
 use Rattle.reply_reader.specs.declared.fault.ReplyFault.TheVariants.{TooLong, NoCode, NoMemory, Failed}
 use Rattle.reply_reader.specs.declared.line.Reply.{Reply}
-use Rattle.reply_reader.proofs.Ends.{part-is-not-long, short-is-not-long}
-use Rattle.reply_reader.proofs.Lines.{line-apart}
+use Rattle.reply_reader.specs.LengthLaws.{part-is-not-long, short-is-not-long}
+use Rattle.reply_reader.specs.LineLaws.{line-apart}
 use Rattle.reply_reader.proofs.Readings.{reads-reply}
 
 -- octets that begin with a whole line do not wait for an LF

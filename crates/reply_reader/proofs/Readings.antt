@@ -5,7 +5,7 @@ use Rattle.funnel.specs.Stream.{IsUnended, ended}
 use Rattle.funnel.specs.StreamLaws.{ended_first, ended_push, first_line_once, whole_line_ends}
 use Rattle.reply_reader.specs.Reply.{IsReplyLine}
 use Rattle.reply_reader.specs.Stream.{BeginsWithNoReply, BeginsWithReply, Given, IsAnswer, IsFaulty, IsTooLong, Held, Reads, StandsFor, Broken, Working, after_feed}
-use Rattle.reply_reader.proofs.Lines.{line-once}
+use Rattle.reply_reader.specs.LineLaws.{line-once}
 
 -- a reading of nothing
 pub reads-nothing : Reads [] [] []

@@ -3,3 +3,6 @@ pub mod Search
 pub mod Stage
 pub mod Stream
 pub mod Told
+pub mod LengthLaws
+pub mod LineLaws
+pub mod Faults

@@ -6,8 +6,8 @@ use Rattle.funnel.specs.Stream.{IsUnended}
 pub record IsSearched (octets : List ℕ) (first searched : ℕ) : Type 0 where
   pub low : first ≤ searched
   pub high : searched ≤ length octets
-  pub none : (place : ℕ) → first ≤ place → place < searched → slice_index octets place ≢ 10
+  pub none : (offset : ℕ) → first ≤ offset → offset < searched → slice_index octets offset ≢ 10
 
--- the first LF of the octets stands at this place
+-- the first LF of the octets stands at this offset
 abbrev pub EndsAt : List ℕ → ℕ → Type 0
-EndsAt octets place = (line rest : List ℕ) × (octets ≡ line ++ 10 ∷ rest) × IsUnended line × (place ≡ length line)
+EndsAt octets offset = (line rest : List ℕ) × (octets ≡ line ++ 10 ∷ rest) × IsUnended line × (offset ≡ length line)

@@ -57,7 +57,7 @@ impl ReplyReader {
         ensures stands { OnOk result
             ((fed : List ℕ) (given : List Given) → StandsFor self.old fed given
             → StandsFor self.new (fed ++ piece.now) given) }
-        ensures refused { OnErr result (self.new ≡ self.old) }
+        ensures unchanged { OnErr result (self.new ≡ self.old) }
         ensures broken { self.old ≡ Broken → IsOk result }
     {
         match &mut self.stage {
@@ -79,7 +79,7 @@ impl ReplyReader {
         ensures some { IfOk result
             (λ next. IfSome next (λ reply. GivesReply self.old self.new (given_of reply))) }
         ensures none { (result ≡ Ok None) ↔ AtWork self.old IsShort }
-        ensures waits { result ≡ Ok None → self.new ≡ self.old }
+        ensures unchanged { result ≡ Ok None → self.new ≡ self.old }
         ensures refuses { RefusesNext self.old self.new result }
     {
         match &mut self.stage {

@@ -11,9 +11,9 @@ use std::marker::Model;
 #[derive(Debug, Drop)]
 pub(crate) struct Unread {
     octets: Vec<u8>,
-    /// The place of the first unread octet.
+    /// The offset of the first unread octet.
     first: usize,
-    /// No LF stands from `first` up to this place.
+    /// No LF stands from `first` up to this offset.
     searched: usize,
 }
 
@@ -51,7 +51,7 @@ impl Unread {
     // Takes in more octets, and gives up the room of those that are read.
     pub(crate) fn feed(&mut self, piece: &[u8]) -> Result<(), AllocError>
         ensures fed { OnOk result (self.new ≡ self.old ++ piece.now) }
-        ensures refused { OnErr result (self.new ≡ self.old) }
+        ensures unchanged { OnErr result (self.new ≡ self.old) }
     {
         self.compact();
         self.octets.extend_from_slice(piece)
@@ -71,14 +71,15 @@ impl Unread {
         self.first = 0;
     }
 
-    // The place of the first LF, counted from the first octet.
+    // The offset of the first LF, counted from the first octet.
     pub(crate) fn first_end(&mut self) -> Option<usize>
-        ensures same { self.new ≡ self.old }
-        ensures place { MatchOption result (IsUnended self.old) (λ place. EndsAt self.old place) }
+        ensures unchanged { self.new ≡ self.old }
+        ensures offset { MatchOption result (IsUnended self.old)
+            (λ offset. EndsAt self.old offset) }
     {
         match memchr(b'\n', &self.octets[self.searched..]) {
-            Some(place) => {
-                self.searched += place;
+            Some(offset) => {
+                self.searched += offset;
                 Some(self.searched - self.first)
             }
             None => {

@@ -1,4 +1,4 @@
--- A text keeps the rules up to one place.
+-- A text keeps the rules up to one line number.
 use Rattle.std.proofs.Common.{◌≡◌, ◌≢◌, ◌+◌, ℕ, List, [], ◌∷◌, ◌++◌, length, suc, inl, inr, refl, sym, subst, ap}
 use Rattle.std.proofs.Common.{◌∙◌, append-nil, append_assoc}
 use Rattle.std.specs.Prelude.{◌⊎◌}
@@ -106,7 +106,7 @@ pub record Keeps (before : List SentenceView) (lines : List (List ℕ)) (sentenc
   pub says : AllZip LineSays lines sentences
   pub order : KeepsOrder before sentences
 
--- a front that goes on behind the place where the other one ends
+-- a front that goes on behind the line number where the other one ends
 goes_on : (before : List SentenceView) (line : List ℕ) (lines : List (List ℕ)) (said : SentenceView)
     (sentences : List SentenceView) (x y : List ℕ) →
     Keeps before (line ∷ lines) (said ∷ sentences) → x ≡ ended (line ∷ lines) ++ y → Blocks before x → ⊥
@@ -166,8 +166,8 @@ keeps_of : (text : List ℕ) (sentences : List SentenceView) (rest : List ℕ) �
 keeps_of text sentences rest r = record { each = r.each; says = r.says; order = r.order }
 
 -- a text that keeps the rules has no broken line
-pub never : (text : List ℕ) (place : ℕ) → KeepsRules text → IsFirstBroken text place → ⊥
-never text place good broken =
+pub never : (text : List ℕ) (line_number : ℕ) → KeepsRules text → IsFirstBroken text line_number → ⊥
+never text line_number good broken =
     let b = broken.1 in
     let once =
     ends_once b.reads.lines good.1.lines b.sentences good.0 [] b.left []

@@ -22,7 +22,8 @@ use Rattle.funnel.specs.Stream.{BeginsWithLine, IsUnended}
 use Rattle.funnel.specs.StreamLaws.{ended_push}
 use Rattle.script.specs.Draft.{Drafts, Gains, IsRefusal, IsTapeRefusal, held_at}
 use Rattle.script.specs.Line.{SentenceView, Blank, Declares, Gives, Takes, Says}
-use Rattle.script.specs.Script.{KeepsOrder, LineSays, MayFollow, Reads, names_of, peers_of, places_from, places_of}
+use Rattle.script.specs.Script.{KeepsOrder, LineSays, MayFollow, Reads, names_of, peers_of, line_numbers_from}
+use Rattle.script.specs.Script.{line_numbers_of}
 use Rattle.script.specs.Script.{steps_of, tape_of}
 use Rattle.script.specs.Step.{StepView, step_view}
 use Rattle.script.specs.Sentence.{sentence_view}
@@ -54,16 +55,16 @@ peers_of-append (Declares peer ∷ a) b = ap (λ (s : List Settings). peer ∷ s
 peers_of-append (Gives name octets ∷ a) b = peers_of-append a b
 peers_of-append (Takes step ∷ a) b = peers_of-append a b
 
--- the places of some sentences go on behind those of others
-places_append : (place next : ℕ) (a b : List SentenceView) → next ≡ place + length a →
-    places_from place (a ++ b) ≡ places_from place a ++ places_from next b
-places_append place next [] b e =
-    let same : place ≡ next = omega (arith, e) in ap (λ (p : ℕ). places_from p b) same
-places_append place next (Blank ∷ a) b e = places_append (place + 1) next a b (omega (arith, e))
-places_append place next (Declares peer ∷ a) b e = places_append (place + 1) next a b (omega (arith, e))
-places_append place next (Gives name octets ∷ a) b e = places_append (place + 1) next a b (omega (arith, e))
-places_append place next (Takes step ∷ a) b e =
-    ap (λ (ps : List ℕ). place ∷ ps) (places_append (place + 1) next a b (omega (arith, e)))
+-- the line numbers of some sentences go on behind those of others
+line_numbers_append : (line_number next : ℕ) (a b : List SentenceView) → next ≡ line_number + length a →
+    line_numbers_from line_number (a ++ b) ≡ line_numbers_from line_number a ++ line_numbers_from next b
+line_numbers_append line_number next [] b e =
+    let same : line_number ≡ next = omega (arith, e) in ap (λ (p : ℕ). line_numbers_from p b) same
+line_numbers_append line_number next (Blank ∷ a) b e = line_numbers_append (line_number + 1) next a b (omega (arith, e))
+line_numbers_append line_number next (Declares peer ∷ a) b e = line_numbers_append (line_number + 1) next a b (omega (arith, e))
+line_numbers_append line_number next (Gives name octets ∷ a) b e = line_numbers_append (line_number + 1) next a b (omega (arith, e))
+line_numbers_append line_number next (Takes step ∷ a) b e =
+    ap (λ (ps : List ℕ). line_number ∷ ps) (line_numbers_append (line_number + 1) next a b (omega (arith, e)))
 
 -- the first of two, where it is there
 abbrev pub or_else : Option (List ℕ) → Option (List ℕ) → Option (List ℕ)
@@ -159,7 +160,7 @@ gains : (old new : Draft) (before : List SentenceView) (said : SentenceView) →
     HasDistinct (names_of before) →
     ((name : List ℕ) → held_at new.tapes name ≡ or_else (tape_of before name) (tape_of (said ∷ []) name)) →
     map step_view new.steps.items ≡ steps_of before ++ steps_of (said ∷ []) →
-    new.lines.items ≡ places_of before ++ places_from (1 + length before) (said ∷ []) → Gains old new before said
+    new.lines.items ≡ line_numbers_of before ++ line_numbers_from (1 + length before) (said ∷ []) → Gains old new before said
 gains old new before said may peers names distinct tapes steps lines =
     let both = peers_of-append before (said ∷ []) in
     let named = names_of-append before (said ∷ []) in
@@ -173,7 +174,7 @@ gains old new before said may peers names distinct tapes steps lines =
         distinct = subst HasDistinct (sym named) (one_more before said distinct may);
         tapes = λ name. tapes name ∙ sym (tape_of-append before (said ∷ []) name);
         steps = steps ∙ sym (steps_of-append before (said ∷ []));
-        lines = lines ∙ sym (places_append 1 (1 + length before) before (said ∷ []) refl);
+        lines = lines ∙ sym (line_numbers_append 1 (1 + length before) before (said ∷ []) refl);
       };
     }
 
@@ -183,13 +184,13 @@ gains_blank draft before d =
     (λ name. subst (λ (ns : List (List ℕ)). Contains (map vec_items draft.names.keys) name ↔ Contains ns name)
     (sym (append-nil (names_of before))) (d.names name)) d.distinct
     (λ name. d.tapes name ∙ sym (or_none (tape_of before name)))
-    (d.steps ∙ sym (append-nil (steps_of before))) (d.lines ∙ sym (append-nil (places_of before)))
+    (d.steps ∙ sym (append-nil (steps_of before))) (d.lines ∙ sym (append-nil (line_numbers_of before)))
 
-pub gains_step : (old new : Draft) (step : Step) (place : ℕ) (before : List SentenceView) →
+pub gains_step : (old new : Draft) (step : Step) (line_number : ℕ) (before : List SentenceView) →
     new.peers.items ≡ old.peers.items → new.names.keys ≡ old.names.keys → new.tapes ≡ old.tapes →
-    new.steps.items ≡ old.steps.items ++ step ∷ [] → new.lines.items ≡ old.lines.items ++ place ∷ [] →
-    place ≡ length before + 1 → Drafts old before → Gains old new before (Takes (step_view step))
-gains_step old new step place before peers names tapes steps lines at d =
+    new.steps.items ≡ old.steps.items ++ step ∷ [] → new.lines.items ≡ old.lines.items ++ line_number ∷ [] →
+    line_number ≡ length before + 1 → Drafts old before → Gains old new before (Takes (step_view step))
+gains_step old new step line_number before peers names tapes steps lines at d =
     gains old new before (Takes (step_view step)) tt (ap (map settings_view) peers ∙ d.peers
     ∙ sym (append-nil (peers_of before)))
     (λ name. subst (λ (ns : List (List ℕ)). Contains (map vec_items new.names.keys) name ↔ Contains ns name)
@@ -199,7 +200,7 @@ gains_step old new step place before peers names tapes steps lines at d =
     (λ name. ap (λ t. held_at t name) tapes ∙ d.tapes name ∙ sym (or_none (tape_of before name)))
     (ap (map step_view) steps ∙ map-append step_view old.steps.items (step ∷ [])
     ∙ ap (λ (s : List StepView). s ++ step_view step ∷ []) d.steps)
-    (let same : place ≡ 1 + length before = omega (arith, at) in
+    (let same : line_number ≡ 1 + length before = omega (arith, at) in
     lines ∙ ap (λ (p : ℕ). old.lines.items ++ p ∷ []) same
     ∙ ap (λ (ps : List ℕ). ps ++ (1 + length before) ∷ []) d.lines)
 
@@ -264,7 +265,7 @@ gains_peer old new conf key before none is absent keys peers tapes steps lines d
     )) d.distinct
     (λ name. ap (λ t. held_at t name) tapes ∙ d.tapes name ∙ sym (or_none (tape_of before name)))
     (ap (map step_view) steps ∙ d.steps ∙ sym (append-nil (steps_of before)))
-    (lines ∙ d.lines ∙ sym (append-nil (places_of before)))
+    (lines ∙ d.lines ∙ sym (append-nil (line_numbers_of before)))
 
 -- a tape that is given where none of that name was
 tape_given : (name q octets : List ℕ) (old new before : Option (List ℕ)) → before ≡ old →
@@ -297,7 +298,7 @@ gains_tape old new name octets before may peers names here others steps lines d 
     ))
     (λ differ. others q (λ e. differ (sym e))) (bytes_eq name q) (bytes_eq-Decides name q))
     (ap (map step_view) steps ∙ d.steps ∙ sym (append-nil (steps_of before)))
-    (lines ∙ d.lines ∙ sym (append-nil (places_of before)))
+    (lines ∙ d.lines ∙ sym (append-nil (line_numbers_of before)))
 
 -- what was read of a line is what the line says
 pub said_of : (line : List ℕ) (read : Option Sentence) (s t : Sentence) → read ≡ Some s → s ≡ t →
@@ -308,28 +309,28 @@ said_of line (Some read) s t e f h = let same : read ≡ t =
     cc in subst (λ (x : Sentence). Says line (sentence_view x)) same h
 
 -- a tape is refused for a reason that its line has
-tape_refused : (place : ℕ) (line name octets : List ℕ) (before : List SentenceView) (fault : ScriptFault) →
-    Says line (Gives name octets) → IsTapeRefusal place name before fault → IsRefusal place line before fault
-tape_refused place line name octets before (Broken at NoStep) says r = absurd r.1
-tape_refused place line name octets before (Broken at NoPeer) says r = absurd r.1
-tape_refused place line name octets before (Broken at PeerBehindStep) says r = absurd r.1
-tape_refused place line name octets before (Broken at DeclaredTwice) says r = absurd r.1
-tape_refused place line name octets before (Broken at NoTape) says r = absurd r.1
-tape_refused place line name octets before (Broken at TapeBehindStep) says r = (r.0, (name, octets, says, r.1))
-tape_refused place line name octets before (Broken at NoPeerOfTape) says r =
+tape_refused : (line_number : ℕ) (line name octets : List ℕ) (before : List SentenceView) (fault : ScriptFault) →
+    Says line (Gives name octets) → IsTapeRefusal line_number name before fault → IsRefusal line_number line before fault
+tape_refused line_number line name octets before (Broken at NoStep) says r = absurd r.1
+tape_refused line_number line name octets before (Broken at NoPeer) says r = absurd r.1
+tape_refused line_number line name octets before (Broken at PeerBehindStep) says r = absurd r.1
+tape_refused line_number line name octets before (Broken at DeclaredTwice) says r = absurd r.1
+tape_refused line_number line name octets before (Broken at NoTape) says r = absurd r.1
+tape_refused line_number line name octets before (Broken at TapeBehindStep) says r = (r.0, (name, octets, says, r.1))
+tape_refused line_number line name octets before (Broken at NoPeerOfTape) says r =
     (r.0, (name, octets, says, r.1.0, r.1.1))
-tape_refused place line name octets before (Broken at TapeTwice) says r =
+tape_refused line_number line name octets before (Broken at TapeTwice) says r =
     (r.0, (name, octets, says, r.1.0, r.1.1, r.1.2))
-tape_refused place line name octets before (Broken at Unended) says r = absurd r.1
-tape_refused place line name octets before NoMemory says r = tt
+tape_refused line_number line name octets before (Broken at Unended) says r = absurd r.1
+tape_refused line_number line name octets before NoMemory says r = tt
 
-pub tape_told : {A : Type 0} (draft : Draft) (place : ℕ) (line name octets : List ℕ) (answer : Result A ScriptFault) →
+pub tape_told : {A : Type 0} (draft : Draft) (line_number : ℕ) (line name octets : List ℕ) (answer : Result A ScriptFault) →
     Says line (Gives name octets) → IfErr answer (λ fault. (before : List SentenceView) → Drafts draft before →
-    IsTapeRefusal place name before fault) →
-    IfErr answer (λ fault. (before : List SentenceView) → Drafts draft before → IsRefusal place line before fault)
-tape_told draft place line name octets (Ok a) says told = tt
-tape_told draft place line name octets (Err fault) says told = λ before drafts.
-    tape_refused place line name octets before fault says (told before drafts)
+    IsTapeRefusal line_number name before fault) →
+    IfErr answer (λ fault. (before : List SentenceView) → Drafts draft before → IsRefusal line_number line before fault)
+tape_told draft line_number line name octets (Ok a) says told = tt
+tape_told draft line_number line name octets (Err fault) says told = λ before drafts.
+    tape_refused line_number line name octets before fault says (told before drafts)
 
 -- an answer that a key is not new
 pub was_there : (there new : Bool) → new ≡ not there → new ≡ false → there ≡ true

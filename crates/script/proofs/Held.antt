@@ -63,7 +63,7 @@ pub held_none : (found : Option Octets) (told : Option (List ℕ)) → option_ma
 held_none None told e none = sym e
 held_none (Some octets) told e none = cc
 
--- what is under the names from this place on is as it was
+-- what is under the names from this line number on is as it was
 abbrev pub KeepsFrom : (names : List (List ℕ)) → ℕ → (old new : Tapes) → Type 0
 KeepsFrom names from old new =
     (k : ℕ) → from ≤ k → k < length names → held_at new (get_or names k []) ≡ held_at old (get_or names k [])

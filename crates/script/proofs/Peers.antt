@@ -6,12 +6,12 @@ use Rattle.std.specs.List.{list_all}
 use Rattle.std.proofs.lemmas.Bool.{and_from, and_parts}
 use Rattle.std.proofs.lemmas.Bool.Decides.{nat_tests}
 use Rattle.feed_conf.specs.PeerView.{settings_view}
-use Rattle.feed_conf.specs.Reading.{HaveTokens, lines_of}
+use Rattle.feed_conf.specs.Reading.{HaveLexemes, lines_of}
 use Rattle.feed_conf.specs.Settings.{Outcome, Settings, meaning}
-use Rattle.feed_conf.specs.Tokens.{Token, HasTokens}
+use Rattle.feed_conf.specs.Lexemes.{Lexeme, HasLexemes}
 use Rattle.feed_conf.specs.declared.conf.PeerConf.{PeerConf}
 use Rattle.feed_conf.specs.declared.fault.ConfFault.{ConfFault}
-use Rattle.feed_conf.proofs.TokenLaws.{tokens-are}
+use Rattle.feed_conf.specs.LexemeLaws.{lexemes-are}
 use Rattle.funnel.specs.Names.{is_name_octet, is_peer_name}
 use Rattle.script.specs.Peer.{HasOnly, IsNamedWith, SaysPeer, peer_text}
 use Rattle.script.specs.Words.{IsCut, IsSolid}
@@ -70,20 +70,20 @@ parts_once declaration m n i j p q a b =
 pub behind_once : (x y : List ℕ) → codes "peer " ++ x ≡ codes "peer " ++ y → x ≡ y
 behind_once x y e = cc
 
--- lines have one list of tokens
-line_tokens : (line : List ℕ) (one other : List Token) → HasTokens line one → HasTokens line other → one ≡ other
-line_tokens line one other p q = sym (tokens-are line one p) ∙ tokens-are line other q
+-- lines have one list of lexemes
+line_lexemes : (line : List ℕ) (one other : List Lexeme) → HasLexemes line one → HasLexemes line other → one ≡ other
+line_lexemes line one other p q = sym (lexemes-are line one p) ∙ lexemes-are line other q
 
-tokens_same : (lines : List (List ℕ)) (one other : List (List Token)) → HaveTokens lines one →
-    HaveTokens lines other → one ≡ other
-tokens_same [] [] [] p q = refl
-tokens_same [] [] (t ∷ other) p q = absurd q
-tokens_same [] (t ∷ one) other p q = absurd p
-tokens_same (line ∷ lines) [] other p q = absurd p
-tokens_same (line ∷ lines) (t ∷ one) [] p q = absurd q
-tokens_same (line ∷ lines) (t ∷ one) (u ∷ other) p q =
-    ap (λ (x : List Token). x ∷ one) (line_tokens line t u p.0 q.0)
-    ∙ ap (λ (x : List (List Token)). u ∷ x) (tokens_same lines one other p.1 q.1)
+lexemes_same : (lines : List (List ℕ)) (one other : List (List Lexeme)) → HaveLexemes lines one →
+    HaveLexemes lines other → one ≡ other
+lexemes_same [] [] [] p q = refl
+lexemes_same [] [] (t ∷ other) p q = absurd q
+lexemes_same [] (t ∷ one) other p q = absurd p
+lexemes_same (line ∷ lines) [] other p q = absurd p
+lexemes_same (line ∷ lines) (t ∷ one) [] p q = absurd q
+lexemes_same (line ∷ lines) (t ∷ one) (u ∷ other) p q =
+    ap (λ (x : List Lexeme). x ∷ one) (line_lexemes line t u p.0 q.0)
+    ∙ ap (λ (x : List (List Lexeme)). u ∷ x) (lexemes_same lines one other p.1 q.1)
 
 ok_once : (one other : Outcome) → let made : Outcome → Result Outcome ConfFault =
     λ o. Ok o in made one ≡ made other → one ≡ other
@@ -95,8 +95,8 @@ head_once one other e = cc
 -- a text of settings has one peer alone in one way
 only_once : (text : List ℕ) (one other : Settings) → HasOnly text one → HasOnly text other → one ≡ other
 only_once text one other p q =
-    let tokens = tokens_same (lines_of text) p.tokens q.tokens p.have q.have in
-    let outcome : p.outcome ≡ q.outcome = ok_once p.outcome q.outcome (sym p.means ∙ ap meaning tokens ∙ q.means) in
+    let lexemes = lexemes_same (lines_of text) p.lexemes q.lexemes p.have q.have in
+    let outcome : p.outcome ≡ q.outcome = ok_once p.outcome q.outcome (sym p.means ∙ ap meaning lexemes ∙ q.means) in
     let peers : one ∷ [] ≡ other ∷ [] = sym p.only ∙ ap (λ (o : Outcome). o.peers) outcome ∙ q.only in
     head_once one other peers
 
@@ -142,18 +142,18 @@ module _ (declaration name items : List ℕ) (solid : IsSolid name) (parts : IsN
 
   -- a text with a fault declares none
   pub says_none : (fault : ConfFault) →
-      ((lines : List (List Token)) → HaveTokens (lines_of (peer_text name items)) lines → meaning lines ≡ Err fault) →
+      ((lines : List (List Lexeme)) → HaveLexemes (lines_of (peer_text name items)) lines → meaning lines ≡ Err fault) →
       (peer : Settings) → SaysPeer (codes "peer " ++ declaration) peer → ⊥
   says_none fault means peer p =
       let has = said_text peer p in
-      let never : Err fault ≡ Ok has.outcome = sym (means has.tokens has.have) ∙ has.means in
+      let never : Err fault ≡ Ok has.outcome = sym (means has.lexemes has.have) ∙ has.means in
       cc
 
   -- and a good one declares what it has alone, where that is of this name
   pub says_found : (outcome : Outcome) (peers : List PeerConf) (found : Option PeerConf) →
-      ((lines : List (List Token)) → HaveTokens (lines_of (peer_text name items)) lines →
+      ((lines : List (List Lexeme)) → HaveLexemes (lines_of (peer_text name items)) lines →
       meaning lines ≡ Ok outcome) →
-      (lines : List (List Token)) → HaveTokens (lines_of (peer_text name items)) lines →
+      (lines : List (List Lexeme)) → HaveLexemes (lines_of (peer_text name items)) lines →
       map settings_view peers ≡ outcome.peers →
       MatchOption found ((conf : PeerConf) → peers ≡ conf ∷ [] → conf.name ≢ name)
       (λ conf. (peers ≡ conf ∷ []) × (conf.name ≡ name) × IsTrue (is_peer_name name)) →
@@ -161,7 +161,7 @@ module _ (declaration name items : List ℕ) (solid : IsSolid name) (parts : IsN
       (λ conf. SaysPeer (codes "peer " ++ declaration) (settings_view conf))
   says_found outcome peers None means lines have views none = λ peer p.
       let has = said_text peer p in
-      let same : outcome ≡ has.outcome = ok_once outcome has.outcome (sym (means has.tokens has.have) ∙ has.means) in
+      let same : outcome ≡ has.outcome = ok_once outcome has.outcome (sym (means has.lexemes has.have) ∙ has.means) in
       alone name peer peers (views ∙ ap (λ (o : Outcome). o.peers) same ∙ has.only) (text_is peer p).name none
   says_found outcome peers (Some conf) means lines have views is = record {
     declaration = declaration;
@@ -171,7 +171,7 @@ module _ (declaration name items : List ℕ) (solid : IsSolid name) (parts : IsN
     named = subst (λ (n : List ℕ). IsTrue (is_peer_name n)) (sym is.1) is.2;
     has = subst (λ (n : List ℕ). HasOnly (peer_text n items) (settings_view conf)) (sym is.1)
         (record {
-          tokens = lines;
+          lexemes = lines;
           have = have;
           outcome = outcome;
           means = means lines have;

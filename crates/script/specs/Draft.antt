@@ -13,7 +13,7 @@ use Rattle.feed_conf.specs.Settings.{Settings}
 use Rattle.feed_conf.specs.declared.conf.PeerConf.{PeerConf}
 use Rattle.script.specs.Line.{SentenceView}
 use Rattle.script.specs.Script.{BeginsAsPeer, BeginsAsTape, IsWhyLine, MayFollow, Reads, names_of, peers_of}
-use Rattle.script.specs.Script.{places_of, steps_of, tape_of}
+use Rattle.script.specs.Script.{line_numbers_of, steps_of, tape_of}
 use Rattle.script.specs.Step.{step_view}
 use Rattle.script.specs.declared.draft.Draft.{Draft}
 use Rattle.script.specs.declared.fault.Reason.{Reason}
@@ -34,7 +34,7 @@ pub record Drafts (draft : Draft) (sentences : List SentenceView) : Type 0 where
   pub distinct : IsDistinct bytes_eq (names_of sentences)
   pub tapes : (name : List ℕ) → held_at draft.tapes name ≡ tape_of sentences name
   pub steps : map step_view draft.steps.items ≡ steps_of sentences
-  pub lines : draft.lines.items ≡ places_of sentences
+  pub lines : draft.lines.items ≡ line_numbers_of sentences
 
 -- the names of these peers differ
 abbrev pub HaveOtherNames : List PeerConf → Type 0
@@ -49,10 +49,10 @@ pub record Gains (old new : Draft) (before : List SentenceView) (said : Sentence
   pub may : MayFollow before said
   pub drafts : Drafts new (before ++ said ∷ [])
 
--- the line is refused at its place for a reason that it has behind these sentences
-abbrev pub IsRefusal : (place : ℕ) (line : List ℕ) → List SentenceView → ScriptFault → Type 0
-IsRefusal place line before (Broken at reason) = (at ≡ place) × IsWhyLine before line reason
-IsRefusal place line before NoMemory = Unit {0}
+-- the line is refused at its line number for a reason that it has behind these sentences
+abbrev pub IsRefusal : (line_number : ℕ) (line : List ℕ) → List SentenceView → ScriptFault → Type 0
+IsRefusal line_number line before (Broken at reason) = (at ≡ line_number) × IsWhyLine before line reason
+IsRefusal line_number line before NoMemory = Unit {0}
 
 -- why a peer may not stand behind these sentences
 abbrev pub IsWhyPeer : List SentenceView → Settings → Reason → Type 0
@@ -66,10 +66,10 @@ IsWhyPeer before peer NoPeerOfTape = ⊥
 IsWhyPeer before peer TapeTwice = ⊥
 IsWhyPeer before peer Unended = ⊥
 
--- the peer is refused at its place for a reason that it has behind these sentences
-abbrev pub IsPeerRefusal : (place : ℕ) → Settings → List SentenceView → ScriptFault → Type 0
-IsPeerRefusal place peer before (Broken at reason) = (at ≡ place) × IsWhyPeer before peer reason
-IsPeerRefusal place peer before NoMemory = Unit {0}
+-- the peer is refused at its line number for a reason that it has behind these sentences
+abbrev pub IsPeerRefusal : (line_number : ℕ) → Settings → List SentenceView → ScriptFault → Type 0
+IsPeerRefusal line_number peer before (Broken at reason) = (at ≡ line_number) × IsWhyPeer before peer reason
+IsPeerRefusal line_number peer before NoMemory = Unit {0}
 
 -- why this peer's tape may not stand behind these sentences
 abbrev pub IsWhyTape : List SentenceView → List ℕ → Reason → Type 0
@@ -84,10 +84,10 @@ IsWhyTape before name TapeTwice =
     (steps_of before ≡ []) × Contains (names_of before) name × (tape_of before name ≢ None)
 IsWhyTape before name Unended = ⊥
 
--- the tape is refused at its place for a reason that it has behind these sentences
-abbrev pub IsTapeRefusal : (place : ℕ) → List ℕ → List SentenceView → ScriptFault → Type 0
-IsTapeRefusal place name before (Broken at reason) = (at ≡ place) × IsWhyTape before name reason
-IsTapeRefusal place name before NoMemory = Unit {0}
+-- the tape is refused at its line number for a reason that it has behind these sentences
+abbrev pub IsTapeRefusal : (line_number : ℕ) → List ℕ → List SentenceView → ScriptFault → Type 0
+IsTapeRefusal line_number name before (Broken at reason) = (at ≡ line_number) × IsWhyTape before name reason
+IsTapeRefusal line_number name before NoMemory = Unit {0}
 
 -- of a line that says nothing: whether it begins as the line of a peer or of a tape
 abbrev pub IsReasonOf : List ℕ → Reason → Type 0
@@ -101,9 +101,9 @@ IsReasonOf line NoPeerOfTape = ⊥
 IsReasonOf line TapeTwice = ⊥
 IsReasonOf line Unended = ⊥
 
--- the draft holds the lines of the text up to this rest, which begins at this place
-pub record HasRead (text rest : List ℕ) (place : ℕ) (draft : Draft) : Type 0 where
+-- the draft holds the lines of the text up to this rest, which begins at this line number
+pub record HasRead (text rest : List ℕ) (line_number : ℕ) (draft : Draft) : Type 0 where
   pub sentences : List SentenceView
   pub reads : Reads text sentences rest
-  pub at : place ≡ length sentences + 1
+  pub at : line_number ≡ length sentences + 1
   pub drafts : Drafts draft sentences

@@ -9,3 +9,4 @@ pub mod Script
 pub mod Sentence
 pub mod Step
 pub mod Words
+pub mod Faults

@@ -1,9 +1,9 @@
 -- What a script's `peer` line declares (docs/FORMATS.md).
 use Rattle.std.specs.Prelude.{◌≡◌, ◌⊎◌, ℕ, List, [], ◌∷◌, ◌++◌, Ok, IsTrue, codes}
 use Rattle.funnel.specs.Names.{is_peer_name}
-use Rattle.feed_conf.specs.Reading.{HaveTokens, lines_of}
+use Rattle.feed_conf.specs.Reading.{HaveLexemes, lines_of}
 use Rattle.feed_conf.specs.Settings.{Outcome, Settings, meaning}
-use Rattle.feed_conf.specs.Tokens.{Token}
+use Rattle.feed_conf.specs.Lexemes.{Lexeme}
 
 -- the settings that a name and items stand for, on one line
 abbrev pub peer_text : List ℕ → List ℕ → List ℕ
@@ -11,10 +11,10 @@ peer_text name items = codes "peer " ++ name ++ codes " { " ++ items ++ codes " 
 
 -- a text of settings has one peer, which has these values
 pub record HasOnly (text : List ℕ) (peer : Settings) : Type 0 where
-  pub tokens : List (List Token)
-  pub have : HaveTokens (lines_of text) tokens
+  pub lexemes : List (List Lexeme)
+  pub have : HaveLexemes (lines_of text) lexemes
   pub outcome : Outcome
-  pub means : meaning tokens ≡ Ok outcome
+  pub means : meaning lexemes ≡ Ok outcome
   pub only : outcome.peers ≡ peer ∷ []
 
 -- what stands behind `peer `: a name alone, or a name, one space and items

@@ -29,17 +29,17 @@ steps_of (Declares peer ∷ sentences) = steps_of sentences
 steps_of (Gives name octets ∷ sentences) = steps_of sentences
 steps_of (Takes step ∷ sentences) = step ∷ steps_of sentences
 
--- the places of the lines that say them, where the first sentence's line has this place
-abbrev pub places_from : ℕ → List SentenceView → List ℕ
-places_from place [] = []
-places_from place (Blank ∷ sentences) = places_from (place + 1) sentences
-places_from place (Declares peer ∷ sentences) = places_from (place + 1) sentences
-places_from place (Gives name octets ∷ sentences) = places_from (place + 1) sentences
-places_from place (Takes step ∷ sentences) = place ∷ places_from (place + 1) sentences
+-- the line numbers of the lines that say them, where the first sentence's line has this line number
+abbrev pub line_numbers_from : ℕ → List SentenceView → List ℕ
+line_numbers_from line_number [] = []
+line_numbers_from line_number (Blank ∷ sentences) = line_numbers_from (line_number + 1) sentences
+line_numbers_from line_number (Declares peer ∷ sentences) = line_numbers_from (line_number + 1) sentences
+line_numbers_from line_number (Gives name octets ∷ sentences) = line_numbers_from (line_number + 1) sentences
+line_numbers_from line_number (Takes step ∷ sentences) = line_number ∷ line_numbers_from (line_number + 1) sentences
 
--- the place of each step's line, from 1
-abbrev pub places_of : List SentenceView → List ℕ
-places_of sentences = places_from 1 sentences
+-- the line number of each step's line, from 1
+abbrev pub line_numbers_of : List SentenceView → List ℕ
+line_numbers_of sentences = line_numbers_from 1 sentences
 
 -- the peers that they declare
 abbrev pub peers_of : List SentenceView → List Settings
@@ -103,13 +103,13 @@ abbrev pub HoldsTape : List SentenceView → GivenPeer → Type 0
 HoldsTape sentences given = given.1.items ≡ unwrap_or (tape_of sentences given.0.name) []
 
 -- a script has the peers of these sentences, in byte order of their names, each with its tape, and their steps in
--- order, with the places of their lines
+-- order, with the line numbers of their lines
 pub record Holds (script : Script) (sentences : List SentenceView) : Type 0 where
   pub peers : IsPermutation (peers_of sentences) (map settings_view (confs_of script.peers.items))
   pub tapes : All (HoldsTape sentences) script.peers.items
   pub order : IsInByteOrder (confs_of script.peers.items)
   pub steps : map step_view script.steps.items ≡ steps_of sentences
-  pub lines : script.lines.items ≡ places_of sentences
+  pub lines : script.lines.items ≡ line_numbers_of sentences
 
 -- the whole text keeps the rules, and this is what it says
 abbrev pub IsScript : List ℕ → Script → Type 0
@@ -162,22 +162,22 @@ IsWhy before left NoPeerOfTape = FirstBreaks before left NoPeerOfTape
 IsWhy before left TapeTwice = FirstBreaks before left TapeTwice
 IsWhy before left Unended = (left ≢ []) × IsUnended left
 
--- The line at this place, from 1, is the first that breaks the rules, and this is why.
-pub record BreaksAt (text : List ℕ) (place : ℕ) (reason : Reason) : Type 0 where
+-- The line at this line number, from 1, is the first that breaks the rules, and this is why.
+pub record BreaksAt (text : List ℕ) (line_number : ℕ) (reason : Reason) : Type 0 where
   pub sentences : List SentenceView
   pub left : List ℕ
   pub reads : Reads text sentences left
-  pub at : place ≡ length sentences + 1
+  pub at : line_number ≡ length sentences + 1
   pub why : IsWhy sentences left reason
 
 abbrev pub IsFirstBroken : List ℕ → ℕ → Type 0
-IsFirstBroken text place = (reason : Reason) × BreaksAt text place reason
+IsFirstBroken text line_number = (reason : Reason) × BreaksAt text line_number reason
 
 -- the answer names this line
 abbrev pub NamesLine : Result Script ScriptFault → ℕ → Type 0
-NamesLine answer place = (reason : Reason) × (answer ≡ Err (Broken place reason))
+NamesLine answer line_number = (reason : Reason) × (answer ≡ Err (Broken line_number reason))
 
 -- a fault that names a line names the first broken one, and says why it is
 abbrev pub IsToldOf : List ℕ → ScriptFault → Type 0
-IsToldOf text (Broken place reason) = BreaksAt text place reason
+IsToldOf text (Broken line_number reason) = BreaksAt text line_number reason
 IsToldOf text NoMemory = Unit {0}

@@ -28,7 +28,7 @@ pub struct Draft {
     tapes: BTreeMap<Vec<u8>, Vec<u8>>,
     // The steps, in order.
     steps: Vec<Step>,
-    // The place of each step's line, from 1.
+    // The line number of each step's line, from 1.
     lines: Vec<usize>,
 }
 
@@ -46,60 +46,66 @@ impl Draft {
         }
     }
 
-    /// Takes in the line at this place, which is without its LF and the CR before that.
+    /// Takes in the line at this line number, which is without its LF and the CR before that.
     ///
     /// # Errors
     /// `Broken` where the line breaks the rules behind the lines so far; `NoMemory`.
-    pub fn add(&mut self, alloc: Global, place: usize, line: &[u8]) -> Result<(), ScriptFault>
+    pub fn add(&mut self, alloc: Global, line_number: usize, line: &[u8]) -> Result<(), ScriptFault>
         ensures ok { OnOk result ((before : List SentenceView) → Drafts self.old before
-            → place ≡ length before + 1
+            → line_number ≡ length before + 1
             → (said : SentenceView) × Says line.now said × Gains self.old self.new before said) }
         ensures broken { IfErr result (λ fault. (before : List SentenceView)
-            → Drafts self.old before → IsRefusal place line.now before fault) }
+            → Drafts self.old before → IsRefusal line_number line.now before fault) }
     {
         match read_sentence(alloc, line)? {
             Some(Sentence::Nothing) => Ok(()),
-            Some(Sentence::Peer(conf)) => self.declare(alloc, place, conf),
-            Some(Sentence::Tape(name, octets)) => self.give(alloc, place, &name, octets),
+            Some(Sentence::Peer(conf)) => self.declare(alloc, line_number, conf),
+            Some(Sentence::Tape(name, octets)) => self.give(alloc, line_number, &name, octets),
             Some(Sentence::Step(step)) => {
-                self.take(place, step)?;
+                self.take(line_number, step)?;
                 Ok(())
             }
             None => Err(ScriptFault::Broken {
-                line: place,
+                line: line_number,
                 reason: reason_of(line),
             }),
         }
     }
 
-    // Takes a step of the line at this place.
-    fn take(&mut self, place: usize, step: Step) -> Result<(), AllocError>
+    // Takes a step of the line at this line number.
+    fn take(&mut self, line_number: usize, step: Step) -> Result<(), AllocError>
         ensures { OnOk result ((before : List SentenceView) → Drafts self.old before
-            → place ≡ length before + 1
+            → line_number ≡ length before + 1
             → Gains self.old self.new before (Takes (step_view step))) }
     {
-        self.lines.push(place)?;
+        self.lines.push(line_number)?;
         self.steps.push(step)?;
         Ok(())
     }
 
-    // Declares a peer of the line at this place.
-    fn declare(&mut self, alloc: Global, place: usize, conf: PeerConf) -> Result<(), ScriptFault>
+    // Declares a peer of the line at this line number.
+    fn declare(
+        &mut self,
+        alloc: Global,
+        line_number: usize,
+        conf: PeerConf,
+    ) -> Result<(), ScriptFault>
         ensures ok { OnOk result ((before : List SentenceView) → Drafts self.old before
             → Gains self.old self.new before (Declares (settings_view conf))) }
         ensures broken { IfErr result (λ fault. (before : List SentenceView)
-            → Drafts self.old before → IsPeerRefusal place (settings_view conf) before fault) }
+            → Drafts self.old before
+            → IsPeerRefusal line_number (settings_view conf) before fault) }
     {
         if !self.steps.is_empty() {
             return Err(ScriptFault::Broken {
-                line: place,
+                line: line_number,
                 reason: Reason::PeerBehindStep,
             });
         }
         let name = Vec::from_slice(alloc, conf.name.bytes())?;
         if !self.names.insert(name)? {
             return Err(ScriptFault::Broken {
-                line: place,
+                line: line_number,
                 reason: Reason::DeclaredTwice,
             });
         }
@@ -107,22 +113,22 @@ impl Draft {
         Ok(())
     }
 
-    // Gives the peer of this name its tape by the line at this place.
+    // Gives the peer of this name its tape by the line at this line number.
     fn give(
         &mut self,
         alloc: Global,
-        place: usize,
+        line_number: usize,
         name: &PeerName,
         octets: Vec<u8>,
     ) -> Result<(), ScriptFault>
         ensures ok { OnOk result ((before : List SentenceView) → Drafts self.old before
             → Gains self.old self.new before (Gives name.now octets.items)) }
         ensures broken { IfErr result (λ fault. (before : List SentenceView)
-            → Drafts self.old before → IsTapeRefusal place name.now before fault) }
+            → Drafts self.old before → IsTapeRefusal line_number name.now before fault) }
     {
         if let Some(reason) = self.why_no_tape(name) {
             return Err(ScriptFault::Broken {
-                line: place,
+                line: line_number,
                 reason,
             });
         }

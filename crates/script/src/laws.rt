@@ -11,7 +11,8 @@ pub fn says_once()
 
 /// A text that keeps the rules has no first broken line, and any other text has one at most.
 pub fn breaks_once()
-    ensures never { (text : List ℕ) (place : ℕ) → KeepsRules text → IsFirstBroken text place → ⊥ }
+    ensures never { (text : List ℕ) (line_number : ℕ)
+        → KeepsRules text → IsFirstBroken text line_number → ⊥ }
     ensures once { (text : List ℕ) (one other : ℕ) → IsFirstBroken text one
         → IsFirstBroken text other → one ≡ other }
 {}

@@ -20,7 +20,7 @@ pub struct Script {
     pub peers: Vec<(PeerConf, Vec<u8>)>,
     /// The steps, in order.
     pub steps: Vec<Step>,
-    /// The place of each step's line among all lines, from 1.
+    /// The line number of each step's line among all lines, from 1.
     pub lines: Vec<usize>,
 }
 
@@ -46,15 +46,15 @@ pub fn read_script(alloc: Global, text: &[u8]) -> Result<Script, ScriptFault>
 {
     let mut draft = Draft::new(alloc);
     let mut rest = text;
-    let mut place = 1;
+    let mut line_number = 1;
     while let Some((line, more)) = first_line(rest) {
-        draft.add(alloc, place, without_cr(line))?;
+        draft.add(alloc, line_number, without_cr(line))?;
         rest = more;
-        place += 1;
+        line_number += 1;
     }
     if !rest.is_empty() {
         return Err(ScriptFault::Broken {
-            line: place,
+            line: line_number,
             reason: Reason::Unended,
         });
     }

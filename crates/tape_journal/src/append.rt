@@ -1,11 +1,11 @@
 // Adding records to a segment at rest.
 ghost use Rattle.std.specs.Prelude.{◌≡◌, ◌+◌, ◌-◌, ◌^◌, ◌<◌, ◌≤◌, ◌↔◌, ◌++◌, ℕ, List, length, min, IfOk, OnOk, IsTrue};
+ghost use Rattle.std.specs.Prelude.{map, vec_items};
 ghost use Rattle.disk_model.specs.Disk.{content, Leaves, AfterSync, CountsFaults};
 ghost use Rattle.tape_journal.specs.Journal.{gates_opened, appending};
 ghost use Rattle.tape_journal.specs.Kept.{AtRest};
 ghost use Rattle.tape_journal.specs.Segment.{ReadsFrom, records, at_rest, AllShort};
 ghost use Rattle.tape_journal.specs.Stage.{AnyGates, HasAnyGates, written_behind};
-ghost use Rattle.tape_journal.specs.Words.{octets_of};
 
 use crate::put::{put, put_synced};
 use crate::read::{LONGEST_PAYLOAD, OPEN, RECORD_HEAD};
@@ -14,8 +14,8 @@ use std::alloc::{AllocError, Global};
 
 // What stands behind the end gate before the gates are opened.
 pub(crate) fn staging_of(alloc: Global, payloads: &[Vec<u8>]) -> Result<Vec<u8>, AllocError>
-    requires { AllShort (octets_of payloads.now) }
-    ensures { IfOk result (λ v. v.items ≡ written_behind (octets_of payloads.now)) }
+    requires { AllShort (map vec_items payloads.now) }
+    ensures { IfOk result (λ v. v.items ≡ written_behind (map vec_items payloads.now)) }
 {
     let mut octets = Vec::new(alloc);
     for payload in payloads {
@@ -29,7 +29,7 @@ pub(crate) fn staging_of(alloc: Global, payloads: &[Vec<u8>]) -> Result<Vec<u8>,
 
 // Whether no payload is too long.
 pub(crate) fn are_short(payloads: &[Vec<u8>]) -> bool
-    ensures { IsTrue result ↔ AllShort (octets_of payloads.now) }
+    ensures { IsTrue result ↔ AllShort (map vec_items payloads.now) }
 {
     for payload in payloads {
         if payload.len() > LONGEST_PAYLOAD as usize {
@@ -41,7 +41,7 @@ pub(crate) fn are_short(payloads: &[Vec<u8>]) -> bool
 
 /// How long the records of these payloads are, in octets, or the greatest u64.
 pub fn records_len(payloads: &[Vec<u8>]) -> u64
-    ensures { result ≡ min (length (records (octets_of payloads.now))) (2 ^ 64 - 1) }
+    ensures { result ≡ min (length (records (map vec_items payloads.now))) (2 ^ 64 - 1) }
 {
     let mut total = 0u64;
     for payload in payloads {
@@ -54,21 +54,21 @@ pub fn records_len(payloads: &[Vec<u8>]) -> u64
 
 // Opens the gates of staged records, front to back.
 fn open_gates<D: Disk>(disk: &mut D, first: u64, payloads: &[Vec<u8>]) -> Result<(), DiskFault>
-    requires { first + length (records (octets_of payloads.now)) < 2 ^ 64 }
+    requires { first + length (records (map vec_items payloads.now)) < 2 ^ 64 }
     ensures honest { D.honest disk.old ↔ D.honest disk.new }
     ensures moments { D.honest disk.old → (front : List (List ℕ))
-        → HasAnyGates (D.log disk.old) front (octets_of payloads.now) first
-        → Leaves (AnyGates front (octets_of payloads.now)) (D.log disk.old) (D.log disk.new) }
-    ensures done { D.honest disk.old → (front : List (List ℕ))
-        → HasAnyGates (D.log disk.old) front (octets_of payloads.now) first
-        → OnOk result (content (D.log disk.new) ≡ at_rest (front ++ octets_of payloads.now)) }
+        → HasAnyGates (D.log disk.old) front (map vec_items payloads.now) first
+        → Leaves (AnyGates front (map vec_items payloads.now)) (D.log disk.old) (D.log disk.new) }
+    ensures ok { D.honest disk.old → (front : List (List ℕ))
+        → HasAnyGates (D.log disk.old) front (map vec_items payloads.now) first
+        → OnOk result (content (D.log disk.new) ≡ at_rest (front ++ map vec_items payloads.now)) }
     ensures calls { D.honest disk.old → (front : List (List ℕ))
-        → HasAnyGates (D.log disk.old) front (octets_of payloads.now) first
+        → HasAnyGates (D.log disk.old) front (map vec_items payloads.now) first
         → OnOk result (D.log disk.new
-        ≡ gates_opened first (octets_of payloads.now) (D.log disk.old)) }
+        ≡ gates_opened first (map vec_items payloads.now) (D.log disk.old)) }
     ensures later { D.told disk.old ≤ D.told disk.new }
     ensures cause { D.honest disk.old → (front : List (List ℕ))
-        → HasAnyGates (D.log disk.old) front (octets_of payloads.now) first
+        → HasAnyGates (D.log disk.old) front (map vec_items payloads.now) first
         → CountsFaults (D.told disk.old) (D.told disk.new) result }
     ensures quiet { OnOk result (D.told disk.new ≡ D.told disk.old) }
 {
@@ -87,23 +87,24 @@ pub(crate) fn add_records<D: Disk>(
     staged: &[u8],
     payloads: &[Vec<u8>],
 ) -> Result<(), DiskFault>
-    requires fits { end + length (records (octets_of payloads.now)) < 2 ^ 64 - 1 }
-    requires staged { staged.now ≡ written_behind (octets_of payloads.now) }
-    requires short { AllShort (octets_of payloads.now) }
+    requires fits { end + length (records (map vec_items payloads.now)) < 2 ^ 64 - 1 }
+    requires staged { staged.now ≡ written_behind (map vec_items payloads.now) }
+    requires short { AllShort (map vec_items payloads.now) }
     ensures honest { D.honest disk.old ↔ D.honest disk.new }
     ensures moments { D.honest disk.old → (all : List (List ℕ)) → AtRest (D.log disk.old) all
         → end ≡ length (records all)
-        → Leaves (ReadsFrom (length all) (all ++ octets_of payloads.now)) (D.log disk.old)
+        → Leaves (ReadsFrom (length all) (all ++ map vec_items payloads.now)) (D.log disk.old)
         (D.log disk.new) }
     ensures gates { D.honest disk.old → (all : List (List ℕ)) → AtRest (D.log disk.old) all
         → end ≡ length (records all)
-        → AfterSync (AnyGates all (octets_of payloads.now)) (D.log disk.old) (D.log disk.new) }
-    ensures done { D.honest disk.old → (all : List (List ℕ)) → AtRest (D.log disk.old) all
+        → AfterSync (AnyGates all (map vec_items payloads.now)) (D.log disk.old) (D.log disk.new) }
+    ensures ok { D.honest disk.old → (all : List (List ℕ)) → AtRest (D.log disk.old) all
         → end ≡ length (records all)
-        → OnOk result (AtRest (D.log disk.new) (all ++ octets_of payloads.now)) }
+        → OnOk result (AtRest (D.log disk.new) (all ++ map vec_items payloads.now)) }
     ensures calls { D.honest disk.old → (all : List (List ℕ)) → AtRest (D.log disk.old) all
         → end ≡ length (records all)
-        → OnOk result (D.log disk.new ≡ appending end (octets_of payloads.now) (D.log disk.old)) }
+        → OnOk result
+        (D.log disk.new ≡ appending end (map vec_items payloads.now) (D.log disk.old)) }
     ensures later { D.told disk.old ≤ D.told disk.new }
     ensures cause { D.honest disk.old → (all : List (List ℕ)) → AtRest (D.log disk.old) all
         → end ≡ length (records all) → CountsFaults (D.told disk.old) (D.told disk.new) result }

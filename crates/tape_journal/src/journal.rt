@@ -54,9 +54,8 @@ fn read_fault_of(fault: OpenFault) -> ReadFault
 
 impl<D: Disk> Journal<D> {
     ghost use Rattle.std.specs.Prelude.{◌≢◌, ◌↔◌, [], ◌∷◌, ◌++◌, length, min, MatchResult, IfOk, IfErr, OnOk};
-    ghost use Rattle.std.specs.Prelude.{OnErr, IsOk, IsErrOf, IsTrue};
+    ghost use Rattle.std.specs.Prelude.{OnErr, IsOk, IsErrOf, IsTrue, map, vec_items};
     ghost use Rattle.disk_model.specs.Disk.{ToldFault};
-    ghost use Rattle.tape_journal.specs.Words.{octets_of};
     ghost use Rattle.tape_journal.specs.Segment.{AllShort, IsRecord, records, longest_segment};
     ghost use Rattle.tape_journal.specs.Append.{Appends, Continues, RefusesAppend};
     ghost use Rattle.tape_journal.specs.Read.{Keeps};
@@ -71,7 +70,7 @@ impl<D: Disk> Journal<D> {
     /// The first that the reading meets: `Damaged` at the offset where the content has no reading, `Disk`, `NoMemory`.
     /// The disk is handed back as it was.
     pub fn read(alloc: Global, mut disk: D) -> Result<(Unrepaired<D>, Vec<Vec<u8>>), Refused<D>>
-        ensures ok { D.honest disk → IfOk result (λ r. Finds r.0 (octets_of r.1.items)) }
+        ensures ok { D.honest disk → IfOk result (λ r. Finds r.0 (map vec_items r.1.items)) }
 
         // Nothing has happened to the disk, whatever is answered.
         ensures unchanged { D.honest disk → MatchResult result
@@ -103,7 +102,7 @@ impl<D: Disk> Journal<D> {
     #[tactic(auto, using(crate::proofs::Ending::as_it_was))]
     pub fn open(alloc: Global, disk: D) -> Result<(Journal<D>, Vec<Vec<u8>>), Refused<D>>
         ensures ok { D.honest disk
-            → IfOk result (λ r. IsOpened (D.log disk) r.0 (octets_of r.1.items)) }
+            → IfOk result (λ r. IsOpened (D.log disk) r.0 (map vec_items r.1.items)) }
         ensures err { D.honest disk → IfErr result (λ e. IsRefused (D.log disk) e) }
 
         // It doesn't give up by itself: each fault has its cause.
@@ -120,15 +119,16 @@ impl<D: Disk> Journal<D> {
     fn room_for(&self, payloads: &[Vec<u8>]) -> Result<u64, AppendFault>
         ensures broken { IsErrOf result AppendFault.Broken ↔ IsBroken self.now }
         ensures too_long { IsErrOf result AppendFault.PayloadTooLong
-            ↔ ((IsBroken self.now → ⊥) × (AllShort (octets_of payloads.now) → ⊥)) }
+            ↔ ((IsBroken self.now → ⊥) × (AllShort (map vec_items payloads.now) → ⊥)) }
         ensures full { IsErrOf result AppendFault.TapeFull
-            ↔ ((IsBroken self.now → ⊥) × AllShort (octets_of payloads.now) × (payloads.now ≢ [])
-            × (longest_segment < end_of self.now + 1 + length (records (octets_of payloads.now)))) }
+            ↔ ((IsBroken self.now → ⊥) × AllShort (map vec_items payloads.now) × (payloads.now ≢ [])
+            × (longest_segment
+            < end_of self.now + 1 + length (records (map vec_items payloads.now)))) }
         ensures empty_ok { payloads.now ≡ [] → (IsBroken self.now → ⊥) → IsOk result }
-        ensures others { IfErr result (λ e. (e ≢ AppendFault.Disk) × (e ≢ AppendFault.NoMemory)) }
+        ensures kinds { IfErr result (λ e. (e ≢ AppendFault.Disk) × (e ≢ AppendFault.NoMemory)) }
         ensures ok { IfOk result
-            (λ added. (IsBroken self.now → ⊥) × AllShort (octets_of payloads.now)
-            × (added ≡ length (records (octets_of payloads.now)))
+            (λ added. (IsBroken self.now → ⊥) × AllShort (map vec_items payloads.now)
+            × (added ≡ length (records (map vec_items payloads.now)))
             × (payloads.now ≢ [] → end_of self.now + 1 + added ≤ longest_segment)) }
     {
         if self.broken {
@@ -162,7 +162,7 @@ impl<D: Disk> Journal<D> {
         ensures refuses { RefusesAppend payloads.now self.old self.new result }
         ensures works { OnOk result (IsBroken self.new → ⊥) }
         ensures end { MatchResult result
-            (λ _. end_of self.new ≡ end_of self.old + length (records (octets_of payloads.now)))
+            (λ _. end_of self.new ≡ end_of self.old + length (records (map vec_items payloads.now)))
             (λ _. end_of self.new ≡ end_of self.old) }
         ensures continues { Continues self.old self.new }
         ensures quiet { OnOk result (D.told (disk_of self.new) ≡ D.told (disk_of self.old)) }
@@ -205,7 +205,7 @@ impl<D: Disk> Journal<D> {
             (drop offset (content (D.log (disk_of self.old))))) }
 
         ensures broken { IsErrOf result ReadFault.Broken ↔ IsBroken self.old }
-        ensures refused { IsErrOf result ReadFault.Broken → self.new ≡ self.old }
+        ensures unchanged { IsErrOf result ReadFault.Broken → self.new ≡ self.old }
         ensures keeps { Keeps self.old self.new }
         ensures continues { Continues self.old self.new }
         ensures quiet { OnOk result (D.told (disk_of self.new) ≡ D.told (disk_of self.old)) }

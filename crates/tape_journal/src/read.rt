@@ -1,12 +1,11 @@
 // Reading a segment, front to back.
 ghost use Rattle.std.specs.Prelude.{◌≡◌, ◌+◌, ◌-◌, ◌^◌, ◌<◌, ◌≤◌, ◌↔◌, ℕ, List, length, min, take, drop, IfOk, OnOk};
-ghost use Rattle.std.specs.Prelude.{IsErrOf, MatchOption, IfSome};
+ghost use Rattle.std.specs.Prelude.{IsErrOf, MatchOption, IfSome, map, vec_items};
 ghost use Rattle.std.specs.Int.{to_be_bytes, from_be_bytes, w32};
 ghost use Rattle.disk_model.specs.Disk.{ToldFault, content};
 ghost use Rattle.tape_journal.specs.Head.{IsHead, FitsHead};
 ghost use Rattle.tape_journal.specs.Segment.{Ends, IsRecord, IsCutShort, IsDamagedAt, HasPayloads};
 ghost use Rattle.tape_journal.specs.Window.{Shows};
-ghost use Rattle.tape_journal.specs.Words.{octets_of};
 
 use crate::OpenFault;
 use crate::window::Window;
@@ -18,8 +17,8 @@ pub(crate) const OPEN: u8 = 0xa5;
 /// The longest payload, in octets.
 pub const LONGEST_PAYLOAD: u32 = 16777216;
 
-/// How many octets a record has before its payload: the gate and the payload's length.
-pub const RECORD_HEAD: u64 = 5;
+// How many octets a record has before its payload: the gate and the payload's length.
+pub(crate) const RECORD_HEAD: u64 = 5;
 
 // What stands where a record or the end of a segment is to stand.
 #[derive(Clone, Copy)]
@@ -133,7 +132,7 @@ pub(crate) fn payloads_of<D: Disk>(
     ensures honest { D.honest disk.old ↔ D.honest disk.new }
     ensures log { D.honest disk.old → D.log disk.new ≡ D.log disk.old }
     ensures reads { D.honest disk.old
-        → IfOk result (λ r. HasPayloads (content (D.log disk.old)) (octets_of r.0.items) r.1) }
+        → IfOk result (λ r. HasPayloads (content (D.log disk.old)) (map vec_items r.0.items) r.1) }
     ensures end { IfOk result (λ r. r.1 < 2 ^ 64 - 1) }
     ensures damaged { D.honest disk.old → (e : ℕ) → IsErrOf result (OpenFault.Damaged e)
         → IsDamagedAt (content (D.log disk.old)) e }

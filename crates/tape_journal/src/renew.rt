@@ -33,7 +33,7 @@ fn empty<D: Disk>(disk: &mut D) -> Result<(), DiskFault>
     ensures honest { D.honest disk.old ↔ D.honest disk.new }
     ensures moments { D.honest disk.old
         → Leaves (EmptiedFrom (D.log disk.old)) (D.log disk.old) (D.log disk.new) }
-    ensures done { D.honest disk.old → OnOk result (IsOnly (D.log disk.new) (0 ∷ [])) }
+    ensures ok { D.honest disk.old → OnOk result (IsOnly (D.log disk.new) (0 ∷ [])) }
     ensures calls { D.honest disk.old → OnOk result (D.log disk.new ≡ emptying (D.log disk.old)) }
     ensures later { D.told disk.old ≤ D.told disk.new }
     ensures cause { D.honest disk.old → CountsFaults (D.told disk.old) (D.told disk.new) result }
@@ -50,7 +50,7 @@ fn write_segment<D: Disk>(disk: &mut D, segment: &[u8]) -> Result<(), DiskFault>
     ensures honest { D.honest disk.old ↔ D.honest disk.new }
     ensures moments { D.honest disk.old → IsOnly (D.log disk.old) (0 ∷ [])
         → Leaves (GatedAs segment.now) (D.log disk.old) (D.log disk.new) }
-    ensures done { D.honest disk.old → IsOnly (D.log disk.old) (0 ∷ [])
+    ensures ok { D.honest disk.old → IsOnly (D.log disk.old) (0 ∷ [])
         → OnOk result (IsOnly (D.log disk.new) (opened segment.now)) }
     ensures calls { D.honest disk.old → IsOnly (D.log disk.old) (0 ∷ [])
         → OnOk result (D.log disk.new ≡ filling segment.now (D.log disk.old)) }
@@ -70,7 +70,7 @@ fn rewrite<D: Disk>(disk: &mut D, segment: &[u8]) -> Result<(), DiskFault>
     ensures moments { D.honest disk.old → (payloads : List (List ℕ)) → payloads ≢ []
         → AllShort payloads → segment.now ≡ at_rest payloads
         → Leaves (RenewedFrom (D.log disk.old) payloads) (D.log disk.old) (D.log disk.new) }
-    ensures done { D.honest disk.old
+    ensures ok { D.honest disk.old
         → OnOk result (IsOnly (D.log disk.new) (opened segment.now)) }
     ensures calls { D.honest disk.old
         → OnOk result (D.log disk.new ≡ filling segment.now (emptying (D.log disk.old))) }
@@ -86,14 +86,14 @@ fn rewrite<D: Disk>(disk: &mut D, segment: &[u8]) -> Result<(), DiskFault>
 fn renew_on<D: Disk>(disk: &mut D, batch: Batch) -> Result<u64, RenewFault>
     requires some { 0 < octets_in batch }
     ensures end { IfOk result (λ end. (end ≡ octets_in batch) × (end < longest_segment)) }
-    ensures done { (payloads : List (List ℕ)) → Gathers batch payloads → D.honest disk.old
+    ensures ok { (payloads : List (List ℕ)) → Gathers batch payloads → D.honest disk.old
         → OnOk result (AtRest (D.log disk.new) payloads) }
     ensures calls { (payloads : List (List ℕ)) → Gathers batch payloads → D.honest disk.old
         → OnOk result (D.log disk.new ≡ renewing payloads (D.log disk.old)) }
     ensures moments { (payloads : List (List ℕ)) → Gathers batch payloads → D.honest disk.old
         → Leaves (RenewedFrom (D.log disk.old) payloads) (D.log disk.old) (D.log disk.new) }
     ensures full { IsErrOf result RenewFault.TapeFull ↔ (longest_segment < 1 + octets_in batch) }
-    ensures refused { IfErr result (λ e. e ≢ RenewFault.Disk → disk.new ≡ disk.old) }
+    ensures unchanged { IfErr result (λ e. e ≢ RenewFault.Disk → disk.new ≡ disk.old) }
     ensures cause { D.honest disk.old → IsErrOf result RenewFault.Disk
         → min (D.told disk.old + 1) (2 ^ 64 - 1) ≤ D.told disk.new }
     ensures honest { D.honest disk.old ↔ D.honest disk.new }
@@ -132,7 +132,7 @@ impl<D: Disk> Journal<D> {
             → min (D.told disk + 1) (2 ^ 64 - 1) ≤ D.told e.disk) }
 
         ensures works { IfOk result (Works disk) }
-        ensures handed_back { IfErr result (IsHandedBack disk) }
+        ensures returned { IfErr result (IsHandedBack disk) }
     {
         match renew_on(&mut disk, batch) {
             Ok(end) => Ok(Journal {

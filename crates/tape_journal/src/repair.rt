@@ -16,7 +16,7 @@ fn trim<D: Disk>(disk: &mut D, end: u64) -> Result<(), DiskFault>
     ensures first_sync { D.honest disk.old → (payloads : List (List ℕ))
         → HasPayloads (content (D.log disk.old)) payloads end
         → FirstSync (λ c. Reads c payloads) (D.log disk.old) (D.log disk.new) }
-    ensures done { D.honest disk.old
+    ensures ok { D.honest disk.old
         → OnOk result (IsOnly (D.log disk.new) (take (end + 1) (content (D.log disk.old)))) }
     ensures calls { D.honest disk.old
         → OnOk result (D.log disk.new
@@ -38,7 +38,7 @@ pub(crate) fn repair<D: Disk>(disk: &mut D, end: u64) -> Result<(), DiskFault>
     ensures first_sync { D.honest disk.old → (payloads : List (List ℕ))
         → HasPayloads (content (D.log disk.old)) payloads end
         → FirstSync (λ c. Reads c payloads) (D.log disk.old) (D.log disk.new) }
-    ensures done { D.honest disk.old → (payloads : List (List ℕ))
+    ensures ok { D.honest disk.old → (payloads : List (List ℕ))
         → HasPayloads (content (D.log disk.old)) payloads end
         → OnOk result (AtRest (D.log disk.new) payloads) }
     ensures calls { D.honest disk.old → (payloads : List (List ℕ))

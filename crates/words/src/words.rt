@@ -194,7 +194,7 @@ fn mistake<'a>(alloc: Global, what: &str) -> Result<Order<'a>, AllocError>
 fn answer<'a>(alloc: Global, error: Error) -> Result<Order<'a>, AllocError>
     ensures told { (kind_of error ≡ ErrorKind.DisplayHelp)
         ⊎ (kind_of error ≡ ErrorKind.DisplayVersion) → IfOk result IsTold }
-    ensures memory { kind_of error ≡ ErrorKind.OutOfMemory → result ≡ Err alloc_error }
+    ensures no_memory { kind_of error ≡ ErrorKind.OutOfMemory → result ≡ Err alloc_error }
     ensures mistake { kind_of error ≢ ErrorKind.DisplayHelp
         → kind_of error ≢ ErrorKind.DisplayVersion → IfOk result IsMistaken }
     ensures other { IfOk result (λ order. order ≢ Order.DrillFromInput) }

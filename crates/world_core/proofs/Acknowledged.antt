@@ -24,9 +24,9 @@ above_at mark (y ∷ xs) (suc k) zero x all within here = absurd (omega (arith, 
 above_at mark (y ∷ xs) (suc k) (suc i) x all within here = above_at mark xs k i x all (omega (arith, within)) here
 
 pub lines_stand : (past : Past) → IsSafe past → LinesAreAcknowledged past
-lines_stand past safe place index number peer token id line here noted =
+lines_stand past safe rank index number peer token id line here noted =
     let keeps = each_may (KeepsLines past.intake.history past.peers) past.intake.log line.seen safe.intake line.may in
-    let has = all_at (HasAcknowledged line.seen.mark) past.peers place peer keeps.lines here in
+    let has = all_at (HasAcknowledged line.seen.mark) past.peers rank peer keeps.lines here in
     elim (cases_lt index peer.tape.history.kept) [
       | inl less ↦ less
       | inr more ↦ absurd (

@@ -7,7 +7,7 @@ use Rattle.disk_model.specs.declared.Disk.{Ghosts}
 use Rattle.feed_conf.specs.declared.conf.PeerConf.{PeerConf}
 use Rattle.ledger_core.specs.State.{Owing}
 use Rattle.article_store.specs.declared.store.Found.{Found}
-use Rattle.conn_core.proofs.Closed.{first_reason-none}
+use Rattle.conn_core.specs.ClosingLaws.{first_reason-none}
 use Rattle.conn_core.specs.Commands.{Command, Handing, Quit}
 use Rattle.conn_core.specs.History.{Broke, Came, Event as Happening, Faulted, Handed as HandedIn, Offered, Put, after}
 use Rattle.conn_core.specs.History.{closes, first_reason, is_quit_due, puts, reason, with_puts}
@@ -82,23 +82,23 @@ module _ {D : Type 0} {g : Ghosts D} where
       (c new_c : Connection) (was now : Peer D g) : Type 0 where
     pub index : ℕ
     pub next : slice_get life.conns index ≡ Some (id, conn)
-    pub here : slice_get life.past.peers conn.place ≡ Some peer
+    pub here : slice_get life.past.peers conn.rank ≡ Some peer
     pub c_at : c ≡ get_or cs index c
     pub in_cs : index < length cs
-    pub was_at : was ≡ get_or old.peers.items conn.place was
-    pub in_peers : conn.place < length old.peers.items
-    pub same : WithPeer old new conn.place now
+    pub was_at : was ≡ get_or old.peers.items conn.rank was
+    pub in_peers : conn.rank < length old.peers.items
+    pub same : WithPeer old new conn.rank now
     pub put_c : new_cs ≡ set cs index new_c
 
   abbrev pub put_from : (life : Life) (old new : Stations D g) (cs new_cs : List Connection) (id : ℕ)
       (conn : ConnPast) (peer : PeerPast)
-      (c new_c : Connection) (was now : Peer D g) (index place : ℕ) → slice_get life.conns index ≡ Some (id, conn)
-      → conn.place ≡ place
-      → slice_get life.past.peers place ≡ Some peer → c ≡ get_or cs index c → index < length cs
-      → was ≡ get_or old.peers.items place was
-      → place < length old.peers.items → WithPeer old new place now → new_cs ≡ set cs index new_c
+      (c new_c : Connection) (was now : Peer D g) (index rank : ℕ) → slice_get life.conns index ≡ Some (id, conn)
+      → conn.rank ≡ rank
+      → slice_get life.past.peers rank ≡ Some peer → c ≡ get_or cs index c → index < length cs
+      → was ≡ get_or old.peers.items rank was
+      → rank < length old.peers.items → WithPeer old new rank now → new_cs ≡ set cs index new_c
       → IsPut life old new cs new_cs id conn peer c new_c was now
-  put_from life old new cs new_cs id conn peer c new_c was now index place next at here c_at in_cs was_at in_peers
+  put_from life old new cs new_cs id conn peer c new_c was now index rank next at here c_at in_cs was_at in_peers
       same put_c = record {
         index = index;
         next = next;
@@ -136,7 +136,7 @@ module _ {D : Type 0} {g : Ghosts D} where
       (conn : ConnPast) (peer : PeerPast) (c new_c : Connection) (was now : Peer D g)
       (put : IsPut life old new cs new_cs id conn peer c new_c was now) where
     pub pair_of : PairStands id conn peer c was
-    pair_of = pair_there life old cs running put.index conn.place id conn peer put.next refl put.here c was put.c_at
+    pair_of = pair_there life old cs running put.index conn.rank id conn peer put.next refl put.here c was put.c_at
         put.in_cs put.was_at put.in_peers
 
     within_peer : peer.tape.history.kept ≤ length peer.tape.history.notes
@@ -149,36 +149,36 @@ module _ {D : Type 0} {g : Ghosts D} where
           put.here;
     }
 
-    -- the life where the peer is in its own place
-    same_life : with_past life (with_peer life.past conn.place peer) ≡ life
-    same_life = ap (λ (p : Past). with_past life p) (with_same life.past conn.place peer put.here)
+    -- the life where the peer is in its own rank
+    same_life : with_past life (with_peer life.past conn.rank peer) ≡ life
+    same_life = ap (λ (p : Past). with_past life p) (with_same life.past conn.rank peer put.here)
 
     -- put back, they stand for this
     abbrev put_life : ConnPast → PeerPast → Life
-    put_life later_conn later = with_conn (with_past life (with_peer life.past conn.place later)) id later_conn
+    put_life later_conn later = with_conn (with_past life (with_peer life.past conn.rank later)) id later_conn
 
     back : (later_conn : ConnPast) (later : PeerPast) → PairStands id later_conn later new_c now
         → PeerKeeps id peer later
-        → later_conn.place ≡ conn.place → AreRunning (put_life later_conn later) new new_cs
-    back later_conn later pair keeps same_place =
-        put_back life old cs running put.index conn.place id conn peer put.next refl put.here new new_cs new_c now
+        → later_conn.rank ≡ conn.rank → AreRunning (put_life later_conn later) new new_cs
+    back later_conn later pair keeps same_rank =
+        put_back life old cs running put.index conn.rank id conn peer put.next refl put.here new new_cs new_c now
         later_conn later pair put.same
-        put.put_c keeps same_place within_peer
+        put.put_c keeps same_rank within_peer
 
-    module _ (mid : PeerPast) (keeps : PeerKeeps id peer mid) (m : ConnPast) (at : m.place ≡ conn.place)
+    module _ (mid : PeerPast) (keeps : PeerKeeps id peer mid) (m : ConnPast) (at : m.rank ≡ conn.rank)
         (unread : List ℕ)
         (left : left_behind (options_of mid.conf) unread m.transcript ≡ m.unread) where
       abbrev begun : Life
-      begun = with_past life (with_peer life.past conn.place mid)
+      begun = with_past life (with_peer life.past conn.rank mid)
 
       abbrev stepped : ConnPast
-      stepped = record { place = m.place; unread = unread; transcript = m.transcript }
+      stepped = record { rank = m.rank; unread = unread; transcript = m.transcript }
 
       acted : (h : List Happening) (said : List Said) (later_conn : ConnPast) (later : PeerPast)
           → FollowsAt id life.now h m mid said later_conn later
           → PairStands id later_conn later new_c now → HasActed id h stepped begun life said new new_cs
       acted h said later_conn later is pair =
-          let so = follows_life life conn.place id peer mid put.here within_peer
+          let so = follows_life life conn.rank id peer mid put.here within_peer
           (safe_of old life.past running.stands) keeps m at unread left
           said h later_conn later is in
           record {
@@ -194,7 +194,7 @@ module _ {D : Type 0} {g : Ghosts D} where
           → FollowsNotAt id life.now m mid fault later_conn later
           → PairStands id later_conn later new_c now → HasNotActed id stepped begun life fault new new_cs
       acted_not fault later_conn later is pair =
-          let so = follows_life_not life conn.place id peer mid put.here within_peer
+          let so = follows_life_not life conn.rank id peer mid put.here within_peer
           (safe_of old life.past running.stands) keeps m at unread left
           fault later_conn later is in
           record {
@@ -208,10 +208,10 @@ module _ {D : Type 0} {g : Ghosts D} where
 
     -- ---- where the peer is as it was
 
-    module _ (m : ConnPast) (at : m.place ≡ conn.place) (unread : List ℕ)
+    module _ (m : ConnPast) (at : m.rank ≡ conn.rank) (unread : List ℕ)
         (left : left_behind (options_of peer.conf) unread m.transcript ≡ m.unread) where
       abbrev step_conn : ConnPast
-      step_conn = record { place = m.place; unread = unread; transcript = m.transcript }
+      step_conn = record { rank = m.rank; unread = unread; transcript = m.transcript }
 
       here_acted : (h : List Happening) (before told : List Told)
           → (is : Followed id life.now h m peer before new_c now told)
@@ -257,9 +257,9 @@ module _ {D : Type 0} {g : Ghosts D} where
           }
 
     -- where the connection is as it was
-    same_conn : (later : PeerPast) → put_life conn later ≡ with_past life (with_peer life.past conn.place later)
+    same_conn : (later : PeerPast) → put_life conn later ≡ with_past life (with_peer life.past conn.rank later)
     same_conn later =
-        ap (λ conns. record (with_past life (with_peer life.past conn.place later)) { conns = conns })
+        ap (λ conns. record (with_past life (with_peer life.past conn.rank later)) { conns = conns })
         (put_there life.conns running.tied.rising put.index id conn conn put.next
         ∙ set_same life.conns put.index (id, conn) put.next)
 
@@ -275,16 +275,16 @@ module _ {D : Type 0} {g : Ghosts D} where
     safe_here = safe_of old life.past running.stands
 
     claims_life : (debt : Owing) (later : PeerPast) → ClaimsAt id life.now debt peer later
-        → Leads life.past conn.place id peer later (Claims conn.place id life.now ∷ [])
+        → Leads life.past conn.rank id peer later (Claims conn.rank id life.now ∷ [])
     claims_life debt later claims =
-        leads_claim life.past conn.place id peer put.here within_peer safe_here life.now [] peer later debt
-        (leads_nowhere life.past conn.place id peer put.here within_peer safe_here) claims
+        leads_claim life.past conn.rank id peer put.here within_peer safe_here life.now [] peer later debt
+        (leads_nowhere life.past conn.rank id peer put.here within_peer safe_here) claims
 
     gives_life : (debt : Owing) (later : PeerPast) → GivesBackAt id life.now debt peer later
-        → Leads life.past conn.place id peer later (Claims conn.place id life.now ∷ Returns conn.place id debt.0 ∷ [])
+        → Leads life.past conn.rank id peer later (Claims conn.rank id life.now ∷ Returns conn.rank id debt.0 ∷ [])
     gives_life debt later gives =
-        leads_return life.past conn.place id peer put.here within_peer safe_here debt.0
-        (Claims conn.place id life.now ∷ []) gives.mid later
+        leads_return life.past conn.rank id peer put.here within_peer safe_here debt.0
+        (Claims conn.rank id life.now ∷ []) gives.mid later
         (claims_life debt gives.mid gives.claims) gives.returns
 
     candidate_of : (debt : Owing) (later : PeerPast) → GivesBackAt id life.now debt peer later
@@ -293,26 +293,26 @@ module _ {D : Type 0} {g : Ghosts D} where
 
     pub hands_life : (handed : Handover) (transcript : List Happening) (mid : PeerPast)
         → HandsOverAt id life.now conn peer handed transcript mid
-        → HandsOver id life.now conn peer life.past handed transcript (with_peer life.past conn.place mid)
+        → HandsOver id life.now conn peer life.past handed transcript (with_peer life.past conn.rank mid)
         × PeerKeeps id peer mid
         × (reason (options_of peer.conf) transcript ≡ reason (options_of peer.conf) conn.transcript)
     hands_life _ _ _ (None_at tape works none reads) =
         (None_there tape works none reads, keeps_with_tape id peer tape reads, refl)
     hands_life _ _ _ (Taken_at debt later ready claims) =
         let lead = claims_life debt later claims in (
-          Taken_over debt (with_peer life.past conn.place later) claims.candidate ready lead.does,
+          Taken_over debt (with_peer life.past conn.rank later) claims.candidate ready lead.does,
           lead.keeps,
           reason_after (options_of peer.conf) conn.transcript (Offered debt) refl,
         )
     hands_life _ _ _ (No_room_at debt later ready gives) =
         let lead = gives_life debt later gives in (
-          Has_no_room debt (with_peer life.past conn.place later) (candidate_of debt later gives) ready lead.does,
+          Has_no_room debt (with_peer life.past conn.rank later) (candidate_of debt later gives) ready lead.does,
           lead.keeps,
           refl,
         )
     hands_life _ _ _ (Shut_at debt later ready gives) =
         let lead = gives_life debt later gives in (
-          Is_shut debt (with_peer life.past conn.place later) (candidate_of debt later gives) ready lead.does,
+          Is_shut debt (with_peer life.past conn.rank later) (candidate_of debt later gives) ready lead.does,
           lead.keeps,
           refl,
         )
@@ -340,7 +340,7 @@ module _ {D : Type 0} {g : Ghosts D} where
             is = is_conn;
             handed = is.handed;
             transcript = is.transcript;
-            past = with_peer life.past conn.place is.mid;
+            past = with_peer life.past conn.rank is.mid;
             hands = hands.0;
             behind = is.said;
             follows = so.follows;
@@ -356,7 +356,7 @@ module _ {D : Type 0} {g : Ghosts D} where
     -- of the connection nothing has changed, and of the peer so much
     stays_on : (later_conn : ConnPast) (later : PeerPast) → later_conn ≡ conn
         → PairStands id later_conn later new_c now → PeerKeeps id peer later
-        → AreRunning (with_past life (with_peer life.past conn.place later)) new new_cs
+        → AreRunning (with_past life (with_peer life.past conn.rank later)) new new_cs
     stays_on later_conn later same pair keeps =
         subst (λ (l : Life). AreRunning l new new_cs) (same_conn later)
         (back conn later (subst (λ (k : ConnPast). PairStands id k later new_c now) same pair) keeps refl)
@@ -380,27 +380,27 @@ module _ {D : Type 0} {g : Ghosts D} where
         → RefusedOn (RefusesAct id (FailsToHand id)) life fault new new_cs
     offer_not fault later_conn later same pair (inl claim) =
         let keeps = subst (PeerKeeps id peer) (sym claim.2) (keeps_with_tape id peer claim.0 claim.1.1) in
-        refused_hand fault (with_past life (with_peer life.past conn.place later))
+        refused_hand fault (with_past life (with_peer life.past conn.rank later))
         (inr (inl (
-          with_peer life.past conn.place later,
-          fails_one life.past (with_peer life.past conn.place later) (Claims conn.place id life.now) fault
+          with_peer life.past conn.rank later,
+          fails_one life.past (with_peer life.past conn.rank later) (Claims conn.rank id life.now) fault
               (record {
                 peer = peer;
                 tape = claim.0;
                 here = put.here;
                 refused = claim.1;
-                changed = ap (λ (p : PeerPast). with_peer life.past conn.place p) claim.2;
+                changed = ap (λ (p : PeerPast). with_peer life.past conn.rank p) claim.2;
               })
-              (safe_with life.past conn.place id peer later put.here within_peer keeps safe_here),
+              (safe_with life.past conn.rank id peer later put.here within_peer keeps safe_here),
           refl,
         ))) (stays_on later_conn later same pair keeps) refl refl refl
     offer_not fault later_conn later same pair (inr offer) =
         let lead = gives_life offer.2.0 later offer.2.1 in
-        refused_hand fault (with_past life (with_peer life.past conn.place later))
+        refused_hand fault (with_past life (with_peer life.past conn.rank later))
         (inr (inr (inl (
           offer.0,
           offer.1,
-          (offer.2.0, with_peer life.past conn.place later, candidate_of offer.2.0 later offer.2.1, lead.does, refl),
+          (offer.2.0, with_peer life.past conn.rank later, candidate_of offer.2.0 later offer.2.1, lead.does, refl),
         )))) (stays_on later_conn later same pair lead.keeps) refl refl refl
 
     pub handed_not : (fault : Fault) → HandedOnNot id life.now conn peer fault new_c now
@@ -422,7 +422,7 @@ module _ {D : Type 0} {g : Ghosts D} where
             (left_handed behind.1 behind.2 hands.1.conf hands.2)
             fault is.later_conn is.later behind.4 is.stand in
             refused_hand fault so.later
-            (inr (inr (inr (behind.0, behind.1, with_peer life.past conn.place behind.2, hands.0, so.follows))))
+            (inr (inr (inr (behind.0, behind.1, with_peer life.past conn.rank behind.2, hands.0, so.follows))))
             so.stand so.armed so.connected so.now
 
     -- ---- it breaks
@@ -479,7 +479,7 @@ module _ {D : Type 0} {g : Ghosts D} where
         → Received octets id life.now conn peer before new_c now told
         → MadeOn (TakesBytes id octets) life.connected life before told new new_cs
     received octets before told is =
-        made_here (record { place = conn.place; unread = is.left; transcript = is.transcript }) refl is.left
+        made_here (record { rank = conn.rank; unread = is.left; transcript = is.transcript }) refl is.left
         (left_receives (options_of peer.conf) _ is.left conn.transcript is.transcript is.receives)
         (TakesBytes id octets) conn.transcript before told
         (λ said later follows. record {
@@ -496,7 +496,7 @@ module _ {D : Type 0} {g : Ghosts D} where
         → RefusedOn (RefusesAct id (FailsToRead id octets)) life fault new new_cs
     received_not octets fault (inl memory) =
         let closed : ConnPast = record {
-          place = conn.place;
+          rank = conn.rank;
           unread = [];
           transcript =
               after (options_of peer.conf) memory.1.0 Broke;
@@ -511,7 +511,7 @@ module _ {D : Type 0} {g : Ghosts D} where
           now = refl;
         }
     received_not octets fault (inr behind) =
-        not_here (record { place = conn.place; unread = behind.1; transcript = behind.0 }) refl behind.1
+        not_here (record { rank = conn.rank; unread = behind.1; transcript = behind.0 }) refl behind.1
         (left_receives (options_of peer.conf) _ behind.1 conn.transcript behind.0 behind.2)
         (RefusesAct id (FailsToRead id octets)) fault
         (λ later follows. inr (conn, peer, is_conn, inr (behind.0, behind.1, behind.2, follows))) behind.3

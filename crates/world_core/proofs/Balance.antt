@@ -6,14 +6,14 @@ use Rattle.std.specs.Prelude.{◌==◌, if◌then◌else◌, is_some, option_map
 use Rattle.std.specs.Set.{remove_key}
 use Rattle.std.proofs.lemmas.Bool.{eq-eqb}
 use Rattle.ledger_core.specs.State.{Owing}
-use Rattle.conn_core.proofs.Facts.{ended_places-append, ends-offered, ends_below}
-use Rattle.conn_core.proofs.HeldBack.{ended_places-backs, find-is_at, held_from-append, held_from-gone, places}
+use Rattle.conn_core.specs.StoryLaws.{ended_tickets-append, ends-offered, ends_below}
+use Rattle.conn_core.specs.HeldLaws.{ended_tickets-backs, find-is_at, held_from-append, held_from-gone, tickets}
 use Rattle.conn_core.specs.Codes.{meaning}
 use Rattle.conn_core.specs.Commands.{Ask, Command, Gone, Handing, Held, Quit, Sendable, Unsendable, Want, held_for}
 use Rattle.conn_core.specs.Commands.{is_at}
 use Rattle.conn_core.specs.History.{End, Event, Offered, Put, Came, Faulted, Handed, Sent, Tick, Broke, Leave, Taken}
 use Rattle.conn_core.specs.History.{accepted, after, answered, answered_now, asks, backs, closes, closes_in}
-use Rattle.conn_core.specs.History.{ended_places, ends, ends_at_close, ends_by_answer, ends_by_loss, ends_by_meaning}
+use Rattle.conn_core.specs.History.{ended_tickets, ends, ends_at_close, ends_by_answer, ends_by_loss, ends_by_meaning}
 use Rattle.conn_core.specs.History.{first_want, held, held_from, is_quit_due, outcomes, outside, phase, puts, reason}
 use Rattle.conn_core.specs.History.{story, taken, with_puts}
 use Rattle.conn_core.specs.Used.{times}
@@ -56,13 +56,13 @@ one_out false c n y x left is m rest = let r = rest is in omega (arith, r)
 pub find_out : (k : ℕ) (hs : List Held) (x : Held) → find (is_at k) hs ≡ Some x → (m : ℕ)
     → times (x.debt.0 ∷ []) m + times (held_numbers (remove_key (is_at k) hs)) m ≡ times (held_numbers hs) m
 find_out k [] x is m = let never : None ≡ Some x = is in cc
-find_out k (y ∷ hs) x is m = one_out (y.place == k) true k y x hs is m (λ e. find_out k hs x e m)
+find_out k (y ∷ hs) x is m = one_out (y.ticket == k) true k y x hs is m (λ e. find_out k hs x e m)
 
 numbers_backs : (hs : List Held) → end_numbers (backs hs) ≡ held_numbers hs
 numbers_backs [] = refl
 numbers_backs (x ∷ hs) = ap (λ l. x.debt.0 ∷ l) (numbers_backs hs)
 
--- without the debts at these places
+-- without the debts at these tickets
 abbrev without : List ℕ → List Held → List Held
 without [] hs = hs
 without (k ∷ ks) hs = without ks (remove_key (is_at k) hs)
@@ -73,11 +73,11 @@ removed (k ∷ ks) gone debts =
     ap (held_from 0 debts) (sym (append_assoc gone (k ∷ []) ks))
     ∙ (removed ks (gone ++ k ∷ []) debts ∙ ap (without ks) (held_from-gone k gone 0 debts))
 
-without_all : (hs : List Held) → without (places hs) hs ≡ []
+without_all : (hs : List Held) → without (tickets hs) hs ≡ []
 without_all [] = refl
 without_all (x ∷ hs) =
-    ap (λ (b : Bool). without (places hs) (cond b hs (x ∷ remove_key (is_at x.place) hs)))
-    (eq-eqb x.place x.place refl) ∙ without_all hs
+    ap (λ (b : Bool). without (tickets hs) (cond b hs (x ∷ remove_key (is_at x.ticket) hs)))
+    (eq-eqb x.ticket x.ticket refl) ∙ without_all hs
 
 -- these come out of the debts held, of which those are left
 module _ (debts : List Owing) (gone : List ℕ) where
@@ -86,7 +86,7 @@ module _ (debts : List Owing) (gone : List ℕ) where
 
   abbrev Balances : List End → Type 0
   Balances more = (m : ℕ) → times (end_numbers more) m
-      + times (held_numbers (held_from 0 debts (gone ++ ended_places more))) m
+      + times (held_numbers (held_from 0 debts (gone ++ ended_tickets more))) m
       ≡ times (held_numbers still) m
 
   none_out : Balances []
@@ -95,9 +95,9 @@ module _ (debts : List Owing) (gone : List ℕ) where
       omega (arith, same)
 
   single_out : (k : ℕ) (x : Held) (outcome : Outcome) → find (is_at k) still ≡ Some x → number_in outcome ≡ x.debt.0
-      → Balances (record { place = x.place; outcome = outcome } ∷ [])
+      → Balances (record { ticket = x.ticket; outcome = outcome } ∷ [])
   single_out k x outcome is own = λ m.
-      let at : x.place ≡ k = (find-is_at k still x is).0 in
+      let at : x.ticket ≡ k = (find-is_at k still x is).0 in
       rw (own, at, held_from-gone k gone 0 debts) (find_out k still x is m)
 
   meaning_out : (k : ℕ) (m : Option Meaning) (o : Option Held) → find (is_at k) still ≡ o
@@ -112,7 +112,7 @@ module _ (debts : List Owing) (gone : List ℕ) where
 
   answer_out : (code : ℕ) (o : Option (ℕ × Ask)) → Balances (ends_by_answer still code o)
   answer_out code None = none_out
-  answer_out code (Some command) = meaning_out command.1.place (meaning command.1.verb code) _ refl
+  answer_out code (Some command) = meaning_out command.1.ticket (meaning command.1.verb code) _ refl
 
   loss_out : (handing : Handing) (k : ℕ) (o : Option Held) → find (is_at k) still ≡ o
       → Balances (ends_by_loss handing o)
@@ -123,14 +123,14 @@ module _ (debts : List Owing) (gone : List ℕ) where
 
   want_out : (handing : Handing) (want : Option Want) → Balances (ends_by_loss handing (held_for still want))
   want_out handing None = none_out
-  want_out handing (Some want) = loss_out handing want.place _ refl
+  want_out handing (Some want) = loss_out handing want.ticket _ refl
 
   close_out : (why : Option Reason) → Balances (ends_at_close why still)
   close_out None = none_out
   close_out (Some why) = λ m.
-      let left : held_from 0 debts (gone ++ ended_places (backs still)) ≡ [] =
-      ap (λ ks. held_from 0 debts (gone ++ ks)) (ended_places-backs still)
-      ∙ (removed (places still) gone debts ∙ without_all still) in
+      let left : held_from 0 debts (gone ++ ended_tickets (backs still)) ≡ [] =
+      ap (λ ks. held_from 0 debts (gone ++ ks)) (ended_tickets-backs still)
+      ∙ (removed (tickets still) gone debts ∙ without_all still) in
       rw (left, numbers_backs still) (omega arith)
 
   both_out : (code : ℕ) (o : Option (ℕ × Ask)) → Balances (ends_by_answer still code o ++ [])
@@ -169,16 +169,16 @@ module _ (options : Options) where
 
   goes_by : (h later : List Event) (more : List End) → ends options later ≡ ends options h ++ more
       → accepted later ≡ accepted h
-      → taken later ≡ taken h → Balances (accepted h) (ended_places (ends options h)) more → GoesOn h later
+      → taken later ≡ taken h → Balances (accepted h) (ended_tickets (ends options h)) more → GoesOn h later
   goes_by h later more ends_are same taken_is balances = record {
     more = more;
     ends_are = ends_are;
     taken_is = taken_is;
     balance = λ m.
-        let left : held options later ≡ held_from 0 (accepted h) (ended_places (ends options h) ++ ended_places more) =
-        ap (λ xs. held_from 0 (accepted later) (ended_places xs)) ends_are
-        ∙ (ap (λ ds. held_from 0 ds (ended_places (ends options h ++ more))) same
-        ∙ ap (held_from 0 (accepted h)) (ended_places-append (ends options h) more)) in
+        let left : held options later ≡ held_from 0 (accepted h) (ended_tickets (ends options h) ++ ended_tickets more) =
+        ap (λ xs. held_from 0 (accepted later) (ended_tickets xs)) ends_are
+        ∙ (ap (λ ds. held_from 0 ds (ended_tickets (ends options h ++ more))) same
+        ∙ ap (held_from 0 (accepted h)) (ended_tickets-append (ends options h) more)) in
         ap (λ hs. times (end_numbers more) m + times (held_numbers hs) m) left ∙ balances m;
   }
 
@@ -224,13 +224,13 @@ module _ (options : Options) where
       → taken (e ∷ h) ≡ taken h → GoesOn h (e ∷ h)
   goes_quiet h e ends_are same taken_is =
       goes_by h (e ∷ h) [] (ends_are ∙ sym (append-nil (ends options h))) same taken_is
-      (none_out (accepted h) (ended_places (ends options h)))
+      (none_out (accepted h) (ended_tickets (ends options h)))
 
   goes_close : (h : List Event) (e : Event) (why : Option Reason)
       → ends options (e ∷ h) ≡ ends options h ++ ends_at_close why (held options h)
       → accepted (e ∷ h) ≡ accepted h → taken (e ∷ h) ≡ taken h → GoesOn h (e ∷ h)
   goes_close h e why ends_are same taken_is =
-      goes_by h (e ∷ h) _ ends_are same taken_is (close_out (accepted h) (ended_places (ends options h)) why)
+      goes_by h (e ∷ h) _ ends_are same taken_is (close_out (accepted h) (ended_tickets (ends options h)) why)
 
   goes_cons : (h : List Event) (e : Event) → Keeps e → GoesOn h (e ∷ h)
   unfolding story
@@ -238,11 +238,11 @@ module _ (options : Options) where
   goes_cons h (Put command) keeps = goes_quiet h (Put command) refl refl refl
   goes_cons h (Came reply) keeps =
       goes_by h (Came reply ∷ h) _ (append_assoc (ends options h) _ _) refl refl
-      (came_out (accepted h) (ended_places (ends options h)) (phase options h) reply (answered options h) (asks h))
+      (came_out (accepted h) (ended_tickets (ends options h)) (phase options h) reply (answered options h) (asks h))
   goes_cons h (Faulted fault) keeps = goes_close h (Faulted fault) (closes options h (Faulted fault)) refl refl refl
   goes_cons h (Handed number handing) keeps =
       goes_by h (Handed number handing ∷ h) _ refl refl refl
-      (want_out (accepted h) (ended_places (ends options h)) handing
+      (want_out (accepted h) (ended_tickets (ends options h)) handing
       (option_map (λ (want : ℕ × Want). want.1) (first_want (story options h) number)))
   goes_cons h (Sent count) keeps = goes_quiet h (Sent count) refl refl refl
   goes_cons h (Tick now) keeps = goes_close h (Tick now) (closes options h (Tick now)) refl refl refl
@@ -276,10 +276,10 @@ module _ (options : Options) where
   outcomes_offered h debt = ap (map (λ (x : End). x.outcome)) (ends_offered h debt)
 
   held_offered : (h : List Event) (debt : Owing)
-      → held options (Offered debt ∷ h) ≡ held options h ++ record { place = length (accepted h); debt = debt } ∷ []
+      → held options (Offered debt ∷ h) ≡ held options h ++ record { ticket = length (accepted h); debt = debt } ∷ []
   held_offered h debt =
-      ap (λ es. held_from 0 (accepted h ++ debt ∷ []) (ended_places es)) (ends_offered h debt)
-      ∙ held_from-append (ended_places (ends options h)) 0 (accepted h) debt (length (accepted h)) (omega arith)
+      ap (λ es. held_from 0 (accepted h ++ debt ∷ []) (ended_tickets es)) (ends_offered h debt)
+      ∙ held_from-append (ended_tickets (ends options h)) 0 (accepted h) debt (length (accepted h)) (omega arith)
       (ends_below options h)
 
   held_numbers_both : (xs ys : List Held) → held_numbers (xs ++ ys) ≡ held_numbers xs ++ held_numbers ys
@@ -355,7 +355,7 @@ module _ (options : Options) where
       times (map number_in (drop (taken h) os) ++ held_numbers (held options (Offered debt ∷ h))) m) outs in
       let back = ap (λ (hs : List Held). times (map number_in (untold options h) ++ held_numbers hs) m)
       (held_offered h debt) in
-      let last : List Held = record { place = length (accepted h); debt = debt } ∷ [] in
+      let last : List Held = record { ticket = length (accepted h); debt = debt } ∷ [] in
       let apart = times_both (map number_in (untold options h)) (held_numbers (held options h ++ last)) m in
       let both = ap (λ (l : List ℕ). times l m) (held_numbers_both (held options h) last) in
       let two = times_both (held_numbers (held options h)) (debt.0 ∷ []) m in

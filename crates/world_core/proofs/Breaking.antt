@@ -3,7 +3,7 @@ use Rattle.std.proofs.Common.{◌≡◌, ℕ, Bool, true, false, Option, None, S
 use Rattle.std.specs.Prelude.{if◌then◌else◌, is_none, is_some, not}
 use Rattle.disk_model.specs.declared.Disk.{Ghosts}
 use Rattle.conn_core.specs.History.{Broke, Event, Tick, outside, reason}
-use Rattle.conn_core.specs.Stands.{Breaks, Stands as ConnStands, Ticks, left_behind}
+use Rattle.conn_core.specs.Stands.{StandsFor as ConnStands, left_behind, Goes_on}
 use Rattle.conn_core.specs.declared.options.Options.{Options}
 use Rattle.conn_core.specs.declared.outcome.Outcome.{Outcome}
 use Rattle.conn_core.specs.declared.reason.Reason.{Reason}
@@ -37,12 +37,12 @@ module _ {D : Type 0} {g : Ghosts D} where
       → PairStands id conn past old peer
       → ((o : Options) (unread : List ℕ) (h : List Event) → ConnStands o old.conn unread h
       → ConnStands o new.conn [] (outside o h Broke))
-      → new.waiting ≡ old.waiting → new.place ≡ old.place → new.conn.id ≡ old.conn.id
+      → new.waiting ≡ old.waiting → new.rank ≡ old.rank → new.conn.id ≡ old.conn.id
       → PairStands id (broken_off past conn) past new peer
-  pair_broken id conn past old new peer pair breaks waits place same_id =
+  pair_broken id conn past old new peer pair breaks waits rank same_id =
       let o = options_of past.conf in
       let goes = goes_outside o conn.transcript Broke tt in
-      let arises = Breaks conn.transcript pair.arises in
+      let arises = Goes_on conn.transcript Broke pair.arises tt in
       pair_on id conn (broken_off past conn) past old new peer pair refl goes arises
       (holds_on past.conf conn (broken_off past conn) old new old.waiting pair.holds goes arises
       (λ stands. breaks o conn.unread conn.transcript stands)
@@ -51,19 +51,19 @@ module _ {D : Type 0} {g : Ghosts D} where
         breaks o conn.unread one stands,
         more_outside o Broke one conn.transcript more,
       )))
-      waits place same_id
+      waits rank same_id
 
   -- this moment was told to it
   pub pair_ticked : (id now : ℕ) (conn : ConnPast) (past : PeerPast) (old new : Connection) (peer : Peer D g)
       → PairStands id conn past old peer
       → ((o : Options) (unread : List ℕ) (h : List Event) → ConnStands o old.conn unread h
       → ConnStands o new.conn (left_behind o unread (outside o h (Tick now))) (outside o h (Tick now)))
-      → new.waiting ≡ old.waiting → new.place ≡ old.place → new.conn.id ≡ old.conn.id
+      → new.waiting ≡ old.waiting → new.rank ≡ old.rank → new.conn.id ≡ old.conn.id
       → PairStands id (ticked_at now past conn) past new peer
-  pair_ticked id now conn past old new peer pair ticks waits place same_id =
+  pair_ticked id now conn past old new peer pair ticks waits rank same_id =
       let o = options_of past.conf in
       let goes = goes_outside o conn.transcript (Tick now) tt in
-      let arises = Ticks conn.transcript now pair.arises in
+      let arises = Goes_on conn.transcript (Tick now) pair.arises tt in
       pair_on id conn (ticked_at now past conn) past old new peer pair refl goes arises
       (holds_on past.conf conn (ticked_at now past conn) old new old.waiting pair.holds goes arises
       (λ stands. ticks o conn.unread conn.transcript stands)
@@ -75,4 +75,4 @@ module _ {D : Type 0} {g : Ghosts D} where
             (ticks o conn.unread one stands),
         later,
       )))
-      waits place same_id
+      waits rank same_id

@@ -5,7 +5,7 @@ use Rattle.std.proofs.lemmas.Bool.{cases_lt}
 use Rattle.std.specs.List.{slice_get}
 use Rattle.disk_model.specs.declared.Disk.{Ghosts}
 use Rattle.world_core.specs.Past.{Past}
-use Rattle.world_core.specs.Events.{AllDo, Does, Event, Fails, Refuses, each_place}
+use Rattle.world_core.specs.Events.{AllDo, Does, Event, Fails, Refuses, each_rank}
 use Rattle.world_core.specs.Events.AllDo.{Start, Next}
 use Rattle.world_core.specs.Safe.{IsSafe}
 use Rattle.world_core.specs.Stands.{DidOne, FailedOne, Stands}
@@ -177,26 +177,26 @@ module _ {D : Type 0} {g : Ghosts D} where
     stands = failed.stands;
   }
 
--- ---- an event at each place
+-- ---- an event at each rank
 
-pub each_more : (event : ℕ → Event) (n : ℕ) → each_place event (n + 1) ≡ each_place event n ++ event n ∷ []
+pub each_more : (event : ℕ → Event) (n : ℕ) → each_rank event (n + 1) ≡ each_rank event n ++ event n ∷ []
 each_more event n = rw add-one refl
 
 -- those of the places up to this one, that of it, and the others
 pub each_split : (event : ℕ → Event) (n k : ℕ) → k < n
-    → (behind : List Event) × (each_place event n ≡ (each_place event k ++ event k ∷ []) ++ behind)
+    → (behind : List Event) × (each_rank event n ≡ (each_rank event k ++ event k ∷ []) ++ behind)
 each_split event zero k within = absurd (omega (arith, within))
 each_split event (suc n) k within = elim (cases_lt k n) [
   | inl less ↦
       let is = each_split event n k less in (
         is.0 ++ event n ∷ [],
         ap (λ (l : List Event). l ++ event n ∷ []) is.1
-            ∙ append_assoc (each_place event k ++ event k ∷ []) is.0 (event n ∷ []),
+            ∙ append_assoc (each_rank event k ++ event k ∷ []) is.0 (event n ∷ []),
       )
   | inr more ↦
       let same : k ≡ n = omega (arith, within, more) in (
         [],
-        ap (λ (m : ℕ). each_place event m ++ event m ∷ []) (sym same)
-            ∙ sym (append-nil (each_place event k ++ event k ∷ [])),
+        ap (λ (m : ℕ). each_rank event m ++ event m ∷ []) (sym same)
+            ∙ sym (append-nil (each_rank event k ++ event k ∷ [])),
       )
 ]

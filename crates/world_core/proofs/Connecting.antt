@@ -11,10 +11,10 @@ use Rattle.std.proofs.lemmas.Map.Keys.{IsStrictlyIncreasing-from_sorted, sorted_
 use Rattle.disk_model.specs.declared.Disk.{Ghosts}
 use Rattle.feed_conf.specs.declared.conf.PeerConf.{PeerConf}
 use Rattle.conn_core.specs.History.{story}
-use Rattle.conn_core.specs.Stands.{Stands as ConnStands, Starts}
+use Rattle.conn_core.specs.Stands.{StandsFor as ConnStands, Starts}
 use Rattle.conn_core.specs.declared.options.Options.{Options}
 use Rattle.peer_queue.specs.Place.{IsHeldBy}
-use Rattle.world_core.specs.Past.{ConnPast, Life, PeerPast, conn_at, options_of, place_of}
+use Rattle.world_core.specs.Past.{ConnPast, Life, PeerPast, conn_at, options_of, rank_of}
 use Rattle.world_core.specs.Exchange.{RefusesConnect, TakesConnect}
 use Rattle.world_core.specs.Joined.{AreRunning, MadeOn, RefusedOn}
 use Rattle.world_core.specs.Pairs.{Tells}
@@ -109,27 +109,27 @@ none_has numbers n is has = omega (arith, has.1, ap length is)
 
 module _ {D : Type 0} {g : Ghosts D} (name : List ℕ) (life : Life) (old : Stations D g) (cs : List Connection)
     (running : AreRunning life old cs) where
-  module _ (place : ℕ) (here : place_of life.past name ≡ Some place) (fits : life.connected + 1 < 2 ^ 64)
+  module _ (rank : ℕ) (here : rank_of life.past name ≡ Some rank) (fits : life.connected + 1 < 2 ^ 64)
       (c : Connection) (peer : Peer D g)
-      (at : peer ≡ get_or old.peers.items place peer) (within : place < length old.peers.items)
+      (at : peer ≡ get_or old.peers.items rank peer) (within : rank < length old.peers.items)
       (stands : ConnStands (options_of peer.conf) c.conn [] []) (own : c.conn.id.0 ≡ life.connected + 1)
-      (its : c.place ≡ place)
+      (its : c.rank ≡ rank)
       (waits : c.waiting ≡ None) where
     abbrev fresh : ConnPast
-    fresh = record { place = place; unread = []; transcript = [] }
+    fresh = record { rank = rank; unread = []; transcript = [] }
 
     abbrev later_life : Life
     later_life = record life { conns = life.conns ++ (life.connected + 1, fresh) ∷ []; connected = life.connected + 1 }
 
-    found : (p : PeerPast) × (slice_get life.past.peers place ≡ Some p) × PeerStands p peer
+    found : (p : PeerPast) × (slice_get life.past.peers rank ≡ Some p) × PeerStands p peer
     found =
-        let one = zip_at PeerStands life.past.peers old.peers.items place peer running.stands.peers within in
+        let one = zip_at PeerStands life.past.peers old.peers.items rank peer running.stands.peers within in
         (one.0, one.1, subst (λ (q : Peer D g). PeerStands one.0 q) (sym at) one.2)
 
-    tie : (at_place id number : ℕ) (q : PeerPast) → slice_get life.past.peers at_place ≡ Some q
-        → IsHeldBy q.places id number ↔ HasNumber later_life at_place q id number
-    tie at_place id number q there =
-        let was = running.tied.held at_place id number q there in (
+    tie : (at_rank id number : ℕ) (q : PeerPast) → slice_get life.past.peers at_rank ≡ Some q
+        → IsHeldBy q.places id number ↔ HasNumber later_life at_rank q id number
+    tie at_rank id number q there =
+        let was = running.tied.held at_rank id number q there in (
           λ is.
               let has = was.0 is in
               record {
@@ -152,7 +152,7 @@ module _ {D : Type 0} {g : Ghosts D} (name : List ℕ) (life : Life) (old : Stat
     connected_made number before told new_cs is pushed tells = record {
       later = later_life;
       said = Connected (life.connected + 1) name ∷ [];
-      makes = record { place = place; here = here; fits = fits; told_is = refl; changed = refl };
+      makes = record { rank = rank; here = here; fits = fits; told_is = refl; changed = refl };
       told_is = tells;
       stand = record {
         running = running.running;
@@ -162,7 +162,7 @@ module _ {D : Type 0} {g : Ghosts D} (name : List ℕ) (life : Life) (old : Stat
             (zip_push (ConnectionStands life.past.peers) life.conns cs (life.connected + 1, fresh) c running.conns
             (record {
               id = own;
-              place = its;
+              rank = its;
               peer = found.0;
               here = found.1;
               holds = subst (HoldsTranscript found.0.conf fresh c) (sym waits)
@@ -208,15 +208,15 @@ module _ {D : Type 0} {g : Ghosts D} (name : List ℕ) (life : Life) (old : Stat
     now = refl;
   }
 
-  pub connect_absent : place_of life.past name ≡ None → RefusedOn (RefusesConnect name) life NoPeer old cs
+  pub connect_absent : rank_of life.past name ≡ None → RefusedOn (RefusesConnect name) life NoPeer old cs
   connect_absent none = refused_so NoPeer cs refl (inl (refl, none), refl)
 
-  pub connect_full : (place : ℕ) → place_of life.past name ≡ Some place → life.connected + 1 ≡ 2 ^ 64
+  pub connect_full : (rank : ℕ) → rank_of life.past name ≡ Some rank → life.connected + 1 ≡ 2 ^ 64
       → RefusedOn (RefusesConnect name) life CountFull old cs
-  connect_full place here full = refused_so CountFull cs refl (inr ((place, here), inl (refl, full)), refl)
+  connect_full rank here full = refused_so CountFull cs refl (inr ((rank, here), inl (refl, full)), refl)
 
-  pub connect_memory : (place : ℕ) (fault : Fault) (new_cs : List Connection) → place_of life.past name ≡ Some place
+  pub connect_memory : (rank : ℕ) (fault : Fault) (new_cs : List Connection) → rank_of life.past name ≡ Some rank
       → life.connected + 1 < 2 ^ 64
       → fault ≡ NoMemory → new_cs ≡ cs → RefusedOn (RefusesConnect name) life fault old new_cs
-  connect_memory place fault new_cs here fits memory same =
-      refused_so fault new_cs same (inr ((place, here), inr (memory, fits)), refl)
+  connect_memory rank fault new_cs here fits memory same =
+      refused_so fault new_cs same (inr ((rank, here), inr (memory, fits)), refl)

@@ -5,11 +5,11 @@ use Rattle.std.specs.Prelude.{◌==◌, Contains, if◌then◌else◌, is_some}
 use Rattle.std.proofs.Math.ListN.{set}
 use Rattle.std.specs.List.{AllByRecursion, AllZip, slice_get}
 use Rattle.conn_core.specs.History.{needed, Came, End, Event as Happening, Faulted, Taken, after, ends, need, outcomes}
-use Rattle.conn_core.specs.History.{output, outside, reason, story, taken}
+use Rattle.conn_core.specs.History.{Broke, Handed, Offered, Sent, Tick as Ticked, output, outside, reason, story, taken}
 use Rattle.conn_core.specs.Receipt.Receives.{Is_closed, Waits, Reads, Fails as FailsToRead}
 use Rattle.conn_core.specs.Receipt.{Receives}
-use Rattle.conn_core.specs.Stands.{Arises, Breaks, Is_handed, Offers, Receives_fault, Receives_reply, Sends, Starts}
-use Rattle.conn_core.specs.Stands.{Takes_one, Ticks, left_behind}
+use Rattle.conn_core.specs.Stands.{Arises, Starts, Goes_on}
+use Rattle.conn_core.specs.Stands.{left_behind}
 use Rattle.conn_core.specs.declared.options.Options.{Options}
 use Rattle.conn_core.specs.declared.outcome.Outcome.{Outcome}
 use Rattle.conn_core.specs.declared.outcome.Outcome.TheVariants.{Back, Deferred, Final as FinalOutcome, Lost}
@@ -30,7 +30,7 @@ use Rattle.world_core.specs.Past.{ConnPast, Life, Past, PeerPast, TapePast, conn
 use Rattle.world_core.specs.Past.{with_peer, with_places, with_tape}
 use Rattle.world_core.specs.Events.{Acknowledges, AllDo, Claims, Does, Event, Opens, OpensIntake, Owes, Parts, Returns}
 use Rattle.world_core.specs.Events.{Rotates, Sees, Settles, Sheds}
-use Rattle.world_core.specs.Events.{Refuses as RefusesEvent, claimed_peer, each_place, opened_peer, owed_as, owing_as}
+use Rattle.world_core.specs.Events.{Refuses as RefusesEvent, claimed_peer, each_rank, opened_peer, owed_as, owing_as}
 use Rattle.world_core.specs.Events.{parted, settled, settled_as, shed_peer}
 use Rattle.world_core.specs.Events.AllDo.{Start as NoEvent, Next as OneEvent}
 use Rattle.world_core.specs.Exchange.{with_transcript, Follows, HandsOver, TicksEach, settle_events, sent_out, told_out}
@@ -79,7 +79,7 @@ all_dropped P (suc n) (x ∷ xs) all = all_dropped P n xs all.1
 
 module _ (options : Options) (h : List Happening) (arises : Arises options h) where
   right_each : (xs : List End) → ((x : End) → Contains xs x → Contains (ends options h) x)
-      → AllByRecursion (λ (x : End). IsRightAt options h x.place x.outcome) xs
+      → AllByRecursion (λ (x : End). IsRightAt options h x.ticket x.outcome) xs
       → AllByRecursion (IsRight options) (map (λ (x : End). x.outcome) xs)
   right_each [] among all = tt
   right_each (x ∷ xs) among all = (
@@ -223,51 +223,51 @@ all_then (a ∷ was) [] now one other = absurd one
 all_then (a ∷ was) (b ∷ mid) [] one other = absurd other
 all_then (a ∷ was) (b ∷ mid) (c ∷ now) one other = (right_then a b c one.0 other.0, all_then was mid now one.1 other.1)
 
-all_put : (peers : List PeerPast) (place : ℕ) (was now : PeerPast) → slice_get peers place ≡ Some was → HasRight was now
-    → AllZip HasRight peers (set peers place now)
-all_put [] place was now here same = absurd cc
+all_put : (peers : List PeerPast) (rank : ℕ) (was now : PeerPast) → slice_get peers rank ≡ Some was → HasRight was now
+    → AllZip HasRight peers (set peers rank now)
+all_put [] rank was now here same = absurd cc
 all_put (peer ∷ peers) zero was now here same =
     let is : peer ≡ was = cc in
     (subst (λ (p : PeerPast). HasRight p now) (sym is) same, all_same peers)
-all_put (peer ∷ peers) (suc place) was now here same = (right_same peer, all_put peers place was now here same)
+all_put (peer ∷ peers) (suc rank) was now here same = (right_same peer, all_put peers rank was now here same)
 
-one_put : (past later : Past) (place : ℕ) (was now : PeerPast) → slice_get past.peers place ≡ Some was
+one_put : (past later : Past) (rank : ℕ) (was now : PeerPast) → slice_get past.peers rank ≡ Some was
     → HasRight was now
-    → later ≡ with_peer past place now → AllRightSince past later
-one_put past later place was now here same is =
-    subst (AllRightSince past) (sym is) (all_put past.peers place was now here same)
+    → later ≡ with_peer past rank now → AllRightSince past later
+one_put past later rank was now here same is =
+    subst (AllRightSince past) (sym is) (all_put past.peers rank was now here same)
 
 none_put : (past later : Past) → later.peers ≡ past.peers → AllRightSince past later
 none_put past later same =
     subst (λ (ps : List PeerPast). AllZip HasRight past.peers ps) (sym same) (all_same past.peers)
 
--- the peer at a place had the same settings before
-peer_before : (was now : List PeerPast) (place : ℕ) (peer : PeerPast) → AllZip HasRight was now
-    → slice_get now place ≡ Some peer
-    → (before : PeerPast) × (slice_get was place ≡ Some before) × (peer.conf ≡ before.conf)
-peer_before [] [] place peer all here = absurd cc
-peer_before [] (b ∷ now) place peer all here = absurd all
-peer_before (a ∷ was) [] place peer all here = absurd all
+-- the peer at a rank had the same settings before
+peer_before : (was now : List PeerPast) (rank : ℕ) (peer : PeerPast) → AllZip HasRight was now
+    → slice_get now rank ≡ Some peer
+    → (before : PeerPast) × (slice_get was rank ≡ Some before) × (peer.conf ≡ before.conf)
+peer_before [] [] rank peer all here = absurd cc
+peer_before [] (b ∷ now) rank peer all here = absurd all
+peer_before (a ∷ was) [] rank peer all here = absurd all
 peer_before (a ∷ was) (b ∷ now) zero peer all here =
     let same : b ≡ peer = cc in
     (a, refl, ap (λ (p : PeerPast). p.conf) (sym same) ∙ all.0.0)
-peer_before (a ∷ was) (b ∷ now) (suc place) peer all here = peer_before was now place peer all.1 here
+peer_before (a ∷ was) (b ∷ now) (suc rank) peer all here = peer_before was now rank peer all.1 here
 
 -- ---- events
 
 -- where an outcome goes to a peer it is right
 abbrev pub EventRight : Past → Event → Type 0
-EventRight past (Owes place token id) = Unit {0}
-EventRight past (Parts place) = Unit {0}
-EventRight past (Rotates place generation) = Unit {0}
-EventRight past (Sheds place numbers) = Unit {0}
-EventRight past (Claims place id now) = Unit {0}
-EventRight past (Returns place id number) = Unit {0}
-EventRight past (Settles place id now outcome) = (peer : PeerPast) → slice_get past.peers place ≡ Some peer
+EventRight past (Owes rank token id) = Unit {0}
+EventRight past (Parts rank) = Unit {0}
+EventRight past (Rotates rank generation) = Unit {0}
+EventRight past (Sheds rank numbers) = Unit {0}
+EventRight past (Claims rank id now) = Unit {0}
+EventRight past (Returns rank id number) = Unit {0}
+EventRight past (Settles rank id now outcome) = (peer : PeerPast) → slice_get past.peers rank ≡ Some peer
     → IsRight (options_of peer.conf) outcome
 EventRight past (Sees number) = Unit {0}
 EventRight past Acknowledges = Unit {0}
-EventRight past (Opens place) = Unit {0}
+EventRight past (Opens rank) = Unit {0}
 EventRight past OpensIntake = Unit {0}
 
 notes_of : (one other : TapePast) → one ≡ other → one.history.notes ≡ other.history.notes
@@ -275,32 +275,32 @@ notes_of one other same = ap (λ (t : TapePast). t.history.notes) same
 
 right_does : (event : Event) (past later : Past) → EventRight past event → Does event past later
     → AllRightSince past later
-right_does (Owes place token id) past later right d =
-    one_put past later place d.peer _ d.here
+right_does (Owes rank token id) past later right d =
+    one_put past later rank d.peer _ d.here
     (owing_right (owed_as (past.last + 1) d.peer) (past.last + 1) token id d.peer) d.changed
-right_does (Parts place) past later right d =
-    one_put past later place d.peer (parted d.peer d.tape) d.here
+right_does (Parts rank) past later right d =
+    one_put past later rank d.peer (parted d.peer d.tape) d.here
     (right_notes d.peer (parted d.peer d.tape) refl (notes_of d.tape _ d.flushes.all)) d.changed
-right_does (Rotates place generation) past later right d =
-    one_put past later place d.peer (record d.peer { tape = d.tape }) d.here
+right_does (Rotates rank generation) past later right d =
+    one_put past later rank d.peer (record d.peer { tape = d.tape }) d.here
     (right_notes d.peer (record d.peer { tape = d.tape }) refl (notes_of d.tape _ d.rotates.all)) d.changed
-right_does (Sheds place numbers) past later right d =
-    one_put past later place d.peer (shed_peer numbers d.peer) d.here
+right_does (Sheds rank numbers) past later right d =
+    one_put past later rank d.peer (shed_peer numbers d.peer) d.here
     (right_more d.peer (shed_peer numbers d.peer) (dropped numbers) refl refl
     (λ n code has. absurd (no_drops numbers n code has))) d.changed
-right_does (Claims place id now) past later right d =
-    one_put past later place d.peer (claimed_peer id d.debt.0 d.tape d.peer) d.here
+right_does (Claims rank id now) past later right d =
+    one_put past later rank d.peer (claimed_peer id d.debt.0 d.tape d.peer) d.here
     (right_notes d.peer (claimed_peer id d.debt.0 d.tape d.peer) refl (notes_of d.tape _ d.reads.all)) d.changed
-right_does (Returns place id number) past later right d =
-    one_put past later place d.peer (with_places d.peer (moved d.peer.places number ReadyPlace)) d.here
+right_does (Returns rank id number) past later right d =
+    one_put past later rank d.peer (with_places d.peer (moved d.peer.places number ReadyPlace)) d.here
     (right_notes d.peer (with_places d.peer (moved d.peer.places number ReadyPlace)) refl refl) d.changed
-right_does (Settles place id now outcome) past later right d =
-    one_put past later place d.peer (settled now outcome d.peer) d.here
+right_does (Settles rank id now outcome) past later right d =
+    one_put past later rank d.peer (settled now outcome d.peer) d.here
     (settled_right now outcome d.peer (right d.peer d.here)) d.changed
 right_does (Sees number) past later right d = none_put past later (ap (λ (p : Past). p.peers) d.changed)
 right_does Acknowledges past later right d = none_put past later (ap (λ (p : Past). p.peers) d.changed)
-right_does (Opens place) past later right d =
-    one_put past later place d.peer (opened_peer d.peer d.tape) d.here (
+right_does (Opens rank) past later right d =
+    one_put past later rank d.peer (opened_peer d.peer d.tape) d.here (
       refl,
       λ number code has. inl (contains_taken d.opens.count d.peer.tape.history.notes (Final number code)
           (subst (λ (notes : List Note). Contains notes (Final number code)) (notes_of d.tape _ d.opens.all) has)),
@@ -310,18 +310,18 @@ right_does OpensIntake past later right d = none_put past later (ap (λ (p : Pas
 -- what is right at first is so still, since settings stay
 right_still : (past later : Past) (event : Event) → AllRightSince past later → EventRight past event
     → EventRight later event
-right_still past later (Owes place token id) all right = tt
-right_still past later (Parts place) all right = tt
-right_still past later (Rotates place generation) all right = tt
-right_still past later (Sheds place numbers) all right = tt
-right_still past later (Claims place id now) all right = tt
-right_still past later (Returns place id number) all right = tt
-right_still past later (Settles place id now outcome) all right = λ peer here.
-    let at = peer_before past.peers later.peers place peer all here in
+right_still past later (Owes rank token id) all right = tt
+right_still past later (Parts rank) all right = tt
+right_still past later (Rotates rank generation) all right = tt
+right_still past later (Sheds rank numbers) all right = tt
+right_still past later (Claims rank id now) all right = tt
+right_still past later (Returns rank id number) all right = tt
+right_still past later (Settles rank id now outcome) all right = λ peer here.
+    let at = peer_before past.peers later.peers rank peer all here in
     subst (λ conf. IsRight (options_of conf) outcome) (sym at.2) (right at.0 at.1)
 right_still past later (Sees number) all right = tt
 right_still past later Acknowledges all right = tt
-right_still past later (Opens place) all right = tt
+right_still past later (Opens rank) all right = tt
 right_still past later OpensIntake all right = tt
 
 front_all : {A : Type 0} (P : A → Type 0) (xs ys : List A) → AllByRecursion P (xs ++ ys) → AllByRecursion P xs
@@ -342,16 +342,16 @@ right_events begun later _ (OneEvent events event past _ does one safe) right =
     (right_still begun past event before (last_all (EventRight begun) events event right)) one)
 
 -- outcomes that are right go to the peer
-right_settles : (past : Past) (place id now : ℕ) (peer : PeerPast) (os : List Outcome)
-    → slice_get past.peers place ≡ Some peer
+right_settles : (past : Past) (rank id now : ℕ) (peer : PeerPast) (os : List Outcome)
+    → slice_get past.peers rank ≡ Some peer
     → AllByRecursion (IsRight (options_of peer.conf)) os
-    → AllByRecursion (EventRight past) (settle_events place id now os)
-right_settles past place id now peer [] here all = tt
-right_settles past place id now peer (o ∷ os) here all = (
+    → AllByRecursion (EventRight past) (settle_events rank id now os)
+right_settles past rank id now peer [] here all = tt
+right_settles past rank id now peer (o ∷ os) here all = (
   λ other there.
       let same : peer ≡ other = cc in
       subst (λ (p : PeerPast). IsRight (options_of p.conf) o) same all.0,
-  right_settles past place id now peer os here all.1,
+  right_settles past rank id now peer os here all.1,
 )
 
 -- ---- transcripts
@@ -373,12 +373,11 @@ module _ (options : Options) where
       takes os (Taken ∷ h)
       (so.1 ∙ ap (λ (n : ℕ). drop n (outcomes options h)) more
       ∙ ap (λ (l : List Outcome). drop (taken h + 1) l) (sym (outcomes_taken options h)))
-      (Takes_one h arises so.0)
+      (Goes_on h Taken arises so.0)
 
   sends : (h : List Happening) → Arises options h → Arises options (sent_out options h)
   sends h arises =
-      Sends (told_out options h) (length (output options (told_out options h)))
-      (takes (untold options h) h refl arises) (omega arith)
+      Goes_on (told_out options h) (Sent (length (output options (told_out options h)))) (takes (untold options h) h refl arises) (omega arith)
 
   alive_outside : (h : List Happening) (e : Happening) → reason options h ≡ None
       → outside options h e ≡ after options h e
@@ -390,15 +389,15 @@ module _ (options : Options) where
   receives _ _ h _ arises (Waits waiting _ alive short) = arises
   receives _ left h later arises (Reads waiting rest _ _ _ reply alive begins more) =
       receives rest left (after options h (Came reply)) later
-      (subst (Arises options) (alive_outside h (Came reply) alive) (Receives_reply h reply arises)) more
+      (subst (Arises options) (alive_outside h (Came reply) alive) (Goes_on h (Came reply) arises tt)) more
   receives _ _ h _ arises (FailsToRead waiting _ fault alive begins) =
-      subst (Arises options) (alive_outside h (Faulted fault) alive) (Receives_fault h fault arises)
+      subst (Arises options) (alive_outside h (Faulted fault) alive) (Goes_on h (Faulted fault) arises tt)
 
 -- ---- connections
 
 -- the transcript of a connection can have come about
 abbrev ArisesAt : List PeerPast → ConnPast → Type 0
-ArisesAt peers conn = (peer : PeerPast) → slice_get peers conn.place ≡ Some peer
+ArisesAt peers conn = (peer : PeerPast) → slice_get peers conn.rank ≡ Some peer
     → Arises (options_of peer.conf) conn.transcript
 
 abbrev pub AllArise : List PeerPast → List (ℕ × ConnPast) → Type 0
@@ -406,7 +405,7 @@ AllArise peers conns = AllByRecursion (λ (entry : ℕ × ConnPast). ArisesAt pe
 
 still : (was now : List PeerPast) → AllZip HasRight was now → (conn : ConnPast) → ArisesAt was conn → ArisesAt now conn
 still was now all conn arises = λ peer here.
-    let at = peer_before was now conn.place peer all here in
+    let at = peer_before was now conn.rank peer all here in
     subst (λ conf. Arises (options_of conf) conn.transcript) (sym at.2) (arises at.0 at.1)
 
 all_still : (was now : List PeerPast) → AllZip HasRight was now → (conns : List (ℕ × ConnPast)) → AllArise was conns
@@ -469,10 +468,10 @@ rights_then life mid later one other = record {
   arise = other.arise;
 }
 
-same_peer : (peers : List PeerPast) (place : ℕ) (one other : PeerPast) (h : List Happening)
-    → slice_get peers place ≡ Some one → slice_get peers place ≡ Some other
+same_peer : (peers : List PeerPast) (rank : ℕ) (one other : PeerPast) (h : List Happening)
+    → slice_get peers rank ≡ Some one → slice_get peers rank ≡ Some other
     → Arises (options_of one.conf) h → Arises (options_of other.conf) h
-same_peer peers place one other h here there arises =
+same_peer peers rank one other h here there arises =
     let same : one ≡ other = cc in
     subst (λ (p : PeerPast). Arises (options_of p.conf) h) same arises
 
@@ -484,15 +483,15 @@ module _ (law : VerdictsAreRight) where
   follows_right id was conn life later told f arises all =
       let options = options_of f.peer.conf in
       let right = right_events life.past f.past _ f.settles
-      (right_settles life.past conn.place id life.now f.peer (untold options conn.transcript) f.here
+      (right_settles life.past conn.rank id life.now f.peer (untold options conn.transcript) f.here
       (untold_right options conn.transcript (arises f.peer f.here) law)) in
       let next : ConnPast = record {
-        place = conn.place;
+        rank = conn.rank;
         unread = left_behind options conn.unread (told_out options conn.transcript);
         transcript = sent_out options conn.transcript;
       } in
       let before : ArisesAt life.past.peers next = λ peer here.
-      same_peer life.past.peers conn.place f.peer peer (sent_out options conn.transcript) f.here here
+      same_peer life.past.peers conn.rank f.peer peer (sent_out options conn.transcript) f.here here
       (sends options conn.transcript (arises f.peer f.here)) in
       subst (Rights life) (sym f.changed) (record {
         right = right;
@@ -502,16 +501,16 @@ module _ (law : VerdictsAreRight) where
 
   hands_right : (id now : ℕ) (conn : ConnPast) (peer : PeerPast) (past : Past) (handed : Handover) (h : List Happening)
       (later : Past)
-      → HandsOver id now conn peer past handed h later → slice_get past.peers conn.place ≡ Some peer
+      → HandsOver id now conn peer past handed h later → slice_get past.peers conn.rank ≡ Some peer
       → ArisesAt past.peers conn
       → AllRightSince past later × Arises (options_of peer.conf) h
   hands_right id now conn peer past _ _ _ (None_there tape works none reads) here arises = (
-    one_put past _ conn.place peer (with_tape peer tape) here
+    one_put past _ conn.rank peer (with_tape peer tape) here
         (right_notes peer (with_tape peer tape) refl (notes_of tape _ reads.all)) refl,
     arises peer here,
   )
   hands_right id now conn peer past _ _ _ (Taken_over debt later is ready does) here arises =
-      (right_events past later _ does (tt, tt), Offers conn.transcript debt (arises peer here) ready)
+      (right_events past later _ does (tt, tt), Goes_on conn.transcript (Offered debt) (arises peer here) ready)
   hands_right id now conn peer past _ _ _ (Has_no_room debt later is ready does) here arises =
       (right_events past later _ does (tt, (tt, tt)), arises peer here)
   hands_right id now conn peer past _ _ _ (Is_shut debt later is ready does) here arises =
@@ -525,35 +524,35 @@ module _ (law : VerdictsAreRight) where
       let arises = get_conn mid.past.peers mid.conns count id conn before.arise here in
       rights_then begun mid later before
       (follows_right id conn.transcript _ mid later more follows
-      (λ other there. same_peer mid.past.peers conn.place peer other _ at there
-      (Ticks conn.transcript mid.now (arises peer at))) before.arise)
+      (λ other there. same_peer mid.past.peers conn.rank peer other _ at there
+      (Goes_on conn.transcript (Ticked mid.now) (arises peer at) tt)) before.arise)
 
   -- ---- events that take no outcome
 
   abbrev Plain : Event → Type 0
-  Plain (Owes place token id) = Unit {0}
-  Plain (Parts place) = Unit {0}
-  Plain (Rotates place generation) = Unit {0}
-  Plain (Sheds place numbers) = Unit {0}
-  Plain (Claims place id now) = Unit {0}
-  Plain (Returns place id number) = Unit {0}
-  Plain (Settles place id now outcome) = ⊥
+  Plain (Owes rank token id) = Unit {0}
+  Plain (Parts rank) = Unit {0}
+  Plain (Rotates rank generation) = Unit {0}
+  Plain (Sheds rank numbers) = Unit {0}
+  Plain (Claims rank id now) = Unit {0}
+  Plain (Returns rank id number) = Unit {0}
+  Plain (Settles rank id now outcome) = ⊥
   Plain (Sees number) = Unit {0}
   Plain Acknowledges = Unit {0}
-  Plain (Opens place) = Unit {0}
+  Plain (Opens rank) = Unit {0}
   Plain OpensIntake = Unit {0}
 
   plain_right : (past : Past) (event : Event) → Plain event → EventRight past event
-  plain_right past (Owes place token id) plain = tt
-  plain_right past (Parts place) plain = tt
-  plain_right past (Rotates place generation) plain = tt
-  plain_right past (Sheds place numbers) plain = tt
-  plain_right past (Claims place id now) plain = tt
-  plain_right past (Returns place id number) plain = tt
-  plain_right past (Settles place id now outcome) plain = absurd plain
+  plain_right past (Owes rank token id) plain = tt
+  plain_right past (Parts rank) plain = tt
+  plain_right past (Rotates rank generation) plain = tt
+  plain_right past (Sheds rank numbers) plain = tt
+  plain_right past (Claims rank id now) plain = tt
+  plain_right past (Returns rank id number) plain = tt
+  plain_right past (Settles rank id now outcome) plain = absurd plain
   plain_right past (Sees number) plain = tt
   plain_right past Acknowledges plain = tt
-  plain_right past (Opens place) plain = tt
+  plain_right past (Opens rank) plain = tt
   plain_right past OpensIntake plain = tt
 
   plain_events : (begun later : Past) (events : List Event) → AllDo begun events later → AllByRecursion Plain events
@@ -566,35 +565,35 @@ module _ (law : VerdictsAreRight) where
   owes_step true x xs one all = (one, all)
   owes_step false x xs one all = all
 
-  owes_plain : (place : ℕ) (token id : List ℕ) (named : List (List ℕ)) (peers : List PeerPast)
-      → AllByRecursion Plain (owes_from place token id named peers)
-  owes_plain place token id named [] = tt
-  owes_plain place token id named (peer ∷ peers) =
-      owes_step (is_named named peer) (Owes place token id) (owes_from (place + 1) token id named peers) tt
-      (owes_plain (place + 1) token id named peers)
+  owes_plain : (rank : ℕ) (token id : List ℕ) (named : List (List ℕ)) (peers : List PeerPast)
+      → AllByRecursion Plain (owes_from rank token id named peers)
+  owes_plain rank token id named [] = tt
+  owes_plain rank token id named (peer ∷ peers) =
+      owes_step (is_named named peer) (Owes rank token id) (owes_from (rank + 1) token id named peers) tt
+      (owes_plain (rank + 1) token id named peers)
 
-  parts_plain : (n : ℕ) → AllByRecursion Plain (each_place Parts n)
+  parts_plain : (n : ℕ) → AllByRecursion Plain (each_rank Parts n)
   parts_plain zero = tt
-  parts_plain (suc n) = both_all Plain (each_place Parts n) (Parts n ∷ []) (parts_plain n) (tt, tt)
+  parts_plain (suc n) = both_all Plain (each_rank Parts n) (Parts n ∷ []) (parts_plain n) (tt, tt)
 
-  opens_plain : (n : ℕ) → AllByRecursion Plain (each_place Opens n)
+  opens_plain : (n : ℕ) → AllByRecursion Plain (each_rank Opens n)
   opens_plain zero = tt
-  opens_plain (suc n) = both_all Plain (each_place Opens n) (Opens n ∷ []) (opens_plain n) (tt, tt)
+  opens_plain (suc n) = both_all Plain (each_rank Opens n) (Opens n ∷ []) (opens_plain n) (tt, tt)
 
   flush_plain : (past : Past) → AllByRecursion Plain (flush_events past)
-  flush_plain past = both_all Plain (each_place Parts (length past.peers)) (seal_events past.last)
+  flush_plain past = both_all Plain (each_rank Parts (length past.peers)) (seal_events past.last)
       (parts_plain (length past.peers)) (tt, (tt, tt))
 
   restart_plain : (past : Past) → AllByRecursion Plain (restart_events past)
-  restart_plain past = both_all Plain (each_place Opens (length past.peers)) (OpensIntake ∷ [])
+  restart_plain past = both_all Plain (each_rank Opens (length past.peers)) (OpensIntake ∷ [])
       (opens_plain (length past.peers)) (tt, tt)
 
   -- ---- a refused event, a stop, a number that is kept
 
-  at_same : (was now : Past) (place : ℕ) (peer : PeerPast) (tape : TapePast) → slice_get was.peers place ≡ Some peer
-      → now ≡ with_peer was place (with_tape peer tape) → tape.history ≡ peer.tape.history → AllRightSince was now
-  at_same was now place peer tape here changed same =
-      one_put was now place peer (with_tape peer tape) here
+  at_same : (was now : Past) (rank : ℕ) (peer : PeerPast) (tape : TapePast) → slice_get was.peers rank ≡ Some peer
+      → now ≡ with_peer was rank (with_tape peer tape) → tape.history ≡ peer.tape.history → AllRightSince was now
+  at_same was now rank peer tape here changed same =
+      one_put was now rank peer (with_tape peer tape) here
       (right_notes peer (with_tape peer tape) refl (ap (λ (h : History). h.notes) same)) changed
 
   history_same : (one other : TapePast) → one ≡ other → one.history ≡ other.history
@@ -602,26 +601,26 @@ module _ (law : VerdictsAreRight) where
 
   right_refused : (event : Event) (was now : Past) (fault : Fault) → RefusesEvent event was fault now
       → AllRightSince was now
-  right_refused (Owes place token id) was now fault r =
-      at_same was now place r.peer r.tape r.here r.changed (history_same _ _ r.refused.2)
-  right_refused (Parts place) was now fault r =
-      at_same was now place r.peer r.tape r.here r.changed
+  right_refused (Owes rank token id) was now fault r =
+      at_same was now rank r.peer r.tape r.here r.changed (history_same _ _ r.refused.2)
+  right_refused (Parts rank) was now fault r =
+      at_same was now rank r.peer r.tape r.here r.changed
       (same_history (KeepsNotes r.peer) r.peer.tape fault r.tape r.refused)
-  right_refused (Rotates place generation) was now fault r =
-      at_same was now place r.peer r.tape r.here r.changed
+  right_refused (Rotates rank generation) was now fault r =
+      at_same was now rank r.peer r.tape r.here r.changed
       (same_rotated (KeepsNotes r.peer) r.peer.tape fault r.tape r.refused)
-  right_refused (Sheds place numbers) was now fault r =
-      at_same was now place r.peer r.tape r.here r.changed (history_same _ _ r.refused.1)
-  right_refused (Claims place id moment) was now fault r =
-      at_same was now place r.peer r.tape r.here r.changed (history_same r.tape _ r.refused.1.all)
-  right_refused (Returns place id number) was now fault r =
-      at_same was now place r.peer r.tape r.here r.changed (history_same _ _ r.refused.1)
-  right_refused (Settles place id moment outcome) was now fault r =
-      at_same was now place r.peer r.tape r.here r.changed (history_same _ _ r.refused.1)
+  right_refused (Sheds rank numbers) was now fault r =
+      at_same was now rank r.peer r.tape r.here r.changed (history_same _ _ r.refused.1)
+  right_refused (Claims rank id moment) was now fault r =
+      at_same was now rank r.peer r.tape r.here r.changed (history_same r.tape _ r.refused.1.all)
+  right_refused (Returns rank id number) was now fault r =
+      at_same was now rank r.peer r.tape r.here r.changed (history_same _ _ r.refused.1)
+  right_refused (Settles rank id moment outcome) was now fault r =
+      at_same was now rank r.peer r.tape r.here r.changed (history_same _ _ r.refused.1)
   right_refused (Sees number) was now fault r = none_put was now (ap (λ (p : Past). p.peers) r.changed)
   right_refused Acknowledges was now fault r = none_put was now (ap (λ (p : Past). p.peers) r.changed)
-  right_refused (Opens place) was now fault r =
-      at_same was now place r.peer r.tape r.here r.changed (ap (λ (t : TapePast). t.history) r.refused.all)
+  right_refused (Opens rank) was now fault r =
+      at_same was now rank r.peer r.tape r.here r.changed (ap (λ (t : TapePast). t.history) r.refused.all)
   right_refused OpensIntake was now fault r = none_put was now (ap (λ (p : Past). p.peers) r.changed)
 
   left_right : (manner : Manner) (peers : List PeerPast) → AllZip HasRight peers (map (left_peer manner) peers)
@@ -654,7 +653,7 @@ module _ (law : VerdictsAreRight) where
       → TakesStop peer call choice life told later → AllArise life.past.peers life.conns → Rights life later
   stop_right peer zero choice life told later (runs, said, changed) all =
       subst (Rights life) (sym changed) (record { right = left_right AtRest life.past.peers; arise = tt })
-  stop_right peer (suc calls) choice life told later (place, is, said, changed) all =
+  stop_right peer (suc calls) choice life told later (rank, is, said, changed) all =
       subst (Rights life) (sym changed) (record { right = all_same life.past.peers; arise = all })
 
   some_there : {A : Type 0} (o : Option A) → (o ≡ None → ⊥) → is_some o ≡ true
@@ -678,7 +677,7 @@ module _ (law : VerdictsAreRight) where
       (plain_events (begun_at life.past) past _ does (flush_plain life.past))) changed all
   step_right Begin life told later (runs, (past, (said, is), changed)) all =
       tapes_right life later past (subst (AllRightSince life.past) (sym is) (begun_right life.past.peers)) changed all
-  step_right (Part name) life told later (runs, (past, (place, here, does, said), changed)) all =
+  step_right (Part name) life told later (runs, (past, (rank, here, does, said), changed)) all =
       tapes_right life later past (plain_events life.past past _ does (tt, tt)) changed all
   step_right Seal life told later (runs, (past, (number, sealable, does, said), changed)) all =
       tapes_right life later past (plain_events life.past past _ does (tt, (tt, tt))) changed all
@@ -695,33 +694,32 @@ module _ (law : VerdictsAreRight) where
       let conns = all_still life.past.peers t.past.peers hands.0 life.conns all in
       let next = with_transcript t.conn t.transcript in
       let before : ArisesAt life.past.peers next = λ peer here.
-      same_peer life.past.peers t.conn.place t.peer peer t.transcript t.is.peer_is here hands.1 in
+      same_peer life.past.peers t.conn.rank t.peer peer t.transcript t.is.peer_is here hands.1 in
       rights_then life mid later (record { right = hands.0; arise = conns })
       (follows_right id t.conn.transcript next mid later t.behind t.follows
       (still life.past.peers t.past.peers hands.0 next before) conns)
   step_right (Bytes id octets) life told later (runs, t) all =
       let arises = conn_there life.past.peers life.conns id t.conn all t.is.conn_is in
       follows_right id t.conn.transcript _ life later told t.follows
-      (λ peer here. same_peer life.past.peers t.conn.place t.peer peer t.transcript t.is.peer_is here
+      (λ peer here. same_peer life.past.peers t.conn.rank t.peer peer t.transcript t.is.peer_is here
       (receives (options_of t.peer.conf) _ t.left t.conn.transcript t.transcript (arises t.peer t.is.peer_is)
       t.receives)) all
   step_right (Article id found) life told later (runs, t) all =
       let arises = conn_there life.past.peers life.conns id t.conn all t.is.conn_is in
       follows_right id t.conn.transcript _ life later told t.follows
-      (λ peer here. same_peer life.past.peers t.conn.place t.peer peer _ t.is.peer_is here
-      (Is_handed t.conn.transcript t.number t.handing (arises t.peer t.is.peer_is)
-      (wanted_there (options_of t.peer.conf) t.conn.transcript t.number t.wanted))) all
+      (λ peer here. same_peer life.past.peers t.conn.rank t.peer peer _ t.is.peer_is here
+      (Goes_on t.conn.transcript (Handed t.number t.handing) (arises t.peer t.is.peer_is) (wanted_there (options_of t.peer.conf) t.conn.transcript t.number t.wanted))) all
   step_right (Break id) life told later (runs, t) all =
       let arises = conn_there life.past.peers life.conns id t.conn all t.is.conn_is in
       follows_right id t.conn.transcript _ life later told t.follows
-      (λ peer here. same_peer life.past.peers t.conn.place t.peer peer _ t.is.peer_is here
-      (Breaks t.conn.transcript (arises t.peer t.is.peer_is))) all
+      (λ peer here. same_peer life.past.peers t.conn.rank t.peer peer _ t.is.peer_is here
+      (Goes_on t.conn.transcript Broke (arises t.peer t.is.peer_is) tt)) all
   step_right (Tick now) life told later (runs, t) all =
       let ticks = ticks_right _ _ told later t all in
       record { right = ticks.right; arise = ticks.arise }
-  step_right (Shed name) life told later (runs, (past, (place, numbers, here, does, said), changed)) all =
+  step_right (Shed name) life told later (runs, (past, (rank, numbers, here, does, said), changed)) all =
       tapes_right life later past (plain_events life.past past _ does (tt, tt)) changed all
-  step_right (Rotate name) life told later (runs, (past, (place, generation, here, does, said), changed)) all =
+  step_right (Rotate name) life told later (runs, (past, (rank, generation, here, does, said), changed)) all =
       tapes_right life later past (plain_events life.past past _ does (tt, tt)) changed all
   step_right (Stop peer call choice) life told later takes all = stop_right peer call choice life told later takes all
   step_right Restart life told later t all =
@@ -745,7 +743,7 @@ module _ (law : VerdictsAreRight) where
     plain_at events _ its (flush_plain life.past),
   )
   calls_right Begin life begun events calls = absurd calls
-  calls_right (Part name) life begun events (runs, is, (place, here, its)) =
+  calls_right (Part name) life begun events (runs, is, (rank, here, its)) =
       (same_begun life begun is, plain_at events _ its (tt, tt))
   calls_right Seal life begun events (runs, is, (number, may, its)) =
       (same_begun life begun is, plain_at events _ its (tt, (tt, tt)))
@@ -756,7 +754,7 @@ module _ (law : VerdictsAreRight) where
   calls_right (Break id) life begun events calls = absurd calls
   calls_right (Tick now) life begun events calls = absurd calls
   calls_right (Shed name) life begun events calls = absurd calls
-  calls_right (Rotate name) life begun events (runs, is, (place, here, its)) =
+  calls_right (Rotate name) life begun events (runs, is, (rank, here, its)) =
       (same_begun life begun is, plain_at events _ its (tt, tt))
   calls_right (Stop peer call choice) life begun events calls = absurd calls
   calls_right Restart life begun events (runs, is, its) =
@@ -798,7 +796,7 @@ module _ (law : VerdictsAreRight) where
       → AllArise peers conns
   arise_sound peers [] all = tt
   arise_sound peers (entry ∷ conns) all = (
-    λ peer here. same_peer peers entry.1.place all.0.peer peer entry.1.transcript all.0.here here all.0.arises,
+    λ peer here. same_peer peers entry.1.rank all.0.peer peer entry.1.transcript all.0.here here all.0.arises,
     arise_sound peers conns all.1,
   )
 

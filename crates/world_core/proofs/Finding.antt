@@ -197,22 +197,22 @@ module _ {D : Type 0} {g : Ghosts D} where
     beside = zip_get (ConnectionStands life.past.peers) life.conns cs index c running.conns there
 
     -- one has it, and a peer
-    pub found_conn : FoundConn life id (Some (index, c.place))
+    pub found_conn : FoundConn life id (Some (index, c.rank))
     found_conn =
         let own : beside.0.0 ≡ id = sym beside.2.id ∙ is c there in (
           beside.0.1,
           beside.2.peer,
           beside.1 ∙ ap (λ (n : ℕ). Some (n, beside.0.1)) own,
-          sym beside.2.place,
-          ap (slice_get life.past.peers) beside.2.place ∙ beside.2.here,
+          sym beside.2.rank,
+          ap (slice_get life.past.peers) beside.2.rank ∙ beside.2.here,
         )
 
-    pub place_within : c.place < length stations.peers.items
-    place_within =
-        let inside = slice_get_within life.past.peers beside.0.1.place beside.2.peer beside.2.here in
+    pub rank_within : c.rank < length stations.peers.items
+    rank_within =
+        let inside = slice_get_within life.past.peers beside.0.1.rank beside.2.peer beside.2.here in
         omega (
           arith,
           inside,
-          beside.2.place,
+          beside.2.rank,
           zip_long PeerStands life.past.peers stations.peers.items running.stands.peers,
         )

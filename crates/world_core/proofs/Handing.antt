@@ -11,7 +11,7 @@ use Rattle.ledger_core.specs.State.{Owing, State}
 use Rattle.recovery.specs.Words.{IsBroken, OneHasRisen, told_of}
 use Rattle.recovery.specs.declared.fault.TapeFault.TheVariants.{Broken as BrokenTape, Disk}
 use Rattle.conn_core.specs.History.{Event as Happening, Offered, Taken, after, outcomes, reason, taken}
-use Rattle.conn_core.specs.Stands.{Arises, Offers, Stands as ConnStands, Takes_one, ready_of}
+use Rattle.conn_core.specs.Stands.{Arises, StandsFor as ConnStands, ready_of, Goes_on}
 use Rattle.conn_core.specs.declared.options.Options.{Options}
 use Rattle.conn_core.specs.declared.outcome.Outcome.{Outcome}
 use Rattle.conn_core.specs.declared.reason.Reason.{Reason}
@@ -20,7 +20,7 @@ use Rattle.conn_core.specs.declared.ready.Ready.TheVariants.{Busy as NoRoom, Shu
 use Rattle.peer_queue.specs.Faults.{IsClaimFault}
 use Rattle.peer_queue.specs.Place.{AreRising, Held, IsHeldBy, IsUnheld, Place, Places, Ready, is_held, least_candidate}
 use Rattle.peer_queue.specs.Place.{moved, place_at}
-use Rattle.peer_queue.proofs.Claims.{candidate_unheld}
+use Rattle.peer_queue.specs.ClaimLaws.{candidate_unheld}
 use Rattle.peer_queue.specs.Words.{IsRead, IsSameTape, ledger_of, places_of}
 use Rattle.peer_queue.specs.declared.fault.StationFault.{StationFault}
 use Rattle.peer_queue.specs.declared.fault.StationFault.TheVariants.{NotHeld, Broken, Tape as TapeRefused, NoMemory}
@@ -98,7 +98,7 @@ holds_offered conf conn debt old new (Some outcome) holds arises stands =
       stands_more o new.conn conn.unread (after o (Taken ∷ h) (Offered debt)) later
           (stands o conn.unread (Taken ∷ h) holds.1)
           (more_after o (Offered debt) (Taken ∷ h) h (more_taken o h))
-          (Takes_one later arises (slice_get_within (outcomes o later) (taken later) outcome next)),
+          (Goes_on later Taken arises (slice_get_within (outcomes o later) (taken later) outcome next)),
     )
 
 module _ {D : Type 0} {g : Ghosts D} where
@@ -145,7 +145,7 @@ module _ {D : Type 0} {g : Ghosts D} where
         → PairStands id conn (with_tape past tape_read) connection new
     pair_read places = record {
       id_is = pair.id_is;
-      place = pair.place;
+      rank = pair.rank;
       arises = pair.arises;
       holds = pair.holds;
       stands = read_peer past old new pair.stands reads conf parts places;
@@ -265,11 +265,11 @@ module _ {D : Type 0} {g : Ghosts D} where
           → ready_of (options_of past.conf) conn.transcript ≡ Yes
           → ((o : Options) (unread : List ℕ) (h : List Happening) → ConnStands o connection.conn unread h
           → ConnStands o new_c.conn unread (after o h (Offered debt)))
-          → new_c.waiting ≡ connection.waiting → new_c.place ≡ connection.place → new_c.conn.id ≡ connection.conn.id
+          → new_c.waiting ≡ connection.waiting → new_c.rank ≡ connection.rank → new_c.conn.id ≡ connection.conn.id
           → HandedOver id now conn past (Number number) new_c new
-      took_over number own_number new_c ready stands waits place same_id =
+      took_over number own_number new_c ready stands waits rank same_id =
           let o = options_of past.conf in
-          let arises = Offers conn.transcript debt pair.arises ready in
+          let arises = Goes_on conn.transcript (Offered debt) pair.arises ready in
           record {
             transcript = after o conn.transcript (Offered debt);
             later = claimed;
@@ -279,7 +279,7 @@ module _ {D : Type 0} {g : Ghosts D} where
                 (Taken_at debt claimed ready claims);
             stand = record {
               id_is = ap (λ i. i.0) same_id ∙ pair.id_is;
-              place = place ∙ pair.place;
+              rank = rank ∙ pair.rank;
               arises = arises;
               holds = subst (HoldsTranscript past.conf (with_transcript conn (after o conn.transcript (Offered debt)))
                   new_c) (sym waits)
@@ -316,7 +316,7 @@ module _ {D : Type 0} {g : Ghosts D} where
         pair_back : PairStands id conn returned new_c last
         pair_back = subst (λ (c : Connection). PairStands id conn returned c last) (sym same_c) (record {
           id_is = pair.id_is;
-          place = pair.place;
+          rank = pair.rank;
           arises = pair.arises;
           holds = pair.holds;
           stands = record {

@@ -6,7 +6,7 @@ use Rattle.std.specs.List.{AllByRecursion, IsDistinct}
 use Rattle.std.proofs.lemmas.Bool.{cases_eq, eq-eqb, eqb-true, ne_eqb}
 use Rattle.std.proofs.lemmas.Map.Entries.{lookup-filter-keys}
 use Rattle.conn_core.specs.Commands.{Held}
-use Rattle.conn_core.specs.History.{Event as Happening, Story, Taken, accepted, ended_places, held, held_from, outcomes}
+use Rattle.conn_core.specs.History.{Event as Happening, Story, Taken, accepted, ended_tickets, held, held_from, outcomes}
 use Rattle.conn_core.specs.History.{story, taken}
 use Rattle.conn_core.specs.declared.options.Options.{Options}
 use Rattle.conn_core.specs.declared.outcome.Outcome.{Outcome}
@@ -115,7 +115,7 @@ module _ (options : Options) (h : List Happening) where
   outcomes_taken = ap (λ (s : Story). map (λ x. x.outcome) s.ends) story_taken
 
   pub held_taken : held options (Taken ∷ h) ≡ held options h
-  held_taken = ap (λ (s : Story). held_from 0 (accepted h) (ended_places s.ends)) story_taken
+  held_taken = ap (λ (s : Story). held_from 0 (accepted h) (ended_tickets s.ends)) story_taken
 
 drop_next : {X : Type 0} (xs : List X) (n : ℕ) (x : X) → slice_get xs n ≡ Some x → drop n xs ≡ x ∷ drop (suc n) xs
 drop_next [] zero x is = let never : None ≡ Some x = is in cc

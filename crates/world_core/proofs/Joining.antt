@@ -143,44 +143,44 @@ IsDistinctAt numbers = IsDistinct (λ one other. one == other) numbers
 
 -- ---- a peer of the same settings stands for the same connections
 
-peer_stays : (peers : List PeerPast) (place at : ℕ) (was now peer : PeerPast) → slice_get peers place ≡ Some was
+peer_stays : (peers : List PeerPast) (rank at : ℕ) (was now peer : PeerPast) → slice_get peers rank ≡ Some was
     → now.conf ≡ was.conf
-    → slice_get peers at ≡ Some peer → (there : PeerPast) × (slice_get (set peers place now) at ≡ Some there)
+    → slice_get peers at ≡ Some peer → (there : PeerPast) × (slice_get (set peers rank now) at ≡ Some there)
     × (there.conf ≡ peer.conf)
-peer_stays peers place at was now peer here same found = elim (cases_eq at place) [
+peer_stays peers rank at was now peer here same found = elim (cases_eq at rank) [
   | inl is ↦
       let one : Some was ≡ Some peer = sym here ∙ (ap (slice_get peers) (sym is) ∙ found) in (
         now,
-        ap (slice_get (set peers place now)) is ∙ get_set peers place was now here,
+        ap (slice_get (set peers rank now)) is ∙ get_set peers rank was now here,
         same ∙ ap (λ (p : PeerPast). p.conf) (once was peer one),
       )
-  | inr differ ↦ (peer, get_apart peers place at now differ ∙ found, refl)
+  | inr differ ↦ (peer, get_apart peers rank at now differ ∙ found, refl)
 ]
 
-conns_stay : (peers : List PeerPast) (place : ℕ) (was now : PeerPast) → slice_get peers place ≡ Some was
+conns_stay : (peers : List PeerPast) (rank : ℕ) (was now : PeerPast) → slice_get peers rank ≡ Some was
     → now.conf ≡ was.conf
     → (entries : List Entry) (cs : List Connection) → AllZip (ConnectionStands peers) entries cs
-    → AllZip (ConnectionStands (set peers place now)) entries cs
-conns_stay peers place was now here same [] [] all = tt
-conns_stay peers place was now here same [] (c ∷ cs) all = absurd all
-conns_stay peers place was now here same (e ∷ entries) [] all = absurd all
-conns_stay peers place was now here same (e ∷ entries) (c ∷ cs) all =
-    let found = peer_stays peers place e.1.place was now all.0.peer here same all.0.here in (
+    → AllZip (ConnectionStands (set peers rank now)) entries cs
+conns_stay peers rank was now here same [] [] all = tt
+conns_stay peers rank was now here same [] (c ∷ cs) all = absurd all
+conns_stay peers rank was now here same (e ∷ entries) [] all = absurd all
+conns_stay peers rank was now here same (e ∷ entries) (c ∷ cs) all =
+    let found = peer_stays peers rank e.1.rank was now all.0.peer here same all.0.here in (
       record {
         id = all.0.id;
-        place = all.0.place;
+        rank = all.0.rank;
         peer = found.0;
         here = found.1;
         holds = subst (λ (conf : PeerConf). HoldsTranscript conf e.1 c c.waiting) (sym found.2) all.0.holds;
       },
-      conns_stay peers place was now here same entries cs all.1,
+      conns_stay peers rank was now here same entries cs all.1,
     )
 
-sound_stays : (peers : List PeerPast) (place : ℕ) (was now : PeerPast) → slice_get peers place ≡ Some was
+sound_stays : (peers : List PeerPast) (rank : ℕ) (was now : PeerPast) → slice_get peers rank ≡ Some was
     → now.conf ≡ was.conf
-    → (entry : Entry) → IsSoundConn peers entry.1 → IsSoundConn (set peers place now) entry.1
-sound_stays peers place was now here same entry sound =
-    let found = peer_stays peers place entry.1.place was now sound.peer here same sound.here in
+    → (entry : Entry) → IsSoundConn peers entry.1 → IsSoundConn (set peers rank now) entry.1
+sound_stays peers rank was now here same entry sound =
+    let found = peer_stays peers rank entry.1.rank was now sound.peer here same sound.here in
     record {
       peer = found.0;
       here = found.1;
@@ -193,10 +193,10 @@ module _ {D : Type 0} {g : Ghosts D} where
   -- ---- the connection and its peer, taken out
 
   module _ (life : Life) (old : Stations D g) (cs : List Connection) (running : AreRunning life old cs)
-      (index place id : ℕ)
+      (index rank id : ℕ)
       (conn : ConnPast) (peer : PeerPast) (next : slice_get life.conns index ≡ Some (id, conn))
-      (at : conn.place ≡ place)
-      (here : slice_get life.past.peers place ≡ Some peer) where
+      (at : conn.rank ≡ rank)
+      (here : slice_get life.past.peers rank ≡ Some peer) where
     is_there : conn_at life.conns id ≡ Some conn
     is_there = conn_there life.conns running.tied.rising index id conn next
 
@@ -204,24 +204,24 @@ module _ {D : Type 0} {g : Ghosts D} where
     sound_conn = all_at (λ (entry : Entry). IsSoundConn life.past.peers entry.1) life.conns index (id, conn)
         running.tied.each next
 
-    its_peer : (p : PeerPast) → slice_get life.past.peers conn.place ≡ Some p → p ≡ peer
+    its_peer : (p : PeerPast) → slice_get life.past.peers conn.rank ≡ Some p → p ≡ peer
     its_peer p found = once p peer (sym found ∙ (ap (slice_get life.past.peers) at ∙ here))
 
     pub pair_there : (c : Connection) (was : Peer D g) → c ≡ get_or cs index c → index < length cs
-        → was ≡ get_or old.peers.items place was
-        → place < length old.peers.items → PairStands id conn peer c was
+        → was ≡ get_or old.peers.items rank was
+        → rank < length old.peers.items → PairStands id conn peer c was
     pair_there c was c_at in_cs was_at in_peers =
         let entry = zip_at (ConnectionStands life.past.peers) life.conns cs index c running.conns in_cs in
         let same : entry.0 ≡ (id, conn) = once entry.0 (id, conn) (sym entry.1 ∙ next) in
         let stands : ConnectionStands life.past.peers (id, conn) c =
         subst (λ (e : Entry). ConnectionStands life.past.peers e c) same
         (subst (λ (x : Connection). ConnectionStands life.past.peers entry.0 x) (sym c_at) entry.2) in
-        let found = zip_at PeerStands life.past.peers old.peers.items place was running.stands.peers in_peers in
+        let found = zip_at PeerStands life.past.peers old.peers.items rank was running.stands.peers in_peers in
         let same_peer : found.0 ≡ peer = once found.0 peer (sym found.1 ∙ here) in
         let s = sound_conn in
         record {
           id_is = stands.id;
-          place = stands.place;
+          rank = stands.rank;
           arises = subst (λ (p : PeerPast). Arises (options_of p.conf) conn.transcript) (its_peer s.peer s.here)
               s.arises;
           holds = subst (λ (p : PeerPast). HoldsTranscript p.conf conn c c.waiting) (its_peer stands.peer stands.here)
@@ -230,10 +230,10 @@ module _ {D : Type 0} {g : Ghosts D} where
               (subst (λ (q : Peer D g). PeerStands found.0 q) (sym was_at) found.2);
           tied = record {
             held = λ number. (
-              λ is. let has = (running.tied.held place id number peer here).0 is in
+              λ is. let has = (running.tied.held rank id number peer here).0 is in
                   subst (λ (k : ConnPast). Contains (numbers_at (options_of peer.conf) k.transcript) number)
                   (once has.conn conn (sym has.here ∙ is_there)) has.has,
-              λ has. (running.tied.held place id number peer here).1
+              λ has. (running.tied.held rank id number peer here).1
                   (record { conn = conn; here = is_there; its = at; has = has }),
             );
             once = subst (λ (p : PeerPast). IsDistinctAt (numbers_at (options_of p.conf) conn.transcript))
@@ -245,18 +245,18 @@ module _ {D : Type 0} {g : Ghosts D} where
 
     module _ (new : Stations D g) (new_cs : List Connection) (c : Connection) (now : Peer D g) (later_conn : ConnPast)
         (later : PeerPast)
-        (pair : PairStands id later_conn later c now) (same : WithPeer old new place now)
+        (pair : PairStands id later_conn later c now) (same : WithPeer old new rank now)
         (put_c : new_cs ≡ set cs index c)
-        (keeps : PeerKeeps id peer later) (same_place : later_conn.place ≡ conn.place)
+        (keeps : PeerKeeps id peer later) (same_rank : later_conn.rank ≡ conn.rank)
         (within : peer.tape.history.kept ≤ length peer.tape.history.notes) where
       abbrev pub later_life : Life
-      later_life = with_conn (with_past life (with_peer life.past place later)) id later_conn
+      later_life = with_conn (with_past life (with_peer life.past rank later)) id later_conn
 
       conns_are : later_life.conns ≡ set life.conns index (id, later_conn)
       conns_are = put_there life.conns running.tied.rising index id conn later_conn next
 
-      later_here : slice_get (set life.past.peers place later) place ≡ Some later
-      later_here = get_set life.past.peers place peer later here
+      later_here : slice_get (set life.past.peers rank later) rank ≡ Some later
+      later_here = get_set life.past.peers rank peer later here
 
       now_there : conn_at later_life.conns id ≡ Some later_conn
       now_there =
@@ -268,12 +268,12 @@ module _ {D : Type 0} {g : Ghosts D} where
           ∙ conn_there (set life.conns index (id, later_conn)) rises index id later_conn
           (get_set life.conns index (id, conn) (id, later_conn) next)
 
-      its_place : later_conn.place ≡ place
-      its_place = same_place ∙ at
+      its_rank : later_conn.rank ≡ rank
+      its_rank = same_rank ∙ at
 
-      held_here : (number : ℕ) → IsHeldBy later.places id number ↔ HasNumber later_life place later id number
+      held_here : (number : ℕ) → IsHeldBy later.places id number ↔ HasNumber later_life rank later id number
       held_here number = (
-        λ is. record { conn = later_conn; here = now_there; its = its_place; has = (pair.tied.held number).0 is },
+        λ is. record { conn = later_conn; here = now_there; its = its_rank; has = (pair.tied.held number).0 is },
         λ has. (pair.tied.held number).1
             (subst (λ (k : ConnPast). Contains (numbers_at (options_of later.conf) k.transcript) number)
             (once has.conn later_conn (sym has.here ∙ now_there)) has.has),
@@ -283,9 +283,9 @@ module _ {D : Type 0} {g : Ghosts D} where
       other_same other apart = put_other life.conns id other later_conn apart
 
       held_other : (other number : ℕ) → (other ≡ id → ⊥)
-          → IsHeldBy later.places other number ↔ HasNumber later_life place later other number
+          → IsHeldBy later.places other number ↔ HasNumber later_life rank later other number
       held_other other number apart =
-          let tie = running.tied.held place other number peer here in (
+          let tie = running.tied.held rank other number peer here in (
             λ is.
                 let has = tie.0 ((keeps.others other number apart).0 is) in
                 record {
@@ -304,22 +304,22 @@ module _ {D : Type 0} {g : Ghosts D} where
             })),
           )
 
-      held_apart : (at_place other number : ℕ) (q : PeerPast) → (at_place ≡ place → ⊥)
-          → slice_get life.past.peers at_place ≡ Some q
-          → IsHeldBy q.places other number ↔ HasNumber later_life at_place q other number
-      held_apart at_place other number q apart found =
-          let tie = running.tied.held at_place other number q found in
+      held_apart : (at_rank other number : ℕ) (q : PeerPast) → (at_rank ≡ rank → ⊥)
+          → slice_get life.past.peers at_rank ≡ Some q
+          → IsHeldBy q.places other number ↔ HasNumber later_life at_rank q other number
+      held_apart at_rank other number q apart found =
+          let tie = running.tied.held at_rank other number q found in
           elim (cases_eq other id) [
             | inl own ↦ (
               λ is.
                   let has = tie.0 is in
                   let same_conn : has.conn ≡ conn =
                   once has.conn conn (sym has.here ∙ (ap (conn_at life.conns) own ∙ is_there)) in
-                  absurd (apart (sym has.its ∙ (ap (λ (k : ConnPast). k.place) same_conn ∙ at))),
+                  absurd (apart (sym has.its ∙ (ap (λ (k : ConnPast). k.rank) same_conn ∙ at))),
               λ has.
                   let same_conn : has.conn ≡ later_conn =
                   once has.conn later_conn (sym has.here ∙ (ap (conn_at later_life.conns) own ∙ now_there)) in
-                  absurd (apart (sym has.its ∙ (ap (λ (k : ConnPast). k.place) same_conn ∙ its_place))),
+                  absurd (apart (sym has.its ∙ (ap (λ (k : ConnPast). k.rank) same_conn ∙ its_rank))),
             )
             | inr differ ↦ (
               λ is.
@@ -335,41 +335,41 @@ module _ {D : Type 0} {g : Ghosts D} where
             )
           ]
 
-      held_all : (at_place other number : ℕ) (q : PeerPast)
-          → slice_get (set life.past.peers place later) at_place ≡ Some q
-          → IsHeldBy q.places other number ↔ HasNumber later_life at_place q other number
-      held_all at_place other number q found = elim (cases_eq at_place place) [
+      held_all : (at_rank other number : ℕ) (q : PeerPast)
+          → slice_get (set life.past.peers rank later) at_rank ≡ Some q
+          → IsHeldBy q.places other number ↔ HasNumber later_life at_rank q other number
+      held_all at_rank other number q found = elim (cases_eq at_rank rank) [
         | inl own ↦
             let is : later ≡ q = once later q
-            (sym later_here ∙ (ap (slice_get (set life.past.peers place later)) (sym own) ∙ found)) in
-            subst (λ (p : PeerPast). IsHeldBy p.places other number ↔ HasNumber later_life at_place p other number) is
+            (sym later_here ∙ (ap (slice_get (set life.past.peers rank later)) (sym own) ∙ found)) in
+            subst (λ (p : PeerPast). IsHeldBy p.places other number ↔ HasNumber later_life at_rank p other number) is
             (subst (λ (k : ℕ). IsHeldBy later.places other number ↔ HasNumber later_life k later other number)
             (sym own) (elim (cases_eq other id) [
               | inl mine ↦ subst (λ (k : ℕ). IsHeldBy later.places k number
-                  ↔ HasNumber later_life place later k number) (sym mine) (held_here number)
+                  ↔ HasNumber later_life rank later k number) (sym mine) (held_here number)
               | inr differ ↦ held_other other number differ
             ]))
-        | inr apart ↦ held_apart at_place other number q apart
-            (sym (get_apart life.past.peers place at_place later apart) ∙ found)
+        | inr apart ↦ held_apart at_rank other number q apart
+            (sym (get_apart life.past.peers rank at_rank later apart) ∙ found)
       ]
 
       pub put_back : AreRunning later_life new new_cs
       put_back = record {
         running = running.running;
-        stands = stands_with old new life.past place later now running.stands same pair.stands
-            (sound_with life.past place id peer later here within keeps running.stands.sound);
+        stands = stands_with old new life.past rank later now running.stands same pair.stands
+            (sound_with life.past rank id peer later here within keeps running.stands.sound);
         conns = subst (λ (entries : List Entry).
-            AllZip (ConnectionStands (set life.past.peers place later)) entries new_cs) (sym conns_are)
+            AllZip (ConnectionStands (set life.past.peers rank later)) entries new_cs) (sym conns_are)
             (subst (λ (l : List Connection).
-            AllZip (ConnectionStands (set life.past.peers place later)) (set life.conns index (id, later_conn)) l)
+            AllZip (ConnectionStands (set life.past.peers rank later)) (set life.conns index (id, later_conn)) l)
             (sym put_c)
-            (zip_set (ConnectionStands (set life.past.peers place later)) life.conns cs index (id, later_conn) c
-            (conns_stay life.past.peers place peer later here keeps.conf life.conns cs running.conns)
+            (zip_set (ConnectionStands (set life.past.peers rank later)) life.conns cs index (id, later_conn) c
+            (conns_stay life.past.peers rank peer later here keeps.conf life.conns cs running.conns)
             (record {
               id = pair.id_is;
-              place = pair.place;
+              rank = pair.rank;
               peer = later;
-              here = ap (slice_get (set life.past.peers place later)) its_place ∙ later_here;
+              here = ap (slice_get (set life.past.peers rank later)) its_rank ∙ later_here;
               holds = pair.holds;
             })));
         tied = record {
@@ -382,16 +382,16 @@ module _ {D : Type 0} {g : Ghosts D} where
               (all_set (λ (entry : Entry). entry.0 ≤ life.connected) life.conns index (id, later_conn) running.tied.made
               (all_at (λ (entry : Entry). entry.0 ≤ life.connected) life.conns index (id, conn) running.tied.made
               next));
-          each = subst (AllByRecursion (λ (entry : Entry). IsSoundConn (set life.past.peers place later) entry.1))
+          each = subst (AllByRecursion (λ (entry : Entry). IsSoundConn (set life.past.peers rank later) entry.1))
               (sym conns_are)
-              (all_set (λ (entry : Entry). IsSoundConn (set life.past.peers place later) entry.1) life.conns index
+              (all_set (λ (entry : Entry). IsSoundConn (set life.past.peers rank later) entry.1) life.conns index
               (id, later_conn)
               (all_weaker (λ (entry : Entry). IsSoundConn life.past.peers entry.1)
-              (λ (entry : Entry). IsSoundConn (set life.past.peers place later) entry.1)
-              (sound_stays life.past.peers place peer later here keeps.conf) life.conns running.tied.each)
+              (λ (entry : Entry). IsSoundConn (set life.past.peers rank later) entry.1)
+              (sound_stays life.past.peers rank peer later here keeps.conf) life.conns running.tied.each)
               (record {
                 peer = later;
-                here = ap (slice_get (set life.past.peers place later)) its_place ∙ later_here;
+                here = ap (slice_get (set life.past.peers rank later)) its_rank ∙ later_here;
                 arises = pair.arises;
                 once = pair.tied.once;
               }));

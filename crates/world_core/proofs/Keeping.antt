@@ -101,14 +101,14 @@ peers_same : (peers : List PeerPast) → AllZip PeerStays peers peers
 peers_same [] = tt
 peers_same (peer ∷ peers) = (peer_same peer, peers_same peers)
 
-peers_set : (peers : List PeerPast) (place : ℕ) (was now : PeerPast) → slice_get peers place ≡ Some was
+peers_set : (peers : List PeerPast) (rank : ℕ) (was now : PeerPast) → slice_get peers rank ≡ Some was
     → PeerStays was now
-    → AllZip PeerStays peers (set peers place now)
-peers_set [] place was now here stays = tt
+    → AllZip PeerStays peers (set peers rank now)
+peers_set [] rank was now here stays = tt
 peers_set (peer ∷ peers) zero was now here stays =
     let same : peer ≡ was = cc in
     (subst (λ (p : PeerPast). PeerStays p now) (sym same) stays, peers_same peers)
-peers_set (peer ∷ peers) (suc place) was now here stays = (peer_same peer, peers_set peers place was now here stays)
+peers_set (peer ∷ peers) (suc rank) was now here stays = (peer_same peer, peers_set peers rank was now here stays)
 
 peers_then : (was mid now : List PeerPast) → AllZip PeerStays was mid → AllZip PeerStays mid now
     → AllZip PeerStays was now
@@ -127,11 +127,11 @@ stay_same was now same = subst (AllZip PeerStays was.peers) (sym same) (peers_sa
 pub stay_then : (was mid now : Past) → PeersStay was mid → PeersStay mid now → PeersStay was now
 stay_then was mid now first second = peers_then was.peers mid.peers now.peers first second
 
-pub one_changed : (was now : Past) (place : ℕ) (peer new : PeerPast) → slice_get was.peers place ≡ Some peer
-    → now ≡ with_peer was place new
+pub one_changed : (was now : Past) (rank : ℕ) (peer new : PeerPast) → slice_get was.peers rank ≡ Some peer
+    → now ≡ with_peer was rank new
     → PeerStays peer new → PeersStay was now
-one_changed was now place peer new here changed stays =
-    subst (λ (p : Past). PeersStay was p) (sym changed) (peers_set was.peers place peer new here stays)
+one_changed was now rank peer new here changed stays =
+    subst (λ (p : Past). PeersStay was p) (sym changed) (peers_set was.peers rank peer new here stays)
 
 -- ---- each event
 
@@ -153,30 +153,30 @@ history_of : (was now : TapePast) → was ≡ now → was.history ≡ now.histor
 history_of was now same = ap (λ (t : TapePast). t.history) same
 
 pub event_stays : (event : Event) (was now : Past) → Does event was now → PeersStay was now
-event_stays (Owes place token id) was now does =
-    one_changed was now place does.peer _ does.here does.changed
+event_stays (Owes rank token id) was now does =
+    one_changed was now rank does.peer _ does.here does.changed
     (owing_stays (owed_as (was.last + 1) does.peer) (was.last + 1) token id does.peer)
-event_stays (Parts place) was now does =
-    one_changed was now place does.peer _ does.here does.changed
+event_stays (Parts rank) was now does =
+    one_changed was now rank does.peer _ does.here does.changed
     (refl, tape_flushed does.peer.tape does.tape (history_of _ _ does.flushes.all))
-event_stays (Rotates place generation) was now does =
-    one_changed was now place does.peer _ does.here does.changed
+event_stays (Rotates rank generation) was now does =
+    one_changed was now rank does.peer _ does.here does.changed
     (refl, tape_flushed does.peer.tape does.tape (history_of _ _ does.rotates.all))
-event_stays (Sheds place numbers) was now does =
-    one_changed was now place does.peer _ does.here does.changed
+event_stays (Sheds rank numbers) was now does =
+    one_changed was now rank does.peer _ does.here does.changed
     (refl, tape_noted does.peer.tape _ (dropped numbers) refl)
-event_stays (Claims place id moment) was now does =
-    one_changed was now place does.peer _ does.here does.changed
+event_stays (Claims rank id moment) was now does =
+    one_changed was now rank does.peer _ does.here does.changed
     (refl, tape_same does.peer.tape does.tape (history_of _ _ does.reads.all))
-event_stays (Returns place id number) was now does =
-    one_changed was now place does.peer _ does.here does.changed (refl, tape_same does.peer.tape does.peer.tape refl)
-event_stays (Settles place id moment outcome) was now does =
-    one_changed was now place does.peer _ does.here does.changed
+event_stays (Returns rank id number) was now does =
+    one_changed was now rank does.peer _ does.here does.changed (refl, tape_same does.peer.tape does.peer.tape refl)
+event_stays (Settles rank id moment outcome) was now does =
+    one_changed was now rank does.peer _ does.here does.changed
     (settled_stays (settling does.peer moment outcome) (number_in outcome) does.peer)
 event_stays (Sees number) was now does = stay_same was now (ap (λ (p : Past). p.peers) does.changed)
 event_stays Acknowledges was now does = stay_same was now (ap (λ (p : Past). p.peers) does.changed)
-event_stays (Opens place) was now does =
-    one_changed was now place does.peer _ does.here does.changed
+event_stays (Opens rank) was now does =
+    one_changed was now rank does.peer _ does.here does.changed
     (refl, tape_opened does.peer.tape does.tape does.opens.count does.opens.enough (history_of _ _ does.opens.all))
 event_stays OpensIntake was now does = stay_same was now (ap (λ (p : Past). p.peers) does.changed)
 

@@ -10,29 +10,29 @@ use Rattle.world_core.proofs.Pure.{map_set}
 use Rattle.world_core.proofs.Settling.{conf_settled}
 use Rattle.world_core.proofs.Sound.{owed_conf}
 
-pub names_put : (past later : Past) (place : ℕ) (was now : PeerPast) → slice_get past.peers place ≡ Some was
-    → now.conf ≡ was.conf → later ≡ with_peer past place now
+pub names_put : (past later : Past) (rank : ℕ) (was now : PeerPast) → slice_get past.peers rank ≡ Some was
+    → now.conf ≡ was.conf → later ≡ with_peer past rank now
     → names_of later.peers ≡ names_of past.peers
-names_put past later place was now here same is =
+names_put past later rank was now here same is =
     ap (λ (p : Past). names_of p.peers) is
-    ∙ map_set (λ (peer : PeerPast). peer.conf.name) past.peers place was now here (ap (λ conf. conf.name) same)
+    ∙ map_set (λ (peer : PeerPast). peer.conf.name) past.peers rank was now here (ap (λ conf. conf.name) same)
 
 pub names_does : (event : Event) (past later : Past) → Does event past later
     → names_of later.peers ≡ names_of past.peers
-names_does (Owes place token id) past later d =
-    names_put past later place d.peer _ d.here
+names_does (Owes rank token id) past later d =
+    names_put past later rank d.peer _ d.here
     (owed_conf (past.last + 1) token id d.peer (owed_as (past.last + 1) d.peer)) d.changed
-names_does (Parts place) past later d = names_put past later place d.peer _ d.here refl d.changed
-names_does (Rotates place generation) past later d = names_put past later place d.peer _ d.here refl d.changed
-names_does (Sheds place numbers) past later d = names_put past later place d.peer _ d.here refl d.changed
-names_does (Claims place id now) past later d = names_put past later place d.peer _ d.here refl d.changed
-names_does (Returns place id number) past later d = names_put past later place d.peer _ d.here refl d.changed
-names_does (Settles place id now outcome) past later d =
-    names_put past later place d.peer _ d.here
+names_does (Parts rank) past later d = names_put past later rank d.peer _ d.here refl d.changed
+names_does (Rotates rank generation) past later d = names_put past later rank d.peer _ d.here refl d.changed
+names_does (Sheds rank numbers) past later d = names_put past later rank d.peer _ d.here refl d.changed
+names_does (Claims rank id now) past later d = names_put past later rank d.peer _ d.here refl d.changed
+names_does (Returns rank id number) past later d = names_put past later rank d.peer _ d.here refl d.changed
+names_does (Settles rank id now outcome) past later d =
+    names_put past later rank d.peer _ d.here
     (conf_settled now outcome d.peer) d.changed
 names_does (Sees number) past later d = ap (λ (p : Past). names_of p.peers) d.changed
 names_does Acknowledges past later d = ap (λ (p : Past). names_of p.peers) d.changed
-names_does (Opens place) past later d = names_put past later place d.peer _ d.here refl d.changed
+names_does (Opens rank) past later d = names_put past later rank d.peer _ d.here refl d.changed
 names_does OpensIntake past later d = ap (λ (p : Past). names_of p.peers) d.changed
 
 pub names_all : (begun later : Past) (events : List Event) → AllDo begun events later
@@ -43,15 +43,15 @@ names_all begun later events (Next before event past last did does safe) =
 
 pub names_refuses : (event : Event) (past later : Past) (fault : _) → Refuses event past fault later
     → names_of later.peers ≡ names_of past.peers
-names_refuses (Owes place token id) past later fault d = names_put past later place d.peer _ d.here refl d.changed
-names_refuses (Parts place) past later fault d = names_put past later place d.peer _ d.here refl d.changed
-names_refuses (Rotates place generation) past later fault d = names_put past later place d.peer _ d.here refl d.changed
-names_refuses (Sheds place numbers) past later fault d = names_put past later place d.peer _ d.here refl d.changed
-names_refuses (Claims place id now) past later fault d = names_put past later place d.peer _ d.here refl d.changed
-names_refuses (Returns place id number) past later fault d = names_put past later place d.peer _ d.here refl d.changed
-names_refuses (Settles place id now outcome) past later fault d =
-    names_put past later place d.peer _ d.here refl d.changed
+names_refuses (Owes rank token id) past later fault d = names_put past later rank d.peer _ d.here refl d.changed
+names_refuses (Parts rank) past later fault d = names_put past later rank d.peer _ d.here refl d.changed
+names_refuses (Rotates rank generation) past later fault d = names_put past later rank d.peer _ d.here refl d.changed
+names_refuses (Sheds rank numbers) past later fault d = names_put past later rank d.peer _ d.here refl d.changed
+names_refuses (Claims rank id now) past later fault d = names_put past later rank d.peer _ d.here refl d.changed
+names_refuses (Returns rank id number) past later fault d = names_put past later rank d.peer _ d.here refl d.changed
+names_refuses (Settles rank id now outcome) past later fault d =
+    names_put past later rank d.peer _ d.here refl d.changed
 names_refuses (Sees number) past later fault d = ap (λ (p : Past). names_of p.peers) d.changed
 names_refuses Acknowledges past later fault d = ap (λ (p : Past). names_of p.peers) d.changed
-names_refuses (Opens place) past later fault d = names_put past later place d.peer _ d.here refl d.changed
+names_refuses (Opens rank) past later fault d = names_put past later rank d.peer _ d.here refl d.changed
 names_refuses OpensIntake past later fault d = ap (λ (p : Past). names_of p.peers) d.changed

@@ -39,10 +39,10 @@ follow id was conn life later told is = ap named is.changed ∙ names_all life.p
 
 hand_over : (id now : ℕ) (conn : ConnPast) (peer : PeerPast) (past : Past) (handed : Handover) (h : List Happening)
     (later : Past)
-    → slice_get past.peers conn.place ≡ Some peer → HandsOver id now conn peer past handed h later
+    → slice_get past.peers conn.rank ≡ Some peer → HandsOver id now conn peer past handed h later
     → names_of later.peers ≡ names_of past.peers
 hand_over id now conn peer past handed h later here (None_there tape works none reads) =
-    names_put past _ conn.place peer _ here refl refl
+    names_put past _ conn.rank peer _ here refl refl
 hand_over id now conn peer past handed h later here (Taken_over debt _ candidate ready did) = names_all past later _ did
 hand_over id now conn peer past handed h later here (Has_no_room debt _ candidate ready did) =
     names_all past later _ did
@@ -64,7 +64,7 @@ stop : (peer : Option (List ℕ)) (call : ℕ) (choice : Choice) (life later : L
     → TakesStop peer call choice life told later
     → named later ≡ named life
 stop peer zero choice life later told (running, is, changed) = ap named changed ∙ names_left AtRest life.past.peers
-stop peer (suc calls) choice life later told (place, its, is, changed) = ap named changed
+stop peer (suc calls) choice life later told (rank, its, is, changed) = ap named changed
 
 does : (step : Step) (life later : Life) (told : List Said) → Does step life told later → named later ≡ named life
 does (Line text) life later told (running, (past, takes, is)) =
@@ -73,7 +73,7 @@ does Flush life later told (running, (past, takes, is)) =
     ap named is ∙ names_all _ past _ takes.0 ∙ names_begun life.past.peers
 does Begin life later told (running, (past, takes, is)) =
     ap named is ∙ ap (λ (p : Past). names_of p.peers) takes.1 ∙ names_begun life.past.peers
-does (Part name) life later told (running, (past, (place, here, did, said), is)) =
+does (Part name) life later told (running, (past, (rank, here, did, said), is)) =
     ap named is ∙ names_all life.past past _ did
 does Seal life later told (running, (past, (number, may, did, said), is)) = ap named is ∙ names_all life.past past _ did
 does (Connect name) life later told (running, takes) = ap named takes.changed
@@ -87,9 +87,9 @@ does (Article id found) life later told (running, takes) =
     follow id takes.conn.transcript _ life later told takes.follows
 does (Break id) life later told (running, takes) = follow id takes.conn.transcript _ life later told takes.follows
 does (Tick now) life later told (running, takes) = tick _ later _ told takes
-does (Shed name) life later told (running, (past, (place, numbers, here, did, said), is)) =
+does (Shed name) life later told (running, (past, (rank, numbers, here, did, said), is)) =
     ap named is ∙ names_all life.past past _ did
-does (Rotate name) life later told (running, (past, (place, generation, here, did, said), is)) =
+does (Rotate name) life later told (running, (past, (rank, generation, here, did, said), is)) =
     ap named is ∙ names_all life.past past _ did
 does (Stop peer call choice) life later told takes = stop _ call choice life later told takes
 does Restart life later told takes = ap named takes.changed ∙ names_all life.past takes.past _ takes.opens

@@ -249,47 +249,47 @@ keeps_back id now debt was later is =
 
 -- ---- all peers
 
-module _ (past : Past) (place id : ℕ) (was now : PeerPast) (here : slice_get past.peers place ≡ Some was)
+module _ (past : Past) (rank id : ℕ) (was now : PeerPast) (here : slice_get past.peers rank ≡ Some was)
     (within : was.tape.history.kept ≤ length was.tape.history.notes) (keeps : PeerKeeps id was now) where
-  pub safe_with : IsSafe past → IsSafe (with_peer past place now)
+  pub safe_with : IsSafe past → IsSafe (with_peer past rank now)
   safe_with safe = record {
-    peers = all_set (λ (peer : PeerPast). EachLedger (KeepsNotes peer) peer.tape.log) past.peers place now safe.peers
+    peers = all_set (λ (peer : PeerPast). EachLedger (KeepsNotes peer) peer.tape.log) past.peers rank now safe.peers
         (subst (λ (log : Log). EachLedger (KeepsNotes now) log) (sym keeps.log)
         (EachLedger-weaker (KeepsNotes was) (KeepsNotes now) (keeps.front within) was.tape.log
-        (all_at (λ (peer : PeerPast). EachLedger (KeepsNotes peer) peer.tape.log) past.peers place was safe.peers
+        (all_at (λ (peer : PeerPast). EachLedger (KeepsNotes peer) peer.tape.log) past.peers rank was safe.peers
         here)));
     intake = EachLedger-weaker (KeepsLines past.intake.history past.peers)
-        (KeepsLines past.intake.history (set past.peers place now))
+        (KeepsLines past.intake.history (set past.peers rank now))
         (λ state lines. record {
           front = lines.front;
-          lines = all_set (HasAcknowledged state.mark) past.peers place now lines.lines
+          lines = all_set (HasAcknowledged state.mark) past.peers rank now lines.lines
               (keeps.acknowledged within state.mark
-              (all_at (HasAcknowledged state.mark) past.peers place was lines.lines here));
+              (all_at (HasAcknowledged state.mark) past.peers rank was lines.lines here));
         }) past.intake.log safe.intake;
   }
 
-  pub sound_with : IsSound past → IsSound (with_peer past place now)
+  pub sound_with : IsSound past → IsSound (with_peer past rank now)
   sound_with sound = record {
-    names = names_set past place was now sound.names here keeps.conf;
+    names = names_set past rank was now sound.names here keeps.conf;
     fits = sound.fits;
     marked = sound.marked;
-    acknowledged = all_set (HasAcknowledged (mark_at past.intake)) past.peers place now sound.acknowledged
+    acknowledged = all_set (HasAcknowledged (mark_at past.intake)) past.peers rank now sound.acknowledged
         (keeps.acknowledged within (mark_at past.intake)
-        (all_at (HasAcknowledged (mark_at past.intake)) past.peers place was sound.acknowledged here));
+        (all_at (HasAcknowledged (mark_at past.intake)) past.peers rank was sound.acknowledged here));
     kept = sound.kept;
-    parted = λ number is. all_set (HasParted number) past.peers place now (sound.parted number is)
+    parted = λ number is. all_set (HasParted number) past.peers rank now (sound.parted number is)
         (λ e. keeps.acknowledged within number
-        (all_at (HasParted number) past.peers place was (sound.parted number is) here (sym keeps.parted ∙ e)));
+        (all_at (HasParted number) past.peers rank was (sound.parted number is) here (sym keeps.parted ∙ e)));
   }
 
 -- a peer in the place of one that was put there
-pub with_twice : (past : Past) (place : ℕ) (mid now : PeerPast)
-    → with_peer (with_peer past place mid) place now ≡ with_peer past place now
-with_twice past place mid now = ap (λ peers. record past { peers = peers }) (set_twice past.peers place mid now)
+pub with_twice : (past : Past) (rank : ℕ) (mid now : PeerPast)
+    → with_peer (with_peer past rank mid) rank now ≡ with_peer past rank now
+with_twice past rank mid now = ap (λ peers. record past { peers = peers }) (set_twice past.peers rank mid now)
 
-pub with_same : (past : Past) (place : ℕ) (was : PeerPast) → slice_get past.peers place ≡ Some was
-    → with_peer past place was ≡ past
-with_same past place was here = ap (λ peers. record past { peers = peers }) (set_same past.peers place was here)
+pub with_same : (past : Past) (rank : ℕ) (was : PeerPast) → slice_get past.peers rank ≡ Some was
+    → with_peer past rank was ≡ past
+with_same past rank was here = ap (λ peers. record past { peers = peers }) (set_same past.peers rank was here)
 
 map_snoc : {A B : Type 0} (f : A → B) (xs : List A) (x : A) → map f (xs ++ x ∷ []) ≡ map f xs ++ f x ∷ []
 map_snoc f [] x = refl
@@ -298,54 +298,54 @@ map_snoc f (y ∷ xs) x = ap (λ l. f y ∷ l) (map_snoc f xs x)
 -- ---- events at one peer
 
 -- these events lead there, and keep what others have
-pub record Leads (past : Past) (place id : ℕ) (was now : PeerPast) (events : List Event) : Type 0 where
-  pub does : AllDo past events (with_peer past place now)
+pub record Leads (past : Past) (rank id : ℕ) (was now : PeerPast) (events : List Event) : Type 0 where
+  pub does : AllDo past events (with_peer past rank now)
   pub keeps : PeerKeeps id was now
 
-module _ (past : Past) (place id : ℕ) (was : PeerPast) (here : slice_get past.peers place ≡ Some was)
+module _ (past : Past) (rank id : ℕ) (was : PeerPast) (here : slice_get past.peers rank ≡ Some was)
     (within : was.tape.history.kept ≤ length was.tape.history.notes) (safe : IsSafe past) where
-  pub leads_nowhere : Leads past place id was was []
+  pub leads_nowhere : Leads past rank id was was []
   leads_nowhere = record {
-    does = subst (AllDo past []) (sym (with_same past place was here)) Start;
+    does = subst (AllDo past []) (sym (with_same past rank was here)) Start;
     keeps = keeps_same id was;
   }
 
   -- one event more, behind which the peer is so
-  pub leads_on : (events : List Event) (event : Event) (mid now : PeerPast) → Leads past place id was mid events
+  pub leads_on : (events : List Event) (event : Event) (mid now : PeerPast) → Leads past rank id was mid events
       → PeerKeeps id mid now
-      → Does event (with_peer past place mid) (with_peer past place now)
-      → Leads past place id was now (events ++ event ∷ [])
+      → Does event (with_peer past rank mid) (with_peer past rank now)
+      → Leads past rank id was now (events ++ event ∷ [])
   leads_on events event mid now leads keeps does =
       let all = keeps_then id was mid now leads.keeps keeps in
       record {
-        does = Next events event (with_peer past place mid) (with_peer past place now) leads.does does
-            (safe_with past place id was now here within all safe);
+        does = Next events event (with_peer past rank mid) (with_peer past rank now) leads.does does
+            (safe_with past rank id was now here within all safe);
         keeps = all;
       }
 
-  mid_here : (mid : PeerPast) → slice_get (with_peer past place mid).peers place ≡ Some mid
-  mid_here mid = get_set past.peers place was mid here
+  mid_here : (mid : PeerPast) → slice_get (with_peer past rank mid).peers rank ≡ Some mid
+  mid_here mid = get_set past.peers rank was mid here
 
   pub leads_settle : (now : ℕ) (events : List Event) (mid later : PeerPast) (outcome : Outcome)
-      → Leads past place id was mid events
-      → SettlesAt id now outcome mid later → Leads past place id was later (events ++ Settles place id now outcome ∷ [])
+      → Leads past rank id was mid events
+      → SettlesAt id now outcome mid later → Leads past rank id was later (events ++ Settles rank id now outcome ∷ [])
   leads_settle now events mid later outcome leads is =
-      leads_on events (Settles place id now outcome) mid later leads (keeps_settled id now outcome mid later is)
+      leads_on events (Settles rank id now outcome) mid later leads (keeps_settled id now outcome mid later is)
       (record {
         peer = mid;
         here = mid_here mid;
         works = is.works;
         held = is.held;
         room = is.room;
-        changed = sym (with_twice past place mid later)
-            ∙ ap (λ (p : PeerPast). with_peer (with_peer past place mid) place p) is.changed;
+        changed = sym (with_twice past rank mid later)
+            ∙ ap (λ (p : PeerPast). with_peer (with_peer past rank mid) rank p) is.changed;
       })
 
   pub leads_claim : (now : ℕ) (events : List Event) (mid later : PeerPast) (debt : Owing)
-      → Leads past place id was mid events
-      → ClaimsAt id now debt mid later → Leads past place id was later (events ++ Claims place id now ∷ [])
+      → Leads past rank id was mid events
+      → ClaimsAt id now debt mid later → Leads past rank id was later (events ++ Claims rank id now ∷ [])
   leads_claim now events mid later debt leads is =
-      leads_on events (Claims place id now) mid later leads (keeps_claims id now debt mid later is) (record {
+      leads_on events (Claims rank id now) mid later leads (keeps_claims id now debt mid later is) (record {
         peer = mid;
         debt = debt;
         tape = is.tape;
@@ -353,27 +353,27 @@ module _ (past : Past) (place id : ℕ) (was : PeerPast) (here : slice_get past.
         works = is.works;
         candidate = is.candidate;
         reads = is.reads;
-        changed = sym (with_twice past place mid later)
-            ∙ ap (λ (p : PeerPast). with_peer (with_peer past place mid) place p) is.changed;
+        changed = sym (with_twice past rank mid later)
+            ∙ ap (λ (p : PeerPast). with_peer (with_peer past rank mid) rank p) is.changed;
       })
 
-  pub leads_return : (number : ℕ) (events : List Event) (mid later : PeerPast) → Leads past place id was mid events
-      → ReturnsAt id number mid later → Leads past place id was later (events ++ Returns place id number ∷ [])
+  pub leads_return : (number : ℕ) (events : List Event) (mid later : PeerPast) → Leads past rank id was mid events
+      → ReturnsAt id number mid later → Leads past rank id was later (events ++ Returns rank id number ∷ [])
   leads_return number events mid later leads is =
-      leads_on events (Returns place id number) mid later leads (keeps_returns id number mid later is) (record {
+      leads_on events (Returns rank id number) mid later leads (keeps_returns id number mid later is) (record {
         peer = mid;
         here = mid_here mid;
         works = is.works;
         held = is.held;
-        changed = sym (with_twice past place mid later)
-            ∙ ap (λ (p : PeerPast). with_peer (with_peer past place mid) place p) is.changed;
+        changed = sym (with_twice past rank mid later)
+            ∙ ap (λ (p : PeerPast). with_peer (with_peer past rank mid) rank p) is.changed;
       })
 
   -- outcomes one after another, behind other events
   pub leads_settled : (now : ℕ) (outcomes : List Outcome) (later : PeerPast) → AllSettleAt id now was outcomes later
-      → Leads past place id was later (settle_events place id now outcomes)
+      → Leads past rank id was later (settle_events rank id now outcomes)
   leads_settled now _ _ NoneSettled = leads_nowhere
   leads_settled now _ _ (NextSettled outcomes outcome mid later front one) =
-      subst (Leads past place id was later) (sym (map_snoc (λ (o : Outcome). Settles place id now o) outcomes outcome))
-      (leads_settle now (settle_events place id now outcomes) mid later outcome (leads_settled now outcomes mid front)
+      subst (Leads past rank id was later) (sym (map_snoc (λ (o : Outcome). Settles rank id now o) outcomes outcome))
+      (leads_settle now (settle_events rank id now outcomes) mid later outcome (leads_settled now outcomes mid front)
       one)

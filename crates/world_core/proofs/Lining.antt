@@ -75,15 +75,15 @@ length_more (y ∷ front) x = omega (arith, length_more front x)
 
 -- ---- the peers that a line names rise by their places
 
-all_lower : (k low place : ℕ) (named : List (List ℕ)) (peers : List PeerPast) → low < place
-    → AllByRecursion (λ (entry : ℕ × PeerPast). low < entry.0) (named_from place named peers)
-all_lower k low place named [] below = tt
-all_lower k low place named (peer ∷ peers) below =
-    by (is_named named peer) (all_lower k low (place + 1) named peers (omega (arith, below)))
+all_lower : (k low rank : ℕ) (named : List (List ℕ)) (peers : List PeerPast) → low < rank
+    → AllByRecursion (λ (entry : ℕ × PeerPast). low < entry.0) (named_from rank named peers)
+all_lower k low rank named [] below = tt
+all_lower k low rank named (peer ∷ peers) below =
+    by (is_named named peer) (all_lower k low (rank + 1) named peers (omega (arith, below)))
   where
-    by : (b : Bool) → AllByRecursion (λ (entry : ℕ × PeerPast). low < entry.0) (named_from (place + 1) named peers)
+    by : (b : Bool) → AllByRecursion (λ (entry : ℕ × PeerPast). low < entry.0) (named_from (rank + 1) named peers)
         → AllByRecursion (λ (entry : ℕ × PeerPast). low < entry.0)
-        (if b then (place, peer) ∷ named_from (place + 1) named peers else named_from (place + 1) named peers)
+        (if b then (rank, peer) ∷ named_from (rank + 1) named peers else named_from (rank + 1) named peers)
     by true more = (below, more)
     by false more = more
 
@@ -94,38 +94,38 @@ at_all P (y ∷ xs) zero x all here = let same : y ≡ x = cc in subst P same al
 at_all P (y ∷ xs) (suc k) x all here = at_all P xs k x all.1 here
 
 -- those before one stand lower
-lower_before : (place : ℕ) (named : List (List ℕ)) (peers : List PeerPast) (k : ℕ) (entry : ℕ × PeerPast)
-    → slice_get (named_from place named peers) k ≡ Some entry
-    → AllByRecursion (λ (other : ℕ × PeerPast). other.0 < entry.0) (take k (named_from place named peers))
-lower_before place named [] k entry here = absurd cc
-lower_before place named (peer ∷ peers) k entry here =
-    by (is_named named peer) k here (λ (n : ℕ) at. lower_before (place + 1) named peers n entry at)
-    (λ (n : ℕ) at. at_all (λ (other : ℕ × PeerPast). place < other.0) (named_from (place + 1) named peers) n entry
-    (all_lower n place (place + 1) named peers (omega arith)) at)
+lower_before : (rank : ℕ) (named : List (List ℕ)) (peers : List PeerPast) (k : ℕ) (entry : ℕ × PeerPast)
+    → slice_get (named_from rank named peers) k ≡ Some entry
+    → AllByRecursion (λ (other : ℕ × PeerPast). other.0 < entry.0) (take k (named_from rank named peers))
+lower_before rank named [] k entry here = absurd cc
+lower_before rank named (peer ∷ peers) k entry here =
+    by (is_named named peer) k here (λ (n : ℕ) at. lower_before (rank + 1) named peers n entry at)
+    (λ (n : ℕ) at. at_all (λ (other : ℕ × PeerPast). rank < other.0) (named_from (rank + 1) named peers) n entry
+    (all_lower n rank (rank + 1) named peers (omega arith)) at)
   where
     by : (b : Bool) (n : ℕ)
-        → slice_get (if b then (place, peer) ∷ named_from (place + 1) named peers else named_from (place + 1) named
+        → slice_get (if b then (rank, peer) ∷ named_from (rank + 1) named peers else named_from (rank + 1) named
         peers) n ≡ Some entry
-        → ((m : ℕ) → slice_get (named_from (place + 1) named peers) m ≡ Some entry
-        → AllByRecursion (λ (other : ℕ × PeerPast). other.0 < entry.0) (take m (named_from (place + 1) named peers)))
-        → ((m : ℕ) → slice_get (named_from (place + 1) named peers) m ≡ Some entry → place < entry.0)
+        → ((m : ℕ) → slice_get (named_from (rank + 1) named peers) m ≡ Some entry
+        → AllByRecursion (λ (other : ℕ × PeerPast). other.0 < entry.0) (take m (named_from (rank + 1) named peers)))
+        → ((m : ℕ) → slice_get (named_from (rank + 1) named peers) m ≡ Some entry → rank < entry.0)
         → AllByRecursion (λ (other : ℕ × PeerPast). other.0 < entry.0)
-        (take n (if b then (place, peer) ∷ named_from (place + 1) named peers else named_from (place + 1) named peers))
+        (take n (if b then (rank, peer) ∷ named_from (rank + 1) named peers else named_from (rank + 1) named peers))
     by true zero at more above = tt
     by true (suc n) at more above = (above n at, more n at)
     by false n at more above = more n at
 
--- each stands at its place
-stands_at : (all : List PeerPast) (place : ℕ) (named : List (List ℕ)) (peers : List PeerPast) (k : ℕ) (entry : ℕ
+-- each stands at its rank
+stands_at : (all : List PeerPast) (rank : ℕ) (named : List (List ℕ)) (peers : List PeerPast) (k : ℕ) (entry : ℕ
     × PeerPast)
-    → ((i : ℕ) (peer : PeerPast) → slice_get peers i ≡ Some peer → slice_get all (place + i) ≡ Some peer)
-    → slice_get (named_from place named peers) k ≡ Some entry → slice_get all entry.0 ≡ Some entry.1
-stands_at all place named [] k entry there here = absurd cc
-stands_at all place named (peer ∷ peers) k entry there here =
+    → ((i : ℕ) (peer : PeerPast) → slice_get peers i ≡ Some peer → slice_get all (rank + i) ≡ Some peer)
+    → slice_get (named_from rank named peers) k ≡ Some entry → slice_get all entry.0 ≡ Some entry.1
+stands_at all rank named [] k entry there here = absurd cc
+stands_at all rank named (peer ∷ peers) k entry there here =
     by (is_named named peer) k here
-    (λ (n : ℕ) at. stands_at all (place + 1) named peers n entry
-    (λ (i : ℕ) (p : PeerPast) is. subst (λ (m : ℕ). slice_get all m ≡ Some p) (next place i) (there (suc i) p is)) at)
-    (subst (λ (m : ℕ). slice_get all m ≡ Some peer) (first place) (there 0 peer refl))
+    (λ (n : ℕ) at. stands_at all (rank + 1) named peers n entry
+    (λ (i : ℕ) (p : PeerPast) is. subst (λ (m : ℕ). slice_get all m ≡ Some p) (next rank i) (there (suc i) p is)) at)
+    (subst (λ (m : ℕ). slice_get all m ≡ Some peer) (first rank) (there 0 peer refl))
   where
     next : (n i : ℕ) → n + suc i ≡ (n + 1) + i
     next n i = omega arith
@@ -134,12 +134,12 @@ stands_at all place named (peer ∷ peers) k entry there here =
     first n = omega arith
 
     by : (b : Bool) (n : ℕ)
-        → slice_get (if b then (place, peer) ∷ named_from (place + 1) named peers else named_from (place + 1) named
+        → slice_get (if b then (rank, peer) ∷ named_from (rank + 1) named peers else named_from (rank + 1) named
         peers) n ≡ Some entry
-        → ((m : ℕ) → slice_get (named_from (place + 1) named peers) m ≡ Some entry
+        → ((m : ℕ) → slice_get (named_from (rank + 1) named peers) m ≡ Some entry
         → slice_get all entry.0 ≡ Some entry.1)
-        → slice_get all place ≡ Some peer → slice_get all entry.0 ≡ Some entry.1
-    by true zero at more own = let same : (place, peer) ≡ entry = cc in
+        → slice_get all rank ≡ Some peer → slice_get all entry.0 ≡ Some entry.1
+    by true zero at more own = let same : (rank, peer) ≡ entry = cc in
         subst (λ (e : ℕ × PeerPast). slice_get all e.0 ≡ Some e.1) same own
     by true (suc n) at more own = more n at
     by false n at more own = more n at
@@ -177,9 +177,9 @@ module _ {D : Type 0} {g : Ghosts D} where
     pub did : Did past (map (owes_at token id) (take count (named_from 0 named past.peers))) stations
     pub told_is : map said_at told ≡ map (told_of (past.last + 1)) (take count (named_from 0 named past.peers))
     pub same_last : did.later.last ≡ past.last
-    pub behind : (place : ℕ)
-        → AllByRecursion (λ (entry : ℕ × PeerPast). entry.0 < place) (take count (named_from 0 named past.peers))
-        → slice_get did.later.peers place ≡ slice_get past.peers place
+    pub behind : (rank : ℕ)
+        → AllByRecursion (λ (entry : ℕ × PeerPast). entry.0 < rank) (take count (named_from 0 named past.peers))
+        → slice_get did.later.peers rank ≡ slice_get past.peers rank
 
   pub some_none : (past : Past) (token id : List ℕ) (named : List (List ℕ)) (told : List OwedAt)
       (stations : Stations D g) → told ≡ []
@@ -190,7 +190,7 @@ module _ {D : Type 0} {g : Ghosts D} where
         told_is = ap (map said_at) none;
         same_last = refl;
         behind =
-            λ place all. refl;
+            λ rank all. refl;
       }
 
   module _ (past : Past) (token id : List ℕ) (named : List (List ℕ)) (front : List (ℕ × List ℕ)) (at : ℕ × List ℕ)
@@ -203,7 +203,7 @@ module _ {D : Type 0} {g : Ghosts D} where
         → OwedSome past token id named (length front + 1) new_told new
     some_more told new_told name owed old new so_far one is tells =
         let entry = next_of past named front at back found in
-        let next_place : entry.0.0 ≡ at.0 = ap (λ (e : ℕ × List ℕ). e.0) entry.2 in
+        let next_rank : entry.0.0 ≡ at.0 = ap (λ (e : ℕ × List ℕ). e.0) entry.2 in
         let longer : take (length front + 1) (named_from 0 named past.peers)
         ≡ take (length front) (named_from 0 named past.peers) ++ entry.0 ∷ [] =
         ap (λ (n : ℕ). take n (named_from 0 named past.peers)) (add-one (length front))
@@ -211,7 +211,7 @@ module _ {D : Type 0} {g : Ghosts D} where
         let untouched : slice_get so_far.did.later.peers entry.0.0 ≡ slice_get past.peers entry.0.0 =
         so_far.behind entry.0.0 (lower_before 0 named past.peers (length front) entry.0 entry.1) in
         let there : slice_get so_far.did.later.peers at.0 ≡ Some entry.0.1 =
-        subst (λ (n : ℕ). slice_get so_far.did.later.peers n ≡ Some entry.0.1) next_place
+        subst (λ (n : ℕ). slice_get so_far.did.later.peers n ≡ Some entry.0.1) next_rank
         (untouched ∙ stands_there named past.peers (length front) entry.0 entry.1) in
         let same : one.peer ≡ entry.0.1 = some_once (sym one.here ∙ there) in
         let answer : owed ≡ owed_as (past.last + 1) entry.0.1 =
@@ -224,7 +224,7 @@ module _ {D : Type 0} {g : Ghosts D} where
               (ap (map (owes_at token id)) longer
               ∙ map_more (owes_at token id) (take (length front) (named_from 0 named past.peers)) entry.0
               ∙ ap (λ (n : ℕ). map (owes_at token id) (take (length front) (named_from 0 named past.peers))
-              ++ Owes n token id ∷ []) next_place)
+              ++ Owes n token id ∷ []) next_rank)
               so_far.did one.did;
           told_is = ap (map said_at) tells ∙ map_more said_at told (record { name = name; owed = owed })
               ∙ ap (λ l. l ++ (name, owed) ∷ []) so_far.told_is
@@ -235,13 +235,13 @@ module _ {D : Type 0} {g : Ghosts D} where
               ∙ sym (ap (map (told_of (past.last + 1))) longer
               ∙ map_more (told_of (past.last + 1)) (take (length front) (named_from 0 named past.peers)) entry.0);
           same_last = ap (λ (p : Past). p.last) one.did.does.changed ∙ so_far.same_last;
-          behind = λ place all.
-              let parts = all_more (λ (e : ℕ × PeerPast). e.0 < place)
+          behind = λ rank all.
+              let parts = all_more (λ (e : ℕ × PeerPast). e.0 < rank)
               (take (length front) (named_from 0 named past.peers)) entry.0
-              (subst (AllByRecursion (λ (e : ℕ × PeerPast). e.0 < place)) longer all) in
-              ap (λ (p : Past). slice_get p.peers place) one.did.does.changed
-              ∙ get_set_other so_far.did.later.peers at.0 place _ (subst (λ (n : ℕ). n < place) next_place parts.1)
-              ∙ so_far.behind place parts.0;
+              (subst (AllByRecursion (λ (e : ℕ × PeerPast). e.0 < rank)) longer all) in
+              ap (λ (p : Past). slice_get p.peers rank) one.did.does.changed
+              ∙ get_set_other so_far.did.later.peers at.0 rank _ (subst (λ (n : ℕ). n < rank) next_rank parts.1)
+              ∙ so_far.behind rank parts.0;
         }
       where
         some_once : {a b : PeerPast} → Some a ≡ Some b → a ≡ b
@@ -253,14 +253,14 @@ module _ {D : Type 0} {g : Ghosts D} where
         → Failed past (line_events token id named past) fault new
     some_failed told fault old new so_far one =
         let entry = next_of past named front at back found in
-        let next_place : entry.0.0 ≡ at.0 = ap (λ (e : ℕ × List ℕ). e.0) entry.2 in
+        let next_rank : entry.0.0 ≡ at.0 = ap (λ (e : ℕ × List ℕ). e.0) entry.2 in
         subst (λ (es : List Event). Failed past es fault new)
         (sym (sym (named_owes 0 token id named past.peers)
         ∙ map_split (owes_at token id) (named_from 0 named past.peers) (length front) entry.0 entry.1))
         (failed_next past (map (owes_at token id) (take (length front) (named_from 0 named past.peers)))
         (Owes entry.0.0 token id)
         (map (owes_at token id) (drop (suc (length front)) (named_from 0 named past.peers))) fault old new so_far.did
-        (subst (λ (n : ℕ). FailedOne so_far.did.later (Owes n token id) fault new) (sym next_place) one))
+        (subst (λ (n : ℕ). FailedOne so_far.did.later (Owes n token id) fault new) (sym next_rank) one))
 
   -- all of them
   pub some_all : (past : Past) (token id : List ℕ) (named : List (List ℕ)) (found : List (ℕ × List ℕ))

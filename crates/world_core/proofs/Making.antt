@@ -36,7 +36,7 @@ use Rattle.recovery.specs.declared.tape.Tape.{Tape as OpenTape}
 use Rattle.world_core.specs.Past.{Life, Past, PeerPast, limits_of}
 use Rattle.world_core.specs.Safe.{HasAcknowledged}
 use Rattle.world_core.specs.Given.{BeginsFrom, GivenPeer, IsFound, IsGivenPeer, OpensGiven, RefusesFirst, RefusesTape}
-use Rattle.world_core.specs.Given.{StopsFor, RefusesPeer, RefusesTapes, found_peer, found_tape, given_names, octets_of}
+use Rattle.world_core.specs.Given.{StopsFor, RefusesPeer, RefusesTapes, found_peer, found_tape, given_names, given_octets}
 use Rattle.world_core.specs.Making.{Begins, HasNoOctets, IsMakeFault}
 use Rattle.world_core.specs.Opening.{HasNoneHeld}
 use Rattle.world_core.specs.Sound.{IsBefore, NamesRise, names_of}
@@ -200,7 +200,7 @@ refuses_tape octets (Note fault) kind memory damaged = absurd kind
 
 module _ {D : Type 0} {g : Ghosts D} where
   are_tapes : (given : List GivenPeer) (peers : List (Peer D g)) → AllZip OpensGiven given peers
-      → AllByRecursion (λ (other : GivenPeer). IsSomeTape (octets_of other)) given
+      → AllByRecursion (λ (other : GivenPeer). IsSomeTape (given_octets other)) given
   are_tapes [] [] all = tt
   are_tapes [] (peer ∷ peers) all = tt
   are_tapes (one ∷ given) [] all = absurd all
@@ -219,11 +219,11 @@ module _ {D : Type 0} {g : Ghosts D} where
       → slice_get given (length front) ≡ Some peer → RefusesPeer peer fault
       → StopsFor given fault
   stops_for given front peers peer (Tape name fault) all so_far here refused = record {
-    place = length front;
+    rank = length front;
     peer = peer;
     here = here;
     named = refused.0;
-    before = subst (AllByRecursion (λ (other : GivenPeer). IsSomeTape (octets_of other))) so_far
+    before = subst (AllByRecursion (λ (other : GivenPeer). IsSomeTape (given_octets other))) so_far
         (are_tapes front peers all);
     why = refused.1;
   }
@@ -333,7 +333,7 @@ begins_from given ordered world stations conns is permuted rises all intake last
         sound = record {
           past = stands.sound;
           conns = tied_none (at_start past) refl
-              (λ place peer here. all_at HasNoneHeld have.pasts place peer have.free here);
+              (λ rank peer here. all_at HasNoneHeld have.pasts rank peer have.free here);
         };
       };
     }
@@ -400,13 +400,13 @@ begins confs given world all is =
       stands = is.stands;
     }
 
-none_at : (given : List GivenPeer) (place : ℕ) (one : GivenPeer) → All HasNone given
-    → slice_get given place ≡ Some one → HasNone one
-none_at [] place one none here = absurd cc
+none_at : (given : List GivenPeer) (rank : ℕ) (one : GivenPeer) → All HasNone given
+    → slice_get given rank ≡ Some one → HasNone one
+none_at [] rank one none here = absurd cc
 none_at (x ∷ given) zero one none here =
     let same : x ≡ one = cc in
     subst HasNone same (All-head HasNone x given none)
-none_at (x ∷ given) (suc place) one none here = none_at given place one (All-tail HasNone x given none) here
+none_at (x ∷ given) (suc rank) one none here = none_at given rank one (All-tail HasNone x given none) here
 
 not_damaged : (octets : Octets) (fault : TapeFault) → octets ≡ ([], []) → RefusesTape octets fault → fault ≡ Disk
 not_damaged octets (Damaged segment at) empty is =
@@ -425,6 +425,6 @@ pub make_fault : (confs : List PeerConf) (given : List GivenPeer) (name : List �
     → AllZip HasNoOctets confs given → RefusesFirst given name fault → IsMakeFault (TapeTold fault)
 make_fault confs given name fault all is =
     let none = All-permutation HasNone given is.ordered is.permuted (all_none confs given all) in
-    let empty = none_at is.ordered is.stops.place is.stops.peer none is.stops.here in
-    inl (ap TapeTold (not_damaged (octets_of is.stops.peer) fault (ap (λ (o : List ℕ). (o, [])) empty)
+    let empty = none_at is.ordered is.stops.rank is.stops.peer none is.stops.here in
+    inl (ap TapeTold (not_damaged (given_octets is.stops.peer) fault (ap (λ (o : List ℕ). (o, [])) empty)
     is.stops.why))

@@ -74,79 +74,79 @@ any_miss p (y ∷ xs) x is = ap (λ (b : Bool). p y || b) (any_miss p xs x is)
 abbrev pub entry_of : ℕ × PeerPast → ℕ × List ℕ
 entry_of entry = (entry.0, entry.1.conf.name)
 
-pub named_owes : (place : ℕ) (token id : List ℕ) (named : List (List ℕ)) (peers : List PeerPast)
-    → map (λ (entry : ℕ × PeerPast). Owes entry.0 token id) (named_from place named peers)
-    ≡ owes_from place token id named peers
-named_owes place token id named [] = refl
-named_owes place token id named (peer ∷ peers) = by (is_named named peer) (named_owes (place + 1) token id named peers)
+pub named_owes : (rank : ℕ) (token id : List ℕ) (named : List (List ℕ)) (peers : List PeerPast)
+    → map (λ (entry : ℕ × PeerPast). Owes entry.0 token id) (named_from rank named peers)
+    ≡ owes_from rank token id named peers
+named_owes rank token id named [] = refl
+named_owes rank token id named (peer ∷ peers) = by (is_named named peer) (named_owes (rank + 1) token id named peers)
   where
     by : (b : Bool)
-        → map (λ (entry : ℕ × PeerPast). Owes entry.0 token id) (named_from (place + 1) named peers)
-        ≡ owes_from (place + 1) token id named peers
+        → map (λ (entry : ℕ × PeerPast). Owes entry.0 token id) (named_from (rank + 1) named peers)
+        ≡ owes_from (rank + 1) token id named peers
         → map (λ (entry : ℕ × PeerPast). Owes entry.0 token id)
-        (if b then (place, peer) ∷ named_from (place + 1) named peers else named_from (place + 1) named peers)
-        ≡ (if b then Owes place token id ∷ owes_from (place + 1) token id named peers else owes_from (place + 1) token
+        (if b then (rank, peer) ∷ named_from (rank + 1) named peers else named_from (rank + 1) named peers)
+        ≡ (if b then Owes rank token id ∷ owes_from (rank + 1) token id named peers else owes_from (rank + 1) token
         id named peers)
-    by true more = ap (λ l. Owes place token id ∷ l) more
+    by true more = ap (λ l. Owes rank token id ∷ l) more
     by false more = more
 
-pub named_told : (place number : ℕ) (named : List (List ℕ)) (peers : List PeerPast)
-    → map (λ (entry : ℕ × PeerPast). (entry.1.conf.name, owed_as number entry.1)) (named_from place named peers)
+pub named_told : (rank number : ℕ) (named : List (List ℕ)) (peers : List PeerPast)
+    → map (λ (entry : ℕ × PeerPast). (entry.1.conf.name, owed_as number entry.1)) (named_from rank named peers)
     ≡ owed_there number named peers
-named_told place number named [] = refl
-named_told place number named (peer ∷ peers) = by (is_named named peer) (named_told (place + 1) number named peers)
+named_told rank number named [] = refl
+named_told rank number named (peer ∷ peers) = by (is_named named peer) (named_told (rank + 1) number named peers)
   where
     by : (b : Bool)
         → map (λ (entry : ℕ × PeerPast). (entry.1.conf.name, owed_as number entry.1))
-        (named_from (place + 1) named peers) ≡ owed_there number named peers
+        (named_from (rank + 1) named peers) ≡ owed_there number named peers
         → map (λ (entry : ℕ × PeerPast). (entry.1.conf.name, owed_as number entry.1))
-        (if b then (place, peer) ∷ named_from (place + 1) named peers else named_from (place + 1) named peers)
+        (if b then (rank, peer) ∷ named_from (rank + 1) named peers else named_from (rank + 1) named peers)
         ≡ (if b then (peer.conf.name, owed_as number peer) ∷ owed_there number named peers else owed_there number
         named peers)
     by true more = ap (λ l. (peer.conf.name, owed_as number peer) ∷ l) more
     by false more = more
 
--- each stands at its place, and they rise from this one on
+-- each stands at its rank, and they rise from this one on
 pub IsListed : ℕ → List PeerPast → List (ℕ × PeerPast) → Type 0
 IsListed from peers [] = Unit {0}
 IsListed from peers (entry ∷ entries) = (from ≤ entry.0) × (slice_get peers entry.0 ≡ Some entry.1)
     × IsListed (entry.0 + 1) peers entries
 
 -- a name more that no peer has
-none_more : (place : ℕ) (names : List (List ℕ)) (name : List ℕ) (peers : List PeerPast)
+none_more : (rank : ℕ) (names : List (List ℕ)) (name : List ℕ) (peers : List PeerPast)
     → AllByRecursion (λ (peer : PeerPast). bytes_eq name peer.conf.name ≡ false) peers
-    → named_from place (names ++ name ∷ []) peers ≡ named_from place names peers
-none_more place names name [] none = refl
-none_more place names name (peer ∷ peers) none =
-    ap (λ (b : Bool). if b then (place, peer) ∷ named_from (place + 1) (names ++ name ∷ []) peers else named_from
-    (place + 1) (names ++ name ∷ []) peers)
+    → named_from rank (names ++ name ∷ []) peers ≡ named_from rank names peers
+none_more rank names name [] none = refl
+none_more rank names name (peer ∷ peers) none =
+    ap (λ (b : Bool). if b then (rank, peer) ∷ named_from (rank + 1) (names ++ name ∷ []) peers else named_from
+    (rank + 1) (names ++ name ∷ []) peers)
     (any_miss (λ (n : List ℕ). bytes_eq n peer.conf.name) names name none.0)
-    ∙ ap (λ l. if is_named names peer then (place, peer) ∷ l else l) (none_more (place + 1) names name peers none.1)
+    ∙ ap (λ l. if is_named names peer then (rank, peer) ∷ l else l) (none_more (rank + 1) names name peers none.1)
 
 nat_less : (low high : ℕ) → low < high → nat_cmp low high ≡ Less
 nat_less low high below = ap (λ (b : Bool). cond b Less (cond (low == high) Equal Greater)) (lt-ltb low high below)
 
 -- the first of them stands no lower
-lowest : (low place : ℕ) (named : List (List ℕ)) (name : List ℕ) (peers : List PeerPast) → low < place
-    → insert_entry nat_cmp (map entry_of (named_from place named peers)) low name
-    ≡ (low, name) ∷ map entry_of (named_from place named peers)
-lowest low place named name [] below = refl
-lowest low place named name (peer ∷ peers) below =
-    by (is_named named peer) (lowest low (place + 1) named name peers (omega (arith, below)))
+lowest : (low rank : ℕ) (named : List (List ℕ)) (name : List ℕ) (peers : List PeerPast) → low < rank
+    → insert_entry nat_cmp (map entry_of (named_from rank named peers)) low name
+    ≡ (low, name) ∷ map entry_of (named_from rank named peers)
+lowest low rank named name [] below = refl
+lowest low rank named name (peer ∷ peers) below =
+    by (is_named named peer) (lowest low (rank + 1) named name peers (omega (arith, below)))
   where
     by : (b : Bool)
-        → insert_entry nat_cmp (map entry_of (named_from (place + 1) named peers)) low name
-        ≡ (low, name) ∷ map entry_of (named_from (place + 1) named peers)
+        → insert_entry nat_cmp (map entry_of (named_from (rank + 1) named peers)) low name
+        ≡ (low, name) ∷ map entry_of (named_from (rank + 1) named peers)
         → insert_entry nat_cmp (map entry_of
-        (if b then (place, peer) ∷ named_from (place + 1) named peers else named_from (place + 1) named peers))
+        (if b then (rank, peer) ∷ named_from (rank + 1) named peers else named_from (rank + 1) named peers))
         low name
         ≡ (low, name) ∷ map entry_of
-        (if b then (place, peer) ∷ named_from (place + 1) named peers else named_from (place + 1) named peers)
+        (if b then (rank, peer) ∷ named_from (rank + 1) named peers else named_from (rank + 1) named peers)
     by true more = ap (λ (r : Ordering).
-        match_ordering r ((low, name) ∷ (place, peer.conf.name) ∷ map entry_of (named_from (place + 1) named peers))
-        ((place, name) ∷ map entry_of (named_from (place + 1) named peers))
-        ((place, peer.conf.name) ∷ insert_entry nat_cmp (map entry_of (named_from (place + 1) named peers)) low name))
-        (nat_less low place below)
+        match_ordering r ((low, name) ∷ (rank, peer.conf.name) ∷ map entry_of (named_from (rank + 1) named peers))
+        ((rank, name) ∷ map entry_of (named_from (rank + 1) named peers))
+        ((rank, peer.conf.name) ∷ insert_entry nat_cmp (map entry_of (named_from (rank + 1) named peers)) low name))
+        (nat_less low rank below)
     by false more = more
 
 none_behind : (name : List ℕ) (peers : List PeerPast) → AllByRecursion (IsBefore name) (names_of peers)
@@ -163,97 +163,97 @@ before_at name (other ∷ peers) zero peer rise here = let same : other ≡ peer
     subst (λ (p : PeerPast). IsBefore name p.conf.name) same rise.0
 before_at name (other ∷ peers) (suc at) peer rise here = before_at name peers at peer rise.1 here
 
-own_key : (place : ℕ) (v w : List ℕ) (rest : List (ℕ × List ℕ)) → v ≡ w
-    → insert_entry nat_cmp ((place, v) ∷ rest) place w ≡ (place, v) ∷ rest
-own_key place v w rest same =
-    ap (λ (r : Ordering). match_ordering r ((place, w) ∷ (place, v) ∷ rest) ((place, w) ∷ rest)
-    ((place, v) ∷ insert_entry nat_cmp rest place w))
-    (tied_itself nat_cmp_total place)
-    ∙ ap (λ (n : List ℕ). (place, n) ∷ rest) (sym same)
+own_key : (rank : ℕ) (v w : List ℕ) (rest : List (ℕ × List ℕ)) → v ≡ w
+    → insert_entry nat_cmp ((rank, v) ∷ rest) rank w ≡ (rank, v) ∷ rest
+own_key rank v w rest same =
+    ap (λ (r : Ordering). match_ordering r ((rank, w) ∷ (rank, v) ∷ rest) ((rank, w) ∷ rest)
+    ((rank, v) ∷ insert_entry nat_cmp rest rank w))
+    (tied_itself nat_cmp_total rank)
+    ∙ ap (λ (n : List ℕ). (rank, n) ∷ rest) (sym same)
 
-higher_key : (low place : ℕ) (v w : List ℕ) (rest : List (ℕ × List ℕ)) → low < place
-    → insert_entry nat_cmp ((low, v) ∷ rest) place w ≡ (low, v) ∷ insert_entry nat_cmp rest place w
-higher_key low place v w rest above =
-    ap (λ (r : Ordering). match_ordering r ((place, w) ∷ (low, v) ∷ rest) ((low, w) ∷ rest)
-    ((low, v) ∷ insert_entry nat_cmp rest place w))
-    (nat_cmp_total.antisymm place low ∙ ap ordering_reverse (nat_less low place above))
+higher_key : (low rank : ℕ) (v w : List ℕ) (rest : List (ℕ × List ℕ)) → low < rank
+    → insert_entry nat_cmp ((low, v) ∷ rest) rank w ≡ (low, v) ∷ insert_entry nat_cmp rest rank w
+higher_key low rank v w rest above =
+    ap (λ (r : Ordering). match_ordering r ((rank, w) ∷ (low, v) ∷ rest) ((low, w) ∷ rest)
+    ((low, v) ∷ insert_entry nat_cmp rest rank w))
+    (nat_cmp_total.antisymm rank low ∙ ap ordering_reverse (nat_less low rank above))
 
--- a name more, which the peer at this place has
-pub one_more : (place at : ℕ) (names : List (List ℕ)) (name : List ℕ) (peers : List PeerPast) (peer : PeerPast)
+-- a name more, which the peer at this rank has
+pub one_more : (rank at : ℕ) (names : List (List ℕ)) (name : List ℕ) (peers : List PeerPast) (peer : PeerPast)
     → NamesRise (names_of peers)
     → slice_get peers at ≡ Some peer → peer.conf.name ≡ name
-    → insert_entry nat_cmp (map entry_of (named_from place names peers)) (place + at) name
-    ≡ map entry_of (named_from place (names ++ name ∷ []) peers)
-one_more place at names name [] peer rise here is = absurd cc
-one_more place zero names name (other ∷ peers) peer rise here is =
+    → insert_entry nat_cmp (map entry_of (named_from rank names peers)) (rank + at) name
+    ≡ map entry_of (named_from rank (names ++ name ∷ []) peers)
+one_more rank at names name [] peer rise here is = absurd cc
+one_more rank zero names name (other ∷ peers) peer rise here is =
     let same_peer : other ≡ peer = cc in
     let same : other.conf.name ≡ name = ap (λ (p : PeerPast). p.conf.name) same_peer ∙ is in
     let hit : is_named (names ++ name ∷ []) other ≡ true =
     any_hit (λ (n : List ℕ). bytes_eq n other.conf.name) names name
     ((bytes_eq-Decides name other.conf.name).1 (sym same)) in
-    let rest : named_from (place + 1) (names ++ name ∷ []) peers ≡ named_from (place + 1) names peers =
-    none_more (place + 1) names name peers
+    let rest : named_from (rank + 1) (names ++ name ∷ []) peers ≡ named_from (rank + 1) names peers =
+    none_more (rank + 1) names name peers
     (subst (λ (n : List ℕ). AllByRecursion (λ (p : PeerPast). bytes_eq n p.conf.name ≡ false) peers) same
     (none_behind other.conf.name peers rise.0)) in
-    ap (λ (n : ℕ). insert_entry nat_cmp (map entry_of (named_from place names (other ∷ peers))) n name)
-    (plus_zero place)
+    ap (λ (n : ℕ). insert_entry nat_cmp (map entry_of (named_from rank names (other ∷ peers))) n name)
+    (plus_zero rank)
     ∙ by (is_named names other) same
     ∙ sym (ap (λ (b : Bool).
-    map entry_of (if b then (place, other) ∷ named_from (place + 1) (names ++ name ∷ []) peers else named_from
-    (place + 1) (names ++ name ∷ []) peers)) hit
-    ∙ ap (λ l. (place, other.conf.name) ∷ map entry_of l) rest)
+    map entry_of (if b then (rank, other) ∷ named_from (rank + 1) (names ++ name ∷ []) peers else named_from
+    (rank + 1) (names ++ name ∷ []) peers)) hit
+    ∙ ap (λ l. (rank, other.conf.name) ∷ map entry_of l) rest)
   where
     plus_zero : (n : ℕ) → n + 0 ≡ n
     plus_zero n = omega arith
 
     by : (b : Bool) → other.conf.name ≡ name
         → insert_entry nat_cmp (map entry_of
-        (if b then (place, other) ∷ named_from (place + 1) names peers else named_from (place + 1) names peers))
-        place name
-        ≡ (place, other.conf.name) ∷ map entry_of (named_from (place + 1) names peers)
-    by true same = own_key place other.conf.name name (map entry_of (named_from (place + 1) names peers)) same
-    by false same = lowest place (place + 1) names name peers (omega arith)
-        ∙ ap (λ (n : List ℕ). (place, n) ∷ map entry_of (named_from (place + 1) names peers)) (sym same)
-one_more place (suc at) names name (other ∷ peers) peer rise here is =
+        (if b then (rank, other) ∷ named_from (rank + 1) names peers else named_from (rank + 1) names peers))
+        rank name
+        ≡ (rank, other.conf.name) ∷ map entry_of (named_from (rank + 1) names peers)
+    by true same = own_key rank other.conf.name name (map entry_of (named_from (rank + 1) names peers)) same
+    by false same = lowest rank (rank + 1) names name peers (omega arith)
+        ∙ ap (λ (n : List ℕ). (rank, n) ∷ map entry_of (named_from (rank + 1) names peers)) (sym same)
+one_more rank (suc at) names name (other ∷ peers) peer rise here is =
     let differs = not_same name other.conf.name
     (λ e. before_differs other.conf.name name
     (subst (IsBefore other.conf.name) is (before_at other.conf.name peers at peer rise.0 here)) (sym e)) in
-    let tail : insert_entry nat_cmp (map entry_of (named_from (place + 1) names peers)) (place + suc at) name
-    ≡ map entry_of (named_from (place + 1) (names ++ name ∷ []) peers) =
-    ap (λ (n : ℕ). insert_entry nat_cmp (map entry_of (named_from (place + 1) names peers)) n name) (plus_one place at)
-    ∙ one_more (place + 1) at names name peers peer rise.1 here is in
+    let tail : insert_entry nat_cmp (map entry_of (named_from (rank + 1) names peers)) (rank + suc at) name
+    ≡ map entry_of (named_from (rank + 1) (names ++ name ∷ []) peers) =
+    ap (λ (n : ℕ). insert_entry nat_cmp (map entry_of (named_from (rank + 1) names peers)) n name) (plus_one rank at)
+    ∙ one_more (rank + 1) at names name peers peer rise.1 here is in
     by (is_named names other) tail
     ∙ sym (ap (λ (b : Bool).
-    map entry_of (if b then (place, other) ∷ named_from (place + 1) (names ++ name ∷ []) peers else named_from
-    (place + 1) (names ++ name ∷ []) peers))
+    map entry_of (if b then (rank, other) ∷ named_from (rank + 1) (names ++ name ∷ []) peers else named_from
+    (rank + 1) (names ++ name ∷ []) peers))
     (any_miss (λ (n : List ℕ). bytes_eq n other.conf.name) names name differs))
   where
     plus_one : (n k : ℕ) → n + suc k ≡ (n + 1) + k
     plus_one n k = omega arith
 
     by : (b : Bool)
-        → insert_entry nat_cmp (map entry_of (named_from (place + 1) names peers)) (place + suc at) name
-        ≡ map entry_of (named_from (place + 1) (names ++ name ∷ []) peers)
+        → insert_entry nat_cmp (map entry_of (named_from (rank + 1) names peers)) (rank + suc at) name
+        ≡ map entry_of (named_from (rank + 1) (names ++ name ∷ []) peers)
         → insert_entry nat_cmp (map entry_of
-        (if b then (place, other) ∷ named_from (place + 1) names peers else named_from (place + 1) names peers))
-        (place + suc at) name
-        ≡ map entry_of (if b then (place, other) ∷ named_from (place + 1) (names ++ name ∷ []) peers else named_from
-        (place + 1) (names ++ name ∷ []) peers)
-    by true tail = higher_key place (place + suc at) other.conf.name name
-        (map entry_of (named_from (place + 1) names peers)) (omega arith)
-        ∙ ap (λ l. (place, other.conf.name) ∷ l) tail
+        (if b then (rank, other) ∷ named_from (rank + 1) names peers else named_from (rank + 1) names peers))
+        (rank + suc at) name
+        ≡ map entry_of (if b then (rank, other) ∷ named_from (rank + 1) (names ++ name ∷ []) peers else named_from
+        (rank + 1) (names ++ name ∷ []) peers)
+    by true tail = higher_key rank (rank + suc at) other.conf.name name
+        (map entry_of (named_from (rank + 1) names peers)) (omega arith)
+        ∙ ap (λ l. (rank, other.conf.name) ∷ l) tail
     by false tail = tail
 
-pub within_more : (count : ℕ) (found : List (ℕ × List ℕ)) (place : ℕ) (name : List ℕ) → AreWithin count found
-    → place < count
-    → AreWithin count (insert_entry nat_cmp found place name)
-within_more count [] place name all one = (one, tt)
-within_more count (entry ∷ found) place name all one =
-    by (nat_cmp place entry.0) (within_more count found place name all.1 one)
+pub within_more : (count : ℕ) (found : List (ℕ × List ℕ)) (rank : ℕ) (name : List ℕ) → AreWithin count found
+    → rank < count
+    → AreWithin count (insert_entry nat_cmp found rank name)
+within_more count [] rank name all one = (one, tt)
+within_more count (entry ∷ found) rank name all one =
+    by (nat_cmp rank entry.0) (within_more count found rank name all.1 one)
   where
-    by : (r : Ordering) → AreWithin count (insert_entry nat_cmp found place name)
-        → AreWithin count (match_ordering r ((place, name) ∷ entry ∷ found) ((entry.0, name) ∷ found)
-        (entry ∷ insert_entry nat_cmp found place name))
+    by : (r : Ordering) → AreWithin count (insert_entry nat_cmp found rank name)
+        → AreWithin count (match_ordering r ((rank, name) ∷ entry ∷ found) ((entry.0, name) ∷ found)
+        (entry ∷ insert_entry nat_cmp found rank name))
     by Less more = (one, all)
     by Equal more = (all.0, all.1)
     by Greater more = (all.0, more)
@@ -344,13 +344,13 @@ module _ {D : Type 0} {g : Ghosts D} where
       (subst (λ conf. bytes_eq name conf.name ≡ false) all.0.conf none.0, none_past name pasts peers all.1 none.1)
 
   -- what the search answered, where an element is equal
-  pub found_some : (past : Past) (name : List ℕ) (stations : Stations D g) (place : ℕ) → Stands stations past
-      → place < length stations.peers.items
-      → ((d : Peer D g) → slice_cmp nat_cmp (get_or stations.peers.items place d).conf.name name ≡ Equal)
-      → FoundAt past name (Some place)
-  found_some past name stations place stands within equal =
-      let there = get_in stations.peers.items place within in
-      let beside = zip_get PeerStands past.peers stations.peers.items place there.0 stands.peers there.1 in
+  pub found_some : (past : Past) (name : List ℕ) (stations : Stations D g) (rank : ℕ) → Stands stations past
+      → rank < length stations.peers.items
+      → ((d : Peer D g) → slice_cmp nat_cmp (get_or stations.peers.items rank d).conf.name name ≡ Equal)
+      → FoundAt past name (Some rank)
+  found_some past name stations rank stands within equal =
+      let there = get_in stations.peers.items rank within in
+      let beside = zip_get PeerStands past.peers stations.peers.items rank there.0 stands.peers there.1 in
       let same : there.0.conf.name ≡ name =
       exact_bytes there.0.conf.name name
       (subst (λ (p : Peer D g). slice_cmp nat_cmp p.conf.name name ≡ Equal) (there.2 there.0) (equal there.0)) in
@@ -386,35 +386,35 @@ module _ {D : Type 0} {g : Ghosts D} where
       → IsSearchInRange r (length stations.peers.items)
       → IsBinarySearchResult (λ (peer : Peer D g). slice_cmp nat_cmp peer.conf.name name) stations.peers.items r
       → FoundAt past name o
-  found_as past name stations (Ok place) o is stands within equal =
-      subst (FoundAt past name) (sym is) (found_some past name stations place stands within equal)
+  found_as past name stations (Ok rank) o is stands within equal =
+      subst (FoundAt past name) (sym is) (found_some past name stations rank stands within equal)
   found_as past name stations (Err i) o is stands within parts =
       subst (FoundAt past name) (sym is) (found_none past name stations i stands parts)
 
 pub found_within : (long : ℕ) (r : Result ℕ ℕ) (o : Option ℕ) → o ≡ result_ok r → IsSearchInRange r long
-    → MatchOption o (Unit {0}) (λ (place : ℕ). place < long)
-found_within long (Ok place) o is within =
-    subst (λ (p : Option ℕ). MatchOption p (Unit {0}) (λ (place : ℕ). place < long)) (sym is) within
+    → MatchOption o (Unit {0}) (λ (rank : ℕ). rank < long)
+found_within long (Ok rank) o is within =
+    subst (λ (p : Option ℕ). MatchOption p (Unit {0}) (λ (rank : ℕ). rank < long)) (sym is) within
 found_within long (Err i) o is within =
-    subst (λ (p : Option ℕ). MatchOption p (Unit {0}) (λ (place : ℕ). place < long)) (sym is) tt
+    subst (λ (p : Option ℕ). MatchOption p (Unit {0}) (λ (rank : ℕ). rank < long)) (sym is) tt
 
 -- ---- the map of what is found
 
-map_none : (place : ℕ) (peers : List PeerPast) → named_from place [] peers ≡ []
-map_none place [] = refl
-map_none place (peer ∷ peers) = map_none (place + 1) peers
+map_none : (rank : ℕ) (peers : List PeerPast) → named_from rank [] peers ≡ []
+map_none rank [] = refl
+map_none rank (peer ∷ peers) = map_none (rank + 1) peers
 
 pub found_first : (past : Past) (found : List (ℕ × List ℕ)) → found ≡ [] → AreFound past [] found
 found_first past found none = none ∙ ap (map entry_of) (sym (map_none 0 past.peers))
 
-pub found_more : (past : Past) (names : List (List ℕ)) (name : List ℕ) (place : ℕ) (old new : List (ℕ × List ℕ))
+pub found_more : (past : Past) (names : List (List ℕ)) (name : List ℕ) (rank : ℕ) (old new : List (ℕ × List ℕ))
     → NamesRise (names_of past.peers)
-    → AreFound past names old → FoundAt past name (Some place) → new ≡ insert_entry nat_cmp old place name
+    → AreFound past names old → FoundAt past name (Some rank) → new ≡ insert_entry nat_cmp old rank name
     → AreFound past (names ++ name ∷ []) new
-found_more past names name place old new rise so_far here is =
-    is ∙ ap (λ l. insert_entry nat_cmp l place name) so_far
-    ∙ ap (λ (n : ℕ). insert_entry nat_cmp (map entry_of (named_from 0 names past.peers)) n name) (zero_plus place)
-    ∙ one_more 0 place names name past.peers here.0 rise here.1 here.2
+found_more past names name rank old new rise so_far here is =
+    is ∙ ap (λ l. insert_entry nat_cmp l rank name) so_far
+    ∙ ap (λ (n : ℕ). insert_entry nat_cmp (map entry_of (named_from 0 names past.peers)) n name) (zero_plus rank)
+    ∙ one_more 0 rank names name past.peers here.0 rise here.1 here.2
   where
     zero_plus : (n : ℕ) → n ≡ 0 + n
     zero_plus n = omega arith

@@ -8,8 +8,8 @@ use Rattle.std.proofs.lemmas.Option.{slice_get_within}
 use Rattle.disk_model.specs.declared.Disk.{Ghosts}
 use Rattle.feed_conf.specs.declared.conf.PeerConf.{PeerConf}
 use Rattle.ledger_core.specs.State.{Owing}
-use Rattle.conn_core.specs.History.{Event, Story, Taken, accepted, ended_places, held_from, outcomes, story, taken}
-use Rattle.conn_core.specs.Stands.{Arises, HoldsBack, Stands as ConnStands, Takes_one}
+use Rattle.conn_core.specs.History.{Event, Story, Taken, accepted, ended_tickets, held_from, outcomes, story, taken}
+use Rattle.conn_core.specs.Stands.{Arises, HoldsBack, StandsFor as ConnStands, Goes_on}
 use Rattle.conn_core.specs.State.{Holding}
 use Rattle.conn_core.specs.Used.{left_from, times}
 use Rattle.conn_core.specs.declared.options.Options.{Options}
@@ -179,8 +179,8 @@ module _ (o : Options) where
               record {
                 phase_is = was.phase_is ∙ m.phase_is;
                 held_is = was.held_is
-                    ∙ (ap (λ (ds : List Owing). held_from 0 ds (ended_places (story o one).ends)) m.accepted_is
-                    ∙ ap (λ (s : Story). held_from 0 (accepted other) (ended_places s.ends)) stories);
+                    ∙ (ap (λ (ds : List Owing). held_from 0 ds (ended_tickets (story o one).ends)) m.accepted_is
+                    ∙ ap (λ (s : Story). held_from 0 (accepted other) (ended_tickets s.ends)) stories);
                 window_is = was.window_is ∙ rw (m.asks_is, m.answered_is) refl;
                 blocks_is = was.blocks_is ∙ rw (m.asks_is, m.answered_is) refl;
                 wanted_is = was.wanted_is ∙ ap (λ (s : Story). left_from 0 s.wants s.handed) stories;
@@ -242,21 +242,20 @@ holds_on conf conn later old new (Some outcome) holds goes arises now waiting =
     let so = waiting (Taken ∷ conn.transcript) holds.1 (more_taken o conn.transcript) in (
       next,
       stands_more o new.conn later.unread so.0 later.transcript so.1 so.2
-          (Takes_one later.transcript arises
-          (slice_get_within (outcomes o later.transcript) (taken later.transcript) outcome next)),
+          (Goes_on later.transcript Taken arises (slice_get_within (outcomes o later.transcript) (taken later.transcript) outcome next)),
     )
 
 module _ {D : Type 0} {g : Ghosts D} where
   pub pair_on : (id : ℕ) (conn later : ConnPast) (past : PeerPast) (old new : Connection) (peer : Peer D g)
       → PairStands id conn past old peer
-      → later.place ≡ conn.place → GoesOn (options_of past.conf) conn.transcript later.transcript
+      → later.rank ≡ conn.rank → GoesOn (options_of past.conf) conn.transcript later.transcript
       → Arises (options_of past.conf) later.transcript
-      → HoldsTranscript past.conf later new old.waiting → new.waiting ≡ old.waiting → new.place ≡ old.place
+      → HoldsTranscript past.conf later new old.waiting → new.waiting ≡ old.waiting → new.rank ≡ old.rank
       → new.conn.id ≡ old.conn.id
       → PairStands id later past new peer
-  pair_on id conn later past old new peer pair at goes arises holds waits place same_id = record {
+  pair_on id conn later past old new peer pair at goes arises holds waits rank same_id = record {
     id_is = ap (λ i. i.0) same_id ∙ pair.id_is;
-    place = place ∙ (pair.place ∙ sym at);
+    rank = rank ∙ (pair.rank ∙ sym at);
     arises = arises;
     holds = subst (HoldsTranscript past.conf later new) (sym waits) holds;
     stands = pair.stands;

@@ -1,4 +1,4 @@
--- The place of a peer's name, and a stop that is armed.
+-- The rank of a peer's name, and a stop that is armed.
 use Rattle.std.proofs.Common.{◌≡◌, ◌+◌, ◌<◌, ℕ, zero, suc, Bool, not, List, [], ◌∷◌, length, map, Option, None, Some}
 use Rattle.std.proofs.Common.{cond, ltb, refl, sym, ap, ◌∙◌, subst, arith}
 use Rattle.std.specs.Prelude.{option_map}
@@ -7,7 +7,7 @@ use Rattle.std.specs.Str.{bytes_eq}
 use Rattle.std.proofs.lemmas.List.{length-map}
 use Rattle.disk_model.specs.declared.Disk.{Ghosts}
 use Rattle.disk_model.specs.declared.choice.Choice.{Choice}
-use Rattle.world_core.specs.Past.{Armed, Life, Past, PeerPast, place_of}
+use Rattle.world_core.specs.Past.{Armed, Life, Past, PeerPast, rank_of}
 use Rattle.world_core.specs.Halts.{IsTapeOf, RefusesStop, TakesStop, armed_with}
 use Rattle.world_core.specs.Sound.{AreTied, HasNumber, names_of}
 use Rattle.world_core.specs.Stands.{StageStands, WorldStands, armed_as}
@@ -36,34 +36,34 @@ position-map part test things =
     ∙ ap (λ n. cond (ltb (prefix_len (λ y. not (test y)) (map part things)) n)
     (Some (prefix_len (λ y. not (test y)) (map part things))) None) (sym long)
 
--- the place of a name
-abbrev pub place_in : List (List ℕ) → List ℕ → Option ℕ
-place_in names name = position (λ (other : List ℕ). bytes_eq other name) names
+-- the rank of a name
+abbrev pub rank_in : List (List ℕ) → List ℕ → Option ℕ
+rank_in names name = position (λ (other : List ℕ). bytes_eq other name) names
 
-pub past_place : (past : Past) (name : List ℕ) → place_of past name ≡ place_in (names_of past.peers) name
-past_place past name = position-map (λ (peer : PeerPast). peer.conf.name) (λ (other : List ℕ). bytes_eq other name)
+pub past_rank : (past : Past) (name : List ℕ) → rank_of past name ≡ rank_in (names_of past.peers) name
+past_rank past name = position-map (λ (peer : PeerPast). peer.conf.name) (λ (other : List ℕ). bytes_eq other name)
     past.peers
 
-pub stopped_place : (peers : List StoppedPeer) (name : List ℕ)
+pub stopped_rank : (peers : List StoppedPeer) (name : List ℕ)
     → position (λ (peer : StoppedPeer). bytes_eq peer.conf.name name) peers
-    ≡ place_in (map (λ (peer : StoppedPeer). peer.conf.name) peers) name
-stopped_place peers name =
+    ≡ rank_in (map (λ (peer : StoppedPeer). peer.conf.name) peers) name
+stopped_rank peers name =
     position-map (λ (peer : StoppedPeer). peer.conf.name) (λ (other : List ℕ). bytes_eq other name) peers
 
 module _ {D : Type 0} {g : Ghosts D} where
-  pub open_place : (peers : List (Peer D g)) (name : List ℕ)
+  pub open_rank : (peers : List (Peer D g)) (name : List ℕ)
       → position (λ (peer : Peer D g). bytes_eq peer.conf.name name) peers
-      ≡ place_in (map (λ (peer : Peer D g). peer.conf.name) peers) name
-  open_place peers name = position-map (λ (peer : Peer D g). peer.conf.name) (λ (other : List ℕ). bytes_eq other name)
+      ≡ rank_in (map (λ (peer : Peer D g). peer.conf.name) peers) name
+  open_rank peers name = position-map (λ (peer : Peer D g). peer.conf.name) (λ (other : List ℕ). bytes_eq other name)
       peers
 
 -- ---- a stop is armed
 
-takes_armed : (peer : Option (List ℕ)) (call : ℕ) (choice : Choice) (life : Life) (place : Option ℕ) → 0 < call
-    → IsTapeOf life.past peer place
-    → TakesStop peer call choice life [] (armed_with (record { place = place; call = call; choice = choice }) life)
-takes_armed peer zero choice life place some is = absurd (omega (arith, some))
-takes_armed peer (suc calls) choice life place some is = (place, is, refl, refl)
+takes_armed : (peer : Option (List ℕ)) (call : ℕ) (choice : Choice) (life : Life) (rank : Option ℕ) → 0 < call
+    → IsTapeOf life.past peer rank
+    → TakesStop peer call choice life [] (armed_with (record { rank = rank; call = call; choice = choice }) life)
+takes_armed peer zero choice life rank some is = absurd (omega (arith, some))
+takes_armed peer (suc calls) choice life rank some is = (rank, is, refl, refl)
 
 stage_armed : (life : Life) (stop : Armed) (stage : Stage) → StageStands life stage
     → StageStands (armed_with stop life) stage
@@ -75,47 +75,47 @@ tied_armed life stop tied = record {
   rising = tied.rising;
   made = tied.made;
   each = tied.each;
-  held = λ place id number peer here. (
-    (λ is. let has = (tied.held place id number peer here).0 is in
+  held = λ rank id number peer here. (
+    (λ is. let has = (tied.held rank id number peer here).0 is in
         record { conn = has.conn; here = has.here; its = has.its; has = has.has }),
-    (λ (has : HasNumber (armed_with stop life) place peer id number).
-        (tied.held place id number peer here).1
+    (λ (has : HasNumber (armed_with stop life) rank peer id number).
+        (tied.held rank id number peer here).1
         (record { conn = has.conn; here = has.here; its = has.its; has = has.has })),
   );
   none = tied.none;
 }
 
 pub armed_world : (old new : World) (life : Life) (peer : Option (List ℕ)) (call : ℕ) (choice : Choice)
-    (place : Option ℕ) → 0 < call
-    → WorldStands old life → IsTapeOf life.past peer place → new.stage ≡ old.stage
-    → option_map armed_as new.armed ≡ Some (record { place = place; call = call; choice = choice })
+    (rank : Option ℕ) → 0 < call
+    → WorldStands old life → IsTapeOf life.past peer rank → new.stage ≡ old.stage
+    → option_map armed_as new.armed ≡ Some (record { rank = rank; call = call; choice = choice })
     → new.connected ≡ old.connected → new.now ≡ old.now
     → Made (TakesStop peer call choice) life [] new
-armed_world old new life peer call choice place some stands is stage armed connected now = record {
-  later = armed_with (record { place = place; call = call; choice = choice }) life;
-  makes = takes_armed peer call choice life place some is;
+armed_world old new life peer call choice rank some stands is stage armed connected now = record {
+  later = armed_with (record { rank = rank; call = call; choice = choice }) life;
+  makes = takes_armed peer call choice life rank some is;
   stands = record {
     stage = subst (λ (s : Stage).
-        StageStands (armed_with (record { place = place; call = call; choice = choice }) life) s) (sym stage)
-        (stage_armed life (record { place = place; call = call; choice = choice }) old.stage stands.stage);
+        StageStands (armed_with (record { rank = rank; call = call; choice = choice }) life) s) (sym stage)
+        (stage_armed life (record { rank = rank; call = call; choice = choice }) old.stage stands.stage);
     armed = armed;
     connected = connected ∙ stands.connected;
     now = now ∙ stands.now;
     sound = record {
       past = stands.sound.past;
       conns =
-          tied_armed life (record { place = place; call = call; choice = choice }) stands.sound.conns;
+          tied_armed life (record { rank = rank; call = call; choice = choice }) stands.sound.conns;
     };
   };
 }
 
-refuses_armed : (name : List ℕ) (call : ℕ) (life : Life) → 0 < call → place_of life.past name ≡ None
+refuses_armed : (name : List ℕ) (call : ℕ) (life : Life) → 0 < call → rank_of life.past name ≡ None
     → RefusesStop (Some name) call life NoPeer life
 refuses_armed name zero life some is = absurd (omega (arith, some))
 refuses_armed name (suc calls) life some is = ((name, refl, is), refl, refl)
 
 pub unarmed_world : (world : World) (life : Life) (name : List ℕ) (call : ℕ) → 0 < call → WorldStands world life
-    → place_of life.past name ≡ None
+    → rank_of life.past name ≡ None
     → Refused (RefusesStop (Some name) call) life NoPeer world
 unarmed_world world life name call some stands is =
     record { later = life; refuses = refuses_armed name call life some is; stands = stands }

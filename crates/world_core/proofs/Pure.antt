@@ -13,7 +13,7 @@ use Rattle.recovery.specs.Notes.{AreLegal, History, flushed, noted}
 use Rattle.world_core.specs.Past.{PeerPast}
 use Rattle.world_core.specs.Safe.{HasAcknowledged, IsAbove, KeepsLines}
 
--- ---- lists of two kinds, place by place
+-- ---- lists of two kinds, rank by rank
 
 module _ {A B : Type 0} (R : A → B → Type 0) where
   pub zip_set : (xs : List A) (ys : List B) (i : ℕ) (x : A) (y : B) → AllZip R xs ys → R x y

@@ -5,7 +5,7 @@ use Rattle.std.specs.Prelude.{if◌then◌else◌, is_some, slice_get}
 use Rattle.std.proofs.Math.ListN.{set}
 use Rattle.std.proofs.Math.Seq.{take-append_seam}
 use Rattle.feed_conf.specs.declared.conf.PeerConf.{PeerConf}
-use Rattle.conn_core.proofs.Closed.{first_reason-none}
+use Rattle.conn_core.specs.ClosingLaws.{first_reason-none}
 use Rattle.conn_core.specs.Commands.{Quit}
 use Rattle.conn_core.specs.History.{Broke, Event as Happening, Put, Taken, after, first_reason, is_quit_due, outside}
 use Rattle.conn_core.specs.History.{reason}
@@ -99,77 +99,77 @@ map_long f (x ∷ xs) = omega (arith, map_long f xs)
 
 -- ---- behind what led to the peer as it is
 
-module _ (life : Life) (place id : ℕ) (was mid : PeerPast) (here : slice_get life.past.peers place ≡ Some was)
+module _ (life : Life) (rank id : ℕ) (was mid : PeerPast) (here : slice_get life.past.peers rank ≡ Some was)
     (within : was.tape.history.kept ≤ length was.tape.history.notes) (safe : IsSafe life.past)
     (keeps : PeerKeeps id was mid)
-    (m : ConnPast) (at : m.place ≡ place) (unread : List ℕ)
+    (m : ConnPast) (at : m.rank ≡ rank) (unread : List ℕ)
     (left : left_behind (options_of mid.conf) unread m.transcript ≡ m.unread) where
   abbrev o : Options
   o = options_of mid.conf
 
   -- the connection as the step has it
   abbrev pub f : ConnPast
-  f = record { place = m.place; unread = unread; transcript = m.transcript }
+  f = record { rank = m.rank; unread = unread; transcript = m.transcript }
 
   abbrev pub before : Life
-  before = with_past life (with_peer life.past place mid)
+  before = with_past life (with_peer life.past rank mid)
 
   abbrev with_unread : List ℕ → List Happening → ConnPast
-  with_unread l h = record { place = m.place; unread = l; transcript = h }
+  with_unread l h = record { rank = m.rank; unread = l; transcript = h }
 
-  mid_here : slice_get before.past.peers place ≡ Some mid
-  mid_here = get_set life.past.peers place was mid here
+  mid_here : slice_get before.past.peers rank ≡ Some mid
+  mid_here = get_set life.past.peers rank was mid here
 
   abbrev events_at : List Outcome → List Event
-  events_at outcomes = settle_events m.place id life.now outcomes
+  events_at outcomes = settle_events m.rank id life.now outcomes
 
   leads : (outcomes : List Outcome) (later : PeerPast)
-      → Leads before.past place id mid later (settle_events place id life.now outcomes)
-      → AllDo before.past (events_at outcomes) (with_peer life.past place later)
+      → Leads before.past rank id mid later (settle_events rank id life.now outcomes)
+      → AllDo before.past (events_at outcomes) (with_peer life.past rank later)
   leads outcomes later is =
-      subst (λ (p : ℕ). AllDo before.past (settle_events p id life.now outcomes) (with_peer life.past place later))
+      subst (λ (p : ℕ). AllDo before.past (settle_events p id life.now outcomes) (with_peer life.past rank later))
       (sym at)
-      (subst (AllDo before.past (settle_events place id life.now outcomes)) (with_twice life.past place mid later)
+      (subst (AllDo before.past (settle_events rank id life.now outcomes)) (with_twice life.past rank mid later)
       is.does)
 
   pub follows_life : (said : List Said) (h : List Happening) (later_conn : ConnPast) (later : PeerPast)
       → FollowsAt id life.now h m mid said later_conn later
-      → Follows id h f before said (with_conn (with_past life (with_peer life.past place later)) id later_conn)
+      → Follows id h f before said (with_conn (with_past life (with_peer life.past rank later)) id later_conn)
       × PeerKeeps id was later
-      × (later_conn.place ≡ m.place)
+      × (later_conn.rank ≡ m.rank)
   follows_life said h later_conn later is =
-      let lead = leads_settled before.past place id mid mid_here (keeps.within within)
-      (safe_with life.past place id was mid here within keeps safe)
+      let lead = leads_settled before.past rank id mid mid_here (keeps.within within)
+      (safe_with life.past rank id was mid here within keeps safe)
       life.now (untold o m.transcript) later is.settles in (
         record {
           peer = mid;
           here = ap (slice_get before.past.peers) at ∙ mid_here;
-          past = with_peer life.past place later;
+          past = with_peer life.past rank later;
           settles = leads (untold o m.transcript) later lead;
           told_is = is.told_is;
-          changed = ap (λ (c : ConnPast). with_conn (with_past life (with_peer life.past place later)) id c)
+          changed = ap (λ (c : ConnPast). with_conn (with_past life (with_peer life.past rank later)) id c)
               (is.changed ∙ ap (λ (l : List ℕ). with_unread l (sent_out o m.transcript))
               (sym (left_twice o unread m.unread m.transcript (told_out o m.transcript)
               (reason_taken o (untold o m.transcript) m.transcript) left)));
         },
         keeps_then id was mid later keeps lead.keeps,
-        ap (λ (c : ConnPast). c.place) is.changed,
+        ap (λ (c : ConnPast). c.rank) is.changed,
       )
 
   pub follows_life_not : (fault : Fault) (later_conn : ConnPast) (later : PeerPast)
       → FollowsNotAt id life.now m mid fault later_conn later
-      → FollowsNot id f before fault (with_conn (with_past life (with_peer life.past place later)) id later_conn)
+      → FollowsNot id f before fault (with_conn (with_past life (with_peer life.past rank later)) id later_conn)
       × PeerKeeps id was later
-      × (later_conn.place ≡ m.place)
+      × (later_conn.rank ≡ m.rank)
   follows_life_not fault later_conn later is =
-      let lead = leads_settled before.past place id mid mid_here (keeps.within within)
-      (safe_with life.past place id was mid here within keeps safe)
+      let lead = leads_settled before.past rank id mid mid_here (keeps.within within)
+      (safe_with life.past rank id was mid here within keeps safe)
       life.now is.done later is.settles in
       let count = length is.done in
       let split : events_at (untold o m.transcript) ≡ events_at is.done ++ events_at is.left =
-      ap events_at is.split ∙ map_both (λ (outcome : Outcome). Settles m.place id life.now outcome) is.done is.left in
+      ap events_at is.split ∙ map_both (λ (outcome : Outcome). Settles m.rank id life.now outcome) is.done is.left in
       let long : length (events_at is.done) ≡ count =
-      map_long (λ (outcome : Outcome). Settles m.place id life.now outcome) is.done in
+      map_long (λ (outcome : Outcome). Settles m.rank id life.now outcome) is.done in
       let front : take count (events_at (untold o m.transcript)) ≡ events_at is.done =
       ap (take count) split ∙ (ap (λ (n : ℕ). take n (events_at is.done ++ events_at is.left)) (sym long)
       ∙ take-append_seam (events_at is.done) (events_at is.left)) in
@@ -180,39 +180,39 @@ module _ (life : Life) (place id : ℕ) (was mid : PeerPast) (here : slice_get l
           here = ap (slice_get before.past.peers) at ∙ mid_here;
           count = count;
           within = omega (arith, ap length is.split, length-append is.done is.left);
-          past = with_peer life.past place later;
-          settles = subst (λ (es : List Event). AllDo before.past es (with_peer life.past place later)) (sym front)
+          past = with_peer life.past rank later;
+          settles = subst (λ (es : List Event). AllDo before.past es (with_peer life.past rank later)) (sym front)
               (leads is.done later lead);
           why = stops is.why split long;
-          changed = ap (λ (c : ConnPast). with_conn (with_past life (with_peer life.past place later)) id c)
+          changed = ap (λ (c : ConnPast). with_conn (with_past life (with_peer life.past rank later)) id c)
               (is.changed ∙ (ap (λ (l : List ℕ). with_unread l (with_taken is.done m.transcript)) (sym left)
               ∙ ap (λ (os : List Outcome).
               with_unread (left_behind o unread m.transcript) (with_taken os m.transcript)) (sym taken)));
         },
         keeps_then id was mid later keeps lead.keeps,
-        ap (λ (c : ConnPast). c.place) is.changed,
+        ap (λ (c : ConnPast). c.rank) is.changed,
       )
     where
       stops : (fault ≡ NoMemory) ⊎ ((outcome : Outcome) × (more : List Outcome) × (is.left ≡ outcome ∷ more)
           × RefusesEnd (settling later life.now outcome) later.tape fault)
           → events_at (untold o m.transcript) ≡ events_at is.done ++ events_at is.left
           → length (events_at is.done) ≡ length is.done
-          → StopsAt (events_at (untold o m.transcript)) (length is.done) (with_peer life.past place later) fault
+          → StopsAt (events_at (untold o m.transcript)) (length is.done) (with_peer life.past rank later) fault
       stops (inl memory) split long = inl memory
       stops (inr end) split long =
-          let there : slice_get (set life.past.peers place later) m.place ≡ Some later =
-          ap (slice_get (set life.past.peers place later)) at ∙ get_set life.past.peers place was later here in
+          let there : slice_get (set life.past.peers rank later) m.rank ≡ Some later =
+          ap (slice_get (set life.past.peers rank later)) at ∙ get_set life.past.peers rank was later here in
           inr (
-            Settles m.place id life.now end.0,
+            Settles m.rank id life.now end.0,
             ap (λ (es : List Event). slice_get es (length is.done)) split
                 ∙ (ap (λ (os : List Outcome). slice_get (events_at is.done ++ events_at os) (length is.done)) end.2
                 ∙ (ap (λ (n : ℕ). slice_get (events_at is.done ++ events_at (end.0 ∷ end.1)) n) (sym long)
-                ∙ next_there (events_at is.done) (Settles m.place id life.now end.0) (events_at end.1))),
+                ∙ next_there (events_at is.done) (Settles m.rank id life.now end.0) (events_at end.1))),
             record {
               peer = later;
               tape = later.tape;
               here = there;
               refused = (end.3, refl);
-              changed = sym (with_same (with_peer life.past place later) m.place later there);
+              changed = sym (with_same (with_peer life.past rank later) m.rank later there);
             },
           )

@@ -7,13 +7,12 @@ use Rattle.std.proofs.lemmas.Option.{slice_get_within}
 use Rattle.disk_model.specs.declared.Disk.{Ghosts}
 use Rattle.feed_conf.specs.declared.conf.PeerConf.{PeerConf}
 use Rattle.article_store.specs.declared.store.Found.{Found}
-use Rattle.conn_core.proofs.UsedUp.{find-left_from}
+use Rattle.conn_core.specs.UsedLaws.{find-left_from}
 use Rattle.conn_core.specs.Commands.{Handing, Want, is_of}
 use Rattle.conn_core.specs.History.{Broke, Came, Event as Happening, Faulted, Handed, Taken, after, need, needed}
 use Rattle.conn_core.specs.History.{outcomes, outside, reason, story, taken}
 use Rattle.conn_core.specs.Receipt.{Fails, Is_closed, IsHandedAs, Reads, Reads_on, Receives, ReceivesSome, Stops, Waits}
-use Rattle.conn_core.specs.Stands.{Arises, Breaks, Is_handed, Receives_fault, Receives_reply, Stands as ConnStands}
-use Rattle.conn_core.specs.Stands.{Takes_one}
+use Rattle.conn_core.specs.Stands.{Arises, StandsFor as ConnStands, Goes_on}
 use Rattle.conn_core.specs.Used.{first_left, left_from}
 use Rattle.conn_core.specs.declared.options.Options.{Options}
 use Rattle.conn_core.specs.declared.outcome.Outcome.{Outcome}
@@ -48,9 +47,9 @@ module _ (o : Options) where
   arises_receives _ _ h _ arises (Waits waiting _ alive short) = arises
   arises_receives _ left h later arises (Reads waiting rest _ _ _ reply alive begins more) =
       arises_receives rest left (after o h (Came reply)) later
-      (subst (Arises o) (alive_outside h (Came reply) alive) (Receives_reply h reply arises)) more
+      (subst (Arises o) (alive_outside h (Came reply) alive) (Goes_on h (Came reply) arises tt)) more
   arises_receives _ _ h _ arises (Fails waiting _ fault alive begins) =
-      subst (Arises o) (alive_outside h (Faulted fault) alive) (Receives_fault h fault arises)
+      subst (Arises o) (alive_outside h (Faulted fault) alive) (Goes_on h (Faulted fault) arises tt)
 
   more_receives : (waiting left : List ℕ) (one other later : List Happening) → IsOneMore o one other
       → Receives o waiting one later left
@@ -80,7 +79,7 @@ module _ (o : Options) where
   arises_some _ h _ arises (Stops waiting _ alive) = arises
   arises_some _ h later arises (Reads_on waiting rest _ _ reply alive begins more) =
       arises_some rest (after o h (Came reply)) later
-      (subst (Arises o) (alive_outside h (Came reply) alive) (Receives_reply h reply arises)) more
+      (subst (Arises o) (alive_outside h (Came reply) alive) (Goes_on h (Came reply) arises tt)) more
 
   alive_some : (waiting : List ℕ) (h later : List Happening) → ReceivesSome o waiting h later → reason o later ≡ None
   alive_some _ h _ (Stops waiting _ alive) = alive
@@ -105,7 +104,7 @@ module _ (o : Options) where
       → Arises o (after o mid Broke)
   arises_broken waiting h mid arises some =
       subst (Arises o) (alive_outside mid Broke (alive_some waiting h mid some))
-      (Breaks mid (arises_some waiting h mid arises some))
+      (Goes_on mid Broke (arises_some waiting h mid arises some) tt)
 
   -- ---- the first article that is wanted
 
@@ -128,12 +127,12 @@ module _ (conf : PeerConf) (conn : ConnPast) (old new : Connection) where
       → slice_get (outcomes of conn.transcript) (taken conn.transcript) ≡ Some outcome
       → ConnStands of new.conn unread one
       → IsOneMore of one later
-      → HoldsTranscript conf (record { place = conn.place; unread = unread; transcript = later }) new (Some outcome)
+      → HoldsTranscript conf (record { rank = conn.rank; unread = unread; transcript = later }) new (Some outcome)
   holds_more outcome unread one later goes arises first stands more =
       let next = next_stays of conn.transcript later outcome goes first in (
         next,
         stands_more of new.conn unread one later stands more
-            (Takes_one later arises (slice_get_within (outcomes of later) (taken later) outcome next)),
+            (Goes_on later Taken arises (slice_get_within (outcomes of later) (taken later) outcome next)),
       )
 
   -- octets were read
@@ -143,7 +142,7 @@ module _ (conf : PeerConf) (conn : ConnPast) (old new : Connection) where
       → (later : List Happening) × (left : List ℕ) × Receives o (unread ++ octets) h later left
       × ConnStands o new.conn left later)
       → (later : List Happening) × (left : List ℕ) × Receives of (conn.unread ++ octets) conn.transcript later left
-      × HoldsTranscript conf (record { place = conn.place; unread = left; transcript = later }) new waits
+      × HoldsTranscript conf (record { rank = conn.rank; unread = left; transcript = later }) new waits
   holds_received octets None holds arises reads = reads of conn.unread conn.transcript holds
   holds_received octets (Some outcome) holds arises reads =
       let read = reads of conn.unread (Taken ∷ conn.transcript) holds.1 in
@@ -164,7 +163,7 @@ module _ (conf : PeerConf) (conn : ConnPast) (old new : Connection) where
       → (later : List Happening) × ReceivesSome o (unread ++ octets) h later
       × ConnStands o new.conn [] (after o later Broke))
       → (mid : List Happening) × ReceivesSome of (conn.unread ++ octets) conn.transcript mid
-      × HoldsTranscript conf (record { place = conn.place; unread = []; transcript = after of mid Broke }) new waits
+      × HoldsTranscript conf (record { rank = conn.rank; unread = []; transcript = after of mid Broke }) new waits
   holds_broken octets None holds arises reads = reads of conn.unread conn.transcript holds
   holds_broken octets (Some outcome) holds arises reads =
       let read = reads of conn.unread (Taken ∷ conn.transcript) holds.1 in
@@ -200,7 +199,7 @@ module _ (conf : PeerConf) (conn : ConnPast) (old new : Connection) where
           handed.1.1,
           holds_more outcome conn.unread (after of (Taken ∷ conn.transcript) (Handed number handed.1.0)) later
               (goes_after of conn.transcript (Handed number handed.1.0) tt)
-              (Is_handed conn.transcript number handed.1.0 arises wanted) holds.0
+              (Goes_on conn.transcript (Handed number handed.1.0) arises wanted) holds.0
               handed.1.2 (more_after of (Handed number handed.1.0) (Taken ∷ conn.transcript) conn.transcript more),
         ),
       )
@@ -261,7 +260,7 @@ wanted_needed conf conn c (Some outcome) number wanted holds says =
 
 module _ {D : Type 0} {g : Ghosts D} (id : ℕ) (conn : ConnPast) (past : PeerPast) (old new : Connection)
     (peer : Peer D g)
-    (pair : PairStands id conn past old peer) (waits : new.waiting ≡ old.waiting) (place : new.place ≡ old.place)
+    (pair : PairStands id conn past old peer) (waits : new.waiting ≡ old.waiting) (rank : new.rank ≡ old.rank)
     (same_id : new.conn.id ≡ old.conn.id) where
   -- the connection behind octets that were read
   pub pair_received : (octets : List ℕ)
@@ -270,16 +269,16 @@ module _ {D : Type 0} {g : Ghosts D} (id : ℕ) (conn : ConnPast) (past : PeerPa
       × ConnStands o new.conn left later)
       → (later : List Happening) × (left : List ℕ)
       × Receives (options_of past.conf) (conn.unread ++ octets) conn.transcript later left
-      × PairStands id (record { place = conn.place; unread = left; transcript = later }) past new peer
+      × PairStands id (record { rank = conn.rank; unread = left; transcript = later }) past new peer
   pair_received octets reads =
       let so = holds_received past.conf conn old new octets old.waiting pair.holds pair.arises reads in (
         so.0,
         so.1,
         so.2,
-        pair_on id conn (record { place = conn.place; unread = so.1; transcript = so.0 }) past old new peer pair refl
+        pair_on id conn (record { rank = conn.rank; unread = so.1; transcript = so.0 }) past old new peer pair refl
             (goes_receives (options_of past.conf) (conn.unread ++ octets) so.1 conn.transcript so.0 so.2)
             (arises_receives (options_of past.conf) (conn.unread ++ octets) so.1 conn.transcript so.0 pair.arises
-            so.2) so.3 waits place same_id,
+            so.2) so.3 waits rank same_id,
       )
 
   pub pair_unread : (octets : List ℕ)
@@ -288,7 +287,7 @@ module _ {D : Type 0} {g : Ghosts D} (id : ℕ) (conn : ConnPast) (past : PeerPa
       × ConnStands o new.conn [] (after o later Broke))
       → (mid : List Happening) × ReceivesSome (options_of past.conf) (conn.unread ++ octets) conn.transcript mid
       × PairStands id (record {
-        place = conn.place;
+        rank = conn.rank;
         unread = [];
         transcript =
             after (options_of past.conf) mid Broke;
@@ -298,14 +297,14 @@ module _ {D : Type 0} {g : Ghosts D} (id : ℕ) (conn : ConnPast) (past : PeerPa
         so.0,
         so.1,
         pair_on id conn (record {
-          place = conn.place;
+          rank = conn.rank;
           unread = [];
           transcript =
               after (options_of past.conf) so.0 Broke;
         }) past old new peer pair refl
             (goes_broken (options_of past.conf) (conn.unread ++ octets) conn.transcript so.0 so.1)
             (arises_broken (options_of past.conf) (conn.unread ++ octets) conn.transcript so.0 pair.arises so.1) so.2
-            waits place same_id,
+            waits rank same_id,
       )
 
   -- and behind an article that was handed in
@@ -324,6 +323,6 @@ module _ {D : Type 0} {g : Ghosts D} (id : ℕ) (conn : ConnPast) (past : PeerPa
         pair_on id conn (with_transcript conn (after (options_of past.conf) conn.transcript (Handed number so.1.0)))
             past old new peer pair refl
             (goes_after (options_of past.conf) conn.transcript (Handed number so.1.0) tt)
-            (Is_handed conn.transcript number so.1.0 pair.arises so.0)
-            so.1.2 waits place same_id,
+            (Goes_on conn.transcript (Handed number so.1.0) pair.arises so.0)
+            so.1.2 waits rank same_id,
       )

@@ -211,7 +211,7 @@ runs_again old new life stations conns told awaits stopped opens is none tells a
         sound = record {
           past = opens.stands.sound;
           conns = tied_none later free
-              (λ place peer here. all_at HasNoneHeld opens.later.peers place peer opens.free here);
+              (λ rank peer here. all_at HasNoneHeld opens.later.peers rank peer opens.free here);
         };
       };
     }

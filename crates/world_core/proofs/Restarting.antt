@@ -15,7 +15,7 @@ use Rattle.recovery.specs.declared.fault.TapeFault.{TapeFault}
 use Rattle.recovery.specs.declared.fault.TapeFault.TheVariants.{Damaged, Disk}
 use Rattle.world_core.specs.Past.{Past, PeerPast, TapePast, mark_at, with_intake}
 use Rattle.world_core.specs.Safe.{HasAcknowledged, IsSafe, KeepsLines}
-use Rattle.world_core.specs.Events.{AllDo, Event, Next, Opens, OpensIntake, Start, each_place}
+use Rattle.world_core.specs.Events.{AllDo, Event, Next, Opens, OpensIntake, Start, each_rank}
 use Rattle.world_core.specs.Fault.{fault_of}
 use Rattle.world_core.specs.Halting.{TapesStop}
 use Rattle.world_core.specs.Halts.{AtRest, left_peer, left_tape}
@@ -91,7 +91,7 @@ module _ (past : Past) (front : List PeerPast) (sound : IsSound (with_peers past
 
 module _ {D : Type 0} {g : Ghosts D} where
   opened_intake : (past : Past) (front : List PeerPast) (opened : List (Peer D g)) (stations : Stations D g) (old : Log)
-      → AllDo past (each_place Opens (length past.peers)) (with_peers past front) → AllZip PeerStands front opened
+      → AllDo past (each_rank Opens (length past.peers)) (with_peers past front) → AllZip PeerStands front opened
       → IsSound (with_peers past front) → AllByRecursion HasNoneHeld front
       → AreLegal past.intake.history.base past.intake.history.notes → old ≡ past.intake.log
       → Recovers past.intake.history old stations.intake → IsOpenedTape old stations.intake
@@ -135,7 +135,7 @@ module _ {D : Type 0} {g : Ghosts D} where
       } in
       record {
         later = later;
-        opens = Next (each_place Opens (length past.peers)) OpensIntake (with_peers past front) later did
+        opens = Next (each_rank Opens (length past.peers)) OpensIntake (with_peers past front) later did
             (record {
               tape = tape;
               opens = record {
@@ -158,11 +158,11 @@ module _ {D : Type 0} {g : Ghosts D} where
   all_front past opened t = ap (λ l. t.front ++ l) (none_stay t.behind t.stay) ∙ append-nil t.front
 
   all_did : (past : Past) (opened : List (Peer D g)) (t : HasOpened past opened [])
-      → AllDo past (each_place Opens (length past.peers)) (with_peers past t.front)
+      → AllDo past (each_rank Opens (length past.peers)) (with_peers past t.front)
   all_did past opened t =
       let count : length t.front ≡ length past.peers = ap length (sym (all_front past opened t)) ∙ t.count in
-      subst (λ (n : ℕ). AllDo past (each_place Opens n) (with_peers past t.front)) count
-      (subst (λ (ps : List PeerPast). AllDo past (each_place Opens (length t.front)) (with_peers past ps))
+      subst (λ (n : ℕ). AllDo past (each_rank Opens n) (with_peers past t.front)) count
+      (subst (λ (ps : List PeerPast). AllDo past (each_rank Opens (length t.front)) (with_peers past ps))
       (all_front past opened t) t.opens)
 
   pub opens_intake : (past : Past) (opened : List (Peer D g)) (stations : Stations D g) (old : Log)
@@ -187,7 +187,7 @@ module _ {D : Type 0} {g : Ghosts D} where
       → TapeLeaves (Survives past.intake.history) old (happened disks.0, happened disks.1)
       → said ≡ fault_of fault → IsOpenFault fault → ((segment at : ℕ) → fault ≡ Damaged segment at → ⊥)
       → (fault ≡ Disk → OneHasRisen told (all_faults disks.0, all_faults disks.1))
-      → OpensNot past (record { place = None; fault = said }) halted disks
+      → OpensNot past (record { rank = None; fault = said }) halted disks
   refuses_intake past opened old told halted disks fault said t legal log faults halts moments e kind undamaged cause =
       let front = t.front in
       let new : Log = (happened disks.0, happened disks.1) in
@@ -214,8 +214,8 @@ module _ {D : Type 0} {g : Ghosts D} where
             front = subst (λ (events : List Event). AllDo past events (with_peers past front))
                 (sym (take_places Opens n n (OpensIntake ∷ []) (omega arith)))
                 (all_did past opened t);
-            here = subst (λ (m : ℕ). slice_get (each_place Opens n ++ OpensIntake ∷ []) m ≡ Some OpensIntake)
-                (long Opens n) (get_at (each_place Opens n) OpensIntake []);
+            here = subst (λ (m : ℕ). slice_get (each_rank Opens n ++ OpensIntake ∷ []) m ≡ Some OpensIntake)
+                (long Opens n) (get_at (each_rank Opens n) OpensIntake []);
             refused = record {
               tape = tape;
               refused = record {

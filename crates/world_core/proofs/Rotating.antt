@@ -22,7 +22,7 @@ use Rattle.peer_queue.specs.declared.fault.StationFault.TheVariants.{NotHeld, Br
 use Rattle.peer_queue.specs.declared.limits.Limits.{Limits}
 use Rattle.peer_queue.specs.declared.limits.Shed.{Shed}
 use Rattle.peer_queue.specs.declared.station.Station.{Station}
-use Rattle.peer_queue.proofs.Sheds.{shed_unheld}
+use Rattle.peer_queue.specs.ShedLaws.{shed_unheld}
 use Rattle.world_core.specs.Past.{PeerPast, TapePast, ledger_at, limits_of}
 use Rattle.world_core.specs.Tapes.{IsRotated, MayRotate, RefusesRotate}
 use Rattle.world_core.specs.Fault.{fault_of_station}

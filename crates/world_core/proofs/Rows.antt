@@ -176,7 +176,7 @@ module _ (conf : PeerConf) where
   life = record { past = between; conns = []; connected = 3; now = 60; armed = None; running = true }
 
   abbrev stop : Armed
-  stop = record { place = Some 0; call = 2; choice = choice }
+  stop = record { rank = Some 0; call = 2; choice = choice }
 
   -- arming leaves the kept number, and a stop takes it: no number is kept, no stop is armed, and the moment and the
   -- numbers of connections go on

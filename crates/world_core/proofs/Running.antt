@@ -29,36 +29,36 @@ use Rattle.world_core.proofs.Stationed.{same_history}
 
 -- ---- a refused event
 
-at_same : (was now : Past) (place : ℕ) (peer : PeerPast) (tape : TapePast) → slice_get was.peers place ≡ Some peer
-    → now ≡ with_peer was place (with_tape peer tape) → tape.history ≡ peer.tape.history → PeersStay was now
-at_same was now place peer tape here changed same =
-    one_changed was now place peer (with_tape peer tape) here changed (refl, tape_same peer.tape tape same)
+at_same : (was now : Past) (rank : ℕ) (peer : PeerPast) (tape : TapePast) → slice_get was.peers rank ≡ Some peer
+    → now ≡ with_peer was rank (with_tape peer tape) → tape.history ≡ peer.tape.history → PeersStay was now
+at_same was now rank peer tape here changed same =
+    one_changed was now rank peer (with_tape peer tape) here changed (refl, tape_same peer.tape tape same)
 
 history_same : (one other : TapePast) → one ≡ other → one.history ≡ other.history
 history_same one other same = ap (λ (t : TapePast). t.history) same
 
 refused_stays : (event : Event) (was now : Past) (fault : Fault) → Refuses event was fault now → PeersStay was now
-refused_stays (Owes place token id) was now fault refuses =
-    at_same was now place refuses.peer refuses.tape refuses.here refuses.changed (history_same _ _ refuses.refused.2)
-refused_stays (Parts place) was now fault refuses =
-    at_same was now place refuses.peer refuses.tape refuses.here refuses.changed
+refused_stays (Owes rank token id) was now fault refuses =
+    at_same was now rank refuses.peer refuses.tape refuses.here refuses.changed (history_same _ _ refuses.refused.2)
+refused_stays (Parts rank) was now fault refuses =
+    at_same was now rank refuses.peer refuses.tape refuses.here refuses.changed
     (same_history (KeepsNotes refuses.peer) refuses.peer.tape fault refuses.tape refuses.refused)
-refused_stays (Rotates place generation) was now fault refuses =
-    at_same was now place refuses.peer refuses.tape refuses.here refuses.changed
+refused_stays (Rotates rank generation) was now fault refuses =
+    at_same was now rank refuses.peer refuses.tape refuses.here refuses.changed
     (same_rotated (KeepsNotes refuses.peer) refuses.peer.tape fault refuses.tape refuses.refused)
-refused_stays (Sheds place numbers) was now fault refuses =
-    at_same was now place refuses.peer refuses.tape refuses.here refuses.changed (history_same _ _ refuses.refused.1)
-refused_stays (Claims place id moment) was now fault refuses =
-    at_same was now place refuses.peer refuses.tape refuses.here refuses.changed
+refused_stays (Sheds rank numbers) was now fault refuses =
+    at_same was now rank refuses.peer refuses.tape refuses.here refuses.changed (history_same _ _ refuses.refused.1)
+refused_stays (Claims rank id moment) was now fault refuses =
+    at_same was now rank refuses.peer refuses.tape refuses.here refuses.changed
     (history_same _ _ refuses.refused.1.all)
-refused_stays (Returns place id number) was now fault refuses =
-    at_same was now place refuses.peer refuses.tape refuses.here refuses.changed (history_same _ _ refuses.refused.1)
-refused_stays (Settles place id moment outcome) was now fault refuses =
-    at_same was now place refuses.peer refuses.tape refuses.here refuses.changed (history_same _ _ refuses.refused.1)
+refused_stays (Returns rank id number) was now fault refuses =
+    at_same was now rank refuses.peer refuses.tape refuses.here refuses.changed (history_same _ _ refuses.refused.1)
+refused_stays (Settles rank id moment outcome) was now fault refuses =
+    at_same was now rank refuses.peer refuses.tape refuses.here refuses.changed (history_same _ _ refuses.refused.1)
 refused_stays (Sees number) was now fault refuses = stay_same was now (ap (λ (p : Past). p.peers) refuses.changed)
 refused_stays Acknowledges was now fault refuses = stay_same was now (ap (λ (p : Past). p.peers) refuses.changed)
-refused_stays (Opens place) was now fault refuses =
-    at_same was now place refuses.peer refuses.tape refuses.here refuses.changed
+refused_stays (Opens rank) was now fault refuses =
+    at_same was now rank refuses.peer refuses.tape refuses.here refuses.changed
     (ap (λ (t : TapePast). t.history) refuses.refused.all)
 refused_stays OpensIntake was now fault refuses = stay_same was now (ap (λ (p : Past). p.peers) refuses.changed)
 
@@ -101,10 +101,10 @@ follows_stays id was conn life later told follows =
 
 hands_stays : (id now : ℕ) (conn : ConnPast) (peer : PeerPast) (past : Past) (handed : _) (h : List Happening)
     (later : Past)
-    → slice_get past.peers conn.place ≡ Some peer → HandsOver id now conn peer past handed h later
+    → slice_get past.peers conn.rank ≡ Some peer → HandsOver id now conn peer past handed h later
     → PeersStay past later
 hands_stays id now conn peer past _ _ later here (None_there tape works none reads) =
-    at_same past later conn.place peer tape here refl (history_same _ _ reads.all)
+    at_same past later conn.rank peer tape here refl (history_same _ _ reads.all)
 hands_stays id now conn peer past _ _ _ here (Taken_over debt later is ready does) = events_stay past later _ does
 hands_stays id now conn peer past _ _ _ here (Has_no_room debt later is ready does) = events_stay past later _ does
 hands_stays id now conn peer past _ _ _ here (Is_shut debt later is ready does) = events_stay past later _ does
@@ -122,7 +122,7 @@ stop_stays : (peer : Option (List ℕ)) (call : ℕ) (choice : Choice) (life : L
     → TakesStop peer call choice life told later → PeersStay life.past later.past
 stop_stays peer zero choice life told later (runs, said, changed) =
     subst (λ (l : Life). PeersStay life.past l.past) (sym changed) (left_stays AtRest life.past.peers)
-stop_stays peer (suc calls) choice life told later (place, is, said, changed) =
+stop_stays peer (suc calls) choice life told later (rank, is, said, changed) =
     past_stays life later (ap (λ (l : Life). l.past) changed)
 
 step_stays : (step : Step) (life : Life) (told : List Said) (later : Life) → Does step life told later
@@ -134,7 +134,7 @@ step_stays Flush life told later (runs, (past, (does, said), changed)) =
     (events_stay (begun_at life.past) past _ does)) changed
 step_stays Begin life told later (runs, (past, (said, is), changed)) =
     on_past life later past (subst (PeersStay life.past) (sym is) (begun_stays life.past.peers)) changed
-step_stays (Part name) life told later (runs, (past, (place, here, does, said), changed)) =
+step_stays (Part name) life told later (runs, (past, (rank, here, does, said), changed)) =
     on_past life later past (events_stay life.past past _ does) changed
 step_stays Seal life told later (runs, (past, (number, sealable, does, said), changed)) =
     on_past life later past (events_stay life.past past _ does) changed
@@ -149,9 +149,9 @@ step_stays (Bytes id octets) life told later (runs, takes) = follows_stays id _ 
 step_stays (Article id found) life told later (runs, takes) = follows_stays id _ _ life later told takes.follows
 step_stays (Break id) life told later (runs, takes) = follows_stays id _ _ life later told takes.follows
 step_stays (Tick now) life told later (runs, takes) = ticks_stays _ _ told later takes
-step_stays (Shed name) life told later (runs, (past, (place, numbers, here, does, said), changed)) =
+step_stays (Shed name) life told later (runs, (past, (rank, numbers, here, does, said), changed)) =
     on_past life later past (events_stay life.past past _ does) changed
-step_stays (Rotate name) life told later (runs, (past, (place, generation, here, does, said), changed)) =
+step_stays (Rotate name) life told later (runs, (past, (rank, generation, here, does, said), changed)) =
     on_past life later past (events_stay life.past past _ does) changed
 step_stays (Stop peer call choice) life told later takes = stop_stays peer call choice life told later takes
 step_stays Restart life told later takes =

@@ -10,7 +10,7 @@ use Rattle.recovery.specs.Notes.{most_pending}
 use Rattle.recovery.specs.Words.{IsBroken, pending_of}
 use Rattle.recovery.specs.declared.fault.TapeFault.TheVariants.{PendingFull}
 use Rattle.conn_core.specs.History.{Taken}
-use Rattle.conn_core.specs.Stands.{Arises, Takes, Takes_one}
+use Rattle.conn_core.specs.Stands.{Arises, Takes, Goes_on}
 use Rattle.conn_core.specs.declared.options.Options.{Options}
 use Rattle.conn_core.specs.declared.outcome.Outcome.{Outcome}
 use Rattle.peer_queue.specs.Faults.{IsEndFault}
@@ -138,7 +138,7 @@ module _ {D : Type 0} {g : Ghosts D} where
       (was mid told : List Told)
       (outcome : Outcome) (cxn number : ℕ) (told_so : Settled) → PairStands id conn past before old
       → Takes (options_of past.conf) conn.unread conn.transcript (Some outcome) after.conn
-      → after.waiting ≡ None → after.place ≡ before.place → after.conn.id ≡ before.conn.id → cxn ≡ id
+      → after.waiting ≡ None → after.rank ≡ before.rank → after.conn.id ≡ before.conn.id → cxn ≡ id
       → number ≡ number_in outcome
       → told_so ≡ settled_by (station_limits old.station) now outcome → Finishes cxn now outcome old.station new.station
       → (IsBroken old.station.tape → ⊥)
@@ -147,7 +147,7 @@ module _ {D : Type 0} {g : Ghosts D} where
       → pending_of old.station.tape ≢ most_pending) → new.conf ≡ old.conf → new.parted ≡ old.parted → mid ≡ was
       → told ≡ mid ++ ToldSettled cxn number told_so ∷ []
       → SettledOne id now conn past was after new told
-  settled_one id now conn past before after old new was mid told outcome cxn number told_so pair takes waits place
+  settled_one id now conn past before after old new was mid told outcome cxn number told_so pair takes waits rank
       same_id own n_is so finishes works room conf parts
       same is =
       let options = options_of past.conf in
@@ -181,9 +181,9 @@ module _ {D : Type 0} {g : Ghosts D} where
             ∙ ap (λ said. map said_of was ++ said ∷ []) (rw (own, n_is, so, by) refl);
         stand = record {
           id_is = ap (λ i. i.0) same_id ∙ pair.id_is;
-          place = place ∙ pair.place;
+          rank = rank ∙ pair.rank;
           arises = subst (λ c. Arises (options_of c) (Taken ∷ conn.transcript)) (sym same_conf)
-              (Takes_one conn.transcript pair.arises (slice_get_within _ _ outcome takes.0));
+              (Goes_on conn.transcript Taken pair.arises (slice_get_within _ _ outcome takes.0));
           holds = subst (λ c. HoldsTranscript c (with_transcript conn (Taken ∷ conn.transcript)) after after.waiting)
               (sym same_conf)
               (subst (HoldsTranscript past.conf (with_transcript conn (Taken ∷ conn.transcript)) after) (sym waits)
@@ -236,7 +236,7 @@ module _ {D : Type 0} {g : Ghosts D} where
   pub settled_not : (id now : ℕ) (conn : ConnPast) (past : PeerPast) (before after : Connection) (old new : Peer D g)
       (outcome back : Outcome) (cxn : ℕ) (fault : StationFault) (told : Fault) → PairStands id conn past before old
       → Takes (options_of past.conf) conn.unread conn.transcript (Some outcome) after.conn
-      → after.waiting ≡ Some back → back ≡ outcome → after.place ≡ before.place → after.conn.id ≡ before.conn.id
+      → after.waiting ≡ Some back → back ≡ outcome → after.rank ≡ before.rank → after.conn.id ≡ before.conn.id
       → cxn ≡ id
       → ((fault ≡ Broken) ↔ IsBroken old.station.tape)
       → ((fault ≡ NotHeld) ↔ ((IsBroken old.station.tape → ⊥)
@@ -246,7 +246,7 @@ module _ {D : Type 0} {g : Ghosts D} where
       → (fault ≡ NoMemory → IsEnded (settled_by (station_limits old.station) now outcome)) → IsEndFault fault
       → told ≡ fault_of_station fault → IsSame old.station new.station → new.conf ≡ old.conf → new.parted ≡ old.parted
       → SettledNot id now conn past told after new
-  settled_not id now conn past before after old new outcome back cxn fault told pair takes waits back_is place same_id
+  settled_not id now conn past before after old new outcome back cxn fault told pair takes waits back_is rank same_id
       own broken not_held full memory kind e same conf
       parts =
       let options = options_of past.conf in
@@ -273,7 +273,7 @@ module _ {D : Type 0} {g : Ghosts D} where
         );
         stand = record {
           id_is = ap (λ i. i.0) same_id ∙ pair.id_is;
-          place = place ∙ pair.place;
+          rank = rank ∙ pair.rank;
           arises = pair.arises;
           holds = subst (HoldsTranscript past.conf conn after) (sym (waits ∙ ap Some back_is)) takes;
           stands = same_peer past old new pair.stands same conf parts;

@@ -44,31 +44,31 @@ has_shed mark numbers peer within has =
     (sym (drop_more peer.tape.history.kept peer.tape.history.notes (dropped numbers) within))
     (all_more (IsAbove mark) (pending_notes peer.tape.history) (dropped numbers) has (drops_above mark numbers))
 
-sound_shed : (past : Past) (place : ℕ) (peer : PeerPast) (numbers : List ℕ) → IsSound past
-    → slice_get past.peers place ≡ Some peer
-    → peer.tape.history.kept ≤ length peer.tape.history.notes → IsSound (with_peer past place (shed_peer numbers peer))
-sound_shed past place peer numbers sound here within = record {
-  names = names_set past place peer _ sound.names here refl;
+sound_shed : (past : Past) (rank : ℕ) (peer : PeerPast) (numbers : List ℕ) → IsSound past
+    → slice_get past.peers rank ≡ Some peer
+    → peer.tape.history.kept ≤ length peer.tape.history.notes → IsSound (with_peer past rank (shed_peer numbers peer))
+sound_shed past rank peer numbers sound here within = record {
+  names = names_set past rank peer _ sound.names here refl;
   fits = sound.fits;
   marked = sound.marked;
-  acknowledged = all_set (HasAcknowledged _) past.peers place _ sound.acknowledged
-      (has_shed _ numbers peer within (all_at (HasAcknowledged _) past.peers place peer sound.acknowledged here));
+  acknowledged = all_set (HasAcknowledged _) past.peers rank _ sound.acknowledged
+      (has_shed _ numbers peer within (all_at (HasAcknowledged _) past.peers rank peer sound.acknowledged here));
   kept = sound.kept;
-  parted = λ number is. all_set (HasParted number) past.peers place _ (sound.parted number is)
+  parted = λ number is. all_set (HasParted number) past.peers rank _ (sound.parted number is)
       (λ e. has_shed number numbers peer within
-      (all_at (HasParted number) past.peers place peer (sound.parted number is) here e));
+      (all_at (HasParted number) past.peers rank peer (sound.parted number is) here e));
 }
 
-sound_rotated : (past : Past) (place : ℕ) (peer : PeerPast) (tape : TapePast) → IsSound past
-    → slice_get past.peers place ≡ Some peer
-    → tape.history ≡ flushed peer.tape.history → IsSound (with_peer past place (with_tape peer tape))
-sound_rotated past place peer tape sound here is = record {
-  names = names_set past place peer _ sound.names here refl;
+sound_rotated : (past : Past) (rank : ℕ) (peer : PeerPast) (tape : TapePast) → IsSound past
+    → slice_get past.peers rank ≡ Some peer
+    → tape.history ≡ flushed peer.tape.history → IsSound (with_peer past rank (with_tape peer tape))
+sound_rotated past rank peer tape sound here is = record {
+  names = names_set past rank peer _ sound.names here refl;
   fits = sound.fits;
   marked = sound.marked;
-  acknowledged = all_set (HasAcknowledged _) past.peers place _ sound.acknowledged (has _);
+  acknowledged = all_set (HasAcknowledged _) past.peers rank _ sound.acknowledged (has _);
   kept = sound.kept;
-  parted = λ number e. all_set (HasParted number) past.peers place _ (sound.parted number e) (λ _. has number);
+  parted = λ number e. all_set (HasParted number) past.peers rank _ (sound.parted number e) (λ _. has number);
 }
   where
     has : (mark : ℕ) → HasAcknowledged mark (with_tape peer tape)
@@ -83,42 +83,42 @@ same_rotated P old fault new (inr (inr (inl full))) = ap (λ (t : TapePast). t.h
 same_rotated P old fault new (inr (inr (inr (inl memory)))) = ap (λ (t : TapePast). t.history) memory.3.all
 same_rotated P old fault new (inr (inr (inr (inr disk)))) = ap (λ (t : TapePast). t.history) disk.2.all
 
--- the peer that stands at a place
-pub one_there : {D : Type 0} {g : Ghosts D} (old : Stations D g) (past : Past) (place : ℕ) (was : Peer D g)
+-- the peer that stands at a rank
+pub one_there : {D : Type 0} {g : Ghosts D} (old : Stations D g) (past : Past) (rank : ℕ) (was : Peer D g)
     → Stands old past
-    → place < length old.peers.items → was ≡ get_or old.peers.items place was
-    → (p : PeerPast) × (slice_get past.peers place ≡ Some p) × PeerStands p was
-one_there old past place was stands within at =
-    let found = zip_at PeerStands past.peers old.peers.items place was stands.peers within in
+    → rank < length old.peers.items → was ≡ get_or old.peers.items rank was
+    → (p : PeerPast) × (slice_get past.peers rank ≡ Some p) × PeerStands p was
+one_there old past rank was stands within at =
+    let found = zip_at PeerStands past.peers old.peers.items rank was stands.peers within in
     (found.0, found.1, subst (λ q. PeerStands found.0 q) (sym at) found.2)
 
-module _ {D : Type 0} {g : Ghosts D} (old new : Stations D g) (past : Past) (place : ℕ) (was peer : Peer D g)
+module _ {D : Type 0} {g : Ghosts D} (old new : Stations D g) (past : Past) (rank : ℕ) (was peer : Peer D g)
     (stands : Stands old past)
-    (one : (p : PeerPast) × (slice_get past.peers place ≡ Some p) × PeerStands p was)
-    (same : WithPeer old new place peer) where
+    (one : (p : PeerPast) × (slice_get past.peers rank ≡ Some p) × PeerStands p was)
+    (same : WithPeer old new rank peer) where
   pub did_shed : (numbers : List ℕ) → ((p : PeerPast) → PeerStands p was → ShedPeer p numbers peer)
-      → DidOne past (Sheds place numbers) new
+      → DidOne past (Sheds rank numbers) new
   did_shed numbers tells =
       let is = tells one.0 one.2 in
       record {
-        later = with_peer past place (shed_peer numbers one.0);
+        later = with_peer past rank (shed_peer numbers one.0);
         does = record { peer = one.0; here = one.1; works = is.works; sheds = is.sheds; changed = refl };
-        stands = stands_with old new past place _ peer stands same is.stands
-            (sound_shed past place one.0 numbers stands.sound one.1 one.2.tape.stands.kept_within);
+        stands = stands_with old new past rank _ peer stands same is.stands
+            (sound_shed past rank one.0 numbers stands.sound one.1 one.2.tape.stands.kept_within);
       }
 
   pub failed_shed : (fault : Fault) → ((p : PeerPast) → PeerStands p was → UnshedPeer p fault peer)
-      → FailedOne past (Sheds place []) fault new
+      → FailedOne past (Sheds rank []) fault new
   failed_shed fault tells =
       let is = tells one.0 one.2 in
-      let back : with_peer past place one.0 ≡ past =
-      ap (λ peers. record past { peers = peers }) (set_same past.peers place one.0 one.1) in
+      let back : with_peer past rank one.0 ≡ past =
+      ap (λ peers. record past { peers = peers }) (set_same past.peers rank one.0 one.1) in
       record {
         later = past;
         refused = record { peer = one.0; tape = one.0.tape; here = one.1; refused = is.refused; changed = sym back };
         stands = record {
           peers = subst (λ (peers : List (Peer D g)). AllZip PeerStands past.peers peers) (sym same.peers)
-              (zip_set_same PeerStands past.peers old.peers.items place one.0 peer one.1 stands.peers is.stands);
+              (zip_set_same PeerStands past.peers old.peers.items rank one.0 peer one.1 stands.peers is.stands);
           intake = subst (λ t. TapeStands past.intake t) (sym same.intake) stands.intake;
           last = same.last ∙ stands.last;
           begun = same.begun ∙ stands.begun;
@@ -127,25 +127,25 @@ module _ {D : Type 0} {g : Ghosts D} (old new : Stations D g) (past : Past) (pla
       }
 
   pub did_rotate : (generation : ℕ) → ((p : PeerPast) → PeerStands p was → RotatedPeer p generation peer)
-      → DidOne past (Rotates place generation) new
+      → DidOne past (Rotates rank generation) new
   did_rotate generation tells =
       let is = tells one.0 one.2 in
       record {
-        later = with_peer past place (with_tape one.0 is.later);
+        later = with_peer past rank (with_tape one.0 is.later);
         does = record { peer = one.0; tape = is.later; here = one.1; rotates = is.rotates; changed = refl };
-        stands = stands_with old new past place _ peer stands same is.stands
-            (sound_rotated past place one.0 is.later stands.sound one.1
+        stands = stands_with old new past rank _ peer stands same is.stands
+            (sound_rotated past rank one.0 is.later stands.sound one.1
             (ap (λ (t : TapePast). t.history) is.rotates.all));
       }
 
   pub failed_rotate : (fault : Fault) → ((p : PeerPast) → PeerStands p was → UnrotatedPeer p fault peer)
-      → FailedOne past (Rotates place 0) fault new
+      → FailedOne past (Rotates rank 0) fault new
   failed_rotate fault tells =
       let is = tells one.0 one.2 in
       record {
-        later = with_peer past place (with_tape one.0 is.later);
+        later = with_peer past rank (with_tape one.0 is.later);
         refused = record { peer = one.0; tape = is.later; here = one.1; refused = is.refused; changed = refl };
-        stands = stands_with old new past place _ peer stands same is.stands
-            (sound_same past place one.0 is.later stands.sound one.1
+        stands = stands_with old new past rank _ peer stands same is.stands
+            (sound_same past rank one.0 is.later stands.sound one.1
             (same_rotated (KeepsNotes one.0) one.0.tape fault is.later is.refused));
       }

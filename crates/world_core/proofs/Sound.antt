@@ -26,11 +26,11 @@ use Rattle.world_core.proofs.Acknowledged.{all_at}
 use Rattle.world_core.proofs.Pure.{above_flushed, above_noted, all_set, keeps_lines, map_set}
 
 -- the names stay where one peer's settings do
-pub names_set : (past : Past) (place : ℕ) (was now : PeerPast) → NamesRise (names_of past.peers)
-    → slice_get past.peers place ≡ Some was
-    → now.conf ≡ was.conf → NamesRise (names_of (with_peer past place now).peers)
-names_set past place was now rise here same =
-    subst NamesRise (sym (map_set (λ (peer : PeerPast). peer.conf.name) past.peers place was now here
+pub names_set : (past : Past) (rank : ℕ) (was now : PeerPast) → NamesRise (names_of past.peers)
+    → slice_get past.peers rank ≡ Some was
+    → now.conf ≡ was.conf → NamesRise (names_of (with_peer past rank now).peers)
+names_set past rank was now rise here same =
+    subst NamesRise (sym (map_set (λ (peer : PeerPast). peer.conf.name) past.peers rank was now here
     (ap (λ conf. conf.name) same))) rise
 
 -- ---- a line
@@ -52,56 +52,56 @@ pub owed_conf : (number : ℕ) (token id : List ℕ) (peer : PeerPast) (owed : O
 owed_conf number token id peer New = refl
 owed_conf number token id peer Already = refl
 
-pub sound_line : (past : Past) (place : ℕ) (peer : PeerPast) (token id : List ℕ) (owed : Owed) → IsSound past
-    → slice_get past.peers place ≡ Some peer → peer.tape.history.kept ≤ length peer.tape.history.notes
-    → IsSound (with_peer past place (owing_as owed (past.last + 1) token id peer))
-sound_line past place peer token id owed sound here within = record {
-  names = names_set past place peer _ sound.names here (owed_conf (past.last + 1) token id peer owed);
+pub sound_line : (past : Past) (rank : ℕ) (peer : PeerPast) (token id : List ℕ) (owed : Owed) → IsSound past
+    → slice_get past.peers rank ≡ Some peer → peer.tape.history.kept ≤ length peer.tape.history.notes
+    → IsSound (with_peer past rank (owing_as owed (past.last + 1) token id peer))
+sound_line past rank peer token id owed sound here within = record {
+  names = names_set past rank peer _ sound.names here (owed_conf (past.last + 1) token id peer owed);
   fits = sound.fits;
   marked = sound.marked;
-  acknowledged = all_set (HasAcknowledged (mark_at past.intake)) past.peers place _ sound.acknowledged
+  acknowledged = all_set (HasAcknowledged (mark_at past.intake)) past.peers rank _ sound.acknowledged
       (has_owed (mark_at past.intake) (past.last + 1) token id peer owed within (omega (arith, sound.marked))
-      (all_at (HasAcknowledged (mark_at past.intake)) past.peers place peer sound.acknowledged here));
+      (all_at (HasAcknowledged (mark_at past.intake)) past.peers rank peer sound.acknowledged here));
   kept = sound.kept;
   parted = λ number is.
-      all_set (HasParted number) past.peers place _ (sound.parted number is)
+      all_set (HasParted number) past.peers rank _ (sound.parted number is)
       (λ e. has_owed number (past.last + 1) token id peer owed within (omega (arith, sound.kept number is))
-      (all_at (HasParted number) past.peers place peer (sound.parted number is) here
+      (all_at (HasParted number) past.peers rank peer (sound.parted number is) here
       (sym (owed_parted (past.last + 1) token id peer owed) ∙ e)));
 }
 
 -- ---- a peer whose pending notes are no more than they were, or none
 
-pub sound_flushed : (past : Past) (place : ℕ) (peer : PeerPast) (tape : TapePast) → IsSound past
-    → slice_get past.peers place ≡ Some peer
-    → tape.history ≡ flushed peer.tape.history → IsSound (with_peer past place (parted peer tape))
-sound_flushed past place peer tape sound here is = record {
-  names = names_set past place peer _ sound.names here refl;
+pub sound_flushed : (past : Past) (rank : ℕ) (peer : PeerPast) (tape : TapePast) → IsSound past
+    → slice_get past.peers rank ≡ Some peer
+    → tape.history ≡ flushed peer.tape.history → IsSound (with_peer past rank (parted peer tape))
+sound_flushed past rank peer tape sound here is = record {
+  names = names_set past rank peer _ sound.names here refl;
   fits = sound.fits;
   marked = sound.marked;
-  acknowledged = all_set (HasAcknowledged (mark_at past.intake)) past.peers place _ sound.acknowledged
+  acknowledged = all_set (HasAcknowledged (mark_at past.intake)) past.peers rank _ sound.acknowledged
       (has (mark_at past.intake));
   kept = sound.kept;
-  parted = λ number e. all_set (HasParted number) past.peers place _ (sound.parted number e) (λ _. has number);
+  parted = λ number e. all_set (HasParted number) past.peers rank _ (sound.parted number e) (λ _. has number);
 }
   where
     has : (mark : ℕ) → HasAcknowledged mark (parted peer tape)
     has mark = subst (λ (h : History). AllByRecursion (IsAbove mark) (pending_notes h)) (sym is)
         (above_flushed mark peer.tape.history)
 
-pub sound_same : (past : Past) (place : ℕ) (peer : PeerPast) (tape : TapePast) → IsSound past
-    → slice_get past.peers place ≡ Some peer
-    → tape.history ≡ peer.tape.history → IsSound (with_peer past place (with_tape peer tape))
-sound_same past place peer tape sound here same = record {
-  names = names_set past place peer _ sound.names here refl;
+pub sound_same : (past : Past) (rank : ℕ) (peer : PeerPast) (tape : TapePast) → IsSound past
+    → slice_get past.peers rank ≡ Some peer
+    → tape.history ≡ peer.tape.history → IsSound (with_peer past rank (with_tape peer tape))
+sound_same past rank peer tape sound here same = record {
+  names = names_set past rank peer _ sound.names here refl;
   fits = sound.fits;
   marked = sound.marked;
-  acknowledged = all_set (HasAcknowledged (mark_at past.intake)) past.peers place _ sound.acknowledged
+  acknowledged = all_set (HasAcknowledged (mark_at past.intake)) past.peers rank _ sound.acknowledged
       (has (mark_at past.intake)
-      (all_at (HasAcknowledged (mark_at past.intake)) past.peers place peer sound.acknowledged here));
+      (all_at (HasAcknowledged (mark_at past.intake)) past.peers rank peer sound.acknowledged here));
   kept = sound.kept;
-  parted = λ number is. all_set (HasParted number) past.peers place _ (sound.parted number is)
-      (λ e. has number (all_at (HasParted number) past.peers place peer (sound.parted number is) here e));
+  parted = λ number is. all_set (HasParted number) past.peers rank _ (sound.parted number is)
+      (λ e. has number (all_at (HasParted number) past.peers rank peer (sound.parted number is) here e));
 }
   where
     has : (mark : ℕ) → HasAcknowledged mark peer → HasAcknowledged mark (with_tape peer tape)

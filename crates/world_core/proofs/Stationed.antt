@@ -61,53 +61,53 @@ same_history P old fault new (inr (inr (inr disk))) = ap (λ (t : TapePast). t.h
 
 module _ {D : Type 0} {g : Ghosts D} where
   -- the new stations have this peer in the place of the old one, and all else is as it was
-  pub record WithPeer (old new : Stations D g) (place : ℕ) (peer : Peer D g) : Type 0 where
-    pub peers : new.peers.items ≡ set old.peers.items place peer
+  pub record WithPeer (old new : Stations D g) (rank : ℕ) (peer : Peer D g) : Type 0 where
+    pub peers : new.peers.items ≡ set old.peers.items rank peer
     pub intake : new.intake ≡ old.intake
     pub last : new.last ≡ old.last
     pub begun : new.begun ≡ old.begun
 
-  pub stands_with : (old new : Stations D g) (past : Past) (place : ℕ) (past' : PeerPast) (peer' : Peer D g)
+  pub stands_with : (old new : Stations D g) (past : Past) (rank : ℕ) (past' : PeerPast) (peer' : Peer D g)
       → Stands old past
-      → WithPeer old new place peer' → PeerStands past' peer' → IsSound (with_peer past place past')
-      → Stands new (with_peer past place past')
-  stands_with old new past place past' peer' stands same one sound = record {
-    peers = subst (λ (peers : List (Peer D g)). AllZip PeerStands (set past.peers place past') peers) (sym same.peers)
-        (zip_set PeerStands past.peers old.peers.items place past' peer' stands.peers one);
+      → WithPeer old new rank peer' → PeerStands past' peer' → IsSound (with_peer past rank past')
+      → Stands new (with_peer past rank past')
+  stands_with old new past rank past' peer' stands same one sound = record {
+    peers = subst (λ (peers : List (Peer D g)). AllZip PeerStands (set past.peers rank past') peers) (sym same.peers)
+        (zip_set PeerStands past.peers old.peers.items rank past' peer' stands.peers one);
     intake = subst (λ t. TapeStands past.intake t) (sym same.intake) stands.intake;
     last = same.last ∙ stands.last;
     begun = same.begun ∙ stands.begun;
     sound = sound;
   }
 
-  module _ (old new : Stations D g) (past : Past) (place : ℕ) (was peer : Peer D g) (stands : Stands old past)
-      (within : place < length old.peers.items) (at : was ≡ get_or old.peers.items place was)
-      (same : WithPeer old new place peer) where
-    here : (p : PeerPast) × (slice_get past.peers place ≡ Some p) × PeerStands p was
+  module _ (old new : Stations D g) (past : Past) (rank : ℕ) (was peer : Peer D g) (stands : Stands old past)
+      (within : rank < length old.peers.items) (at : was ≡ get_or old.peers.items rank was)
+      (same : WithPeer old new rank peer) where
+    here : (p : PeerPast) × (slice_get past.peers rank ≡ Some p) × PeerStands p was
     here =
-        let found = zip_at PeerStands past.peers old.peers.items place was stands.peers within in
+        let found = zip_at PeerStands past.peers old.peers.items rank was stands.peers within in
         (found.0, found.1, subst (λ (q : Peer D g). PeerStands found.0 q) (sym at) found.2)
 
-    pub did_part : ((p : PeerPast) → PeerStands p was → FlushedPeer p peer) → DidOne past (Parts place) new
+    pub did_part : ((p : PeerPast) → PeerStands p was → FlushedPeer p peer) → DidOne past (Parts rank) new
     did_part tells =
         let is = tells here.0 here.2 in
         record {
-          later = with_peer past place (parted here.0 is.later);
+          later = with_peer past rank (parted here.0 is.later);
           does = record { peer = here.0; tape = is.later; here = here.1; flushes = is.flushes; changed = refl };
-          stands = stands_with old new past place _ peer stands same is.stands
-              (sound_flushed past place here.0 is.later stands.sound here.1
+          stands = stands_with old new past rank _ peer stands same is.stands
+              (sound_flushed past rank here.0 is.later stands.sound here.1
               (ap (λ (t : TapePast). t.history) is.flushes.all));
         }
 
     pub failed_part : (fault : Fault) → ((p : PeerPast) → PeerStands p was → UnflushedPeer p fault peer)
-        → FailedOne past (Parts place) fault new
+        → FailedOne past (Parts rank) fault new
     failed_part fault tells =
         let is = tells here.0 here.2 in
         record {
-          later = with_peer past place (with_tape here.0 is.later);
+          later = with_peer past rank (with_tape here.0 is.later);
           refused = record { peer = here.0; tape = is.later; here = here.1; refused = is.refused; changed = refl };
-          stands = stands_with old new past place _ peer stands same is.stands
-              (sound_same past place here.0 is.later stands.sound here.1
+          stands = stands_with old new past rank _ peer stands same is.stands
+              (sound_same past rank here.0 is.later stands.sound here.1
               (same_history (KeepsNotes here.0) here.0.tape fault is.later is.refused));
         }
 
@@ -116,7 +116,7 @@ module _ {D : Type 0} {g : Ghosts D} where
       next = numbered ∙ ap (λ (n : ℕ). n + 1) stands.last
 
       pub did_owe : (owed : Owed) → ((p : PeerPast) → PeerStands p was → OwedTo number token id p owed peer)
-          → OwedOne past place token id owed new
+          → OwedOne past rank token id owed new
       did_owe owed tells =
           let is = subst (λ (n : ℕ). OwedTo n token id here.0 owed peer) next (tells here.0 here.2) in
           let as_is : PeerStands (owing_as (owed_as (past.last + 1) here.0) (past.last + 1) token id here.0) peer =
@@ -126,7 +126,7 @@ module _ {D : Type 0} {g : Ghosts D} where
             here = here.1;
             owed_is = is.owed_is;
             did = record {
-              later = with_peer past place (owing_as (owed_as (past.last + 1) here.0) (past.last + 1) token id here.0);
+              later = with_peer past rank (owing_as (owed_as (past.last + 1) here.0) (past.last + 1) token id here.0);
               does = record {
                 peer = here.0;
                 here = here.1;
@@ -135,18 +135,18 @@ module _ {D : Type 0} {g : Ghosts D} where
                     (λ e. is.room (is.owed_is ∙ e));
                 changed = refl;
               };
-              stands = stands_with old new past place _ peer stands same as_is
-                  (sound_line past place here.0 token id (owed_as (past.last + 1) here.0) stands.sound here.1
+              stands = stands_with old new past rank _ peer stands same as_is
+                  (sound_line past rank here.0 token id (owed_as (past.last + 1) here.0) stands.sound here.1
                   here.2.tape.stands.kept_within);
             };
           }
 
       pub failed_owe : (fault : Fault) → ((p : PeerPast) → PeerStands p was → OwedNot number token id p fault peer)
-          → FailedOne past (Owes place token id) fault new
+          → FailedOne past (Owes rank token id) fault new
       failed_owe fault tells =
           let is = subst (λ (n : ℕ). OwedNot n token id here.0 fault peer) next (tells here.0 here.2) in
-          let back : with_peer past place here.0 ≡ past =
-          ap (λ peers. record past { peers = peers }) (set_same past.peers place here.0 here.1) in
+          let back : with_peer past rank here.0 ≡ past =
+          ap (λ peers. record past { peers = peers }) (set_same past.peers rank here.0 here.1) in
           record {
             later = past;
             refused = record {
@@ -159,7 +159,7 @@ module _ {D : Type 0} {g : Ghosts D} where
             };
             stands = record {
               peers = subst (λ (peers : List (Peer D g)). AllZip PeerStands past.peers peers) (sym same.peers)
-                  (zip_set_same PeerStands past.peers old.peers.items place here.0 peer here.1 stands.peers is.stands);
+                  (zip_set_same PeerStands past.peers old.peers.items rank here.0 peer here.1 stands.peers is.stands);
               intake = subst (λ t. TapeStands past.intake t) (sym same.intake) stands.intake;
               last = same.last ∙ stands.last;
               begun = same.begun ∙ stands.begun;

@@ -11,7 +11,7 @@ use Rattle.peer_queue.specs.declared.limits.Owed.TheVariants.{New, Already}
 use Rattle.world_core.specs.Past.{Past, PeerPast, TapePast, with_peer, with_tape}
 use Rattle.world_core.specs.Events.{Acknowledges, AllDo, Claims, Does, Event, Fails, Opens, OpensIntake, Owes, Parts}
 use Rattle.world_core.specs.Events.{Refuses, Returns, Rotates, Sees, Settles, Sheds}
-use Rattle.world_core.specs.Events.{each_place, owed_as, owing_as, parted}
+use Rattle.world_core.specs.Events.{each_rank, owed_as, owing_as, parted}
 use Rattle.world_core.specs.Events.AllDo.{Start, Next}
 use Rattle.world_core.specs.Steps.{Good, NotGood, Reading, RefusesFlushing, RefusesLine, RefusesPart, RefusesRotation}
 use Rattle.world_core.specs.Steps.{RefusesSeal, RefusesShed, TakesFlush, TakesLine}
@@ -64,24 +64,24 @@ all_then (a ∷ was) [] now one other = absurd one
 all_then (a ∷ was) (b ∷ mid) [] one other = absurd other
 all_then (a ∷ was) (b ∷ mid) (c ∷ now) one other = (hold_then a b c one.0 other.0, all_then was mid now one.1 other.1)
 
-all_put : (peers : List PeerPast) (place : ℕ) (was now : PeerPast) → slice_get peers place ≡ Some was
+all_put : (peers : List PeerPast) (rank : ℕ) (was now : PeerPast) → slice_get peers rank ≡ Some was
     → HoldsSame was now
-    → AllZip HoldsSame peers (set peers place now)
-all_put [] place was now here same = absurd cc
+    → AllZip HoldsSame peers (set peers rank now)
+all_put [] rank was now here same = absurd cc
 all_put (peer ∷ peers) zero was now here same =
     let is : peer ≡ was = cc in
     (subst (λ (p : PeerPast). HoldsSame p now) (sym is) same, all_same peers)
-all_put (peer ∷ peers) (suc place) was now here same = (hold_same peer, all_put peers place was now here same)
+all_put (peer ∷ peers) (suc rank) was now here same = (hold_same peer, all_put peers rank was now here same)
 
 -- the peers of all tapes
 abbrev pub AllHold : Past → Past → Type 0
 AllHold was now = AllZip HoldsSame was.peers now.peers
 
-one_put : (past later : Past) (place : ℕ) (was now : PeerPast) → slice_get past.peers place ≡ Some was
+one_put : (past later : Past) (rank : ℕ) (was now : PeerPast) → slice_get past.peers rank ≡ Some was
     → HoldsSame was now
-    → later ≡ with_peer past place now → AllHold past later
-one_put past later place was now here same is =
-    subst (AllHold past) (sym is) (all_put past.peers place was now here same)
+    → later ≡ with_peer past rank now → AllHold past later
+one_put past later rank was now here same is =
+    subst (AllHold past) (sym is) (all_put past.peers rank was now here same)
 
 pub none_put : (past later : Past) → later.peers ≡ past.peers → AllHold past later
 none_put past later same =
@@ -145,57 +145,57 @@ all_gone_on (number ∷ numbers) p id m free is =
 
 -- an event on a tape that is open
 abbrev pub OnTape : Event → Type 0
-OnTape (Owes place token id) = Unit {0}
-OnTape (Parts place) = Unit {0}
-OnTape (Rotates place generation) = Unit {0}
-OnTape (Sheds place numbers) = Unit {0}
-OnTape (Claims place id now) = ⊥
-OnTape (Returns place id number) = ⊥
-OnTape (Settles place id now outcome) = ⊥
+OnTape (Owes rank token id) = Unit {0}
+OnTape (Parts rank) = Unit {0}
+OnTape (Rotates rank generation) = Unit {0}
+OnTape (Sheds rank numbers) = Unit {0}
+OnTape (Claims rank id now) = ⊥
+OnTape (Returns rank id number) = ⊥
+OnTape (Settles rank id now outcome) = ⊥
 OnTape (Sees number) = Unit {0}
 OnTape Acknowledges = Unit {0}
-OnTape (Opens place) = ⊥
+OnTape (Opens rank) = ⊥
 OnTape OpensIntake = ⊥
 
 holds_does : (event : Event) → OnTape event → (past later : Past) → Does event past later → AllHold past later
-holds_does (Owes place token id) on past later d =
-    one_put past later place d.peer _ d.here
+holds_does (Owes rank token id) on past later d =
+    one_put past later rank d.peer _ d.here
     (owing_holds (owed_as (past.last + 1) d.peer) (past.last + 1) token id d.peer) d.changed
-holds_does (Parts place) on past later d =
-    one_put past later place d.peer _ d.here (hold_places d.peer (parted d.peer d.tape) refl refl) d.changed
-holds_does (Rotates place generation) on past later d =
-    one_put past later place d.peer _ d.here (hold_places d.peer (with_tape d.peer d.tape) refl refl) d.changed
-holds_does (Sheds place numbers) on past later d =
-    one_put past later place d.peer _ d.here
+holds_does (Parts rank) on past later d =
+    one_put past later rank d.peer _ d.here (hold_places d.peer (parted d.peer d.tape) refl refl) d.changed
+holds_does (Rotates rank generation) on past later d =
+    one_put past later rank d.peer _ d.here (hold_places d.peer (with_tape d.peer d.tape) refl refl) d.changed
+holds_does (Sheds rank numbers) on past later d =
+    one_put past later rank d.peer _ d.here
     (refl, λ id m. (all_gone_back numbers d.peer.places id m, all_gone_on numbers d.peer.places id m d.sheds.free))
     d.changed
-holds_does (Claims place id now) on past later d = absurd on
-holds_does (Returns place id number) on past later d = absurd on
-holds_does (Settles place id now outcome) on past later d = absurd on
+holds_does (Claims rank id now) on past later d = absurd on
+holds_does (Returns rank id number) on past later d = absurd on
+holds_does (Settles rank id now outcome) on past later d = absurd on
 holds_does (Sees number) on past later d = none_put past later (ap (λ (p : Past). p.peers) d.changed)
 holds_does Acknowledges on past later d = none_put past later (ap (λ (p : Past). p.peers) d.changed)
-holds_does (Opens place) on past later d = absurd on
+holds_does (Opens rank) on past later d = absurd on
 holds_does OpensIntake on past later d = absurd on
 
-tape_put : (past later : Past) (place : ℕ) (peer : PeerPast) (tape : TapePast) → slice_get past.peers place ≡ Some peer
-    → later ≡ with_peer past place (with_tape peer tape) → AllHold past later
-tape_put past later place peer tape here is =
-    one_put past later place peer _ here (hold_places peer (with_tape peer tape) refl refl) is
+tape_put : (past later : Past) (rank : ℕ) (peer : PeerPast) (tape : TapePast) → slice_get past.peers rank ≡ Some peer
+    → later ≡ with_peer past rank (with_tape peer tape) → AllHold past later
+tape_put past later rank peer tape here is =
+    one_put past later rank peer _ here (hold_places peer (with_tape peer tape) refl refl) is
 
 -- a refused event moves no number
 holds_refuses : (event : Event) (past : Past) (fault : Fault) (later : Past) → Refuses event past fault later
     → AllHold past later
-holds_refuses (Owes place token id) past fault later r = tape_put past later place r.peer r.tape r.here r.changed
-holds_refuses (Parts place) past fault later r = tape_put past later place r.peer r.tape r.here r.changed
-holds_refuses (Rotates place generation) past fault later r = tape_put past later place r.peer r.tape r.here r.changed
-holds_refuses (Sheds place numbers) past fault later r = tape_put past later place r.peer r.tape r.here r.changed
-holds_refuses (Claims place id now) past fault later r = tape_put past later place r.peer r.tape r.here r.changed
-holds_refuses (Returns place id number) past fault later r = tape_put past later place r.peer r.tape r.here r.changed
-holds_refuses (Settles place id now outcome) past fault later r =
-    tape_put past later place r.peer r.tape r.here r.changed
+holds_refuses (Owes rank token id) past fault later r = tape_put past later rank r.peer r.tape r.here r.changed
+holds_refuses (Parts rank) past fault later r = tape_put past later rank r.peer r.tape r.here r.changed
+holds_refuses (Rotates rank generation) past fault later r = tape_put past later rank r.peer r.tape r.here r.changed
+holds_refuses (Sheds rank numbers) past fault later r = tape_put past later rank r.peer r.tape r.here r.changed
+holds_refuses (Claims rank id now) past fault later r = tape_put past later rank r.peer r.tape r.here r.changed
+holds_refuses (Returns rank id number) past fault later r = tape_put past later rank r.peer r.tape r.here r.changed
+holds_refuses (Settles rank id now outcome) past fault later r =
+    tape_put past later rank r.peer r.tape r.here r.changed
 holds_refuses (Sees number) past fault later r = none_put past later (ap (λ (p : Past). p.peers) r.changed)
 holds_refuses Acknowledges past fault later r = none_put past later (ap (λ (p : Past). p.peers) r.changed)
-holds_refuses (Opens place) past fault later r = tape_put past later place r.peer r.tape r.here r.changed
+holds_refuses (Opens rank) past fault later r = tape_put past later rank r.peer r.tape r.here r.changed
 holds_refuses OpensIntake past fault later r = none_put past later (ap (λ (p : Past). p.peers) r.changed)
 
 -- ---- one after another
@@ -240,19 +240,19 @@ owes_step : (b : Bool) (x : Event) (xs : List Event) → OnTape x → AllByRecur
 owes_step true x xs one all = (one, all)
 owes_step false x xs one all = all
 
-owes_on : (place : ℕ) (token id : List ℕ) (named : List (List ℕ)) (peers : List PeerPast)
-    → AllByRecursion OnTape (owes_from place token id named peers)
-owes_on place token id named [] = tt
-owes_on place token id named (peer ∷ peers) =
-    owes_step (is_named named peer) (Owes place token id) (owes_from (place + 1) token id named peers) tt
-    (owes_on (place + 1) token id named peers)
+owes_on : (rank : ℕ) (token id : List ℕ) (named : List (List ℕ)) (peers : List PeerPast)
+    → AllByRecursion OnTape (owes_from rank token id named peers)
+owes_on rank token id named [] = tt
+owes_on rank token id named (peer ∷ peers) =
+    owes_step (is_named named peer) (Owes rank token id) (owes_from (rank + 1) token id named peers) tt
+    (owes_on (rank + 1) token id named peers)
 
-parts_on : (n : ℕ) → AllByRecursion OnTape (each_place Parts n)
+parts_on : (n : ℕ) → AllByRecursion OnTape (each_rank Parts n)
 parts_on zero = tt
-parts_on (suc n) = both_all OnTape (each_place Parts n) (Parts n ∷ []) (parts_on n) (tt, tt)
+parts_on (suc n) = both_all OnTape (each_rank Parts n) (Parts n ∷ []) (parts_on n) (tt, tt)
 
 flush_on : (past : Past) → AllByRecursion OnTape (flush_events past)
-flush_on past = both_all OnTape (each_place Parts (length past.peers)) (seal_events past.last)
+flush_on past = both_all OnTape (each_rank Parts (length past.peers)) (seal_events past.last)
     (parts_on (length past.peers)) (tt, (tt, tt))
 
 -- ---- steps
@@ -287,12 +287,12 @@ holds_line_not text past later fault (inr (inr (fits, (token, id, named, reads, 
 
 pub holds_part : (name : List ℕ) (past later : Past) (told : List Said) → TakesPart name past told later
     → AllHold past later
-holds_part name past later told (place, here, does, said) = holds_all past later _ does (tt, tt)
+holds_part name past later told (rank, here, does, said) = holds_all past later _ does (tt, tt)
 
 pub holds_part_not : (name : List ℕ) (past later : Past) (fault : Fault) → RefusesPart name past fault later
     → AllHold past later
 holds_part_not name past later fault (inl none) = same_past past later none.2
-holds_part_not name past later fault (inr (place, here, fails)) = holds_fails past later _ fault (tt, tt) fails
+holds_part_not name past later fault (inr (rank, here, fails)) = holds_fails past later _ fault (tt, tt) fails
 
 pub holds_seal : (past later : Past) (told : List Said) → TakesSeal past told later → AllHold past later
 holds_seal past later told (number, may, does, said) = holds_all past later _ does (tt, (tt, tt))
@@ -315,20 +315,20 @@ holds_flush_not past later fault (inr fails) =
 
 pub holds_shed : (name : List ℕ) (past later : Past) (told : List Said) → TakesShed name past told later
     → AllHold past later
-holds_shed name past later told (place, numbers, here, does, said) = holds_all past later _ does (tt, tt)
+holds_shed name past later told (rank, numbers, here, does, said) = holds_all past later _ does (tt, tt)
 
 pub holds_shed_not : (name : List ℕ) (past later : Past) (fault : Fault) → RefusesShed name past fault later
     → AllHold past later
 holds_shed_not name past later fault (inl none) = same_past past later none.2
-holds_shed_not name past later fault (inr (place, here, inl memory)) = same_past past later memory.1
-holds_shed_not name past later fault (inr (place, here, inr fails)) = holds_fails past later _ fault (tt, tt) fails
+holds_shed_not name past later fault (inr (rank, here, inl memory)) = same_past past later memory.1
+holds_shed_not name past later fault (inr (rank, here, inr fails)) = holds_fails past later _ fault (tt, tt) fails
 
 pub holds_rotate : (name : List ℕ) (past later : Past) (told : List Said) → TakesRotate name past told later
     → AllHold past later
-holds_rotate name past later told (place, generation, here, does, said) = holds_all past later _ does (tt, tt)
+holds_rotate name past later told (rank, generation, here, does, said) = holds_all past later _ does (tt, tt)
 
 pub holds_rotate_not : (name : List ℕ) (past later : Past) (fault : Fault) → RefusesRotation name past fault later
     → AllHold past later
 holds_rotate_not name past later fault (inl none) = same_past past later none.2
-holds_rotate_not name past later fault (inr (place, here, inl memory)) = same_past past later memory.1
-holds_rotate_not name past later fault (inr (place, here, inr fails)) = holds_fails past later _ fault (tt, tt) fails
+holds_rotate_not name past later fault (inr (rank, here, inl memory)) = same_past past later memory.1
+holds_rotate_not name past later fault (inr (rank, here, inr fails)) = holds_fails past later _ fault (tt, tt) fails

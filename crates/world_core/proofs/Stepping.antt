@@ -10,12 +10,12 @@ use Rattle.std.proofs.Math.ListN.{set}
 use Rattle.std.proofs.lemmas.List.{length-map, length-set, take_all}
 use Rattle.disk_model.specs.declared.Disk.{Ghosts}
 use Rattle.recovery.specs.Words.{ledger_of}
-use Rattle.world_core.specs.Past.{Past, PeerPast, TapePast, mark_at, place_of}
+use Rattle.world_core.specs.Past.{Past, PeerPast, TapePast, mark_at, rank_of}
 use Rattle.world_core.specs.Told.{Rotated as SaidRotated, Shed as SaidShed, Taken as SaidTaken, said_of}
 use Rattle.recovery.specs.declared.fault.TapeFault.TheVariants.{Disk}
 use Rattle.world_core.specs.Tapes.{RefusesNote}
 use Rattle.world_core.specs.Events.{Acknowledges, Event, Fails, Parts, Refuses, Rotates, Sees, Sheds, calls_disk}
-use Rattle.world_core.specs.Events.{each_place, parted}
+use Rattle.world_core.specs.Events.{each_rank, parted}
 use Rattle.world_core.specs.Steps.{IsSealable, RefusesFlushing, RefusesPart, RefusesRotation, RefusesSeal, RefusesShed}
 use Rattle.world_core.specs.Steps.{TakesFlush, TakesPart}
 use Rattle.world_core.specs.Steps.{TakesRotate, TakesSeal, TakesShed, begun_at, flush_events, seal_events}
@@ -79,11 +79,11 @@ zip_long R (x ∷ xs) [] all = absurd all
 zip_long R (x ∷ xs) (y ∷ ys) all = ap suc (zip_long R xs ys all.1)
 
 flush_is : (past : Past) (number : ℕ) → number ≡ past.last
-    → each_place Parts (length (begun_at past).peers) ++ seal_events number ≡ flush_events past
+    → each_rank Parts (length (begun_at past).peers) ++ seal_events number ≡ flush_events past
 flush_is past number is =
-    ap (λ (n : ℕ). each_place Parts n ++ seal_events number)
+    ap (λ (n : ℕ). each_rank Parts n ++ seal_events number)
     (length-map past.peers (λ (peer : PeerPast). record peer { parted = false }))
-    ∙ ap (λ (n : ℕ). each_place Parts (length past.peers) ++ seal_events n) is
+    ∙ ap (λ (n : ℕ). each_rank Parts (length past.peers) ++ seal_events n) is
 
 -- no note is refused for a disk
 note_not : (tape : TapePast) → RefusesNote tape (Tape Disk) → ⊥
@@ -122,7 +122,7 @@ module _ {D : Type 0} {g : Ghosts D} where
   pub parted_more : (past : Past) (count : ℕ) (old new : Stations D g) → (each : PartedEach past count old)
       → DidOne each.did.later (Parts count) new → PartedEach past (count + 1) new
   parted_more past count old new each one = record {
-    did = did_more past (each_place Parts count) (each_place Parts (count + 1)) (Parts count) old new
+    did = did_more past (each_rank Parts count) (each_rank Parts (count + 1)) (Parts count) old new
         (each_more Parts count) each.did one;
     begun = ap (λ (p : Past). p.begun) one.does.changed ∙ each.begun;
     all = ap (λ (p : Past). length p.peers) one.does.changed ∙ length-set each.did.later.peers count _ ∙ each.all;
@@ -138,12 +138,12 @@ module _ {D : Type 0} {g : Ghosts D} where
   pub parted_failed : (past : Past) (count all : ℕ) (fault : Fault) (old new : Stations D g) → count < all
       → (each : PartedEach past count old)
       → FailedOne each.did.later (Parts count) fault new
-      → FailedAt past (each_place Parts all) (record { place = Some count; fault = fault }) new
+      → FailedAt past (each_rank Parts all) (record { rank = Some count; fault = fault }) new
   parted_failed past count all fault old new within each one =
       let split = each_split Parts all count within in
-      subst (λ (es : List Event). FailedAt past es (record { place = Some count; fault = fault }) new) (sym split.1)
+      subst (λ (es : List Event). FailedAt past es (record { rank = Some count; fault = fault }) new) (sym split.1)
       (record {
-        failed = failed_next past (each_place Parts count) (Parts count) split.0 fault old new each.did one;
+        failed = failed_next past (each_rank Parts count) (Parts count) split.0 fault old new each.did one;
         at = refl;
       })
 
@@ -243,12 +243,12 @@ module _ {D : Type 0} {g : Ghosts D} where
   }
 
   pub flush_failed_part : (past : Past) (halt : Halt) (stations : Stations D g)
-      → FailedAt (begun_at past) (each_place Parts (length (begun_at past).peers)) halt stations
+      → FailedAt (begun_at past) (each_rank Parts (length (begun_at past).peers)) halt stations
       → FlushHalted past halt stations
   flush_failed_part past halt stations one =
       flush_halted past halt stations
       (subst (λ (es : List Event). FailedAt (begun_at past) es halt stations) (flush_is past past.last refl) (record {
-        failed = failed_before (begun_at past) (each_place Parts (length (begun_at past).peers))
+        failed = failed_before (begun_at past) (each_rank Parts (length (begun_at past).peers))
             (seal_events past.last) halt.fault stations one.failed;
         at = one.at;
       }))
@@ -256,9 +256,9 @@ module _ {D : Type 0} {g : Ghosts D} where
   module _ (past : Past) (number : ℕ) (old new : Stations D g)
       (each : PartedEach (begun_at past) (length (begun_at past).peers) old) (is : number ≡ past.last) where
     pub flush_failed_seal : (fault : Fault) → Failed each.did.later (seal_events number) fault new
-        → FlushHalted past (record { place = None; fault = fault }) new
+        → FlushHalted past (record { rank = None; fault = fault }) new
     flush_failed_seal fault failed =
-        let parts = each_place Parts (length (begun_at past).peers) in
+        let parts = each_rank Parts (length (begun_at past).peers) in
         let whole = failed_then (begun_at past) parts (seal_events number) fault old new each.did failed in
         let all = subst (λ (es : List Event). SealFails (begun_at past) es fault new) (flush_is past number is)
         (record { failed = whole; at = λ disk. seal_at each.did.later failed.later number fault disk failed.fails }) in
@@ -274,7 +274,7 @@ module _ {D : Type 0} {g : Ghosts D} where
         → told ≡ ToldTaken mark ∷ [] → Took TakesFlush past told new
     flush_took mark told did marks tells =
         let whole = subst (λ (es : List Event). Did (begun_at past) es new) (flush_is past number is)
-        (did_then (begun_at past) (each_place Parts (length (begun_at past).peers)) (seal_events number) old new
+        (did_then (begun_at past) (each_rank Parts (length (begun_at past).peers)) (seal_events number) old new
         each.did did) in
         record {
           later = whole.later;
@@ -284,21 +284,21 @@ module _ {D : Type 0} {g : Ghosts D} where
 
   -- ---- the step of one peer
 
-  same_place : (name : List ℕ) (pasts : List PeerPast) (peers : List (Peer D g)) → AllZip PeerStands pasts peers
+  same_rank : (name : List ℕ) (pasts : List PeerPast) (peers : List (Peer D g)) → AllZip PeerStands pasts peers
       → prefix_len (λ (peer : PeerPast). not (bytes_eq peer.conf.name name)) pasts
       ≡ prefix_len (λ (peer : Peer D g). not (bytes_eq peer.conf.name name)) peers
-  same_place name [] [] all = refl
-  same_place name [] (peer ∷ peers) all = absurd all
-  same_place name (past ∷ pasts) [] all = absurd all
-  same_place name (past ∷ pasts) (peer ∷ peers) all =
+  same_rank name [] [] all = refl
+  same_rank name [] (peer ∷ peers) all = absurd all
+  same_rank name (past ∷ pasts) [] all = absurd all
+  same_rank name (past ∷ pasts) (peer ∷ peers) all =
       ap (λ conf. cond (not (bytes_eq conf.name name))
       (1 + prefix_len (λ (p : PeerPast). not (bytes_eq p.conf.name name)) pasts) 0) (sym all.0.conf)
-      ∙ ap (λ n. cond (not (bytes_eq peer.conf.name name)) (1 + n) 0) (same_place name pasts peers all.1)
+      ∙ ap (λ n. cond (not (bytes_eq peer.conf.name name)) (1 + n) 0) (same_rank name pasts peers all.1)
 
-  pub place_same : (name : List ℕ) (past : Past) (stations : Stations D g) → Stands stations past
-      → place_of past name ≡ position (λ (peer : Peer D g). bytes_eq peer.conf.name name) stations.peers.items
-  place_same name past stations stands =
-      let before = same_place name past.peers stations.peers.items stands.peers in
+  pub rank_same : (name : List ℕ) (past : Past) (stations : Stations D g) → Stands stations past
+      → rank_of past name ≡ position (λ (peer : Peer D g). bytes_eq peer.conf.name name) stations.peers.items
+  rank_same name past stations stands =
+      let before = same_rank name past.peers stations.peers.items stands.peers in
       let long = zip_long PeerStands past.peers stations.peers.items stands.peers in
       ap (λ n. cond (nat_lt n (length past.peers)) (Some n) None) before
       ∙ ap (λ n. cond (nat_lt (prefix_len (λ (peer : Peer D g). not (bytes_eq peer.conf.name name))
@@ -306,7 +306,7 @@ module _ {D : Type 0} {g : Ghosts D} where
       (Some (prefix_len (λ (peer : Peer D g). not (bytes_eq peer.conf.name name)) stations.peers.items)) None) long
 
   module _ (name : List ℕ) (past : Past) (fault : Fault) (stations : Stations D g) (told : fault ≡ NoPeer)
-      (none : place_of past name ≡ None)
+      (none : rank_of past name ≡ None)
       (stands : Stands stations past) where
     pub part_absent : TookNot (RefusesPart name) past fault stations
     part_absent = record { later = past; refuses = inl (told, none, refl); stands = stands }
@@ -317,51 +317,51 @@ module _ {D : Type 0} {g : Ghosts D} where
     pub rotate_absent : TookNot (RefusesRotation name) past fault stations
     rotate_absent = record { later = past; refuses = inl (told, none, refl); stands = stands }
 
-  module _ (name : List ℕ) (past : Past) (place : ℕ) (here : place_of past name ≡ Some place)
+  module _ (name : List ℕ) (past : Past) (rank : ℕ) (here : rank_of past name ≡ Some rank)
       (stations : Stations D g) where
-    pub part_took : (told : List Told) → told ≡ [] → DidOne past (Parts place) stations
+    pub part_took : (told : List Told) → told ≡ [] → DidOne past (Parts rank) stations
         → Took (TakesPart name) past told stations
     part_took told none one =
-        let did = did_one past (Parts place) stations one in
-        record { later = did.later; takes = (place, here, did.does, ap (map said_of) none); stands = did.stands }
+        let did = did_one past (Parts rank) stations one in
+        record { later = did.later; takes = (rank, here, did.does, ap (map said_of) none); stands = did.stands }
 
-    pub part_failed : (fault : Fault) → FailedOne past (Parts place) fault stations
+    pub part_failed : (fault : Fault) → FailedOne past (Parts rank) fault stations
         → TookNot (RefusesPart name) past fault stations
     part_failed fault one =
-        let failed = failed_one past (Parts place) fault stations one in
-        record { later = failed.later; refuses = inr (place, here, failed.fails); stands = failed.stands }
+        let failed = failed_one past (Parts rank) fault stations one in
+        record { later = failed.later; refuses = inr (rank, here, failed.fails); stands = failed.stands }
 
     pub shed_took : (told : List Told) (numbers : List ℕ) → map said_of told ≡ SaidShed name numbers ∷ []
-        → DidOne past (Sheds place numbers) stations
+        → DidOne past (Sheds rank numbers) stations
         → Took (TakesShed name) past told stations
     shed_took told numbers is one =
-        let did = did_one past (Sheds place numbers) stations one in
-        record { later = did.later; takes = (place, numbers, here, did.does, is); stands = did.stands }
+        let did = did_one past (Sheds rank numbers) stations one in
+        record { later = did.later; takes = (rank, numbers, here, did.does, is); stands = did.stands }
 
-    pub shed_failed : (fault : Fault) → FailedOne past (Sheds place []) fault stations
+    pub shed_failed : (fault : Fault) → FailedOne past (Sheds rank []) fault stations
         → TookNot (RefusesShed name) past fault stations
     shed_failed fault one =
-        let failed = failed_one past (Sheds place []) fault stations one in
-        record { later = failed.later; refuses = inr (place, here, inr failed.fails); stands = failed.stands }
+        let failed = failed_one past (Sheds rank []) fault stations one in
+        record { later = failed.later; refuses = inr (rank, here, inr failed.fails); stands = failed.stands }
 
     pub shed_memory : (fault : Fault) → fault ≡ NoMemory → Stands stations past
         → TookNot (RefusesShed name) past fault stations
     shed_memory fault memory stands =
-        record { later = past; refuses = inr (place, here, inl (memory, refl)); stands = stands }
+        record { later = past; refuses = inr (rank, here, inl (memory, refl)); stands = stands }
 
     pub rotate_took : (told : List Told) (generation : ℕ) → map said_of told ≡ SaidRotated name generation ∷ []
-        → DidOne past (Rotates place generation) stations → Took (TakesRotate name) past told stations
+        → DidOne past (Rotates rank generation) stations → Took (TakesRotate name) past told stations
     rotate_took told generation is one =
-        let did = did_one past (Rotates place generation) stations one in
-        record { later = did.later; takes = (place, generation, here, did.does, is); stands = did.stands }
+        let did = did_one past (Rotates rank generation) stations one in
+        record { later = did.later; takes = (rank, generation, here, did.does, is); stands = did.stands }
 
-    pub rotate_failed : (fault : Fault) → FailedOne past (Rotates place 0) fault stations
+    pub rotate_failed : (fault : Fault) → FailedOne past (Rotates rank 0) fault stations
         → TookNot (RefusesRotation name) past fault stations
     rotate_failed fault one =
-        let failed = failed_one past (Rotates place 0) fault stations one in
-        record { later = failed.later; refuses = inr (place, here, inr failed.fails); stands = failed.stands }
+        let failed = failed_one past (Rotates rank 0) fault stations one in
+        record { later = failed.later; refuses = inr (rank, here, inr failed.fails); stands = failed.stands }
 
     pub rotate_memory : (fault : Fault) → fault ≡ NoMemory → Stands stations past
         → TookNot (RefusesRotation name) past fault stations
     rotate_memory fault memory stands =
-        record { later = past; refuses = inr (place, here, inl (memory, refl)); stands = stands }
+        record { later = past; refuses = inr (rank, here, inl (memory, refl)); stands = stands }

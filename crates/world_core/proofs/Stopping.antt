@@ -23,7 +23,7 @@ use Rattle.world_core.proofs.Halting.{left_again, tapes_left}
 
 -- where there are no connections, none may hold a number
 pub tied_none : (life : Life) → life.conns ≡ []
-    → ((place : ℕ) (peer : PeerPast) → slice_get life.past.peers place ≡ Some peer → HasNoneHeld peer)
+    → ((rank : ℕ) (peer : PeerPast) → slice_get life.past.peers rank ≡ Some peer → HasNoneHeld peer)
     → AreTied life
 tied_none life none free = record {
   rising = subst (λ conns. IsStrictlyIncreasing (map (λ (entry : ℕ × ConnPast). entry.0) conns)) (sym none)
@@ -31,9 +31,9 @@ tied_none life none free = record {
   made = subst (λ conns. AllByRecursion (λ (entry : ℕ × ConnPast). entry.0 ≤ life.connected) conns) (sym none) tt;
   each = subst (λ conns. AllByRecursion (λ (entry : ℕ × ConnPast). IsSoundConn life.past.peers entry.1) conns)
       (sym none) tt;
-  held = λ place id number peer here. (
-    (λ is. absurd (free place peer here id number is)),
-    (λ (has : HasNumber life place peer id number).
+  held = λ rank id number peer here. (
+    (λ is. absurd (free rank peer here id number is)),
+    (λ (has : HasNumber life rank peer id number).
         let at = has.here in
         let empty : conn_at life.conns id ≡ None = ap (λ conns. conn_at conns id) none in
         absurd cc),
@@ -42,14 +42,14 @@ tied_none life none free = record {
 }
 
 -- what has stopped holds nothing
-pub left_free : (manner : Manner) (peers : List PeerPast) (place : ℕ) (peer : PeerPast)
-    → slice_get (map (left_peer manner) peers) place ≡ Some peer
+pub left_free : (manner : Manner) (peers : List PeerPast) (rank : ℕ) (peer : PeerPast)
+    → slice_get (map (left_peer manner) peers) rank ≡ Some peer
     → HasNoneHeld peer
-left_free manner [] place peer here = absurd cc
+left_free manner [] rank peer here = absurd cc
 left_free manner (was ∷ peers) zero peer here =
     let is : left_peer manner was ≡ peer = cc in
     subst HasNoneHeld is (λ id number held. cc)
-left_free manner (was ∷ peers) (suc place) peer here = left_free manner peers place peer here
+left_free manner (was ∷ peers) (suc rank) peer here = left_free manner peers rank peer here
 
 pub tied_halted : (manner : Manner) (under_way : Past) (life : Life) → AreTied (halted manner under_way life)
 tied_halted manner under_way life = tied_none (halted manner under_way life) refl (left_free manner under_way.peers)

@@ -4,7 +4,7 @@ use Rattle.std.proofs.Common.{◌∙◌, subst, inl, inr}
 use Rattle.std.specs.Prelude.{Contains, IfErr, OnOk, Result, option_map}
 use Rattle.std.specs.List.{AllByRecursion, AllZip, slice_get}
 use Rattle.recovery.specs.declared.fault.TapeFault.TheVariants.{Disk}
-use Rattle.world_core.specs.Past.{Armed, ConnPast, Life, Past, PeerPast, options_of, place_of, with_past}
+use Rattle.world_core.specs.Past.{Armed, ConnPast, Life, Past, PeerPast, options_of, rank_of, with_past}
 use Rattle.world_core.specs.Events.{Event, Fails, Parts, Refuses as RefusesEvent, Rotates, calls_disk}
 use Rattle.world_core.specs.Steps.{RefusesFlushing, RefusesPart, RefusesRotation, RefusesSeal, begun_at, flush_events}
 use Rattle.world_core.specs.Steps.{seal_events}
@@ -34,27 +34,27 @@ use Rattle.world_core.proofs.Stepping.{seal_at}
 
 -- ---- what connections hold stays
 
--- the peer at a place is another with the same settings, of which the same is held
-peer_at : (was now : List PeerPast) (place : ℕ) (peer : PeerPast) → AllZip HoldsSame was now
-    → slice_get was place ≡ Some peer
-    → (later : PeerPast) × (slice_get now place ≡ Some later) × HoldsSame peer later
-peer_at [] now place peer all here = absurd cc
-peer_at (a ∷ was) [] place peer all here = absurd all
+-- the peer at a rank is another with the same settings, of which the same is held
+peer_at : (was now : List PeerPast) (rank : ℕ) (peer : PeerPast) → AllZip HoldsSame was now
+    → slice_get was rank ≡ Some peer
+    → (later : PeerPast) × (slice_get now rank ≡ Some later) × HoldsSame peer later
+peer_at [] now rank peer all here = absurd cc
+peer_at (a ∷ was) [] rank peer all here = absurd all
 peer_at (a ∷ was) (b ∷ now) zero peer all here =
     let same : a ≡ peer = cc in
     (b, refl, subst (λ (p : PeerPast). HoldsSame p b) same all.0)
-peer_at (a ∷ was) (b ∷ now) (suc place) peer all here = peer_at was now place peer all.1 here
+peer_at (a ∷ was) (b ∷ now) (suc rank) peer all here = peer_at was now rank peer all.1 here
 
-peer_before : (was now : List PeerPast) (place : ℕ) (peer : PeerPast) → AllZip HoldsSame was now
-    → slice_get now place ≡ Some peer
-    → (before : PeerPast) × (slice_get was place ≡ Some before) × HoldsSame before peer
-peer_before [] [] place peer all here = absurd cc
-peer_before [] (b ∷ now) place peer all here = absurd all
-peer_before (a ∷ was) [] place peer all here = absurd all
+peer_before : (was now : List PeerPast) (rank : ℕ) (peer : PeerPast) → AllZip HoldsSame was now
+    → slice_get now rank ≡ Some peer
+    → (before : PeerPast) × (slice_get was rank ≡ Some before) × HoldsSame before peer
+peer_before [] [] rank peer all here = absurd cc
+peer_before [] (b ∷ now) rank peer all here = absurd all
+peer_before (a ∷ was) [] rank peer all here = absurd all
 peer_before (a ∷ was) (b ∷ now) zero peer all here =
     let same : b ≡ peer = cc in
     (a, refl, subst (λ (p : PeerPast). HoldsSame a p) same all.0)
-peer_before (a ∷ was) (b ∷ now) (suc place) peer all here = peer_before was now place peer all.1 here
+peer_before (a ∷ was) (b ∷ now) (suc rank) peer all here = peer_before was now rank peer all.1 here
 
 sound_conns : (was now : List PeerPast) (conns : List (ℕ × ConnPast)) → AllZip HoldsSame was now
     → AllByRecursion (λ (entry : ℕ × ConnPast). IsSoundConn was entry.1) conns
@@ -62,7 +62,7 @@ sound_conns : (was now : List PeerPast) (conns : List (ℕ × ConnPast)) → All
 sound_conns was now [] all each = tt
 sound_conns was now (entry ∷ conns) all each =
     let is = each.0 in
-    let at = peer_at was now entry.1.place is.peer all is.here in (
+    let at = peer_at was now entry.1.rank is.peer all is.here in (
       record {
         peer = at.0;
         here = at.1;
@@ -80,10 +80,10 @@ conns_kept was now [] (c ∷ connections) all each = absurd each
 conns_kept was now (entry ∷ conns) [] all each = absurd each
 conns_kept was now (entry ∷ conns) (c ∷ connections) all each =
     let is = each.0 in
-    let at = peer_at was now entry.1.place is.peer all is.here in (
+    let at = peer_at was now entry.1.rank is.peer all is.here in (
       record {
         id = is.id;
-        place = is.place;
+        rank = is.rank;
         peer = at.0;
         here = at.1;
         holds = subst (λ conf. HoldsTranscript conf entry.1 c c.waiting) (sym at.2.0) is.holds;
@@ -96,9 +96,9 @@ tied_kept life past all tied = record {
   rising = tied.rising;
   made = tied.made;
   each = sound_conns life.past.peers past.peers life.conns all tied.each;
-  held = λ place id number peer here.
-      let at = peer_before life.past.peers past.peers place peer all here in
-      let was = tied.held place id number at.0 at.1 in (
+  held = λ rank id number peer here.
+      let at = peer_before life.past.peers past.peers rank peer all here in
+      let was = tied.held rank id number at.0 at.1 in (
         (λ is.
             let has = was.0 ((at.2.1 id number).0 is) in
             record {
@@ -109,7 +109,7 @@ tied_kept life past all tied = record {
                   subst (λ conf. Contains (numbers_at (options_of conf) has.conn.transcript) number) (sym at.2.0)
                   has.has;
             }),
-        (λ (has : HasNumber (with_past life past) place peer id number).
+        (λ (has : HasNumber (with_past life past) rank peer id number).
             (at.2.1 id number).1 (was.1
             (record {
               conn = has.conn;
@@ -184,7 +184,7 @@ armed_is o arming a is same = sym same ∙ ap (option_map armed_as) is
 
 meets : (step : Step) (life : Life) (halt : Halt) (under_way : Past) (arming : Arming)
     → life.armed ≡ Some (armed_as arming)
-    → halt.fault ≡ Tape Disk → arming.place ≡ halt.place → DiskFails step life halt under_way
+    → halt.fault ≡ Tape Disk → arming.rank ≡ halt.rank → DiskFails step life halt under_way
     → Meets step life (armed_as arming) under_way
 meets step life halt under_way arming armed is at fails =
     let one = fails.fails.fails in
@@ -205,7 +205,7 @@ meets step life halt under_way arming armed is at fails =
 
 module _ (step : Step) (life : Life) (halt : Halt) (old : World) (was : WasHalted step life halt old)
     (arming : Arming) (armed : old.armed ≡ Some arming)
-    (is : halt.fault ≡ Tape Disk) (at : arming.place ≡ halt.place) where
+    (is : halt.fault ≡ Tape Disk) (at : arming.rank ≡ halt.rank) where
   there : Meets step life (armed_as arming) was.under_way
   there = meets step life halt was.under_way arming
       (sym (goes_armed life was.under_way was.now was.goes_on)
@@ -353,39 +353,39 @@ one_event past later event fault fails = only fails.count fails.event fails.here
     only zero e here = cc
     only (suc count) e here = absurd cc
 
-pub part_fails : (life : Life) (name : List ℕ) (halt : Halt) (later : Past) → place_of life.past name ≡ halt.place
+pub part_fails : (life : Life) (name : List ℕ) (halt : Halt) (later : Past) → rank_of life.past name ≡ halt.rank
     → life.running ≡ true
     → RefusesPart name life.past halt.fault later → halt.fault ≡ Tape Disk → DiskFails (Part name) life halt later
 part_fails life name halt later at runs (inl none) disk = absurd (let no = none.0 in cc)
-part_fails life name halt later at runs (inr (place, here, fails)) disk = record {
+part_fails life name halt later at runs (inr (rank, here, fails)) disk = record {
   begun = life.past;
-  events = Parts place ∷ [];
-  calls = (runs, refl, (place, here, refl));
+  events = Parts rank ∷ [];
+  calls = (runs, refl, (rank, here, refl));
   fails = record {
     fails = fails;
     at =
-        ap calls_disk (one_event life.past later (Parts place) halt.fault fails)
+        ap calls_disk (one_event life.past later (Parts rank) halt.fault fails)
         ∙ ap (λ (o : Option ℕ). Some o) (sym here ∙ at);
   };
 }
 
-pub rotate_fails : (life : Life) (name : List ℕ) (halt : Halt) (later : Past) → place_of life.past name ≡ halt.place
+pub rotate_fails : (life : Life) (name : List ℕ) (halt : Halt) (later : Past) → rank_of life.past name ≡ halt.rank
     → life.running ≡ true
     → RefusesRotation name life.past halt.fault later → halt.fault ≡ Tape Disk → DiskFails (Rotate name) life halt later
 rotate_fails life name halt later at runs (inl none) disk = absurd (let no = none.0 in cc)
-rotate_fails life name halt later at runs (inr (place, here, inl memory)) disk = absurd (let no = memory.0 in cc)
-rotate_fails life name halt later at runs (inr (place, here, inr fails)) disk = record {
+rotate_fails life name halt later at runs (inr (rank, here, inl memory)) disk = absurd (let no = memory.0 in cc)
+rotate_fails life name halt later at runs (inr (rank, here, inr fails)) disk = record {
   begun = life.past;
-  events = Rotates place 0 ∷ [];
-  calls = (runs, refl, (place, here, refl));
+  events = Rotates rank 0 ∷ [];
+  calls = (runs, refl, (rank, here, refl));
   fails = record {
     fails = fails;
-    at = ap calls_disk (one_event life.past later (Rotates place 0) halt.fault fails)
+    at = ap calls_disk (one_event life.past later (Rotates rank 0) halt.fault fails)
         ∙ ap (λ (o : Option ℕ). Some o) (sym here ∙ at);
   };
 }
 
-pub seal_fails : (life : Life) (halt : Halt) (later : Past) → halt.place ≡ None → life.running ≡ true
+pub seal_fails : (life : Life) (halt : Halt) (later : Past) → halt.rank ≡ None → life.running ≡ true
     → RefusesSeal life.past halt.fault later → halt.fault ≡ Tape Disk → DiskFails Seal life halt later
 seal_fails life halt later at runs (inl none) disk = absurd (let no = none.0 in cc)
 seal_fails life halt later at runs (inr (number, may, inl memory)) disk = absurd (let no = memory.0 in cc)

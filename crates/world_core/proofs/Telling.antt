@@ -6,9 +6,9 @@ use Rattle.std.specs.List.{IsDistinct}
 use Rattle.disk_model.specs.declared.Disk.{Ghosts}
 use Rattle.feed_conf.specs.declared.conf.PeerConf.{PeerConf}
 use Rattle.conn_core.specs.Commands.{Held}
-use Rattle.conn_core.specs.History.{Event as Happening, Sent, Story, accepted, ended_places, held_from, need, noted}
+use Rattle.conn_core.specs.History.{Event as Happening, Sent, Story, accepted, ended_tickets, held_from, need, noted}
 use Rattle.conn_core.specs.History.{output, reason, story, taken}
-use Rattle.conn_core.specs.Stands.{Arises, HoldsBack, Sends, Stands as ConnStands, left_behind}
+use Rattle.conn_core.specs.Stands.{Arises, HoldsBack, StandsFor as ConnStands, left_behind, Goes_on}
 use Rattle.conn_core.specs.State.{Holding}
 use Rattle.conn_core.specs.declared.options.Options.{Options}
 use Rattle.conn_core.specs.declared.reason.Reason.{Reason}
@@ -37,7 +37,7 @@ module _ (options : Options) (h : List Happening) (count : ℕ) where
 
   numbers_sent : numbers_at options (Sent count ∷ h) ≡ numbers_at options h
   numbers_sent = ap (λ (s : Story). map number_in (drop (taken h) (map (λ x. x.outcome) s.ends))
-      ++ map (λ (x : Held). x.debt.0) (held_from 0 (accepted h) (ended_places s.ends))) story_sent
+      ++ map (λ (x : Held). x.debt.0) (held_from 0 (accepted h) (ended_tickets s.ends))) story_sent
 
   noted_step : (closed : Bool) → numbers_at options (if closed then h else Sent count ∷ h) ≡ numbers_at options h
   noted_step true = refl
@@ -99,12 +99,12 @@ module _ {D : Type 0} {g : Ghosts D} where
         → Tells one (map (Output cxn) (lines_in sending)) two → Tells two (need_said cxn wanted) three
         → ((w : Option Reason) → was_open ≡ is_none w → Tells three (closed_said cxn w closed) told)
         → was_open ≡ is_none (reason (options_of past.conf) was) → count ≡ length sending
-        → new_c.place ≡ mid_c.place → new_c.waiting ≡ mid_c.waiting → new_c.conn.id ≡ mid_c.conn.id
+        → new_c.rank ≡ mid_c.rank → new_c.waiting ≡ mid_c.waiting → new_c.conn.id ≡ mid_c.conn.id
         → ((o : Options) (unread : List ℕ) (h : List Happening) → ConnStands o mid_c.conn unread h
         → ConnStands o new_c.conn unread (noted o h (Sent count)))
         → Followed id now was conn past before new_c peer told
     followed was new_c two three told cxn count was_open sending wanted closed own sends needs closes outputs needed
-        says was_is count_is place waits same_id sent =
+        says was_is count_is rank waits same_id sent =
         let o = options_of past.conf in
         let h = told_out o conn.transcript in
         let stands = stands_out in
@@ -113,7 +113,7 @@ module _ {D : Type 0} {g : Ghosts D} where
         let many : count ≡ length (output o h) = count_is ∙ ap length out in
         let later_conn : ConnPast =
         record {
-          place = conn.place;
+          rank = conn.rank;
           unread = left_behind o conn.unread h;
           transcript =
               sent_out o conn.transcript;
@@ -145,10 +145,9 @@ module _ {D : Type 0} {g : Ghosts D} where
               (says (reason o was) was_is)))));
           stand = record {
             id_is = ap (λ i. i.0) same_id ∙ all.some.stand.id_is;
-            place = place ∙ all.some.stand.place;
+            rank = rank ∙ all.some.stand.rank;
             arises = subst (λ (x : Options). Arises x (sent_out o conn.transcript)) (sym same)
-                (Sends h (length (output o h)) (subst (λ (x : Options). Arises x h) same all.some.stand.arises)
-                (omega arith));
+                (Goes_on h (Sent (length (output o h))) (subst (λ (x : Options). Arises x h) same all.some.stand.arises) (omega arith));
             holds = subst (HoldsTranscript all.later.conf later_conn new_c) (sym (waits ∙ all.waits))
                 (subst (λ (x : Options).
                 ConnStands x new_c.conn (left_behind o conn.unread h) (sent_out o conn.transcript)) (sym same)

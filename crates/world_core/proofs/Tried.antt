@@ -9,7 +9,7 @@ use Rattle.ledger_core.specs.State.{numbers}
 use Rattle.peer_queue.specs.Place.{Held, Ready, all_ready, place_at}
 use Rattle.world_core.specs.Past.{Past, PeerPast, TapePast, ledger_at, with_peer, with_tape}
 use Rattle.world_core.specs.Safe.{IsAbove, IsSafe}
-use Rattle.world_core.specs.Events.{AllDo, Event, Next, Opens, OpensIntake, each_place, opened_peer}
+use Rattle.world_core.specs.Events.{AllDo, Event, Next, Opens, OpensIntake, each_rank, opened_peer}
 use Rattle.world_core.specs.Halts.{AtRest, left_peer, restart_events}
 use Rattle.world_core.specs.Opening.{FailsAt, HasHalted, HasNoneHeld, HasOpened, HasTried, with_peers}
 use Rattle.world_core.specs.Sound.{IsSound}
@@ -20,7 +20,7 @@ use Rattle.world_core.specs.declared.peer.StoppedPeer.{StoppedPeer}
 use Rattle.world_core.specs.declared.fault.Halt.{Halt}
 use Rattle.world_core.proofs.Pure.{all_push}
 use Rattle.world_core.proofs.Sound.{each_front, sound_same}
-use Rattle.world_core.proofs.Trying.{get_at, get_place, has_opened, length_push, length_set, map_push, safe_put, set_at}
+use Rattle.world_core.proofs.Trying.{get_at, get_rank, has_opened, length_push, length_set, map_push, safe_put, set_at}
 use Rattle.world_core.proofs.Trying.{sound_opened, take_places}
 use Rattle.world_core.proofs.Zips.{zip_length, zip_push}
 
@@ -59,7 +59,7 @@ some_at front behind p count is =
 
 module _ {D : Type 0} {g : Ghosts D} (past : Past) (front behind : List PeerPast) (p : PeerPast)
     (opened : List (Peer D g)) (rest : List StoppedPeer)
-    (opens : AllDo past (each_place Opens (length front)) (with_peers past (front ++ p ∷ behind)))
+    (opens : AllDo past (each_rank Opens (length front)) (with_peers past (front ++ p ∷ behind)))
     (stand : AllZip PeerStands front opened)
     (stay : AllZip StoppedStands behind rest) (sound : IsSound (with_peers past (front ++ p ∷ behind)))
     (safe : IsSafe (with_peers past (front ++ p ∷ behind))) (count : length (front ++ p ∷ behind)
@@ -85,9 +85,9 @@ module _ {D : Type 0} {g : Ghosts D} (past : Past) (front behind : List PeerPast
       record {
         front = front ++ q ∷ [];
         behind = behind;
-        opens = subst (λ (n : ℕ). AllDo past (each_place Opens n) (with_peers past ((front ++ q ∷ []) ++ behind)))
+        opens = subst (λ (n : ℕ). AllDo past (each_rank Opens n) (with_peers past ((front ++ q ∷ []) ++ behind)))
             (sym (length_push front q))
-            (Next (each_place Opens (length front)) (Opens (length front)) mid
+            (Next (each_rank Opens (length front)) (Opens (length front)) mid
             (with_peers past ((front ++ q ∷ []) ++ behind)) opens
             (record { peer = p; tape = is.later; here = here; opens = is.opens; changed = sym (changed q) }) is_safe);
         stand = zip_push PeerStands front opened q peer stand is.stands;
@@ -102,7 +102,7 @@ module _ {D : Type 0} {g : Ghosts D} (past : Past) (front behind : List PeerPast
   pub refuses_one : (fault : Fault) (back : StoppedPeer) (halted : List StoppedPeer)
       → AllZip StoppedStands (map (left_peer AtRest) front) halted
       → RefusedOpen p fault back
-      → HasHalted past (record { place = Some (length front); fault = fault }) (halted ++ back ∷ []) rest
+      → HasHalted past (record { rank = Some (length front); fault = fault }) (halted ++ back ∷ []) rest
   refuses_one fault back halted all is =
       let q = with_tape p is.later in
       let history = ap (λ (t : TapePast). t.history) is.refused.all in
@@ -123,7 +123,7 @@ module _ {D : Type 0} {g : Ghosts D} (past : Past) (front behind : List PeerPast
             front = subst (λ (events : List Event). AllDo past events mid)
                 (sym (take_places Opens (length past.peers) (length front) (OpensIntake ∷ [])
                 (omega (arith, within)))) opens;
-            here = get_place Opens (length past.peers) (length front) (OpensIntake ∷ []) within;
+            here = get_rank Opens (length past.peers) (length front) (OpensIntake ∷ []) within;
             refused = record { peer = p; tape = is.later; here = here; refused = is.refused; changed = refl };
             safe = is_safe;
           };
@@ -165,7 +165,7 @@ halted_more past halt stopped rest peer under_way front (p ∷ behind) all fails
 module _ {D : Type 0} {g : Ghosts D} where
   opens_more : (past : Past) (opened : List (Peer D g)) (rest : List StoppedPeer) (stopped : StoppedPeer)
       (peer : Peer D g) (front behind : List PeerPast)
-      → AllDo past (each_place Opens (length front)) (with_peers past (front ++ behind))
+      → AllDo past (each_rank Opens (length front)) (with_peers past (front ++ behind))
       → AllZip PeerStands front opened
       → AllZip StoppedStands behind (stopped ∷ rest) → IsSound (with_peers past (front ++ behind))
       → IsSafe (with_peers past (front ++ behind))
@@ -178,7 +178,7 @@ module _ {D : Type 0} {g : Ghosts D} where
   refuses_more : (past : Past) (opened : List (Peer D g)) (rest : List StoppedPeer) (stopped back : StoppedPeer)
       (fault : Fault) (halted : List StoppedPeer)
       (front behind : List PeerPast)
-      → AllDo past (each_place Opens (length front)) (with_peers past (front ++ behind))
+      → AllDo past (each_rank Opens (length front)) (with_peers past (front ++ behind))
       → AllZip PeerStands front opened
       → AllZip StoppedStands behind (stopped ∷ rest) → IsSound (with_peers past (front ++ behind))
       → IsSafe (with_peers past (front ++ behind))
@@ -186,7 +186,7 @@ module _ {D : Type 0} {g : Ghosts D} where
       → ((pasts : List PeerPast) → AllZip PeerStands pasts opened
       → AllZip StoppedStands (map (left_peer AtRest) pasts) halted)
       → ((p : PeerPast) → StoppedStands p stopped → RefusedOpen p fault back)
-      → HasHalted past (record { place = Some (length front); fault = fault }) (halted ++ back ∷ []) rest
+      → HasHalted past (record { rank = Some (length front); fault = fault }) (halted ++ back ∷ []) rest
   refuses_more past opened rest stopped back fault halted front [] opens stand stay sound safe count halts is =
       absurd stay
   refuses_more past opened rest stopped back fault halted front (p ∷ behind) opens stand stay sound safe count halts
@@ -221,7 +221,7 @@ module _ {D : Type 0} {g : Ghosts D} where
   pub tried_refused : (past : Past) (opened now : List (Peer D g)) (all halted behind : List StoppedPeer)
       (refused told : Option Halt) (stopped back : StoppedPeer)
       (fault : Fault) (rest : List StoppedPeer) → is_some refused ≡ false → behind ≡ halted ++ back ∷ []
-      → told ≡ Some (record { place = Some (length opened); fault = fault })
+      → told ≡ Some (record { rank = Some (length opened); fault = fault })
       → ((pasts : List PeerPast) → AllZip PeerStands pasts opened
       → AllZip StoppedStands (map (left_peer AtRest) pasts) halted)
       → HasTried past opened all refused (stopped ∷ rest)
@@ -230,11 +230,11 @@ module _ {D : Type 0} {g : Ghosts D} where
   tried_refused past opened now all halted behind None told stopped back fault rest none is same halts (empty, t)
       refuses =
       let many = zip_length PeerStands t.front opened t.stand in
-      let told_is : told ≡ Some (record { place = Some (length t.front); fault = fault }) =
-      same ∙ ap (λ (n : ℕ). Some (record { place = Some n; fault = fault })) (sym many) in
+      let told_is : told ≡ Some (record { rank = Some (length t.front); fault = fault }) =
+      same ∙ ap (λ (n : ℕ). Some (record { rank = Some n; fault = fault })) (sym many) in
       subst (λ (o : Option Halt). HasTried past now behind o rest) (sym told_is)
       (subst (λ (l : List StoppedPeer).
-      HasHalted past (record { place = Some (length t.front); fault = fault }) l rest) (sym is)
+      HasHalted past (record { rank = Some (length t.front); fault = fault }) l rest) (sym is)
       (refuses_more past opened rest stopped back fault halted t.front t.behind t.opens t.stand t.stay t.sound t.safe
       t.count halts refuses))
   tried_refused past opened now all halted behind (Some halt) told stopped back fault rest none is same halts tries

@@ -10,7 +10,7 @@ use Rattle.recovery.specs.LeavingLaws.{EachLedger-weaker}
 use Rattle.recovery.specs.Notes.{History, recovered}
 use Rattle.world_core.specs.Past.{Past, PeerPast, TapePast, mark_at, with_peer}
 use Rattle.world_core.specs.Safe.{HasAcknowledged, IsAbove, IsSafe, KeepsLines, KeepsNotes}
-use Rattle.world_core.specs.Events.{Event, each_place, opened_peer}
+use Rattle.world_core.specs.Events.{Event, each_rank, opened_peer}
 use Rattle.world_core.specs.Sound.{HasParted, IsSound}
 use Rattle.world_core.proofs.Acknowledged.{all_at}
 use Rattle.world_core.proofs.Pure.{all_set}
@@ -46,58 +46,58 @@ module _ {A : Type 0} where
   map_push f [] x = refl
   map_push f (a ∷ front) x = ap (λ l. f a ∷ l) (map_push f front x)
 
--- ---- the events at each place
+-- ---- the events at each rank
 
-pub long : (event : ℕ → Event) (n : ℕ) → length (each_place event n) ≡ n
+pub long : (event : ℕ → Event) (n : ℕ) → length (each_rank event n) ≡ n
 long event zero = refl
-long event (suc n) = length_push (each_place event n) (event n) ∙ ap (λ (m : ℕ). suc m) (long event n)
+long event (suc n) = length_push (each_rank event n) (event n) ∙ ap (λ (m : ℕ). suc m) (long event n)
 
--- those up to a place are the first of them
+-- those up to a rank are the first of them
 front_of : (event : ℕ → Event) (n k : ℕ) (behind : List Event) → k ≤ n
-    → (rest : List Event) × (each_place event n ++ behind ≡ each_place event k ++ rest)
+    → (rest : List Event) × (each_rank event n ++ behind ≡ each_rank event k ++ rest)
 front_of event zero k behind within =
     let none : k ≡ 0 = omega (arith, within) in
-    (behind, sym (ap (λ (m : ℕ). each_place event m ++ behind) none))
+    (behind, sym (ap (λ (m : ℕ). each_rank event m ++ behind) none))
 front_of event (suc n) k behind within = elim (cases_lt n k) [
   | inl less ↦
       let all : k ≡ suc n = omega (arith, within, less) in
-      (behind, sym (ap (λ (m : ℕ). each_place event m ++ behind) all))
+      (behind, sym (ap (λ (m : ℕ). each_rank event m ++ behind) all))
   | inr more ↦
       let first = front_of event n k (event n ∷ behind) more in
-      (first.0, append_assoc (each_place event n) (event n ∷ []) behind ∙ first.1)
+      (first.0, append_assoc (each_rank event n) (event n ∷ []) behind ∙ first.1)
 ]
 
 pub take_places : (event : ℕ → Event) (n k : ℕ) (behind : List Event) → k ≤ n
-    → take k (each_place event n ++ behind) ≡ each_place event k
+    → take k (each_rank event n ++ behind) ≡ each_rank event k
 take_places event n k behind within =
     let first = front_of event n k behind within in
-    ap (λ (l : List Event). take k l) first.1 ∙ take_at (each_place event k) first.0 k (long event k)
+    ap (λ (l : List Event). take k l) first.1 ∙ take_at (each_rank event k) first.0 k (long event k)
 
-pub get_place : (event : ℕ → Event) (n k : ℕ) (behind : List Event) → k < n
-    → slice_get (each_place event n ++ behind) k ≡ Some (event k)
-get_place event n k behind within =
+pub get_rank : (event : ℕ → Event) (n k : ℕ) (behind : List Event) → k < n
+    → slice_get (each_rank event n ++ behind) k ≡ Some (event k)
+get_rank event n k behind within =
     let first = front_of event n (suc k) behind (omega (arith, within)) in
-    let is : each_place event n ++ behind ≡ each_place event k ++ event k ∷ first.0 =
-    first.1 ∙ append_assoc (each_place event k) (event k ∷ []) first.0 in
+    let is : each_rank event n ++ behind ≡ each_rank event k ++ event k ∷ first.0 =
+    first.1 ∙ append_assoc (each_rank event k) (event k ∷ []) first.0 in
     ap (λ (l : List Event). slice_get l k) is
-    ∙ subst (λ (m : ℕ). slice_get (each_place event k ++ event k ∷ first.0) m ≡ Some (event k)) (long event k)
-    (get_at (each_place event k) (event k) first.0)
+    ∙ subst (λ (m : ℕ). slice_get (each_rank event k ++ event k ∷ first.0) m ≡ Some (event k)) (long event k)
+    (get_at (each_rank event k) (event k) first.0)
 
 -- ---- one peer in the place of another
 
 -- it is safe still where what is left of the new one's tape is, and all that was acknowledged is
-pub safe_put : (past : Past) (place : ℕ) (was now : PeerPast) → IsSafe past → slice_get past.peers place ≡ Some was
+pub safe_put : (past : Past) (rank : ℕ) (was now : PeerPast) → IsSafe past → slice_get past.peers rank ≡ Some was
     → EachLedger (KeepsNotes now) now.tape.log → ((mark : ℕ) → HasAcknowledged mark was → HasAcknowledged mark now)
-    → IsSafe (with_peer past place now)
-safe_put past place was now safe here each has = record {
-  peers = all_set (λ (peer : PeerPast). EachLedger (KeepsNotes peer) peer.tape.log) past.peers place now safe.peers
+    → IsSafe (with_peer past rank now)
+safe_put past rank was now safe here each has = record {
+  peers = all_set (λ (peer : PeerPast). EachLedger (KeepsNotes peer) peer.tape.log) past.peers rank now safe.peers
       each;
   intake = EachLedger-weaker (KeepsLines past.intake.history past.peers)
-      (KeepsLines past.intake.history (set past.peers place now))
+      (KeepsLines past.intake.history (set past.peers rank now))
       (λ state keeps. record {
         front = keeps.front;
-        lines = all_set (HasAcknowledged state.mark) past.peers place now keeps.lines
-            (has state.mark (all_at (HasAcknowledged state.mark) past.peers place was keeps.lines here));
+        lines = all_set (HasAcknowledged state.mark) past.peers rank now keeps.lines
+            (has state.mark (all_at (HasAcknowledged state.mark) past.peers rank was keeps.lines here));
       }) past.intake.log safe.intake;
 }
 
@@ -112,16 +112,16 @@ has_opened mark peer tape count is =
     subst (λ (h : History). AllByRecursion (IsAbove mark) (pending_notes h)) (sym is)
     (none_pends mark peer.tape.history count)
 
-pub sound_opened : (past : Past) (place : ℕ) (peer : PeerPast) (tape : TapePast) (count : ℕ) → IsSound past
-    → slice_get past.peers place ≡ Some peer
-    → tape.history ≡ recovered peer.tape.history count → IsSound (with_peer past place (opened_peer peer tape))
-sound_opened past place peer tape count sound here is = record {
-  names = names_set past place peer _ sound.names here refl;
+pub sound_opened : (past : Past) (rank : ℕ) (peer : PeerPast) (tape : TapePast) (count : ℕ) → IsSound past
+    → slice_get past.peers rank ≡ Some peer
+    → tape.history ≡ recovered peer.tape.history count → IsSound (with_peer past rank (opened_peer peer tape))
+sound_opened past rank peer tape count sound here is = record {
+  names = names_set past rank peer _ sound.names here refl;
   fits = sound.fits;
   marked = sound.marked;
-  acknowledged = all_set (HasAcknowledged (mark_at past.intake)) past.peers place _ sound.acknowledged
+  acknowledged = all_set (HasAcknowledged (mark_at past.intake)) past.peers rank _ sound.acknowledged
       (has_opened (mark_at past.intake) peer tape count is);
   kept = sound.kept;
-  parted = λ number e. all_set (HasParted number) past.peers place _ (sound.parted number e)
+  parted = λ number e. all_set (HasParted number) past.peers rank _ (sound.parted number e)
       (λ _. has_opened number peer tape count is);
 }

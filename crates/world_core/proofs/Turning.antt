@@ -98,11 +98,11 @@ running_at now life stations cs running = record {
     rising = running.tied.rising;
     made = running.tied.made;
     each = running.tied.each;
-    held = λ place id number peer here. (
-      λ is. let has = (running.tied.held place id number peer here).0 is in
+    held = λ rank id number peer here. (
+      λ is. let has = (running.tied.held rank id number peer here).0 is in
           record { conn = has.conn; here = has.here; its = has.its; has = has.has },
-      λ (has : HasNumber (at_moment now life) place peer id number).
-          (running.tied.held place id number peer here).1
+      λ (has : HasNumber (at_moment now life) rank peer id number).
+          (running.tied.held rank id number peer here).1
           (record { conn = has.conn; here = has.here; its = has.its; has = has.has }),
     );
     none = running.tied.none;

@@ -1,7 +1,7 @@
 -- A transcript in which one outcome more is taken is as the other in all else, whatever comes behind it.
 use Rattle.std.proofs.Common.{◌≡◌, ◌+◌, Bool, true, false, List, [], ◌∷◌, ◌++◌, refl, ap, subst}
 use Rattle.std.specs.Prelude.{◌||◌, nat_lt, is_some, if◌then◌else◌}
-use Rattle.conn_core.proofs.Closed.{first_reason-none}
+use Rattle.conn_core.specs.ClosingLaws.{first_reason-none}
 use Rattle.conn_core.specs.Commands.{Command, Quit}
 use Rattle.conn_core.specs.History.{Event, Offered, Put, Came, Faulted, Handed, Sent, Tick, Broke, Leave, Taken}
 use Rattle.conn_core.specs.History.{accepted, after, answered, ask_in, asks, counted, is_leaving, is_quit_due, outside}

@@ -1,4 +1,4 @@
--- Lists that are related place by place.
+-- Lists that are related rank by rank.
 use Rattle.std.proofs.Common.{◌≡◌, ℕ, suc, List, [], ◌∷◌, ◌++◌, length, map, refl, ap}
 use Rattle.std.specs.List.{AllZip}
 

@@ -27,16 +27,16 @@ use Rattle.world_core.specs.declared.fault.Fault.TheVariants.{NoMemory, Tape}
 
 -- One event.
 pub data Event : Type 0 where
-  Owes : (place : ℕ) (token id : List ℕ) → Event  -- the next line at a peer that it names
-  Parts : (place : ℕ) → Event  -- the flush of a peer
-  Rotates : (place generation : ℕ) → Event  -- what a peer is owed is written anew
-  Sheds : (place : ℕ) (numbers : List ℕ) → Event  -- these numbers of a peer's backlog are dropped
-  Claims : (place id now : ℕ) → Event  -- a connection claims a peer's least candidate
-  Returns : (place id number : ℕ) → Event  -- and gives it back
-  Settles : (place id now : ℕ) (outcome : Outcome) → Event  -- an outcome of a connection goes to its peer
+  Owes : (rank : ℕ) (token id : List ℕ) → Event  -- the next line at a peer that it names
+  Parts : (rank : ℕ) → Event  -- the flush of a peer
+  Rotates : (rank generation : ℕ) → Event  -- what a peer is owed is written anew
+  Sheds : (rank : ℕ) (numbers : List ℕ) → Event  -- these numbers of a peer's backlog are dropped
+  Claims : (rank id now : ℕ) → Event  -- a connection claims a peer's least candidate
+  Returns : (rank id number : ℕ) → Event  -- and gives it back
+  Settles : (rank id now : ℕ) (outcome : Outcome) → Event  -- an outcome of a connection goes to its peer
   Sees : (number : ℕ) → Event  -- a number is noted on the intake's tape
   Acknowledges : Event  -- the flush of the intake's tape
-  Opens : (place : ℕ) → Event  -- a peer's tape is opened
+  Opens : (rank : ℕ) → Event  -- a peer's tape is opened
   OpensIntake : Event  -- the intake's tape is opened
 
 -- ---- what an event makes of a peer
@@ -115,61 +115,61 @@ pub record IsShedAt (peer : PeerPast) (numbers : List ℕ) : Type 0 where
 
 -- ---- events
 
--- the line is owed at the peer of this place
-pub record DoesOwe (place : ℕ) (token id : List ℕ) (past later : Past) : Type 0 where
+-- the line is owed at the peer of this rank
+pub record DoesOwe (rank : ℕ) (token id : List ℕ) (past later : Past) : Type 0 where
   pub peer : PeerPast
-  pub here : slice_get past.peers place ≡ Some peer
+  pub here : slice_get past.peers rank ≡ Some peer
   pub works : peer.tape.broken ≡ false
   pub room : owed_as (past.last + 1) peer ≡ New
       → HasRoom peer.tape × (Overflows (ledger_at peer.tape) (Owe (past.last + 1) token id) → ⊥)
-  pub changed : later ≡ with_peer past place (owing_as (owed_as (past.last + 1) peer) (past.last + 1) token id peer)
+  pub changed : later ≡ with_peer past rank (owing_as (owed_as (past.last + 1) peer) (past.last + 1) token id peer)
 
-pub record DoesPart (place : ℕ) (past later : Past) : Type 0 where
+pub record DoesPart (rank : ℕ) (past later : Past) : Type 0 where
   pub peer : PeerPast
   pub tape : TapePast
-  pub here : slice_get past.peers place ≡ Some peer
+  pub here : slice_get past.peers rank ≡ Some peer
   pub flushes : IsFlushed (KeepsNotes peer) peer.tape tape
-  pub changed : later ≡ with_peer past place (parted peer tape)
+  pub changed : later ≡ with_peer past rank (parted peer tape)
 
-pub record DoesRotate (place generation : ℕ) (past later : Past) : Type 0 where
+pub record DoesRotate (rank generation : ℕ) (past later : Past) : Type 0 where
   pub peer : PeerPast
   pub tape : TapePast
-  pub here : slice_get past.peers place ≡ Some peer
+  pub here : slice_get past.peers rank ≡ Some peer
   pub rotates : IsRotated (KeepsNotes peer) generation peer.tape tape
-  pub changed : later ≡ with_peer past place (with_tape peer tape)
+  pub changed : later ≡ with_peer past rank (with_tape peer tape)
 
-pub record DoesShed (place : ℕ) (numbers : List ℕ) (past later : Past) : Type 0 where
+pub record DoesShed (rank : ℕ) (numbers : List ℕ) (past later : Past) : Type 0 where
   pub peer : PeerPast
-  pub here : slice_get past.peers place ≡ Some peer
+  pub here : slice_get past.peers rank ≡ Some peer
   pub works : peer.tape.broken ≡ false
   pub sheds : IsShedAt peer numbers
-  pub changed : later ≡ with_peer past place (shed_peer numbers peer)
+  pub changed : later ≡ with_peer past rank (shed_peer numbers peer)
 
 -- the texts of the debt are read from the tape
-pub record DoesClaim (place id now : ℕ) (past later : Past) : Type 0 where
+pub record DoesClaim (rank id now : ℕ) (past later : Past) : Type 0 where
   pub peer : PeerPast
   pub debt : Owing
   pub tape : TapePast
-  pub here : slice_get past.peers place ≡ Some peer
+  pub here : slice_get past.peers rank ≡ Some peer
   pub works : peer.tape.broken ≡ false
   pub candidate : IsCandidate now peer debt
   pub reads : IsReadTape peer.tape tape
-  pub changed : later ≡ with_peer past place (claimed_peer id debt.0 tape peer)
+  pub changed : later ≡ with_peer past rank (claimed_peer id debt.0 tape peer)
 
-pub record DoesReturn (place id number : ℕ) (past later : Past) : Type 0 where
+pub record DoesReturn (rank id number : ℕ) (past later : Past) : Type 0 where
   pub peer : PeerPast
-  pub here : slice_get past.peers place ≡ Some peer
+  pub here : slice_get past.peers rank ≡ Some peer
   pub works : peer.tape.broken ≡ false
   pub held : IsHeldBy peer.places id number
-  pub changed : later ≡ with_peer past place (with_places peer (moved peer.places number Ready))
+  pub changed : later ≡ with_peer past rank (with_places peer (moved peer.places number Ready))
 
-pub record DoesSettle (place id now : ℕ) (outcome : Outcome) (past later : Past) : Type 0 where
+pub record DoesSettle (rank id now : ℕ) (outcome : Outcome) (past later : Past) : Type 0 where
   pub peer : PeerPast
-  pub here : slice_get past.peers place ≡ Some peer
+  pub here : slice_get past.peers rank ≡ Some peer
   pub works : peer.tape.broken ≡ false
   pub held : IsHeldBy peer.places id (number_in outcome)
   pub room : IsEnded (settling peer now outcome) → HasRoom peer.tape
-  pub changed : later ≡ with_peer past place (settled now outcome peer)
+  pub changed : later ≡ with_peer past rank (settled now outcome peer)
 
 pub record DoesSee (number : ℕ) (past later : Past) : Type 0 where
   pub room : mark_at past.intake < number → (past.intake.broken ≡ false) × HasRoom past.intake
@@ -180,12 +180,12 @@ pub record DoesAcknowledge (past later : Past) : Type 0 where
   pub flushes : IsFlushed (KeepsLines past.intake.history past.peers) past.intake tape
   pub changed : later ≡ with_intake past tape
 
-pub record DoesOpen (place : ℕ) (past later : Past) : Type 0 where
+pub record DoesOpen (rank : ℕ) (past later : Past) : Type 0 where
   pub peer : PeerPast
   pub tape : TapePast
-  pub here : slice_get past.peers place ≡ Some peer
+  pub here : slice_get past.peers rank ≡ Some peer
   pub opens : IsReopened (KeepsNotes peer) peer.tape tape
-  pub changed : later ≡ with_peer past place (opened_peer peer tape)
+  pub changed : later ≡ with_peer past rank (opened_peer peer tape)
 
 -- behind whose mark the lines go on
 pub record DoesOpenIntake (past later : Past) : Type 0 where
@@ -195,16 +195,16 @@ pub record DoesOpenIntake (past later : Past) : Type 0 where
 
 -- what an event makes of all tapes
 abbrev pub Does : Event → Past → Past → Type 0
-Does (Owes place token id) past later = DoesOwe place token id past later
-Does (Parts place) past later = DoesPart place past later
-Does (Rotates place generation) past later = DoesRotate place generation past later
-Does (Sheds place numbers) past later = DoesShed place numbers past later
-Does (Claims place id now) past later = DoesClaim place id now past later
-Does (Returns place id number) past later = DoesReturn place id number past later
-Does (Settles place id now outcome) past later = DoesSettle place id now outcome past later
+Does (Owes rank token id) past later = DoesOwe rank token id past later
+Does (Parts rank) past later = DoesPart rank past later
+Does (Rotates rank generation) past later = DoesRotate rank generation past later
+Does (Sheds rank numbers) past later = DoesShed rank numbers past later
+Does (Claims rank id now) past later = DoesClaim rank id now past later
+Does (Returns rank id number) past later = DoesReturn rank id number past later
+Does (Settles rank id now outcome) past later = DoesSettle rank id now outcome past later
 Does (Sees number) past later = DoesSee number past later
 Does Acknowledges past later = DoesAcknowledge past later
-Does (Opens place) past later = DoesOpen place past later
+Does (Opens rank) past later = DoesOpen rank past later
 Does OpensIntake past later = DoesOpenIntake past later
 
 -- Events one after another, in this order; and behind each of them whatever a stop leaves is safe.
@@ -216,14 +216,14 @@ pub data AllDo (begun : Past) : List Event → Past → Type 0 where
 
 -- ---- refusals
 
--- the event at the peer of this place is refused so, and leaves this tape of it
+-- the event at the peer of this rank is refused so, and leaves this tape of it
 pub record RefusesAt (R : PeerPast → Fault → TapePast
-    → Type 0) (place : ℕ) (past : Past) (fault : Fault) (later : Past) : Type 0 where
+    → Type 0) (rank : ℕ) (past : Past) (fault : Fault) (later : Past) : Type 0 where
   pub peer : PeerPast
   pub tape : TapePast
-  pub here : slice_get past.peers place ≡ Some peer
+  pub here : slice_get past.peers rank ≡ Some peer
   pub refused : R peer fault tape
-  pub changed : later ≡ with_peer past place (with_tape peer tape)
+  pub changed : later ≡ with_peer past rank (with_tape peer tape)
 
 -- the event at the intake's tape is refused so
 pub record RefusesIntake (R : TapePast → Fault → TapePast → Type 0) (past : Past) (fault : Fault) (later : Past) :
@@ -260,27 +260,27 @@ RefusesClaim now peer fault tape =
 
 -- An event is refused for this fault, and nothing of it has happened, but that a disk's fault breaks its tape.
 abbrev pub Refuses : Event → Past → Fault → Past → Type 0
-Refuses (Owes place token id) past fault later =
-    RefusesAt (RefusesLineAt (past.last + 1) token id) place past fault later
-Refuses (Parts place) past fault later =
+Refuses (Owes rank token id) past fault later =
+    RefusesAt (RefusesLineAt (past.last + 1) token id) rank past fault later
+Refuses (Parts rank) past fault later =
     RefusesAt (λ (peer : PeerPast) (f : Fault) (tape : TapePast). RefusesFlush (KeepsNotes peer) peer.tape f tape)
-    place past fault later
-Refuses (Rotates place generation) past fault later =
+    rank past fault later
+Refuses (Rotates rank generation) past fault later =
     RefusesAt (λ (peer : PeerPast) (f : Fault) (tape : TapePast). RefusesRotate (KeepsNotes peer) peer.tape f tape)
-    place past fault later
-Refuses (Sheds place numbers) past fault later = RefusesAt (RefusesCall (Unit {0})) place past fault later
-Refuses (Claims place id now) past fault later = RefusesAt (RefusesClaim now) place past fault later
-Refuses (Returns place id number) past fault later = RefusesAt (RefusesCall ⊥) place past fault later
-Refuses (Settles place id now outcome) past fault later =
+    rank past fault later
+Refuses (Sheds rank numbers) past fault later = RefusesAt (RefusesCall (Unit {0})) rank past fault later
+Refuses (Claims rank id now) past fault later = RefusesAt (RefusesClaim now) rank past fault later
+Refuses (Returns rank id number) past fault later = RefusesAt (RefusesCall ⊥) rank past fault later
+Refuses (Settles rank id now outcome) past fault later =
     RefusesAt (λ (peer : PeerPast) (f : Fault) (tape : TapePast).
-    RefusesEnd (settling peer now outcome) peer.tape f × (tape ≡ peer.tape)) place past fault later
+    RefusesEnd (settling peer now outcome) peer.tape f × (tape ≡ peer.tape)) rank past fault later
 Refuses (Sees number) past fault later =
     RefusesIntake (λ (old : TapePast) (f : Fault) (new : TapePast). (mark_at old < number) × RefusesNote old f
     × (new ≡ old)) past fault later
 Refuses Acknowledges past fault later =
     RefusesIntake (RefusesFlush (KeepsLines past.intake.history past.peers)) past fault later
-Refuses (Opens place) past fault later =
-    RefusesAt (λ (peer : PeerPast). RefusesOpen (KeepsNotes peer) peer.tape) place past fault later
+Refuses (Opens rank) past fault later =
+    RefusesAt (λ (peer : PeerPast). RefusesOpen (KeepsNotes peer) peer.tape) rank past fault later
 Refuses OpensIntake past fault later =
     RefusesIntake (RefusesOpen (KeepsLines past.intake.history past.peers)) past fault later
 
@@ -296,21 +296,21 @@ pub record Fails (begun : Past) (events : List Event) (fault : Fault) (later : P
 
 -- ---- lists of events
 
--- the event at each place below this one, in order
-abbrev pub each_place : (ℕ → Event) → ℕ → List Event
-each_place event zero = []
-each_place event (suc n) = each_place event n ++ event n ∷ []
+-- the event at each rank below this one, in order
+abbrev pub each_rank : (ℕ → Event) → ℕ → List Event
+each_rank event zero = []
+each_rank event (suc n) = each_rank event n ++ event n ∷ []
 
--- the tape whose disks an event calls: a peer's by its place, or the intake's
+-- the tape whose disks an event calls: a peer's by its rank, or the intake's
 abbrev pub calls_disk : Event → Option (Option ℕ)
-calls_disk (Owes place token id) = None
-calls_disk (Parts place) = Some (Some place)
-calls_disk (Rotates place generation) = Some (Some place)
-calls_disk (Sheds place numbers) = None
-calls_disk (Claims place id now) = None
-calls_disk (Returns place id number) = None
-calls_disk (Settles place id now outcome) = None
+calls_disk (Owes rank token id) = None
+calls_disk (Parts rank) = Some (Some rank)
+calls_disk (Rotates rank generation) = Some (Some rank)
+calls_disk (Sheds rank numbers) = None
+calls_disk (Claims rank id now) = None
+calls_disk (Returns rank id number) = None
+calls_disk (Settles rank id now outcome) = None
 calls_disk (Sees number) = None
 calls_disk Acknowledges = Some None
-calls_disk (Opens place) = Some (Some place)
+calls_disk (Opens rank) = Some (Some rank)
 calls_disk OpensIntake = Some None

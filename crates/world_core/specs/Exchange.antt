@@ -16,7 +16,7 @@ use Rattle.conn_core.specs.declared.ready.Ready.TheVariants.{Busy as NoRoom, Shu
 use Rattle.peer_queue.specs.Place.{least_candidate}
 use Rattle.peer_queue.specs.Settled.{number_in, settled_by}
 use Rattle.peer_queue.specs.declared.limits.Limits.{Limits}
-use Rattle.world_core.specs.Past.{ConnPast, Life, Past, PeerPast, TapePast, conn_at, limits_of, options_of, place_of}
+use Rattle.world_core.specs.Past.{ConnPast, Life, Past, PeerPast, TapePast, conn_at, limits_of, options_of, rank_of}
 use Rattle.world_core.specs.Past.{with_conn, with_past, with_peer, with_tape}
 use Rattle.world_core.specs.Events.{AllDo, Claims, Event, Fails, IsCandidate, Refuses, Returns, Settles}
 use Rattle.world_core.specs.Tapes.{IsReadTape}
@@ -45,9 +45,9 @@ told_out options h = with_taken (untold options h) h
 abbrev pub sent_out : Options → List Happening → List Happening
 sent_out options h = noted options (told_out options h) (Sent (length (output options (told_out options h))))
 
--- each outcome goes to the peer at this place
-abbrev pub settle_events : (place id now : ℕ) → List Outcome → List Event
-settle_events place id now outcomes = map (λ (outcome : Outcome). Settles place id now outcome) outcomes
+-- each outcome goes to the peer at this rank
+abbrev pub settle_events : (rank id now : ℕ) → List Outcome → List Event
+settle_events rank id now outcomes = map (λ (outcome : Outcome). Settles rank id now outcome) outcomes
 
 -- what is told then, of a connection whose transcript was this before the step
 abbrev pub exchange_said : Limits → Options → (id now : ℕ) → (was h : List Happening) → List Said
@@ -61,13 +61,13 @@ exchange_said limits options id now was h =
 pub record Follows (id : ℕ) (was : List Happening) (conn : ConnPast) (life : Life) (told : List Said) (later : Life) :
     Type 0 where
   pub peer : PeerPast
-  pub here : slice_get life.past.peers conn.place ≡ Some peer
+  pub here : slice_get life.past.peers conn.rank ≡ Some peer
   pub past : Past
-  pub settles : AllDo life.past (settle_events conn.place id life.now (untold (options_of peer.conf) conn.transcript))
+  pub settles : AllDo life.past (settle_events conn.rank id life.now (untold (options_of peer.conf) conn.transcript))
       past
   pub told_is : told ≡ exchange_said (limits_of peer.conf) (options_of peer.conf) id life.now was conn.transcript
   pub changed : later ≡ with_conn (with_past life past) id (record {
-    place = conn.place;
+    rank = conn.rank;
     unread = left_behind (options_of peer.conf) conn.unread (told_out (options_of peer.conf) conn.transcript);
     transcript = sent_out (options_of peer.conf) conn.transcript;
   })
@@ -81,16 +81,16 @@ StopsAt events count past fault =
 -- as sent.
 pub record FollowsNot (id : ℕ) (conn : ConnPast) (life : Life) (fault : Fault) (later : Life) : Type 0 where
   pub peer : PeerPast
-  pub here : slice_get life.past.peers conn.place ≡ Some peer
+  pub here : slice_get life.past.peers conn.rank ≡ Some peer
   pub count : ℕ
   pub within : count ≤ length (untold (options_of peer.conf) conn.transcript)
   pub past : Past
   pub settles : AllDo life.past
-      (take count (settle_events conn.place id life.now (untold (options_of peer.conf) conn.transcript))) past
-  pub why : StopsAt (settle_events conn.place id life.now (untold (options_of peer.conf) conn.transcript)) count past
+      (take count (settle_events conn.rank id life.now (untold (options_of peer.conf) conn.transcript))) past
+  pub why : StopsAt (settle_events conn.rank id life.now (untold (options_of peer.conf) conn.transcript)) count past
       fault
   pub changed : later ≡ with_conn (with_past life past) id (record {
-    place = conn.place;
+    rank = conn.rank;
     unread = left_behind (options_of peer.conf) conn.unread conn.transcript;
     transcript = with_taken (take count (untold (options_of peer.conf) conn.transcript)) conn.transcript;
   })
@@ -98,20 +98,20 @@ pub record FollowsNot (id : ℕ) (conn : ConnPast) (life : Life) (fault : Fault)
 -- ---- a connection is made
 
 pub record TakesConnect (name : List ℕ) (life : Life) (told : List Said) (later : Life) : Type 0 where
-  pub place : ℕ
-  pub here : place_of life.past name ≡ Some place
+  pub rank : ℕ
+  pub here : rank_of life.past name ≡ Some rank
   pub fits : life.connected + 1 < 2 ^ 64
   pub told_is : told ≡ Connected (life.connected + 1) name ∷ []
   pub changed : later ≡ record life {
-    conns = life.conns ++ (life.connected + 1, record { place = place; unread = []; transcript = [] }) ∷ [];
+    conns = life.conns ++ (life.connected + 1, record { rank = rank; unread = []; transcript = [] }) ∷ [];
     connected = life.connected + 1;
   }
 
 -- refused, it leaves its number to the next one
 abbrev pub RefusesConnect : List ℕ → Life → Fault → Life → Type 0
 RefusesConnect name life fault later =
-    (((fault ≡ NoPeer) × (place_of life.past name ≡ None))
-    ⊎ (((place : ℕ) × (place_of life.past name ≡ Some place))
+    (((fault ≡ NoPeer) × (rank_of life.past name ≡ None))
+    ⊎ (((rank : ℕ) × (rank_of life.past name ≡ Some rank))
     × (((fault ≡ CountFull) × (life.connected + 1 ≡ 2 ^ 64)) ⊎ ((fault ≡ NoMemory) × (life.connected + 1 < 2 ^ 64)))))
     × (later ≡ life)
 
@@ -124,25 +124,25 @@ pub data HandsOver (id now : ℕ) (conn : ConnPast) (peer : PeerPast) (past : Pa
     → Type 0 where
   None_there : (tape : TapePast) → peer.tape.broken ≡ false → least_candidate now peer.places ≡ None
       → IsReadTape peer.tape tape
-      → HandsOver id now conn peer past Nothing conn.transcript (with_peer past conn.place (with_tape peer tape))
+      → HandsOver id now conn peer past Nothing conn.transcript (with_peer past conn.rank (with_tape peer tape))
   Taken_over : (debt : Owing) (later : Past) → IsCandidate now peer debt
       → ready_of (options_of peer.conf) conn.transcript ≡ Yes
-      → AllDo past (Claims conn.place id now ∷ []) later
+      → AllDo past (Claims conn.rank id now ∷ []) later
       → HandsOver id now conn peer past (Number debt.0) (after (options_of peer.conf) conn.transcript (Offered debt))
       later
   Has_no_room : (debt : Owing) (later : Past) → IsCandidate now peer debt
       → ready_of (options_of peer.conf) conn.transcript ≡ NoRoom
-      → AllDo past (Claims conn.place id now ∷ Returns conn.place id debt.0 ∷ []) later
+      → AllDo past (Claims conn.rank id now ∷ Returns conn.rank id debt.0 ∷ []) later
       → HandsOver id now conn peer past Busy conn.transcript later
   Is_shut : (debt : Owing) (later : Past) → IsCandidate now peer debt
       → ready_of (options_of peer.conf) conn.transcript ≡ Shut
-      → AllDo past (Claims conn.place id now ∷ Returns conn.place id debt.0 ∷ []) later
+      → AllDo past (Claims conn.rank id now ∷ Returns conn.rank id debt.0 ∷ []) later
       → HandsOver id now conn peer past Closed conn.transcript later
 
 -- the connection of this number, and its peer
 pub record IsConn (id : ℕ) (life : Life) (conn : ConnPast) (peer : PeerPast) : Type 0 where
   pub conn_is : conn_at life.conns id ≡ Some conn
-  pub peer_is : slice_get life.past.peers conn.place ≡ Some peer
+  pub peer_is : slice_get life.past.peers conn.rank ≡ Some peer
 
 -- a connection with this transcript
 abbrev pub with_transcript : ConnPast → List Happening → ConnPast
@@ -165,10 +165,10 @@ pub record TakesHand (id : ℕ) (life : Life) (told : List Said) (later : Life) 
 abbrev pub FailsToHand : ℕ → Life → ConnPast → PeerPast → Fault → Life → Type 0
 FailsToHand id life conn peer fault later =
     ((fault ≡ NoMemory) × (later ≡ life))
-    ⊎ ((past : Past) × Fails life.past (Claims conn.place id life.now ∷ []) fault past × (later ≡ with_past life past))
+    ⊎ ((past : Past) × Fails life.past (Claims conn.rank id life.now ∷ []) fault past × (later ≡ with_past life past))
     ⊎ ((fault ≡ NoMemory) × (ready_of (options_of peer.conf) conn.transcript ≡ Yes)
     × ((debt : Owing) × (past : Past) × IsCandidate life.now peer debt
-    × AllDo life.past (Claims conn.place id life.now ∷ Returns conn.place id debt.0 ∷ []) past
+    × AllDo life.past (Claims conn.rank id life.now ∷ Returns conn.rank id debt.0 ∷ []) past
     × (later ≡ with_past life past)))
     ⊎ ((handed : Handover) × (transcript : List Happening) × (past : Past)
     × HandsOver id life.now conn peer life.past handed transcript past
@@ -183,7 +183,7 @@ pub record TakesBytes (id : ℕ) (octets : List ℕ) (life : Life) (told : List 
   pub transcript : List Happening
   pub left : List ℕ
   pub receives : Receives (options_of peer.conf) (conn.unread ++ octets) conn.transcript transcript left
-  pub follows : Follows id conn.transcript (record { place = conn.place; unread = left; transcript = transcript })
+  pub follows : Follows id conn.transcript (record { rank = conn.rank; unread = left; transcript = transcript })
       life told later
 
 -- Memory was refused to the reader: some of the whole replies were taken, and the connection is broken, of which no
@@ -193,10 +193,10 @@ FailsToRead id octets life conn peer fault later =
     ((fault ≡ NoMemory) × ((mid : List Happening)
     × ReceivesSome (options_of peer.conf) (conn.unread ++ octets) conn.transcript mid
     × (later ≡ with_conn life id
-    (record { place = conn.place; unread = []; transcript = after (options_of peer.conf) mid Broke }))))
+    (record { rank = conn.rank; unread = []; transcript = after (options_of peer.conf) mid Broke }))))
     ⊎ ((transcript : List Happening) × (left : List ℕ)
     × Receives (options_of peer.conf) (conn.unread ++ octets) conn.transcript transcript left
-    × FollowsNot id (record { place = conn.place; unread = left; transcript = transcript }) life fault later)
+    × FollowsNot id (record { rank = conn.rank; unread = left; transcript = transcript }) life fault later)
 
 -- ---- an article is handed in
 
@@ -255,7 +255,7 @@ pub data TicksEach (begun : Life) : ℕ → List Said → Life → Type 0 where
   Start : TicksEach begun 0 [] begun
   Next : (count : ℕ) (told more : List Said) (mid later : Life) (id : ℕ) (conn : ConnPast) (peer : PeerPast)
       → TicksEach begun count told mid → slice_get mid.conns count ≡ Some (id, conn)
-      → slice_get mid.past.peers conn.place ≡ Some peer
+      → slice_get mid.past.peers conn.rank ≡ Some peer
       → Follows id conn.transcript (ticked (options_of peer.conf) mid.now conn) mid more later
       → TicksEach begun (count + 1) (told ++ more) later
 
@@ -272,5 +272,5 @@ pub record RefusesTick (now : ℕ) (life : Life) (fault : Fault) (later : Life) 
   pub peer : PeerPast
   pub front : TicksEach (at_moment now life) count told mid
   pub next : slice_get mid.conns count ≡ Some (id, conn)
-  pub here : slice_get mid.past.peers conn.place ≡ Some peer
+  pub here : slice_get mid.past.peers conn.rank ≡ Some peer
   pub follows : FollowsNot id (ticked (options_of peer.conf) mid.now conn) mid fault later

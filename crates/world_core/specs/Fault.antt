@@ -1,4 +1,6 @@
--- How the fault of a tape or a station is told as a step's (docs/FORMATS.md).
+-- How the fault of a tape or a station is told as a step's, and the words for it (docs/FORMATS.md).
+use Rattle.std.specs.Prelude.{ℕ, List, ◌++◌, codes}
+use Rattle.recovery.specs.Faults.{tape_fault_name}
 use Rattle.recovery.specs.declared.fault.TapeFault.{TapeFault}
 use Rattle.recovery.specs.declared.fault.TapeFault.TheVariants.{Damaged, Disk, Broken, TapeFull, GenerationFull}
 use Rattle.recovery.specs.declared.fault.TapeFault.TheVariants.{PendingFull, NoMemory, Note}
@@ -6,7 +8,8 @@ use Rattle.peer_queue.specs.declared.fault.StationFault.{StationFault}
 use Rattle.peer_queue.specs.declared.fault.StationFault.TheVariants.{NotHeld, Broken as BrokenStation}
 use Rattle.peer_queue.specs.declared.fault.StationFault.TheVariants.{Tape as StationTape, NoMemory as NoStationMemory}
 use Rattle.world_core.specs.declared.fault.Fault.{Fault}
-use Rattle.world_core.specs.declared.fault.Fault.TheVariants.{NoConnection, Tape, NoMemory as NoStepMemory}
+use Rattle.world_core.specs.declared.fault.Fault.TheVariants.{NoPeer, NoConnection, Stopped, Running, NotNeeded, Tape}
+use Rattle.world_core.specs.declared.fault.Fault.TheVariants.{CountFull, NoMemory as NoStepMemory, NotFlushed}
 
 -- want of memory is the step's own, and any other fault stands behind `Tape`
 abbrev pub fault_of : TapeFault → Fault
@@ -25,3 +28,15 @@ fault_of_station NotHeld = NoConnection
 fault_of_station BrokenStation = Tape Broken
 fault_of_station (StationTape fault) = fault_of fault
 fault_of_station NoStationMemory = NoStepMemory
+
+-- the words for why a step is refused, with those for the tape's fault within
+abbrev pub fault_name : Fault → List ℕ
+fault_name NoPeer = codes "NoPeer"
+fault_name NoConnection = codes "NoConnection"
+fault_name Stopped = codes "Stopped"
+fault_name Running = codes "Running"
+fault_name NotNeeded = codes "NotNeeded"
+fault_name (Tape fault) = codes "Tape " ++ tape_fault_name fault
+fault_name CountFull = codes "CountFull"
+fault_name NoStepMemory = codes "NoMemory"
+fault_name NotFlushed = codes "NotFlushed"

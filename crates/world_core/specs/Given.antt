@@ -26,9 +26,9 @@ use Rattle.world_core.specs.declared.world.World.{World}
 abbrev pub GivenPeer : Type 0
 GivenPeer = PeerConf × Vec ℕ Global
 
--- what lies on its two disks: the second is empty
-abbrev pub octets_of : GivenPeer → Octets
-octets_of given = (given.1.items, [])
+-- what lies on the two disks of its tape: the second is empty
+abbrev pub given_octets : GivenPeer → Octets
+given_octets given = (given.1.items, [])
 
 -- the names of such peers, in order
 abbrev pub given_names : List GivenPeer → List (List ℕ)
@@ -37,7 +37,7 @@ given_names given = map (λ (peer : GivenPeer). peer.0.name) given
 -- the peer whose tape they are: it begins from the ledger that was read there
 pub record IsGivenPeer (given : GivenPeer) (peer : PeerPast) : Type 0 where
   pub state : State
-  pub was : IsTape (octets_of given) state
+  pub was : IsTape (given_octets given) state
   pub fresh : IsFreshPeer given.0 state peer
 
 -- a world of these peers, in this order, that begins from their tapes
@@ -68,12 +68,12 @@ RefusesTape octets (Note fault) = ⊥
 
 -- of these peers the one of this name is the first that is refused: all before it have tapes
 pub record StopsAt (given : List GivenPeer) (name : List ℕ) (fault : TapeFault) : Type 0 where
-  pub place : ℕ
+  pub rank : ℕ
   pub peer : GivenPeer
-  pub here : slice_get given place ≡ Some peer
+  pub here : slice_get given rank ≡ Some peer
   pub named : peer.0.name ≡ name
-  pub before : AllByRecursion (λ (other : GivenPeer). IsSomeTape (octets_of other)) (take place given)
-  pub why : RefusesTape (octets_of peer) fault
+  pub before : AllByRecursion (λ (other : GivenPeer). IsSomeTape (given_octets other)) (take rank given)
+  pub why : RefusesTape (given_octets peer) fault
 
 -- so it is in byte order of the names
 pub record RefusesFirst (given : List GivenPeer) (name : List ℕ) (fault : TapeFault) : Type 0 where
@@ -96,7 +96,7 @@ StopsFor given NoMemory = Unit {0}
 
 -- the opening of one came to this fault
 abbrev pub RefusesPeer : GivenPeer → TapesFault → Type 0
-RefusesPeer given (Tape name fault) = (given.0.name ≡ name) × RefusesTape (octets_of given) fault
+RefusesPeer given (Tape name fault) = (given.0.name ≡ name) × RefusesTape (given_octets given) fault
 RefusesPeer given NoMemory = Unit {0}
 
 -- a tape of this ledger to whose disks this has happened, as it was opened
@@ -116,5 +116,5 @@ module _ {D : Type 0} {g : Ghosts D} where
   -- the peer was opened on what was given
   pub record OpensGiven (given : GivenPeer) (peer : Peer D g) : Type 0 where
     pub state : State
-    pub was : IsTape (octets_of given) state
+    pub was : IsTape (given_octets given) state
     pub stands : PeerStands (found_peer given.0 state (log_of peer.station.tape)) peer

@@ -5,10 +5,10 @@ use Rattle.std.specs.Prelude.{take, slice_get}
 use Rattle.disk_model.specs.declared.choice.Choice.{Choice}
 use Rattle.recovery.specs.Leaving.{left_by}
 use Rattle.recovery.specs.declared.fault.TapeFault.TheVariants.{Disk}
-use Rattle.world_core.specs.Past.{Armed, Life, Past, PeerPast, TapePast, place_of, with_past}
+use Rattle.world_core.specs.Past.{Armed, Life, Past, PeerPast, TapePast, rank_of, with_past}
 use Rattle.world_core.specs.Safe.{IsSafe}
 use Rattle.world_core.specs.Events.{AllDo, Event, Fails, Opens, OpensIntake, Parts, Refuses, Rotates, calls_disk}
-use Rattle.world_core.specs.Events.{each_place}
+use Rattle.world_core.specs.Events.{each_rank}
 use Rattle.world_core.specs.Steps.{IsSealable, begun_at, flush_events, seal_events}
 use Rattle.world_core.specs.Told.{Said, Stopped, mark_said}
 use Rattle.world_core.specs.declared.fault.Fault.{Fault}
@@ -58,12 +58,12 @@ halted manner under_way life = record {
 
 -- ---- a stop is armed
 
--- the tape that a stop names: a peer's, which has this place, or the intake's
+-- the tape that a stop names: a peer's, which has this rank, or the intake's
 abbrev pub IsTapeOf : Past → Option (List ℕ) → Option ℕ → Type 0
 IsTapeOf past None None = Unit {0}
-IsTapeOf past None (Some place) = ⊥
+IsTapeOf past None (Some rank) = ⊥
 IsTapeOf past (Some name) None = ⊥
-IsTapeOf past (Some name) (Some place) = place_of past name ≡ Some place
+IsTapeOf past (Some name) (Some rank) = rank_of past name ≡ Some rank
 
 -- in the place of any that was; all else stays
 abbrev pub armed_with : Armed → Life → Life
@@ -74,21 +74,21 @@ abbrev pub TakesStop : Option (List ℕ) → ℕ → Choice → Life → List Sa
 TakesStop peer zero choice life told later =
     (life.running ≡ true) × (told ≡ Stopped ∷ []) × (later ≡ halted AtRest life.past life)
 TakesStop peer (suc calls) choice life told later =
-    (place : Option ℕ) × IsTapeOf life.past peer place × (told ≡ [])
-    × (later ≡ armed_with (record { place = place; call = suc calls; choice = choice }) life)
+    (rank : Option ℕ) × IsTapeOf life.past peer rank × (told ≡ [])
+    × (later ≡ armed_with (record { rank = rank; call = suc calls; choice = choice }) life)
 
 -- all has stopped before, or there is no memory; or no peer has the name
 abbrev pub RefusesStop : Option (List ℕ) → ℕ → Life → Fault → Life → Type 0
 RefusesStop peer zero life fault later =
     (((fault ≡ HasStopped) × (life.running ≡ false)) ⊎ ((fault ≡ NoMemory) × (life.running ≡ true))) × (later ≡ life)
 RefusesStop peer (suc calls) life fault later =
-    ((name : List ℕ) × (peer ≡ Some name) × (place_of life.past name ≡ None)) × (fault ≡ NoPeer) × (later ≡ life)
+    ((name : List ℕ) × (peer ≡ Some name) × (rank_of life.past name ≡ None)) × (fault ≡ NoPeer) × (later ≡ life)
 
 -- ---- all is opened again
 
 -- the opening of each peer's tape by name, and then of the intake's
 abbrev pub restart_events : Past → List Event
-restart_events past = each_place Opens (length past.peers) ++ OpensIntake ∷ []
+restart_events past = each_rank Opens (length past.peers) ++ OpensIntake ∷ []
 
 pub record TakesRestart (life : Life) (told : List Said) (later : Life) : Type 0 where
   pub stopped : life.running ≡ false
@@ -122,7 +122,7 @@ CallsDisks Flush life begun events =
 CallsDisks Begin life begun events = ⊥
 CallsDisks (Part name) life begun events =
     (life.running ≡ true) × (begun ≡ life.past)
-    × ((place : ℕ) × (place_of life.past name ≡ Some place) × (events ≡ Parts place ∷ []))
+    × ((rank : ℕ) × (rank_of life.past name ≡ Some rank) × (events ≡ Parts rank ∷ []))
 CallsDisks Seal life begun events =
     (life.running ≡ true) × (begun ≡ life.past)
     × ((number : ℕ) × IsSealable life.past number × (events ≡ seal_events number))
@@ -135,7 +135,7 @@ CallsDisks (Tick now) life begun events = ⊥
 CallsDisks (Shed name) life begun events = ⊥
 CallsDisks (Rotate name) life begun events =
     (life.running ≡ true) × (begun ≡ life.past)
-    × ((place : ℕ) × (place_of life.past name ≡ Some place) × (events ≡ Rotates place 0 ∷ []))
+    × ((rank : ℕ) × (rank_of life.past name ≡ Some rank) × (events ≡ Rotates rank 0 ∷ []))
 CallsDisks (Stop peer call choice) life begun events = ⊥
 CallsDisks Restart life begun events = (life.running ≡ false) × (begun ≡ life.past)
     × (events ≡ restart_events life.past)
@@ -152,7 +152,7 @@ pub record Meets (step : Step) (life : Life) (stop : Armed) (under_way : Past) :
   pub event : Event
   pub front : AllDo begun (take count events) mid
   pub here : slice_get events count ≡ Some event
-  pub at_tape : calls_disk event ≡ Some stop.place
+  pub at_tape : calls_disk event ≡ Some stop.rank
   pub met : Refuses event mid (Tape Disk) under_way
   pub before : IsSafe under_way
 

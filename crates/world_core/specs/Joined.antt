@@ -21,7 +21,7 @@ RefusesAct id R life fault later = RefusesOn id life (R life) fault later
 abbrev pub FoundConn : Life → ℕ → Option (ℕ × ℕ) → Type 0
 FoundConn life id None = conn_at life.conns id ≡ None
 FoundConn life id (Some at) =
-    (conn : ConnPast) × (peer : PeerPast) × (slice_get life.conns at.0 ≡ Some (id, conn)) × (conn.place ≡ at.1)
+    (conn : ConnPast) × (peer : PeerPast) × (slice_get life.conns at.0 ≡ Some (id, conn)) × (conn.rank ≡ at.1)
     × (slice_get life.past.peers at.1 ≡ Some peer)
 
 -- so many connections were told the moment
@@ -34,7 +34,7 @@ pub record TicksOne (index : ℕ) (life : Life) (told : List Said) (later : Life
   pub conn : ConnPast
   pub peer : PeerPast
   pub next : slice_get life.conns index ≡ Some (id, conn)
-  pub here : slice_get life.past.peers conn.place ≡ Some peer
+  pub here : slice_get life.past.peers conn.rank ≡ Some peer
   pub follows : Follows id conn.transcript (ticked (options_of peer.conf) life.now conn) life told later
 
 -- what follows of that was refused
@@ -43,7 +43,7 @@ pub record TicksOneNot (index : ℕ) (life : Life) (fault : Fault) (later : Life
   pub conn : ConnPast
   pub peer : PeerPast
   pub next : slice_get life.conns index ≡ Some (id, conn)
-  pub here : slice_get life.past.peers conn.place ≡ Some peer
+  pub here : slice_get life.past.peers conn.rank ≡ Some peer
   pub follows : FollowsNot id (ticked (options_of peer.conf) life.now conn) life fault later
 
 -- so many were, and what follows was refused of the next

@@ -51,7 +51,7 @@ pub record HasVerdict (options : Options) (number : ℕ) (code : FinalCode) : Ty
   pub is_final : end.outcome ≡ FinalOutcome verdict
   pub of_number : verdict.debt.0 ≡ number
   pub of_code : verdict.code ≡ code
-  pub right : IsRightAt options transcript end.place end.outcome
+  pub right : IsRightAt options transcript end.ticket end.outcome
 
 -- a final answer among a peer's notes was there before, or has its verdict
 abbrev pub HasRightFinals : PeerPast → PeerPast → Type 0
@@ -88,7 +88,7 @@ pub record IsAcknowledgedLine (past : Past) (number : ℕ) : Type 0 where
   pub below : number ≤ seen.mark
 
 abbrev pub LinesAreAcknowledged : Past → Type 0
-LinesAreAcknowledged past = (place index number : ℕ) (peer : PeerPast) (token id : List ℕ)
+LinesAreAcknowledged past = (rank index number : ℕ) (peer : PeerPast) (token id : List ℕ)
     → IsAcknowledgedLine past number
-    → slice_get past.peers place ≡ Some peer → slice_get peer.tape.history.notes index ≡ Some (Owe number token id)
+    → slice_get past.peers rank ≡ Some peer → slice_get peer.tape.history.notes index ≡ Some (Owe number token id)
     → index < peer.tape.history.kept

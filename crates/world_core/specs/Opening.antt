@@ -5,7 +5,7 @@ use Rattle.disk_model.specs.declared.Disk.{Ghosts}
 use Rattle.peer_queue.specs.Place.{IsHeldBy}
 use Rattle.world_core.specs.Past.{Past, PeerPast}
 use Rattle.world_core.specs.Safe.{IsSafe}
-use Rattle.world_core.specs.Events.{AllDo, Event, Fails, Opens, calls_disk, each_place}
+use Rattle.world_core.specs.Events.{AllDo, Event, Fails, Opens, calls_disk, each_rank}
 use Rattle.world_core.specs.Halting.{TapesStop}
 use Rattle.world_core.specs.Halts.{AtRest, left, left_peer, restart_events}
 use Rattle.world_core.specs.Sound.{IsSound}
@@ -28,7 +28,7 @@ HasNoneHeld peer = (id number : ℕ) → IsHeldBy peer.places id number → ⊥
 -- of these events some were taken, and the next was refused, at the tape of the halt and for its fault
 pub record FailsAt (begun : Past) (events : List Event) (halt : Halt) (later : Past) : Type 0 where
   pub fails : Fails begun events halt.fault later
-  pub at : calls_disk fails.event ≡ Some halt.place
+  pub at : calls_disk fails.event ≡ Some halt.rank
 
 -- the openings were refused, and all has stopped again
 pub record OpensNot (past : Past) (halt : Halt) (stopped : List StoppedPeer) (disks : StopDisk × StopDisk) :
@@ -62,7 +62,7 @@ module _ {D : Type 0} {g : Ghosts D} where
   pub record HasOpened (past : Past) (opened : List (Peer D g)) (rest : List StoppedPeer) : Type 0 where
     pub front : List PeerPast
     pub behind : List PeerPast
-    pub opens : AllDo past (each_place Opens (length front)) (with_peers past (front ++ behind))
+    pub opens : AllDo past (each_rank Opens (length front)) (with_peers past (front ++ behind))
     pub stand : AllZip PeerStands front opened
     pub stay : AllZip StoppedStands behind rest
     pub sound : IsSound (with_peers past (front ++ behind))

@@ -106,7 +106,7 @@ FailsToOfferAt id now conn peer fault later =
 -- this moment was told to the connection
 abbrev pub ticked_at : ℕ → PeerPast → ConnPast → ConnPast
 ticked_at now past conn = record {
-  place = conn.place;
+  rank = conn.rank;
   unread = left_behind (options_of past.conf) conn.unread (outside (options_of past.conf) conn.transcript (Tick now));
   transcript = outside (options_of past.conf) conn.transcript (Tick now);
 }
@@ -114,7 +114,7 @@ ticked_at now past conn = record {
 -- the connection broke, and holds no octets back
 abbrev pub broken_off : PeerPast → ConnPast → ConnPast
 broken_off past conn = record {
-  place = conn.place;
+  rank = conn.rank;
   unread = [];
   transcript =
       outside (options_of past.conf) conn.transcript Broke;
@@ -126,7 +126,7 @@ pub record FollowsAt (id now : ℕ) (was : List Happening) (conn : ConnPast) (pa
   pub settles : AllSettleAt id now past (untold (options_of past.conf) conn.transcript) later
   pub told_is : said ≡ exchange_said (limits_of past.conf) (options_of past.conf) id now was conn.transcript
   pub changed : later_conn ≡ record {
-    place = conn.place;
+    rank = conn.rank;
     unread = left_behind (options_of past.conf) conn.unread (told_out (options_of past.conf) conn.transcript);
     transcript = sent_out (options_of past.conf) conn.transcript;
   }
@@ -165,7 +165,7 @@ module _ {D : Type 0} {g : Ghosts D} where
   pub record PairStands (id : ℕ) (conn : ConnPast) (past : PeerPast) (connection : Connection) (peer : Peer D g) :
       Type 0 where
     pub id_is : connection.conn.id.0 ≡ id
-    pub place : connection.place ≡ conn.place
+    pub rank : connection.rank ≡ conn.rank
     pub arises : Arises (options_of past.conf) conn.transcript
     pub holds : HoldsTranscript past.conf conn connection connection.waiting
     pub stands : PeerStands past peer
@@ -285,7 +285,7 @@ module _ {D : Type 0} {g : Ghosts D} where
     pub left : List ℕ
     pub receives : Receives (options_of past.conf) (conn.unread ++ octets) conn.transcript transcript left
     pub followed : Followed id now conn.transcript
-        (record { place = conn.place; unread = left; transcript = transcript }) past before connection peer told
+        (record { rank = conn.rank; unread = left; transcript = transcript }) past before connection peer told
 
   -- memory was refused to the reader, and the connection is broken; or what follows was refused
   abbrev pub ReceivedNot : List ℕ → (id now : ℕ) → ConnPast → PeerPast → Fault → Connection → Peer D g → Type 0
@@ -293,14 +293,14 @@ module _ {D : Type 0} {g : Ghosts D} where
       ((fault ≡ NoMemory) × ((mid : List Happening)
       × ReceivesSome (options_of past.conf) (conn.unread ++ octets) conn.transcript mid
       × PairStands id (record {
-        place = conn.place;
+        rank = conn.rank;
         unread = [];
         transcript =
             after (options_of past.conf) mid Broke;
       }) past connection peer))
       ⊎ ((transcript : List Happening) × (left : List ℕ)
       × Receives (options_of past.conf) (conn.unread ++ octets) conn.transcript transcript left
-      × FollowedNot id now (record { place = conn.place; unread = left; transcript = transcript }) past fault
+      × FollowedNot id now (record { rank = conn.rank; unread = left; transcript = transcript }) past fault
       connection peer)
 
   -- ---- an article is handed in

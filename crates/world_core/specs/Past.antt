@@ -37,15 +37,15 @@ pub record Past : Type 0 where
   pub last : ℕ
   pub begun : Option ℕ
 
--- A connection: the place of its peer, the octets of a reply that it holds back, and its transcript, the newest first.
+-- A connection: the rank of its peer, the octets of a reply that it holds back, and its transcript, the newest first.
 pub record ConnPast : Type 0 where
-  pub place : ℕ
+  pub rank : ℕ
   pub unread : List ℕ
   pub transcript : List Happening
 
--- A stop that is armed: at which tape, a peer's by its place or the intake's, at which call, and what it leaves.
+-- A stop that is armed: at which tape, a peer's by its rank or the intake's, at which call, and what it leaves.
 pub record Armed : Type 0 where
-  pub place : Option ℕ
+  pub rank : Option ℕ
   pub call : ℕ
   pub choice : Choice
 
@@ -69,9 +69,9 @@ ledger_at tape = ledger_after tape.history
 abbrev pub mark_at : TapePast → ℕ
 mark_at tape = mark_of tape.history
 
--- the place of the first peer of this name
-abbrev pub place_of : Past → List ℕ → Option ℕ
-place_of past name = position (λ (peer : PeerPast). bytes_eq peer.conf.name name) past.peers
+-- the rank of the first peer of this name
+abbrev pub rank_of : Past → List ℕ → Option ℕ
+rank_of past name = position (λ (peer : PeerPast). bytes_eq peer.conf.name name) past.peers
 
 -- the connection of this number
 abbrev pub conn_at : List (ℕ × ConnPast) → ℕ → Option ConnPast
@@ -104,9 +104,9 @@ with_tape peer tape = record peer { tape = tape }
 abbrev pub with_places : PeerPast → Places → PeerPast
 with_places peer places = record peer { places = places }
 
--- of the peers the one at this place becomes the new one
+-- of the peers the one at this rank becomes the new one
 abbrev pub with_peer : Past → ℕ → PeerPast → Past
-with_peer past place peer = record past { peers = slice_set past.peers place peer }
+with_peer past rank peer = record past { peers = slice_set past.peers rank peer }
 
 abbrev pub with_intake : Past → TapePast → Past
 with_intake past tape = record past { intake = tape }

@@ -54,15 +54,15 @@ numbers_at options h = map number_in (untold options h) ++ map (λ (x : Held). x
 -- the connection has a peer, its transcript can have come about, and it has no number twice
 pub record IsSoundConn (peers : List PeerPast) (conn : ConnPast) : Type 0 where
   pub peer : PeerPast
-  pub here : slice_get peers conn.place ≡ Some peer
+  pub here : slice_get peers conn.rank ≡ Some peer
   pub arises : Arises (options_of peer.conf) conn.transcript
   pub once : IsDistinct (λ one other. one == other) (numbers_at (options_of peer.conf) conn.transcript)
 
--- a connection of this number to the peer at this place has this number of a debt
-pub record HasNumber (life : Life) (place : ℕ) (peer : PeerPast) (id number : ℕ) : Type 0 where
+-- a connection of this number to the peer at this rank has this number of a debt
+pub record HasNumber (life : Life) (rank : ℕ) (peer : PeerPast) (id number : ℕ) : Type 0 where
   pub conn : ConnPast
   pub here : conn_at life.conns id ≡ Some conn
-  pub its : conn.place ≡ place
+  pub its : conn.rank ≡ rank
   pub has : Contains (numbers_at (options_of peer.conf) conn.transcript) number
 
 -- The connections rise by their numbers, of which none was not made; a number is held by a connection at its peer's
@@ -72,8 +72,8 @@ pub record AreTied (life : Life) : Type 0 where
   pub rising : IsStrictlyIncreasing (map (λ (entry : ℕ × ConnPast). entry.0) life.conns)
   pub made : AllByRecursion (λ (entry : ℕ × ConnPast). entry.0 ≤ life.connected) life.conns
   pub each : AllByRecursion (λ (entry : ℕ × ConnPast). IsSoundConn life.past.peers entry.1) life.conns
-  pub held : (place id number : ℕ) (peer : PeerPast) → slice_get life.past.peers place ≡ Some peer
-      → IsHeldBy peer.places id number ↔ HasNumber life place peer id number
+  pub held : (rank id number : ℕ) (peer : PeerPast) → slice_get life.past.peers rank ≡ Some peer
+      → IsHeldBy peer.places id number ↔ HasNumber life rank peer id number
   pub none : life.running ≡ false → life.conns ≡ []
 
 pub record IsSoundLife (life : Life) : Type 0 where

@@ -15,7 +15,7 @@ use Rattle.recovery.specs.Words.{log_of, told_of}
 use Rattle.recovery.specs.declared.fault.TapeFault.TheVariants.{Disk}
 use Rattle.recovery.specs.declared.tape.Tape.{Tape}
 use Rattle.conn_core.specs.History.{Taken, outcomes, taken}
-use Rattle.conn_core.specs.Stands.{Stands as ConnStands}
+use Rattle.conn_core.specs.Stands.{StandsFor as ConnStands}
 use Rattle.conn_core.specs.declared.outcome.Outcome.{Outcome}
 use Rattle.peer_queue.specs.Place.{all_ready}
 use Rattle.peer_queue.specs.Words.{limits_of as station_limits, places_of}
@@ -130,13 +130,13 @@ module _ {D : Type 0} {g : Ghosts D} where
     pub refused : Refuses event past fault later
     pub stands : Stands stations later
 
-  -- a line is owed at the peer of this place, and this came of it
-  pub record OwedOne (past : Past) (place : ℕ) (token id : List ℕ) (owed : Owed) (stations : Stations D g) :
+  -- a line is owed at the peer of this rank, and this came of it
+  pub record OwedOne (past : Past) (rank : ℕ) (token id : List ℕ) (owed : Owed) (stations : Stations D g) :
       Type 0 where
     pub peer : PeerPast
-    pub here : slice_get past.peers place ≡ Some peer
+    pub here : slice_get past.peers rank ≡ Some peer
     pub owed_is : owed ≡ owed_as (past.last + 1) peer
-    pub did : DidOne past (Owes place token id) stations
+    pub did : DidOne past (Owes rank token id) stations
 
   -- a peer that was not flushed since a number was kept
   abbrev pub unparted : Peer D g → Peer D g
@@ -173,9 +173,9 @@ HoldsTranscript conf past connection (Some outcome) =
 
 pub record ConnectionStands (peers : List PeerPast) (past : ℕ × ConnPast) (connection : Connection) : Type 0 where
   pub id : connection.conn.id.0 ≡ past.0
-  pub place : connection.place ≡ past.1.place
+  pub rank : connection.rank ≡ past.1.rank
   pub peer : PeerPast
-  pub here : slice_get peers past.1.place ≡ Some peer
+  pub here : slice_get peers past.1.rank ≡ Some peer
   pub holds : HoldsTranscript peer.conf past.1 connection connection.waiting
 
 abbrev pub StageStands : Life → Stage → Type 0
@@ -189,7 +189,7 @@ StageStands life (Stopped peers intake) =
 
 -- the stop that is armed
 abbrev pub armed_as : Arming → Armed
-armed_as arming = record { place = arming.place; call = arming.call; choice = arming.choice }
+armed_as arming = record { rank = arming.rank; call = arming.call; choice = arming.choice }
 
 pub record WorldStands (world : World) (life : Life) : Type 0 where
   pub stage : StageStands life world.stage

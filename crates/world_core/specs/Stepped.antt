@@ -9,7 +9,7 @@ use Rattle.peer_queue.specs.Words.{ledger_of}
 use Rattle.world_core.specs.Past.{Past, PeerPast}
 use Rattle.recovery.specs.declared.fault.TapeFault.TheVariants.{Disk}
 use Rattle.world_core.specs.Opening.{FailsAt}
-use Rattle.world_core.specs.Events.{AllDo, Event, Fails, Parts, calls_disk, each_place}
+use Rattle.world_core.specs.Events.{AllDo, Event, Fails, Parts, calls_disk, each_rank}
 use Rattle.world_core.specs.Steps.{is_named, line_events, owed_there}
 use Rattle.world_core.specs.Stands.{Stands}
 use Rattle.world_core.specs.Told.{Mark, Said, said_of}
@@ -23,11 +23,11 @@ use Rattle.world_core.specs.declared.told.Told.{Told}
 
 -- ---- the peers that a line names
 
--- each peer that is named, of those from this place on, with its place
+-- each peer that is named, of those from this rank on, with its rank
 abbrev pub named_from : ℕ → List (List ℕ) → List PeerPast → List (ℕ × PeerPast)
-named_from place named [] = []
-named_from place named (peer ∷ peers) =
-    if is_named named peer then (place, peer) ∷ named_from (place + 1) named peers else named_from (place + 1) named
+named_from rank named [] = []
+named_from rank named (peer ∷ peers) =
+    if is_named named peer then (rank, peer) ∷ named_from (rank + 1) named peers else named_from (rank + 1) named
     peers
 
 -- these are the places and the names of the peers that are named, in order
@@ -42,7 +42,7 @@ AreWithin count found = AllByRecursion (λ (entry : ℕ × List ℕ). entry.0 < 
 -- the peer of this name stands there, or none has the name
 abbrev pub FoundAt : Past → List ℕ → Option ℕ → Type 0
 FoundAt past name None = AllByRecursion (λ (peer : PeerPast). bytes_eq name peer.conf.name ≡ false) past.peers
-FoundAt past name (Some place) = (peer : PeerPast) × (slice_get past.peers place ≡ Some peer) × (peer.conf.name ≡ name)
+FoundAt past name (Some rank) = (peer : PeerPast) × (slice_get past.peers rank ≡ Some peer) × (peer.conf.name ≡ name)
 
 module _ {D : Type 0} {g : Ghosts D} where
   -- what is told of a peer whose tape was opened
@@ -66,11 +66,11 @@ module _ {D : Type 0} {g : Ghosts D} where
   -- some of these events were taken, from the first on, and the next was refused, at the tape of the halt
   pub record FailedAt (past : Past) (events : List Event) (halt : Halt) (stations : Stations D g) : Type 0 where
     pub failed : Failed past events halt.fault stations
-    pub at : calls_disk failed.fails.event ≡ Some halt.place
+    pub at : calls_disk failed.fails.event ≡ Some halt.rank
 
   -- so many peers were flushed, from the first on
   pub record PartedEach (past : Past) (count : ℕ) (stations : Stations D g) : Type 0 where
-    pub did : Did past (each_place Parts count) stations
+    pub did : Did past (each_rank Parts count) stations
     pub begun : did.later.begun ≡ past.begun
     pub all : length did.later.peers ≡ length past.peers
     pub parted : AllByRecursion (λ (peer : PeerPast). peer.parted ≡ true) (take count did.later.peers)

@@ -9,8 +9,8 @@ use Rattle.funnel.specs.Line.{IsFunnelLine, HasFault}
 use Rattle.funnel.specs.declared.line.LineFault.{LineFault}
 use Rattle.funnel.specs.declared.line.LineFault.TheVariants.{NoMemory as NoLineMemory}
 use Rattle.peer_queue.specs.declared.limits.Owed.{Owed as Answer}
-use Rattle.world_core.specs.Past.{Past, PeerPast, mark_at, place_of, with_last}
-use Rattle.world_core.specs.Events.{Acknowledges, AllDo, Event, Fails, Owes, Parts, Rotates, Sees, Sheds, each_place}
+use Rattle.world_core.specs.Past.{Past, PeerPast, mark_at, rank_of, with_last}
+use Rattle.world_core.specs.Events.{Acknowledges, AllDo, Event, Fails, Owes, Parts, Rotates, Sees, Sheds, each_rank}
 use Rattle.world_core.specs.Events.{owed_as}
 use Rattle.world_core.specs.Told.{Bad, Owed, Rotated, Said, Shed, Taken}
 use Rattle.world_core.specs.declared.fault.Fault.{Fault}
@@ -22,12 +22,12 @@ use Rattle.world_core.specs.declared.fault.Fault.TheVariants.{CountFull, NoMemor
 abbrev pub is_named : List (List ℕ) → PeerPast → Bool
 is_named named peer = list_any (λ (name : List ℕ). bytes_eq name peer.conf.name) named
 
--- the line at each peer that it names, of those from this place on
+-- the line at each peer that it names, of those from this rank on
 abbrev pub owes_from : ℕ → List ℕ → List ℕ → List (List ℕ) → List PeerPast → List Event
-owes_from place token id named [] = []
-owes_from place token id named (peer ∷ peers) =
-    if is_named named peer then Owes place token id ∷ owes_from (place + 1) token id named peers
-    else owes_from (place + 1) token id named peers
+owes_from rank token id named [] = []
+owes_from rank token id named (peer ∷ peers) =
+    if is_named named peer then Owes rank token id ∷ owes_from (rank + 1) token id named peers
+    else owes_from (rank + 1) token id named peers
 
 -- the line at each peer that it names, in byte order of their names
 abbrev pub line_events : List ℕ → List ℕ → List (List ℕ) → Past → List Event
@@ -46,7 +46,7 @@ seal_events number = Sees number ∷ Acknowledges ∷ []
 
 -- the flush of each peer in turn, and then the seal of the last line's number
 abbrev pub flush_events : Past → List Event
-flush_events past = each_place Parts (length past.peers) ++ seal_events past.last
+flush_events past = each_rank Parts (length past.peers) ++ seal_events past.last
 
 -- ---- begin and seal
 
@@ -93,7 +93,7 @@ TakesBegin past told later = (told ≡ []) × (later ≡ begun_at past)
 
 abbrev pub TakesPart : List ℕ → Past → List Said → Past → Type 0
 TakesPart name past told later =
-    (place : ℕ) × (place_of past name ≡ Some place) × AllDo past (Parts place ∷ []) later × (told ≡ [])
+    (rank : ℕ) × (rank_of past name ≡ Some rank) × AllDo past (Parts rank ∷ []) later × (told ≡ [])
 
 abbrev pub TakesSeal : Past → List Said → Past → Type 0
 TakesSeal past told later =
@@ -106,12 +106,12 @@ TakesFlush past told later = AllDo (begun_at past) (flush_events past) later
 
 abbrev pub TakesShed : List ℕ → Past → List Said → Past → Type 0
 TakesShed name past told later =
-    (place : ℕ) × (numbers : List ℕ) × (place_of past name ≡ Some place) × AllDo past (Sheds place numbers ∷ []) later
+    (rank : ℕ) × (numbers : List ℕ) × (rank_of past name ≡ Some rank) × AllDo past (Sheds rank numbers ∷ []) later
     × (told ≡ Shed name numbers ∷ [])
 
 abbrev pub TakesRotate : List ℕ → Past → List Said → Past → Type 0
 TakesRotate name past told later =
-    (place generation : ℕ) × (place_of past name ≡ Some place) × AllDo past (Rotates place generation ∷ []) later
+    (rank generation : ℕ) × (rank_of past name ≡ Some rank) × AllDo past (Rotates rank generation ∷ []) later
     × (told ≡ Rotated name generation ∷ [])
 
 -- ---- how each is refused
@@ -124,11 +124,11 @@ RefusesLine text past fault later =
     ⊎ ((past.last + 1 < 2 ^ 64) × ((token id : List ℕ) × (named : List (List ℕ)) × IsFunnelLine text token id named
     × Fails past (line_events token id named past) fault later))
 
--- no peer has this name, or it has this place and its step is refused
+-- no peer has this name, or it has this rank and its step is refused
 abbrev pub RefusesNamed : List ℕ → Past → (ℕ → Type 0) → Fault → Past → Type 0
 RefusesNamed name past Fails fault later =
-    ((fault ≡ NoPeer) × (place_of past name ≡ None) × (later ≡ past))
-    ⊎ ((place : ℕ) × (place_of past name ≡ Some place) × Fails place)
+    ((fault ≡ NoPeer) × (rank_of past name ≡ None) × (later ≡ past))
+    ⊎ ((rank : ℕ) × (rank_of past name ≡ Some rank) × Fails rank)
 
 -- the same of a step that tells something, for which there may be no memory
 abbrev pub RefusesTelling : Type 0 → Past → Fault → Past → Type 0
@@ -136,7 +136,7 @@ RefusesTelling Fails past fault later = ((fault ≡ NoMemory) × (later ≡ past
 
 abbrev pub RefusesPart : List ℕ → Past → Fault → Past → Type 0
 RefusesPart name past fault later =
-    RefusesNamed name past (λ place. Fails past (Parts place ∷ []) fault later) fault later
+    RefusesNamed name past (λ rank. Fails past (Parts rank ∷ []) fault later) fault later
 
 abbrev pub RefusesSeal : Past → Fault → Past → Type 0
 RefusesSeal past fault later =
@@ -150,10 +150,10 @@ RefusesFlushing past fault later =
 
 abbrev pub RefusesShed : List ℕ → Past → Fault → Past → Type 0
 RefusesShed name past fault later =
-    RefusesNamed name past (λ place. RefusesTelling (Fails past (Sheds place [] ∷ []) fault later) past fault later)
+    RefusesNamed name past (λ rank. RefusesTelling (Fails past (Sheds rank [] ∷ []) fault later) past fault later)
     fault later
 
 abbrev pub RefusesRotation : List ℕ → Past → Fault → Past → Type 0
 RefusesRotation name past fault later =
-    RefusesNamed name past (λ place. RefusesTelling (Fails past (Rotates place 0 ∷ []) fault later) past fault later)
+    RefusesNamed name past (λ rank. RefusesTelling (Fails past (Rotates rank 0 ∷ []) fault later) past fault later)
     fault later

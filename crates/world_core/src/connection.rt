@@ -1,9 +1,9 @@
 // The connections of a world: what comes of each step on one, at its peer's station and in what is told.
-ghost use Rattle.std.specs.Prelude.{◌≡◌, ◌==◌, ◌<◌, ◌++◌, ◌∷◌, [], ℕ, List, None, Option, true};
-ghost use Rattle.std.specs.Prelude.{is_none, length, map, option_to_list, position, IfErr, IfOk, IfSome, MatchOption};
+ghost use Rattle.std.specs.Prelude.{◌≡◌, ◌<◌, ◌++◌, ◌∷◌, [], ℕ, List, None, Option, true};
+ghost use Rattle.std.specs.Prelude.{is_none, length, map, option_to_list, IfErr, IfOk, IfSome, MatchOption};
 ghost use Rattle.std.specs.Prelude.{OnOk};
 ghost use Rattle.conn_core.specs.History.{Event, reason};
-ghost use Rattle.conn_core.specs.Stands.{Stands, Takes};
+ghost use Rattle.conn_core.specs.Stands.{StandsFor, Takes};
 ghost use Rattle.conn_core.specs.declared.reason.Reason.{Reason};
 ghost use Rattle.world_core.specs.Past.{ConnPast, PeerPast, options_of};
 ghost use Rattle.world_core.specs.Pairs.{Tells, broken_off, left_at};
@@ -17,15 +17,15 @@ use article_store::Found;
 use conn_core::{ArticleFault, Conn, CxnId, OfferFault, Options, Outcome, Reason};
 use disk_model::Disk;
 use feed_conf::PeerConf;
-use funnel::without_cr;
+use funnel::{first_line, without_cr};
 use peer_queue::{each_number_has_one_place, number_in};
 use std::alloc::{AllocError, Global};
 
 /// A connection of a world.
 #[derive(Drop)]
 pub(crate) struct Connection {
-    // The place of its peer among the peers.
-    pub(crate) place: usize,
+    // The rank of its peer among the peers.
+    pub(crate) rank: usize,
     pub(crate) conn: Conn,
     // An outcome that was taken from it and that its peer's station refused: it is the first to be taken still.
     pub(crate) waiting: Option<Outcome>,
@@ -38,25 +38,25 @@ impl Connection {
     ghost use Rattle.world_core.specs.Pairs.{HandedNot, HandedOn, HandedOnNot, HandedOver};
     ghost use Rattle.world_core.specs.Pairs.{Received, ReceivedNot, Supplied, SuppliedNot, ticked_at};
 
-    /// A connection of this number to the peer of these settings at this place.
+    /// A connection of this number to the peer of these settings at this rank.
     ///
     /// # Errors
     /// Memory was refused.
     pub(crate) fn new(
         alloc: Global,
         number: u64,
-        place: usize,
+        rank: usize,
         conf: &PeerConf,
     ) -> Result<Connection, AllocError>
         ensures stands { IfOk result
-            (λ connection. Stands (options_of conf.now) connection.conn [] []) }
+            (λ connection. StandsFor (options_of conf.now) connection.conn [] []) }
         ensures number { IfOk result (λ connection. connection.conn.id.0 ≡ number) }
-        ensures place { IfOk result (λ connection. connection.place ≡ place) }
+        ensures rank { IfOk result (λ connection. connection.rank ≡ rank) }
         ensures waits { IfOk result (λ connection. connection.waiting ≡ None) }
     {
         let conn = Conn::new(alloc, CxnId(number), options_of(conf))?;
         Ok(Connection {
-            place,
+            rank,
             conn,
             waiting: None,
         })
@@ -69,7 +69,7 @@ impl Connection {
             → Takes (options_of conf) past.unread past.transcript result self.new.conn }
         ensures waits { self.new.waiting ≡ None }
         ensures left { left_at self.old ≡ option_to_list result ++ left_at self.new }
-        ensures place { self.new.place ≡ self.old.place }
+        ensures rank { self.new.rank ≡ self.old.rank }
         ensures id { self.new.conn.id ≡ self.old.conn.id }
     {
         match self.waiting.take() {
@@ -345,30 +345,11 @@ fn tell_output(told: &mut Vec<Told>, connection: u64, output: &[u8]) -> Result<(
     let alloc = *told.allocator();
     let mut rest = output;
     while let Some((line, behind)) = first_line(rest) {
-        let line = Vec::from_slice(alloc, line)?;
+        let line = Vec::from_slice(alloc, without_cr(line))?;
         told.push(Told::Output { connection, line })?;
         rest = behind;
     }
     Ok(())
-}
-
-// The first line without its CR LF, and what stands behind it; nothing where no LF is left.
-fn first_line(text: &[u8]) -> Option<(&[u8], &[u8])>
-    ensures lines { MatchOption result (lines_in text.now ≡ [])
-        (λ parts. lines_in text.now ≡ parts.0.now ∷ lines_in parts.1.now) }
-    ensures shorter { IfSome result (λ parts. length parts.1.now < length text.now) }
-{
-    match line_end(text) {
-        Some(end) => Some((without_cr(&text[..end]), &text[end + 1..])),
-        None => None,
-    }
-}
-
-// Where the first LF stands.
-fn line_end(text: &[u8]) -> Option<usize>
-    ensures { result ≡ position (λ octet. octet == 10) text.now }
-{
-    text.iter().position(|octet| *octet == b'\n')
 }
 
 // Tells which article is wanted.

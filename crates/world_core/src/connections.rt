@@ -153,7 +153,7 @@ impl<D: Disk> Stations<D> {
             → life.connected ≡ last → IfErr result (λ fault.
             RefusedOn (RefusesConnect name.now) life fault self.new connections.new.items) }
     {
-        let Some(place) = self.place_of(name) else {
+        let Some(rank) = self.rank_of(name) else {
             return Err(Fault::NoPeer);
         };
         let Some(number) = last.checked_add(1) else {
@@ -162,7 +162,7 @@ impl<D: Disk> Stations<D> {
         told.reserve(1)?;
         connections.reserve(1)?;
         let name = name.clone()?;
-        let connection = Connection::new(self.alloc, number, place, &self.peers[place].conf)?;
+        let connection = Connection::new(self.alloc, number, rank, &self.peers[rank].conf)?;
         connections.push_reserved(connection);
         told.push_reserved(Told::Connected {
             connection: number,
@@ -187,11 +187,11 @@ impl<D: Disk> Stations<D> {
             → life.now ≡ now → IfErr result (λ fault. RefusedOn
             (RefusesAct id (FailsToHand id)) life fault self.new connections.new.items) }
     {
-        let Some((index, place)) = self.find_conn(connections, id) else {
+        let Some((index, rank)) = self.find_conn(connections, id) else {
             return Err(Fault::NoConnection);
         };
         let connection = &mut connections[index];
-        let peer = &mut self.peers[place];
+        let peer = &mut self.peers[rank];
         connection.hand(peer, now, told)
     }
 
@@ -213,11 +213,11 @@ impl<D: Disk> Stations<D> {
             (RefusesAct id (FailsToRead id octets.now)) life fault
             self.new connections.new.items) }
     {
-        let Some((index, place)) = self.find_conn(connections, id) else {
+        let Some((index, rank)) = self.find_conn(connections, id) else {
             return Err(Fault::NoConnection);
         };
         let connection = &mut connections[index];
-        let peer = &mut self.peers[place];
+        let peer = &mut self.peers[rank];
         connection.receive(peer, octets, now, told)
     }
 
@@ -239,11 +239,11 @@ impl<D: Disk> Stations<D> {
             (RefusesAct id (FailsToSupply id found.now)) life fault
             self.new connections.new.items) }
     {
-        let Some((index, place)) = self.find_conn(connections, id) else {
+        let Some((index, rank)) = self.find_conn(connections, id) else {
             return Err(Fault::NoConnection);
         };
         let connection = &mut connections[index];
-        let peer = &mut self.peers[place];
+        let peer = &mut self.peers[rank];
         connection.supply(peer, found, now, told)
     }
 
@@ -263,11 +263,11 @@ impl<D: Disk> Stations<D> {
             → life.now ≡ now → IfErr result (λ fault. RefusedOn
             (RefusesAct id (FailsToBreak id)) life fault self.new connections.new.items) }
     {
-        let Some((index, place)) = self.find_conn(connections, id) else {
+        let Some((index, rank)) = self.find_conn(connections, id) else {
             return Err(Fault::NoConnection);
         };
         let connection = &mut connections[index];
-        let peer = &mut self.peers[place];
+        let peer = &mut self.peers[rank];
         connection.break_off(peer, now, told)
     }
 
@@ -311,11 +311,11 @@ impl<D: Disk> Stations<D> {
         ensures count { vec_len connections.new ≡ vec_len connections.old }
     {
         let connection = &mut connections[index];
-        let place = connection.place;
-        if place >= self.peers.len() {
+        let rank = connection.rank;
+        if rank >= self.peers.len() {
             return Err(Fault::NoPeer);
         }
-        let peer = &mut self.peers[place];
+        let peer = &mut self.peers[rank];
         connection.tick(peer, now, told)
     }
 
@@ -327,9 +327,9 @@ impl<D: Disk> Stations<D> {
             (at.0 < length connections.now) × (at.1 < vec_len self.now.peers)) }
     {
         let index = index_of(connections, id)?;
-        let place = connections[index].place;
-        if place < self.peers.len() {
-            Some((index, place))
+        let rank = connections[index].rank;
+        if rank < self.peers.len() {
+            Some((index, rank))
         } else {
             None
         }

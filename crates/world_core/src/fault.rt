@@ -1,11 +1,12 @@
 // Why a step of a world is refused.
 ghost use Rattle.std.specs.Prelude.{◌≡◌};
-ghost use Rattle.world_core.specs.Fault.{fault_of, fault_of_station};
-ghost use Rattle.world_core.specs.declared.fault.Fault.TheVariants.{NoMemory};
+ghost use Rattle.world_core.specs.Fault.{fault_name, fault_of, fault_of_station};
+ghost use Rattle.world_core.specs.declared.fault.Fault.TheVariants.{NoMemory, Tape};
 ghost use Rattle.world_core.specs.declared.fault.TapesFault.TheVariants.{NoMemory as NoTapesMemory};
 
 use crate::told::Told;
 use funnel::PeerName;
+use ledger_core::LedgerFault;
 use peer_queue::StationFault;
 use recovery::TapeFault;
 use std::alloc::{AllocError, AllocFailed};
@@ -13,37 +14,46 @@ use thiserror::Error;
 
 /// Why a step is refused.
 #[derive(Clone, Copy, Debug, PartialEq, Eq, Error)]
+#[error("{}", self.name())]
 pub enum Fault {
     /// No peer has this name.
-    #[error("NoPeer")]
     NoPeer,
     /// There is no connection of this number: none was made, or a stop ended it.
-    #[error("NoConnection")]
     NoConnection,
     /// All is stopped, and only `Restart` and the arming of a stop are steps.
-    #[error("Stopped")]
     Stopped,
     /// Nothing is stopped, so there is nothing to restart.
-    #[error("Running")]
     Running,
     /// The connection wants no article.
-    #[error("NotNeeded")]
     NotNeeded,
     /// A tape refused; its `NoMemory` is the step's own.
-    #[error("Tape {0}")]
     Tape(TapeFault),
     /// A number would pass the greatest that there is.
-    #[error("CountFull")]
     CountFull,
     /// Memory was refused.
-    #[error("NoMemory")]
     NoMemory,
     /// No number is kept, or some peer was not flushed since.
-    #[error("NotFlushed")]
     NotFlushed,
 }
 
 impl Fault {
+    /// The word by which messages and scripts tell it, with that of the tape's fault within.
+    pub fn name(self) -> &'static str
+        ensures { result.now ≡ fault_name self }
+    {
+        match self {
+            Fault::NoPeer => "NoPeer",
+            Fault::NoConnection => "NoConnection",
+            Fault::Stopped => "Stopped",
+            Fault::Running => "Running",
+            Fault::NotNeeded => "NotNeeded",
+            Fault::Tape(fault) => tape_name(fault),
+            Fault::CountFull => "CountFull",
+            Fault::NoMemory => "NoMemory",
+            Fault::NotFlushed => "NotFlushed",
+        }
+    }
+
     // A tape's fault, as a step tells it.
     pub(crate) fn from_tape(fault: TapeFault) -> Fault
         ensures { result ≡ fault_of fault }
@@ -67,11 +77,30 @@ impl Fault {
     }
 }
 
-/// At which tape a step was refused, a peer's by its place or the intake's, and why. The tape is of weight only where
+// The words for why a tape refused.
+fn tape_name(fault: TapeFault) -> &'static str
+    ensures { result.now ≡ fault_name (Tape fault) }
+{
+    match fault {
+        TapeFault::Damaged { .. } => "Tape Damaged",
+        TapeFault::Disk => "Tape Disk",
+        TapeFault::Broken => "Tape Broken",
+        TapeFault::TapeFull => "Tape TapeFull",
+        TapeFault::GenerationFull => "Tape GenerationFull",
+        TapeFault::PendingFull => "Tape PendingFull",
+        TapeFault::NoMemory => "Tape NoMemory",
+        TapeFault::Note(LedgerFault::OldNumber) => "Tape Note OldNumber",
+        TapeFault::Note(LedgerFault::NotOwed) => "Tape Note NotOwed",
+        TapeFault::Note(LedgerFault::CountFull) => "Tape Note CountFull",
+        TapeFault::Note(LedgerFault::NoMemory) => "Tape Note NoMemory",
+    }
+}
+
+/// At which tape a step was refused, a peer's by its rank or the intake's, and why. The tape is of weight only where
 /// a disk failed.
 #[derive(Clone, Copy, Debug, PartialEq, Eq)]
 pub(crate) struct Halt {
-    pub(crate) place: Option<usize>,
+    pub(crate) rank: Option<usize>,
     pub(crate) fault: Fault,
 }
 
@@ -111,7 +140,7 @@ impl From<AllocError> for Halt {
 
     fn from(_: AllocError) -> Self {
         Halt {
-            place: None,
+            rank: None,
             fault: Fault::NoMemory,
         }
     }

@@ -1,16 +1,13 @@
 // What steps tell, as the lines of the script's format (docs/FORMATS.md).
 ghost use Rattle.std.specs.Prelude.{◌≡◌, [], ◌∷◌, ◌++◌, decimal as digits_of, flat_map, map, IfOk, OnOk};
-ghost use Rattle.world_core.specs.Lines.{bad_text, cause_text, handed_text, line_text, numbers_text, owed_text};
-ghost use Rattle.world_core.specs.Lines.{reason_text, reply_fault_text, settled_text, told_text};
+ghost use Rattle.world_core.specs.Lines.{handed_text, line_text, numbers_text, owed_text};
+ghost use Rattle.world_core.specs.Lines.{reason_text, settled_text, told_text};
 ghost use Rattle.world_core.specs.Told.{said_of};
 ghost use Rattle.world_core.specs.declared.told.OwedAt.{OwedAt};
 
 use crate::told::{Handed, OwedAt, Told};
 use conn_core::Reason;
-use funnel::LineFault;
-use ledger_core::Cause;
 use peer_queue::{Owed, Settled};
-use reply_reader::ReplyFault;
 use std::alloc::{AllocError, Global};
 
 impl Told {
@@ -39,7 +36,8 @@ fn add_told(out: &mut Vec<u8>, told: &Told) -> Result<(), AllocError>
         }
         Told::Bad { number, fault } => {
             add_number(out, *number)?;
-            out.extend_from_slice(bad_text(*fault))
+            out.extend_from_slice(b" bad ")?;
+            out.extend_from_slice(fault.name().as_bytes())
         }
         Told::Taken { mark } => {
             out.extend_from_slice(b"taken ")?;
@@ -166,7 +164,7 @@ fn add_settled(out: &mut Vec<u8>, number: u64, settled: Settled) -> Result<(), A
         }
         Settled::Dropped(cause) => {
             add_pair(out, b" drop ", number)?;
-            out.extend_from_slice(cause_text(cause))
+            out.extend_from_slice(cause.name().as_bytes())
         }
         Settled::Ready => {
             out.extend_from_slice(b" back ")?;
@@ -186,31 +184,6 @@ fn add_pair(out: &mut Vec<u8>, word: &[u8], number: u64) -> Result<(), AllocErro
     Ok(())
 }
 
-// Why a line is not good.
-fn bad_text(fault: LineFault) -> &'static [u8]
-    ensures { result.now ≡ bad_text fault }
-{
-    match fault {
-        LineFault::NoToken => b" bad NoToken",
-        LineFault::BadToken => b" bad BadToken",
-        LineFault::BadId => b" bad BadId",
-        LineFault::TooLong => b" bad TooLong",
-        LineFault::NoMemory => b" bad NoMemory",
-    }
-}
-
-// The name of a cause.
-fn cause_text(cause: Cause) -> &'static [u8]
-    ensures { result.now ≡ cause_text cause }
-{
-    match cause {
-        Cause::Limit => b"Limit",
-        Cause::Deferred => b"Deferred",
-        Cause::Missing => b"Missing",
-        Cause::Unsendable => b"Unsendable",
-    }
-}
-
 // Why a connection closed.
 fn add_reason(out: &mut Vec<u8>, reason: Reason) -> Result<(), AllocError>
     ensures { OnOk result (out.new.items ≡ out.old.items ++ reason_text reason) }
@@ -222,7 +195,7 @@ fn add_reason(out: &mut Vec<u8>, reason: Reason) -> Result<(), AllocError>
         }
         Reason::Reader(fault) => {
             out.extend_from_slice(b"Reader ")?;
-            out.extend_from_slice(reply_fault_text(fault))
+            out.extend_from_slice(fault.name().as_bytes())
         }
         Reason::Unmatched => out.extend_from_slice(b"Unmatched"),
         Reason::Ended(code) => {
@@ -232,18 +205,6 @@ fn add_reason(out: &mut Vec<u8>, reason: Reason) -> Result<(), AllocError>
         Reason::Timeout => out.extend_from_slice(b"Timeout"),
         Reason::Broken => out.extend_from_slice(b"Broken"),
         Reason::Quit => out.extend_from_slice(b"Quit"),
-    }
-}
-
-// The name of a fault of a reader of replies.
-fn reply_fault_text(fault: ReplyFault) -> &'static [u8]
-    ensures { result.now ≡ reply_fault_text fault }
-{
-    match fault {
-        ReplyFault::TooLong => b"TooLong",
-        ReplyFault::NoCode => b"NoCode",
-        ReplyFault::NoMemory => b"NoMemory",
-        ReplyFault::Failed => b"Failed",
     }
 }
 

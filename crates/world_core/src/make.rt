@@ -33,7 +33,7 @@ impl World {
     pub fn new(alloc: Global, peers: Vec<PeerConf>) -> Result<World, WorldFault>
         requires distinct { IsDistinct bytes_eq (map (λ (conf : PeerConf). conf.name) peers.items) }
         ensures begins { IfOk result (Begins peers.items) }
-        ensures refused { IfErr result WasNotMade }
+        ensures refuses { IfErr result WasNotMade }
     {
         match World::make(alloc, peers) {
             Ok(world) => Ok(world),
@@ -52,7 +52,7 @@ impl World {
     fn make(alloc: Global, peers: Vec<PeerConf>) -> Result<World, Fault>
         requires distinct { IsDistinct bytes_eq (map (λ (conf : PeerConf). conf.name) peers.items) }
         ensures begins { IfOk result (Begins peers.items) }
-        ensures refused { IfErr result IsMakeFault }
+        ensures kinds { IfErr result IsMakeFault }
     {
         let given = with_no_octets(alloc, peers)?;
         match World::with_tapes(alloc, given) {
@@ -77,7 +77,7 @@ impl World {
     ) -> Result<World, TapesFault>
         requires distinct { IsDistinct bytes_eq (given_names peers.items) }
         ensures begins { IfOk result (BeginsFrom peers.items) }
-        ensures refused { IfErr result (RefusesTapes peers.items) }
+        ensures refuses { IfErr result (RefusesTapes peers.items) }
     {
         peers.sort_by(|a, b| a.0.name.bytes().cmp(b.0.name.bytes()))?;
         let trigger = Rc::new(alloc, Cell::new(Trigger::Idle))?;
@@ -136,13 +136,13 @@ fn open_each(
 // Opens the intake's tape on empty disks. Nothing but want of memory refuses it: a disk in memory fails for no more.
 fn open_intake(
     alloc: Global,
-    place: usize,
+    rank: usize,
     trigger: &Rc<Cell<Trigger>>,
 ) -> Result<Tape<StopDisk>, AllocError>
     ensures { IfOk result (IsFound start) }
 {
-    let first = StopDisk::new(MemDisk::new(alloc), place, trigger.clone()?);
-    let second = StopDisk::new(MemDisk::new(alloc), place, trigger.clone()?);
+    let first = StopDisk::new(MemDisk::new(alloc), rank, trigger.clone()?);
+    let second = StopDisk::new(MemDisk::new(alloc), rank, trigger.clone()?);
     match Tape::open(alloc, first, second) {
         Ok(tape) => Ok(tape),
         Err(_) => Err(AllocError),

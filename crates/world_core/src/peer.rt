@@ -126,11 +126,11 @@ impl StoppedPeer {
 impl Peer<StopDisk> {
     ghost use Rattle.world_core.specs.Given.{OpensGiven, RefusesPeer};
 
-    // Opens the station of a peer at this place, the first disk of whose tape holds these octets, and the second none.
+    // Opens the station of a peer at this rank, the first disk of whose tape holds these octets, and the second none.
     pub(crate) fn open_given(
         alloc: Global,
         given: (PeerConf, Vec<u8>),
-        place: usize,
+        rank: usize,
         trigger: &Rc<Cell<Trigger>>,
     ) -> Result<Self, TapesFault>
         ensures ok { IfOk result (OpensGiven given) }
@@ -138,8 +138,8 @@ impl Peer<StopDisk> {
     {
         let (conf, octets) = given;
         let first = MemDisk::holding(alloc, &octets)?;
-        let first = StopDisk::new(first, place, trigger.clone()?);
-        let second = StopDisk::new(MemDisk::new(alloc), place, trigger.clone()?);
+        let first = StopDisk::new(first, rank, trigger.clone()?);
+        let second = StopDisk::new(MemDisk::new(alloc), rank, trigger.clone()?);
         match Station::open(alloc, first, second, limits_of(&conf)) {
             Ok(station) => Ok(Peer {
                 conf,

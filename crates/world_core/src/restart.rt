@@ -129,8 +129,8 @@ impl Opening {
         match peer.open(self.alloc) {
             Ok(peer) => self.opened.push_reserved(peer),
             Err((peer, fault)) => {
-                let place = Some(self.opened.len());
-                self.halt(Halt { place, fault });
+                let rank = Some(self.opened.len());
+                self.halt(Halt { rank, fault });
                 self.stopped.push_reserved(peer);
             }
         }
@@ -189,7 +189,7 @@ impl Opening {
                 Err(Closed {
                     peers: halt_each(self.opened, self.stopped),
                     intake: (refused.a, refused.b),
-                    halt: Halt { place: None, fault },
+                    halt: Halt { rank: None, fault },
                 })
             }
         }

@@ -160,9 +160,9 @@ fn count_each(totals: &mut [PeerTotals], peers: &[Peer<StopDisk>])
         → counts_in totals.new
         ≡ map (λ peer. (peer.conf.name, totals_of (ledger_of peer.station))) peers.now }
 {
-    for place in 0..totals.len() {
-        if let Some(peer) = peers.get(place) {
-            totals[place].totals = peer.station.totals();
+    for rank in 0..totals.len() {
+        if let Some(peer) = peers.get(rank) {
+            totals[rank].totals = peer.station.totals();
         }
     }
 }

@@ -32,33 +32,33 @@ impl<D: Disk> Stations<D> {
     ghost use Rattle.world_core.specs.Steps.{IsSealable, begun_at};
     ghost use Rattle.world_core.specs.Stands.{DidOne, FailedOne, OwedOne, Stands};
 
-    // Owes a line to the peer at this place, which it names, and tells what came of it.
-    pub(crate) fn owe_at(&mut self, place: usize, token: &Token, id: &MsgId) -> Result<Owed, Fault>
-        requires within { place < vec_len self.old.peers }
+    // Owes a line to the peer at this rank, which it names, and tells what came of it.
+    pub(crate) fn owe_at(&mut self, rank: usize, token: &Token, id: &MsgId) -> Result<Owed, Fault>
+        requires within { rank < vec_len self.old.peers }
         requires numbered { self.old.last + 1 < 2 ^ 64 }
         ensures ok { (past : Past) → Stands self.old past
-            → IfOk result (λ owed. OwedOne past place token.now id.now owed self.new) }
+            → IfOk result (λ owed. OwedOne past rank token.now id.now owed self.new) }
         ensures err { (past : Past) → Stands self.old past
-            → IfErr result (λ fault. FailedOne past (Owes place token.now id.now) fault self.new) }
+            → IfErr result (λ fault. FailedOne past (Owes rank token.now id.now) fault self.new) }
         ensures last { self.new.last ≡ self.old.last }
         ensures count { vec_len self.new.peers ≡ vec_len self.old.peers }
     {
         let number = self.last + 1;
-        let peer = &mut self.peers[place];
+        let peer = &mut self.peers[rank];
         peer.owe(number, token, id)
     }
 
-    // Flushes the peer at this place.
-    pub(crate) fn part_at(&mut self, place: usize) -> Result<(), Fault>
-        requires { place < vec_len self.old.peers }
+    // Flushes the peer at this rank.
+    pub(crate) fn part_at(&mut self, rank: usize) -> Result<(), Fault>
+        requires { rank < vec_len self.old.peers }
         ensures ok { (past : Past) → Stands self.old past
-            → OnOk result (DidOne past (Parts place) self.new) }
+            → OnOk result (DidOne past (Parts rank) self.new) }
         ensures err { (past : Past) → Stands self.old past
-            → IfErr result (λ fault. FailedOne past (Parts place) fault self.new) }
+            → IfErr result (λ fault. FailedOne past (Parts rank) fault self.new) }
         ensures last { self.new.last ≡ self.old.last }
         ensures count { vec_len self.new.peers ≡ vec_len self.old.peers }
     {
-        let peer = &mut self.peers[place];
+        let peer = &mut self.peers[rank];
         peer.flush()
     }
 
@@ -113,8 +113,8 @@ impl<D: Disk> Stations<D> {
         self.begun = Some(self.last);
     }
 
-    // The place of the first peer of this name.
-    pub(crate) fn place_of(&self, name: &PeerName) -> Option<usize>
+    // The rank of the first peer of this name.
+    pub(crate) fn rank_of(&self, name: &PeerName) -> Option<usize>
         ensures { result ≡ position
             (λ peer. bytes_eq peer.conf.name name.now) self.now.peers.items }
     {

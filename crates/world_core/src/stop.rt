@@ -9,8 +9,8 @@ use std::rc::Rc;
 /// A stop that waits to be met.
 #[derive(Clone, Copy, Debug, PartialEq, Eq)]
 pub struct Stop {
-    /// The place of the tape at whose disks it comes: a peer's among the peers, and behind them the intake's.
-    pub place: usize,
+    /// The rank of the tape at whose disks it comes: a peer's among the peers, and behind them the intake's.
+    pub rank: usize,
     /// How many counted calls of that disk there are up to it, the call that it stops among them.
     pub calls: u64,
     /// What it leaves of each disk.
@@ -43,11 +43,11 @@ impl Trigger {
     ghost use Rattle.world_core.specs.Trigger.{fate_of, counted, settled};
 
     // What becomes of the next call of this peer's disk.
-    fn fate(self, place: usize) -> Fate
-        ensures { result ≡ fate_of self place }
+    fn fate(self, rank: usize) -> Fate
+        ensures { result ≡ fate_of self rank }
     {
         match self {
-            Trigger::Armed(stop) if stop.place == place && stop.calls <= 1 => {
+            Trigger::Armed(stop) if stop.rank == rank && stop.calls <= 1 => {
                 Fate::Stops(stop.choice)
             }
             Trigger::Idle | Trigger::Armed(_) => Fate::Completes,
@@ -56,12 +56,12 @@ impl Trigger {
     }
 
     // What waits behind a call of this peer's disk that completes.
-    fn count(self, place: usize) -> Trigger
-        ensures { result ≡ counted self place }
+    fn count(self, rank: usize) -> Trigger
+        ensures { result ≡ counted self rank }
     {
         match self {
-            Trigger::Armed(stop) if stop.place == place => Trigger::Armed(Stop {
-                place,
+            Trigger::Armed(stop) if stop.rank == rank => Trigger::Armed(Stop {
+                rank,
                 calls: stop.calls.saturating_sub(1),
                 choice: stop.choice,
             }),
@@ -86,8 +86,8 @@ impl Trigger {
 #[derive(Drop)]
 pub struct StopDisk {
     disk: MemDisk,
-    // The place of its tape.
-    place: usize,
+    // The rank of its tape.
+    rank: usize,
     trigger: Rc<Cell<Trigger>>,
     // How many faults it told by itself.
     faults: u64,
@@ -102,14 +102,14 @@ impl StopDisk {
     ghost use Rattle.disk_model.specs.InMemory.{held};
     ghost use Rattle.world_core.specs.StopDisk.{beneath, happened, own_faults, all_faults, Passes, Reaches, Refuses};
 
-    /// A disk of the tape at this place.
-    pub fn new(disk: MemDisk, place: usize, trigger: Rc<Cell<Trigger>>) -> Self
+    /// A disk of the tape at this rank.
+    pub fn new(disk: MemDisk, rank: usize, trigger: Rc<Cell<Trigger>>) -> Self
         ensures disk { beneath result ≡ disk }
         ensures told { own_faults result ≡ 0 }
     {
         StopDisk {
             disk,
-            place,
+            rank,
             trigger,
             faults: 0,
         }
@@ -127,14 +127,14 @@ impl StopDisk {
     {
         let disk = self.disk.image(choice)?;
         let trigger = self.trigger.clone()?;
-        Ok(StopDisk::new(disk, self.place, trigger))
+        Ok(StopDisk::new(disk, self.rank, trigger))
     }
 
     // Counts a call that completes, and tells what becomes of it.
     fn count(&self) -> Fate {
         let trigger = self.trigger.get();
-        self.trigger.set(trigger.count(self.place));
-        trigger.fate(self.place)
+        self.trigger.set(trigger.count(self.rank));
+        trigger.fate(self.rank)
     }
 
     // Stops all disks.

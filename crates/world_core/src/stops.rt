@@ -16,7 +16,7 @@ use std::mem;
 
 impl World {
     ghost use Rattle.world_core.specs.Halts.{AtRest, ByChoice, IsTapeOf, RefusesStop, TakesStop, halted, left};
-    ghost use Rattle.world_core.specs.Past.{Life, Past, place_of, with_past};
+    ghost use Rattle.world_core.specs.Past.{Life, Past, rank_of, with_past};
     ghost use Rattle.world_core.specs.Stands.{WorldStands};
     ghost use Rattle.world_core.specs.Turn.{GoesOn, Made, Refused, RefusesRest, TakesRest, Took, WasHalted};
     ghost use Rattle.world_core.specs.Turn.{WasNotTaken, WasStruck, WasStruckUntold};
@@ -73,7 +73,7 @@ impl World {
         let Some(arming) = self.armed else {
             return Err(halt.fault);
         };
-        if met.is_none() || !is_disk(halt.fault) || !is_one_tape(arming.place, halt.place) {
+        if met.is_none() || !is_disk(halt.fault) || !is_one_tape(arming.rank, halt.rank) {
             return Err(halt.fault);
         }
         self.strike(halt.fault, arming.choice, out)
@@ -104,7 +104,7 @@ impl World {
         ensures ok { (life now : Life) (under_way : Past) → GoesOn life under_way now
             → WorldStands self.old now
             → OnOk result (WorldStands self.new (halted AtRest under_way life)) }
-        ensures err { (life : Life) → WorldStands self.old life
+        ensures stays { (life : Life) → WorldStands self.old life
             → OnErr result (WorldStands self.new life) }
     {
         let Stage::Running(stations, _) = &self.stage else {
@@ -129,7 +129,7 @@ impl World {
         ensures ok { (life : Life) → WorldStands self.old life → life.running ≡ false
             → OnOk result (WorldStands self.new
             (with_past life (left (ByChoice choice) life.past))) }
-        ensures err { (life : Life) → WorldStands self.old life
+        ensures stays { (life : Life) → WorldStands self.old life
             → OnErr result (WorldStands self.new life) }
     {
         let Stage::Stopped(peers, intake) = &mut self.stage else {
@@ -162,30 +162,26 @@ impl World {
             self.arm_at(None, call, choice);
             return Ok(());
         };
-        let Some(place) = self.place_of(name) else {
+        let Some(rank) = self.rank_of(name) else {
             return Err(Fault::NoPeer);
         };
-        self.arm_at(Some(place), call, choice);
+        self.arm_at(Some(rank), call, choice);
         Ok(())
     }
 
-    // Arms a stop at the tape of the peer at this place, or at the intake's.
-    fn arm_at(&mut self, place: Option<usize>, call: u64, choice: Choice)
+    // Arms a stop at the tape of the peer at this rank, or at the intake's.
+    fn arm_at(&mut self, rank: Option<usize>, call: u64, choice: Choice)
         requires { 0 < call }
         ensures { (life : Life) → (peer : Option (List ℕ)) → WorldStands self.old life
-            → IsTapeOf life.past peer place → Made (TakesStop peer call choice) life [] self.new }
+            → IsTapeOf life.past peer rank → Made (TakesStop peer call choice) life [] self.new }
     {
         let last = self.count();
         self.trigger.set(Trigger::Armed(Stop {
-            place: place.unwrap_or(last),
+            rank: rank.unwrap_or(last),
             calls: call,
             choice,
         }));
-        self.armed = Some(Arming {
-            place,
-            call,
-            choice,
-        });
+        self.armed = Some(Arming { rank, call, choice });
     }
 
     // How many peers there are.
@@ -196,14 +192,14 @@ impl World {
         }
     }
 
-    // The place of the first peer of this name.
-    fn place_of(&self, name: &PeerName) -> Option<usize>
+    // The rank of the first peer of this name.
+    fn rank_of(&self, name: &PeerName) -> Option<usize>
         ensures { (life : Life) → WorldStands self.entry.now life
-            → result ≡ place_of life.past name.now }
+            → result ≡ rank_of life.past name.now }
     {
         match &self.stage {
-            Stage::Running(stations, _) => stations.place_of(name),
-            Stage::Stopped(peers, _) => place_among(peers, name),
+            Stage::Running(stations, _) => stations.rank_of(name),
+            Stage::Stopped(peers, _) => rank_among(peers, name),
         }
     }
 }
@@ -226,8 +222,8 @@ fn is_one_tape(one: Option<usize>, other: Option<usize>) -> bool
     }
 }
 
-// The place of the first of these peers of this name.
-fn place_among(peers: &[StoppedPeer], name: &PeerName) -> Option<usize>
+// The rank of the first of these peers of this name.
+fn rank_among(peers: &[StoppedPeer], name: &PeerName) -> Option<usize>
     ensures { result ≡ position (λ peer. bytes_eq peer.conf.name name.now) peers.now }
 {
     peers

@@ -13,7 +13,7 @@ use std::collections::BTreeMap;
 
 impl<D: Disk> Stations<D> {
     ghost use Rattle.world_core.specs.Past.{Past};
-    ghost use Rattle.world_core.specs.Events.{Rotates, Sheds, each_place, Parts};
+    ghost use Rattle.world_core.specs.Events.{Rotates, Sheds, each_rank, Parts};
     ghost use Rattle.world_core.specs.Steps.{IsSealable, RefusesFlushing, RefusesLine, RefusesPart, RefusesRotation};
     ghost use Rattle.world_core.specs.Steps.{begun_at, flush_events};
     ghost use Rattle.world_core.specs.Steps.{RefusesSeal, RefusesShed, TakesFlush, TakesLine, TakesPart, TakesRotate};
@@ -58,10 +58,10 @@ impl<D: Disk> Stations<D> {
         ensures err { (past : Past) → Stands self.old past
             → IfErr result (λ fault. TookNot (RefusesPart name.now) past fault self.new) }
     {
-        let Some(place) = self.place_of(name) else {
+        let Some(rank) = self.rank_of(name) else {
             return Err(Fault::NoPeer);
         };
-        self.part_at(place)?;
+        self.part_at(rank)?;
         Ok(Vec::new(self.alloc))
     }
 
@@ -99,7 +99,7 @@ impl<D: Disk> Stations<D> {
         self.begin();
         self.part_each()?;
         if let Err(fault) = self.seal_number(self.last) {
-            return Err(Halt { place: None, fault });
+            return Err(Halt { rank: None, fault });
         }
         let mark = self.intake.mark();
         told.push_reserved(Told::Taken { mark });
@@ -116,12 +116,12 @@ impl<D: Disk> Stations<D> {
         ensures err { (past : Past) → Stands self.old past
             → IfErr result (λ fault. TookNot (RefusesShed name.now) past fault self.new) }
     {
-        let Some(place) = self.place_of(name) else {
+        let Some(rank) = self.rank_of(name) else {
             return Err(Fault::NoPeer);
         };
         let mut told = Vec::with_capacity(self.alloc, 1)?;
         let name = name.clone()?;
-        let numbers = self.shed_at(place)?;
+        let numbers = self.shed_at(rank)?;
         told.push_reserved(Told::Shed { name, numbers });
         Ok(told)
     }
@@ -136,37 +136,37 @@ impl<D: Disk> Stations<D> {
         ensures err { (past : Past) → Stands self.old past
             → IfErr result (λ fault. TookNot (RefusesRotation name.now) past fault self.new) }
     {
-        let Some(place) = self.place_of(name) else {
+        let Some(rank) = self.rank_of(name) else {
             return Err(Fault::NoPeer);
         };
         let mut told = Vec::with_capacity(self.alloc, 1)?;
         let name = name.clone()?;
-        let generation = self.rotate_at(place)?;
+        let generation = self.rotate_at(rank)?;
         told.push_reserved(Told::Rotated { name, generation });
         Ok(told)
     }
 
-    // Sheds at the peer of this place.
-    fn shed_at(&mut self, place: usize) -> Result<Vec<u64>, Fault>
-        requires { place < vec_len self.old.peers }
+    // Sheds at the peer of this rank.
+    fn shed_at(&mut self, rank: usize) -> Result<Vec<u64>, Fault>
+        requires { rank < vec_len self.old.peers }
         ensures ok { (past : Past) → Stands self.old past
-            → IfOk result (λ numbers. DidOne past (Sheds place numbers.items) self.new) }
+            → IfOk result (λ numbers. DidOne past (Sheds rank numbers.items) self.new) }
         ensures err { (past : Past) → Stands self.old past
-            → IfErr result (λ fault. FailedOne past (Sheds place []) fault self.new) }
+            → IfErr result (λ fault. FailedOne past (Sheds rank []) fault self.new) }
     {
-        let peer = &mut self.peers[place];
+        let peer = &mut self.peers[rank];
         peer.shed()
     }
 
-    // Rotates the tape of the peer of this place.
-    fn rotate_at(&mut self, place: usize) -> Result<u64, Fault>
-        requires { place < vec_len self.old.peers }
+    // Rotates the tape of the peer of this rank.
+    fn rotate_at(&mut self, rank: usize) -> Result<u64, Fault>
+        requires { rank < vec_len self.old.peers }
         ensures ok { (past : Past) → Stands self.old past
-            → IfOk result (λ generation. DidOne past (Rotates place generation) self.new) }
+            → IfOk result (λ generation. DidOne past (Rotates rank generation) self.new) }
         ensures err { (past : Past) → Stands self.old past
-            → IfErr result (λ fault. FailedOne past (Rotates place 0) fault self.new) }
+            → IfErr result (λ fault. FailedOne past (Rotates rank 0) fault self.new) }
     {
-        let peer = &mut self.peers[place];
+        let peer = &mut self.peers[rank];
         peer.rotate()
     }
 
@@ -176,13 +176,13 @@ impl<D: Disk> Stations<D> {
             → OnOk result (PartedEach past (length past.peers) self.new) }
         ensures err { (past : Past) → Stands self.old past
             → IfErr result (λ halt.
-            FailedAt past (each_place Parts (length past.peers)) halt self.new) }
+            FailedAt past (each_rank Parts (length past.peers)) halt self.new) }
         ensures last { self.new.last ≡ self.old.last }
     {
-        for place in 0..self.peers.len() {
-            if let Err(fault) = self.part_at(place) {
-                let place = Some(place);
-                return Err(Halt { place, fault });
+        for rank in 0..self.peers.len() {
+            if let Err(fault) = self.part_at(rank) {
+                let rank = Some(rank);
+                return Err(Halt { rank, fault });
             }
         }
         Ok(())
@@ -237,8 +237,8 @@ impl<D: Disk> Stations<D> {
         ensures last { self.new.last ≡ self.old.last }
     {
         let mut told = told;
-        for (place, name) in found {
-            let owed = self.owe_at(place, token, id)?;
+        for (rank, name) in found {
+            let owed = self.owe_at(rank, token, id)?;
             told.push_reserved(OwedAt { name, owed });
         }
         Ok(told)
@@ -252,17 +252,17 @@ impl<D: Disk> Stations<D> {
     {
         let mut found = BTreeMap::new(self.alloc);
         for name in names {
-            if let Some(place) = self.find(&name) {
-                found.insert(place, name)?;
+            if let Some(rank) = self.find(&name) {
+                found.insert(rank, name)?;
             }
         }
         Ok(found)
     }
 
-    // The place of the peer of this name, by halves: the names rise.
+    // The rank of the peer of this name, by halves: the names rise.
     fn find(&self, name: &PeerName) -> Option<usize>
         ensures found { (past : Past) → Stands self.now past → FoundAt past name.now result }
-        ensures within { MatchOption result (Unit {0}) (λ place. place < vec_len self.now.peers) }
+        ensures within { MatchOption result (Unit {0}) (λ rank. rank < vec_len self.now.peers) }
     {
         self.peers
             .binary_search_by(|peer| peer.conf.name.bytes().cmp(name.bytes()))

@@ -53,13 +53,13 @@ impl World {
         let Stage::Running(stations, _) = &mut self.stage else {
             return Err(Fault::Stopped);
         };
-        let place = stations.place_of(name);
+        let rank = stations.rank_of(name);
         match stations.part(name) {
             Ok(told) => {
                 *out = told;
                 Ok(())
             }
-            Err(fault) => self.settle(Halt { place, fault }, out),
+            Err(fault) => self.settle(Halt { rank, fault }, out),
         }
     }
 
@@ -79,7 +79,7 @@ impl World {
                 *out = told;
                 Ok(())
             }
-            Err(fault) => self.settle(Halt { place: None, fault }, out),
+            Err(fault) => self.settle(Halt { rank: None, fault }, out),
         }
     }
 
@@ -129,13 +129,13 @@ impl World {
         let Stage::Running(stations, _) = &mut self.stage else {
             return Err(Fault::Stopped);
         };
-        let place = stations.place_of(name);
+        let rank = stations.rank_of(name);
         match stations.rotate(name) {
             Ok(told) => {
                 *out = told;
                 Ok(())
             }
-            Err(fault) => self.settle(Halt { place, fault }, out),
+            Err(fault) => self.settle(Halt { rank, fault }, out),
         }
     }
 }

@@ -11,8 +11,8 @@ use std::rc::Rc;
 /// A stop that is armed.
 #[derive(Clone, Copy, Debug, PartialEq, Eq)]
 pub(crate) struct Arming {
-    // The place of the peer at whose tape it comes, or none for the intake's.
-    pub(crate) place: Option<usize>,
+    // The rank of the peer at whose tape it comes, or none for the intake's.
+    pub(crate) rank: Option<usize>,
     // How many counted calls there are up to it, itself among them.
     pub(crate) call: u64,
     // What it leaves of each disk.

@@ -4,7 +4,8 @@ ghost use Rattle.reply_reader.specs.Told.{given_of};
 ghost use Rattle.conn_core.specs.Checks.{counts};
 ghost use Rattle.conn_core.specs.Commands.{is_at};
 ghost use Rattle.conn_core.specs.Kept.{answered_with, parted_by, settled_by};
-ghost use Rattle.conn_core.specs.Machine.{came, came_in, counted_by, first_block, greeted, let_go, mode_answered};
+ghost use Rattle.conn_core.specs.Machine.{counted_by, dispatch_reply, first_block, let_go, on_greeting};
+ghost use Rattle.conn_core.specs.Machine.{on_mode_answer, on_reply};
 
 use super::Machine;
 use crate::codes::{Meaning, Verb, counted, ends_all, is_welcome, meaning_of, stray};
@@ -25,44 +26,45 @@ use std::collections::VecDeque;
 
 impl Machine {
     // A reply, while it is open. An `Err` changes nothing.
-    pub(crate) fn came(&mut self, reply: &Reply) -> Result<(), AllocError>
-        ensures ok { OnOk result (self.new ≡ came self.old (given_of reply.now)) }
-        ensures err { OnErr result (self.new ≡ self.old) }
+    pub(crate) fn on_reply(&mut self, reply: &Reply) -> Result<(), AllocError>
+        ensures ok { OnOk result (self.new ≡ on_reply self.old (given_of reply.now)) }
+        ensures unchanged { OnErr result (self.new ≡ self.old) }
     {
-        self.came_in(reply)?;
+        self.dispatch_reply(reply)?;
         self.clock.stirred = true;
-        self.leave();
+        self.quit_if_due();
         Ok(())
     }
 
     // A reply, by what is awaited. An `Err` changes nothing.
-    fn came_in(&mut self, reply: &Reply) -> Result<(), AllocError>
-        ensures ok { OnOk result (self.new ≡ came_in self.old (given_of reply.now) self.old.phase) }
-        ensures err { OnErr result (self.new ≡ self.old) }
+    fn dispatch_reply(&mut self, reply: &Reply) -> Result<(), AllocError>
+        ensures ok { OnOk result
+            (self.new ≡ dispatch_reply self.old (given_of reply.now) self.old.phase) }
+        ensures unchanged { OnErr result (self.new ≡ self.old) }
     {
         match self.phase {
-            Phase::Greeting => self.greeted(reply.code),
+            Phase::Greeting => self.on_greeting(reply.code),
             Phase::Asking => {
-                self.mode_answered(reply.code);
+                self.on_mode_answer(reply.code);
                 Ok(())
             }
             Phase::Streaming => self.answered(reply, Mode::Streaming),
             Phase::OneByOne => self.answered(reply, Mode::Ihave),
             Phase::Leaving => {
-                self.shut(Reason::Quit);
+                self.close(Reason::Quit);
                 Ok(())
             }
         }
     }
 
     // The greeting (RFC 3977, section 5.1). An `Err` changes nothing.
-    fn greeted(&mut self, code: u16) -> Result<(), AllocError>
+    fn on_greeting(&mut self, code: u16) -> Result<(), AllocError>
         requires { self.old.phase ≡ Phase.Greeting }
-        ensures ok { OnOk result (self.new ≡ greeted self.old code) }
-        ensures err { OnErr result (self.new ≡ self.old) }
+        ensures ok { OnOk result (self.new ≡ on_greeting self.old code) }
+        ensures unchanged { OnErr result (self.new ≡ self.old) }
     {
         if !is_welcome(code) {
-            self.shut(Reason::Greeting(code));
+            self.close(Reason::Greeting(code));
             return Ok(());
         }
         if self.options.streaming {
@@ -76,14 +78,14 @@ impl Machine {
     }
 
     // The answer to MODE STREAM (RFC 4644, section 2.3).
-    fn mode_answered(&mut self, code: u16)
+    fn on_mode_answer(&mut self, code: u16)
         requires { self.old.phase ≡ Phase.Asking }
-        ensures { self.new ≡ mode_answered self.old code }
+        ensures { self.new ≡ on_mode_answer self.old code }
     {
         if code == 203 {
             self.phase = Phase::Streaming;
         } else if ends_all(code) {
-            self.shut(Reason::Ended(code));
+            self.close(Reason::Ended(code));
         } else {
             self.phase = Phase::OneByOne;
         }
@@ -93,7 +95,7 @@ impl Machine {
     fn answered(&mut self, reply: &Reply, mode: Mode) -> Result<(), AllocError>
         ensures ok { OnOk result
             (self.new ≡ answered_with self.old mode (given_of reply.now)) }
-        ensures err { OnErr result (self.new ≡ self.old) }
+        ensures unchanged { OnErr result (self.new ≡ self.old) }
     {
         match reply.code {
             238 => self.wants(reply, mode),
@@ -110,16 +112,16 @@ impl Machine {
         requires { reply.now.code ≡ 238 }
         ensures ok { OnOk result
             (self.new ≡ answered_with self.old mode (given_of reply.now)) }
-        ensures err { OnErr result (self.new ≡ self.old) }
+        ensures unchanged { OnErr result (self.new ≡ self.old) }
     {
         self.wanted.reserve(1)?;
         let Some(ask) = take_answered(&mut self.window, reply, mode) else {
-            self.shut(stray(reply.code));
+            self.close(stray(reply.code));
             return Ok(());
         };
-        match debt_at(&self.held, ask.place()) {
+        match debt_at(&self.held, ask.ticket()) {
             Some(x) => {
-                let want = WantedArticle::new(x.place(), x.debt().number());
+                let want = WantedArticle::new(x.ticket(), x.debt().number());
                 self.wanted.push_back_reserved(want);
                 Ok(())
             }
@@ -132,12 +134,12 @@ impl Machine {
         requires { reply.now.code ≡ 335 }
         ensures ok { OnOk result
             (self.new ≡ answered_with self.old mode (given_of reply.now)) }
-        ensures err { OnErr result (self.new ≡ self.old) }
+        ensures unchanged { OnErr result (self.new ≡ self.old) }
     {
         self.window.reserve(1)?;
         room_for_block(&mut self.output, &self.blocks)?;
         let Some(ask) = take_answered(&mut self.window, reply, mode) else {
-            self.shut(stray(reply.code));
+            self.close(stray(reply.code));
             return Ok(());
         };
         put_block(&mut self.output, &mut self.blocks);
@@ -152,12 +154,12 @@ impl Machine {
         ensures { self.new ≡ answered_with self.old mode (given_of reply.now) }
     {
         let Some(ask) = take_answered(&mut self.window, reply, mode) else {
-            self.shut(stray(reply.code));
+            self.close(stray(reply.code));
             return;
         };
         self.let_go(ask.verb());
         self.count(reply.code);
-        self.tell(meaning_of(ask.verb(), reply.code), ask.place());
+        self.tell(meaning_of(ask.verb(), reply.code), ask.ticket());
     }
 
     // An answered IHAVE keeps its block no more.
@@ -182,23 +184,24 @@ impl Machine {
         }
     }
 
-    // An answer of this meaning ends the debt at that place, or puts it off.
-    fn tell(&mut self, meaning: Option<Meaning>, place: u64)
-        ensures { self.new ≡ settled_by self.old meaning place (find (is_at place) self.old.held) }
+    // An answer of this meaning ends the debt at that ticket, or puts it off.
+    fn tell(&mut self, meaning: Option<Meaning>, ticket: u64)
+        ensures { self.new
+            ≡ settled_by self.old meaning ticket (find (is_at ticket) self.old.held) }
     {
         match meaning {
-            Some(Meaning::Later) => self.put_off(place),
-            Some(Meaning::Final(code)) => self.end(place, code),
+            Some(Meaning::Later) => self.put_off(ticket),
+            Some(Meaning::Final(code)) => self.end(ticket, code),
             _ => {}
         }
     }
 
-    // The debt at that place may be offered later.
-    fn put_off(&mut self, place: u64)
-        ensures { self.new ≡ parted_by self.old place Meaning.Later
-            (find (is_at place) self.old.held) }
+    // The debt at that ticket may be offered later.
+    fn put_off(&mut self, ticket: u64)
+        ensures { self.new ≡ parted_by self.old ticket Meaning.Later
+            (find (is_at ticket) self.old.held) }
     {
-        match take_at(&mut self.held, place) {
+        match take_at(&mut self.held, ticket) {
             Some(x) => {
                 let deferral = Deferral::new(x.into_debt());
                 self.found.push_back_reserved(Outcome::Deferred(deferral));
@@ -207,12 +210,12 @@ impl Machine {
         }
     }
 
-    // The debt at that place is answered for good.
-    fn end(&mut self, place: u64, code: FinalCode)
-        ensures { self.new ≡ parted_by self.old place (Meaning.Final code)
-            (find (is_at place) self.old.held) }
+    // The debt at that ticket is answered for good.
+    fn end(&mut self, ticket: u64, code: FinalCode)
+        ensures { self.new ≡ parted_by self.old ticket (Meaning.Final code)
+            (find (is_at ticket) self.old.held) }
     {
-        match take_at(&mut self.held, place) {
+        match take_at(&mut self.held, ticket) {
             Some(x) => {
                 let verdict = Verdict::new(x.into_debt(), code);
                 self.found.push_back_reserved(Outcome::Final(verdict));

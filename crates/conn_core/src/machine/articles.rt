@@ -3,7 +3,7 @@ ghost use Rattle.std.specs.Prelude.{◌≡◌, [], ◌∷◌, find, OnOk, OnErr}
 ghost use Rattle.dot_codec.specs.Lines.{IsSendable};
 ghost use Rattle.conn_core.specs.Commands.{Handing, Sendable, held_for, is_at, is_of, loss_of};
 ghost use Rattle.conn_core.specs.Kept.{IsTextAs, handing_of, without_want};
-ghost use Rattle.conn_core.specs.Machine.{asked, handed, handed_for, leave};
+ghost use Rattle.conn_core.specs.Machine.{asked, handed, handed_for, quit_if_due};
 ghost use Rattle.conn_core.specs.Receipt.{IsHandedAs, IsSendableArticle};
 
 use super::Machine;
@@ -41,15 +41,15 @@ fn lost(debt: Debt, loss: Loss) -> Outcome
 
 impl Machine {
     // Takes what was found for the first want of that number. An `Err` changes nothing.
-    pub(crate) fn hand(&mut self, number: u64, found: &Found) -> Result<(), AllocError>
+    pub(crate) fn on_article(&mut self, number: u64, found: &Found) -> Result<(), AllocError>
         ensures ok { OnOk result
             ((handing : Handing) × IsHandedAs found.now handing
             × (self.new ≡ handed self.old number handing)) }
-        ensures err { OnErr result (self.new ≡ self.old) }
-        ensures memory { OnErr result (IsSendableArticle found.now) }
+        ensures unchanged { OnErr result (self.new ≡ self.old) }
+        ensures no_memory { OnErr result (IsSendableArticle found.now) }
     {
         match found {
-            Found::Article(text) => self.hand_text(number, text.as_slice()),
+            Found::Article(text) => self.on_text(number, text.as_slice()),
             Found::Gone => {
                 self.lose(number, Loss::Missing);
                 Ok(())
@@ -62,12 +62,12 @@ impl Machine {
     }
 
     // Takes the text of the article. An `Err` changes nothing.
-    fn hand_text(&mut self, number: u64, text: &[u8]) -> Result<(), AllocError>
+    fn on_text(&mut self, number: u64, text: &[u8]) -> Result<(), AllocError>
         ensures ok { OnOk result
             ((handing : Handing) × IsTextAs text.now handing
             × (self.new ≡ handed self.old number handing)) }
-        ensures err { OnErr result (self.new ≡ self.old) }
-        ensures memory { OnErr result (IsSendable text.now) }
+        ensures unchanged { OnErr result (self.new ≡ self.old) }
+        ensures no_memory { OnErr result (IsSendable text.now) }
     {
         match to_block(*self.held.allocator(), text) {
             Ok(block) => self.send(number, block),
@@ -84,7 +84,7 @@ impl Machine {
         ensures { self.new ≡ handed self.old number (handing_of loss) }
     {
         self.lose_wanted(number, loss);
-        self.leave();
+        self.quit_if_due();
     }
 
     // The first want of that number goes, and the debt that it is about is lost.
@@ -93,17 +93,17 @@ impl Machine {
             (held_for self.old.held (find (is_of number) self.old.wanted)) }
     {
         match take_wanted(&mut self.wanted, number) {
-            Some(want) => self.lose_at(want.place(), loss),
+            Some(want) => self.lose_at(want.ticket(), loss),
             None => {}
         }
     }
 
-    // The debt at that place is lost.
-    fn lose_at(&mut self, place: u64, loss: Loss)
+    // The debt at that ticket is lost.
+    fn lose_at(&mut self, ticket: u64, loss: Loss)
         ensures { self.new ≡ handed_for self.old (handing_of loss)
-            (find (is_at place) self.old.held) }
+            (find (is_at ticket) self.old.held) }
     {
-        match take_at(&mut self.held, place) {
+        match take_at(&mut self.held, ticket) {
             Some(x) => self.found.push_back_reserved(lost(x.into_debt(), loss)),
             None => {}
         }
@@ -112,40 +112,40 @@ impl Machine {
     // This is the block of the article. An `Err` changes nothing.
     fn send(&mut self, number: u64, block: Bytes) -> Result<(), AllocError>
         ensures ok { OnOk result (self.new ≡ handed self.old number (Sendable block)) }
-        ensures err { OnErr result (self.new ≡ self.old) }
+        ensures unchanged { OnErr result (self.new ≡ self.old) }
     {
         let Some(x) = debt_wanting(&self.held, &self.wanted, number) else {
             self.forget(number);
             return Ok(());
         };
-        let place = x.place();
+        let ticket = x.ticket();
         let id = x.debt().id().clone()?;
         match self.phase {
-            Phase::Streaming => self.send_takethis(number, place, id, block),
-            _ => self.send_ihave(number, place, id, block),
+            Phase::Streaming => self.send_takethis(number, ticket, id, block),
+            _ => self.send_ihave(number, ticket, id, block),
         }
     }
 
     // The want of that number goes, and nothing comes of it.
     fn forget(&mut self, number: u64)
-        ensures { self.new ≡ leave (without_want self.old number) }
+        ensures { self.new ≡ quit_if_due (without_want self.old number) }
     {
         let _ = take_wanted(&mut self.wanted, number);
-        self.leave();
+        self.quit_if_due();
     }
 
     // The article goes out with its command (RFC 4644, section 2.5). An `Err` changes nothing.
     fn send_takethis(
         &mut self,
         number: u64,
-        place: u64,
+        ticket: u64,
         id: MsgId,
         block: Bytes,
     ) -> Result<(), AllocError>
         ensures ok { OnOk result
-            (self.new ≡ leave (asked (without_want self.old number)
-            (record { verb = Verb.Takethis; place = place; id = id; block = block }))) }
-        ensures err { OnErr result (self.new ≡ self.old) }
+            (self.new ≡ quit_if_due (asked (without_want self.old number)
+            (record { verb = Verb.Takethis; ticket = ticket; id = id; block = block }))) }
+        ensures unchanged { OnErr result (self.new ≡ self.old) }
     {
         self.output
             .reserve(id_len(&id) + block.len() + (LONGEST_VERB + QUIT))?;
@@ -153,9 +153,9 @@ impl Machine {
         let _ = take_wanted(&mut self.wanted, number);
         put_line(&mut self.output, b"TAKETHIS ", id.bytes());
         self.output.extend_reserved(block.as_slice());
-        let ask = AwaitedAsk::new(Verb::Takethis, place, id);
+        let ask = AwaitedAsk::new(Verb::Takethis, ticket, id);
         self.window.push_back_reserved(ask);
-        self.leave();
+        self.quit_if_due();
         Ok(())
     }
 
@@ -163,14 +163,14 @@ impl Machine {
     fn send_ihave(
         &mut self,
         number: u64,
-        place: u64,
+        ticket: u64,
         id: MsgId,
         block: Bytes,
     ) -> Result<(), AllocError>
         ensures ok { OnOk result
-            (self.new ≡ leave (asked (without_want self.old number)
-            (record { verb = Verb.Ihave; place = place; id = id; block = block }))) }
-        ensures err { OnErr result (self.new ≡ self.old) }
+            (self.new ≡ quit_if_due (asked (without_want self.old number)
+            (record { verb = Verb.Ihave; ticket = ticket; id = id; block = block }))) }
+        ensures unchanged { OnErr result (self.new ≡ self.old) }
     {
         self.output.reserve(id_len(&id) + (LONGEST_VERB + QUIT))?;
         self.blocks.reserve(1)?;
@@ -178,9 +178,9 @@ impl Machine {
         let _ = take_wanted(&mut self.wanted, number);
         put_line(&mut self.output, b"IHAVE ", id.bytes());
         self.blocks.push_back_reserved(block);
-        let ask = AwaitedAsk::new(Verb::Ihave, place, id);
+        let ask = AwaitedAsk::new(Verb::Ihave, ticket, id);
         self.window.push_back_reserved(ask);
-        self.leave();
+        self.quit_if_due();
         Ok(())
     }
 }

@@ -1,5 +1,5 @@
 -- A debt accepted is held or came out.
-use Rattle.conn_core.specs.Stands.{Stands}
+use Rattle.conn_core.specs.Stands.{StandsFor}
 use Rattle.conn_laws.proofs.Once.{all_own, at_most_once, exactly_once, held_or_out}
 use Rattle.conn_laws.proofs.each_debt_comes_out_once.Goals as goal
 
@@ -10,8 +10,8 @@ pub returns-clause-held_or_out : goal.returns-clause-held_or_out
 returns-clause-held_or_out c = held_or_out
 
 pub returns-clause-exactly : goal.returns-clause-exactly
-unfolding Stands
-returns-clause-exactly c = λ options conn unread h place s closed few. exactly_once options h place s.0 closed few
+unfolding StandsFor
+returns-clause-exactly c = λ options conn unread h ticket s closed few. exactly_once options h ticket s.0 closed few
 
 pub returns-clause-own : goal.returns-clause-own
 returns-clause-own c = all_own

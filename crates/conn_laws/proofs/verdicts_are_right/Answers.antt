@@ -1,11 +1,11 @@
 -- What an outcome rests on.
-use Rattle.conn_core.specs.Stands.{Stands}
+use Rattle.conn_core.specs.Stands.{StandsFor}
 use Rattle.conn_laws.proofs.Right.{all_right}
 use Rattle.conn_laws.proofs.Matching.{answers_first, strays_fit_none}
 use Rattle.conn_laws.proofs.verdicts_are_right.Goals as goal
 
 pub returns-clause-right : goal.returns-clause-right
-unfolding Stands
+unfolding StandsFor
 returns-clause-right c = λ options conn unread h s. all_right options h s.0
 
 pub returns-clause-arises : goal.returns-clause-arises

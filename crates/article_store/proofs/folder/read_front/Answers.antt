@@ -18,6 +18,6 @@ loop-preserved g c =
           rw w.filled-is record {
             within = front_within _ _ _ before.within front;
             short = before.short;
-            gave = kept_front _ _ _ _ _ _ front before.gave w.in-Err.ensures.err;
+            gave = kept_front _ _ _ _ _ _ front before.gave w.in-Err.ensures.unchanged;
           }
     ]

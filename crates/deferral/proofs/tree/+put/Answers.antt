@@ -15,7 +15,7 @@ Fork::put-put-requires t c =
     (omega (arith, sides_fall c.self.inside c.self.invariant, sides, c.decreases), sym (due_left c.args.entry.number parted c.if-entry-self.true) ∙ (rw (← c.self.view_is) at c.requires))
 
 pub Fork::put-invariant_of-self : goal.Fork::put-invariant_of-self
-Fork::put-invariant_of-self t c = same_left c.self.inside _ c.self.invariant c.in_err-put.ensures.err
+Fork::put-invariant_of-self t c = same_left c.self.inside _ c.self.invariant c.in_err-put.ensures.unchanged
 
 pub Fork::put-put-requires-else-entry-self : goal.Fork::put-put-requires-else-entry-self
 Fork::put-put-requires-else-entry-self t c =
@@ -24,7 +24,7 @@ Fork::put-put-requires-else-entry-self t c =
     (omega (arith, sides_fall c.self.inside c.self.invariant, sides, c.decreases), sym (due_right c.args.entry.number parted c.if-entry-self.false) ∙ (rw (← c.self.view_is) at c.requires))
 
 pub Fork::put-invariant_of-self-in_err-put-2 : goal.Fork::put-invariant_of-self-in_err-put-2
-Fork::put-invariant_of-self-in_err-put-2 t c = same_right c.self.inside _ c.self.invariant c.in_err-put-2.ensures.err
+Fork::put-invariant_of-self-in_err-put-2 t c = same_right c.self.inside _ c.self.invariant c.in_err-put-2.ensures.unchanged
 
 pub Fork::put-invariant_of-self-2 : goal.Fork::put-invariant_of-self-2
 Fork::put-invariant_of-self-2 t c =

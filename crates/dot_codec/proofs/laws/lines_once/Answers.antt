@@ -1,4 +1,4 @@
-use Rattle.dot_codec.proofs.Texts.{lines_each, lines_of_text, lines_once}
+use Rattle.dot_codec.specs.TextLaws.{lines_each, lines_of_text, lines_once}
 use Rattle.dot_codec.proofs.laws.lines_once.Goals as goal
 
 pub returns-clause-once : goal.returns-clause-once

@@ -1,6 +1,6 @@
 use Rattle.std.proofs.Common.{arith}
 use Rattle.std.proofs.lemmas.List.{take_rest}
-use Rattle.dot_codec.proofs.Places.{all_wrote, last_wrote, line_wrote, next_lf}
+use Rattle.dot_codec.proofs.Offsets.{all_wrote, last_wrote, line_wrote, next_lf}
 use Rattle.dot_codec.proofs.write.put_lines.Goals as goal
 
 pub slice_bounds-without_cr-count : goal.slice_bounds-without_cr-count

@@ -1,14 +1,14 @@
 use Rattle.std.proofs.Common.{◌≡◌, ℕ, List, None, true, false}
 use Rattle.event_loop.specs.Chain.{Moves, Step, are_turns, is_rest, receipts}
 use Rattle.conn_core.specs.History.{Event, reason}
-use Rattle.conn_core.specs.Stands.{Stands}
+use Rattle.conn_core.specs.Stands.{StandsFor}
 use Rattle.conn_core.specs.declared.options.Options.{Options}
 use Rattle.event_loop.proofs.turn.drive.Given as goal
 
 -- so far turns alone, as many as counted; it is open, and the last of them moved something
 abbrev pub invariant-loop-turn : goal.invariant-loop-turn
-invariant-loop-turn g l = ((options : Options) (unread : List ℕ) (h : List Event) → Stands options l.fn.conn unread h
-    → (left : List ℕ) × (later : List Event) × (steps : List Step) × Stands options l.conn left later
+invariant-loop-turn g l = ((options : Options) (unread : List ℕ) (h : List Event) → StandsFor options l.fn.conn unread h
+    → (left : List ℕ) × (later : List Event) × (steps : List Step) × StandsFor options l.conn left later
     × Moves options unread h (g.L.Link.took l.fn.link) (g.L.Link.gave l.fn.link)
     steps left later (g.L.Link.took l.link) (g.L.Link.gave l.link)
     × (are_turns steps ≡ true)

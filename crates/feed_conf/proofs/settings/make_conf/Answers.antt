@@ -1,7 +1,7 @@
 -- The peers' values have the names that were declared.
 use Rattle.std.proofs.Common.{map, ap, sym, ◌∙◌, subst}
 use Rattle.feed_conf.specs.Bounds.{AreBounded}
-use Rattle.feed_conf.specs.ReaderView.{declared_view, place_of}
+use Rattle.feed_conf.specs.ReaderView.{declared_view, index_of}
 use Rattle.feed_conf.specs.Settings.{Settings, settings_of}
 use Rattle.feed_conf.specs.TableView.{uses_view}
 use Rattle.feed_conf.proofs.Lookups.{names-kept}
@@ -16,7 +16,7 @@ invariant_of-result c =
     ∙ ap (λ z. map (settings_of uses c.deref-2.result.now) (map declared_view z)) c.deref-3.ensures.value in
     record {
       named = λ octets. c.requires.named octets
-          ∙ ap (place_of octets)
+          ∙ ap (index_of octets)
           (sym (ap (map (λ (peer : Settings). peer.name)) same ∙ names-kept uses c.deref-2.result.now peers));
     }
 

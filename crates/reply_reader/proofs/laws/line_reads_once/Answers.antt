@@ -1,5 +1,5 @@
 -- The readings of one line.
-use Rattle.reply_reader.proofs.Lines.{line-apart, line-either, line-once}
+use Rattle.reply_reader.specs.LineLaws.{line-apart, line-either, line-once}
 use Rattle.reply_reader.proofs.laws.line_reads_once.Goals as goal
 
 pub returns-clause-once : goal.returns-clause-once

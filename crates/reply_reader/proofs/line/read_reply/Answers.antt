@@ -3,7 +3,7 @@ use Rattle.std.proofs.Common.{◌≡◌, ℕ, List, Option, refl, inr, subst}
 use Rattle.std.proofs.lemmas.Result.{err_from_is_err_and}
 use Rattle.funnel.specs.Line.{without_cr}
 use Rattle.reply_reader.specs.Reply.{BeginsWithCode, IsReplyLine}
-use Rattle.reply_reader.proofs.Lines.{line-of-code}
+use Rattle.reply_reader.specs.LineLaws.{line-of-code}
 use Rattle.reply_reader.proofs.line.read_reply.Goals as goal
 
 no-code : (line body : List ℕ) → body ≡ without_cr line → ((code : ℕ) (rest : List ℕ) → BeginsWithCode body code rest → ⊥) → (code : ℕ) (rest : List ℕ) → BeginsWithCode (without_cr line) code rest → ⊥

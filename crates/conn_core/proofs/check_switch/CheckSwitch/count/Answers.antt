@@ -1,4 +1,4 @@
-use Rattle.std.proofs.Common.{◌≡◌, ◌≤◌, ◌<◌, ◌∷◌, List, Bool, length, take, sym, ap, ◌∙◌, arith}
+use Rattle.std.proofs.Common.{◌≡◌, ◌≤◌, ◌∷◌, length, take, sym, ap, ◌∙◌, arith}
 use Rattle.conn_core.specs.Checks.{taken_among}
 use Rattle.conn_core.specs.Machine.{are_off_with}
 use Rattle.conn_core.proofs.TakenLately.{taken_among-le, gone-le, left-is, off-is}

@@ -1,11 +1,11 @@
-use Rattle.std.proofs.Common.{◌≡◌, ◌++◌, ap, true, ◌∙◌}
+use Rattle.std.proofs.Common.{◌++◌, ap, true, ◌∙◌}
 use Rattle.conn_core.specs.Left.{ReadsOne}
 use Rattle.conn_core.specs.Receipt.{Stops}
 use Rattle.conn_core.proofs.Reading.{ahead-start, ahead-more, fed-reads, refuses-later, stops-at-once}
 use Rattle.conn_core.proofs.conn.Conn.take_in.Goals as goal
 
-pub returns-in_err-feed-clause-refused : goal.returns-in_err-feed-clause-refused
-returns-in_err-feed-clause-refused c = refuses-later _ c.args.self.now _ c.args.octets.now (λ options unread h st running.
+pub returns-in_err-feed-clause-err : goal.returns-in_err-feed-clause-err
+returns-in_err-feed-clause-err c = refuses-later _ c.args.self.now _ c.args.octets.now (λ options unread h st running.
     stops-at-once options c.args.self.now _ unread c.args.octets.now h st running (ap (λ v. v.state) c.self.view_is))
 
 pub loop-init : goal.loop-init
@@ -19,10 +19,10 @@ loop-init c = record {
   same_id = ap (λ v. v.id) c.self.view_is;
 }
 
-pub returns-in_err-read_one-clause-refused : goal.returns-in_err-read_one-clause-refused
-returns-in_err-read_one-clause-refused c = refuses-later _ c.args.self.now c.read_one.new.self c.args.octets.now (λ options unread h st running.
+pub returns-in_err-read_one-clause-err : goal.returns-in_err-read_one-clause-err
+returns-in_err-read_one-clause-err c = refuses-later _ c.args.self.now c.read_one.new.self c.args.octets.now (λ options unread h st running.
     let read = c.loop.invariant.reads options unread h st running in
-    (read.0, read.2.some read.0 (Stops read.1 read.0 read.3.left_open.running), c.in_err-read_one.ensures.refused options read.1 read.0 read.3))
+    (read.0, read.2.some read.0 (Stops read.1 read.0 read.3.left_open.running), c.in_err-read_one.ensures.err options read.1 read.0 read.3))
 
 pub loop-preserved : goal.loop-preserved
 loop-preserved c = record {

@@ -9,7 +9,7 @@ use Rattle.feed_conf.proofs.table.Table.value_along.Goals as goal
 pub returns-then-at-eq0 : goal.returns-then-at-eq0
 returns-then-at-eq0 c = λ uses t.
     c.last_value.ensures uses t
-    ∙ sym (along-scope (row_of c.args.key).place uses c.args.outer.now
+    ∙ sym (along-scope (row_of c.args.key).index uses c.args.outer.now
     (c.args.block - c.loop-step.step) c.loop-step.at c.if-at-eq0.true)
     ∙ c.loop-step.invariant uses t
 
@@ -17,7 +17,7 @@ pub returns-in-Some : goal.returns-in-Some
 returns-in-Some c = λ uses t.
     let inside = c.loop-step-test.true in
     let left : c.args.block - c.loop-step.step ≡ suc (c.args.block - (c.loop-step.step + 1)) = omega (arith, inside) in
-    sym (along-some (row_of c.args.key).place uses c.args.outer.now _ _ c.loop-step.at (value_view c.in-Some.value) left
+    sym (along-some (row_of c.args.key).index uses c.args.outer.now _ _ c.loop-step.at (value_view c.in-Some.value) left
     c.if-at-eq0.false (c.in-Some.ensures uses t))
     ∙ c.loop-step.invariant uses t
 
@@ -26,9 +26,9 @@ loop-step-preserved c = λ uses t.
     let inside = c.loop-step-test.true in
     let most : ℕ = c.args.block - (c.loop-step.step + 1) in
     let left : c.args.block - c.loop-step.step ≡ suc (c.args.block - (c.loop-step.step + 1)) = omega (arith, inside) in
-    ap (λ at. value_along (row_of c.args.key).place uses
+    ap (λ at. value_along (row_of c.args.key).index uses
     (path_within (c.args.block - (c.loop-step.step + 1)) c.args.outer.now at))
     c.block_around-at.ensures
-    ∙ sym (along-none (row_of c.args.key).place uses c.args.outer.now _ _ c.loop-step.at left c.if-at-eq0.false
+    ∙ sym (along-none (row_of c.args.key).index uses c.args.outer.now _ _ c.loop-step.at left c.if-at-eq0.false
     (c.in-None.ensures uses t))
     ∙ c.loop-step.invariant uses t

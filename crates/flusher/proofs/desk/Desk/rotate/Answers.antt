@@ -9,7 +9,7 @@ invariant_of-self g c =
     let e = c.rotate.ensures in
     record {
       kept = keeps_flushed old.station new c.rotate.result e.continues.honest (λ h stands. (e.rotates h stands).ok)
-          (λ h stands. (e.rotates h stands).err) old.kept;
+          (λ h stands. (e.rotates h stands).stays) old.kept;
       one_part = old.one_part;
       counted =
           counted_along _ _ _ (ledger_of old.station) (ledger_of new) e.keeps.ledger old.counted;
@@ -22,7 +22,7 @@ invariant_of-self-2 g c =
     let e = c.rotate.ensures in
     record {
       kept = keeps_flushed old.station new c.rotate.result e.continues.honest (λ h stands. (e.rotates h stands).ok)
-          (λ h stands. (e.rotates h stands).err) old.kept;
+          (λ h stands. (e.rotates h stands).stays) old.kept;
       one_part = old.one_part;
       counted =
           counted_along _ _ _ (ledger_of old.station) (ledger_of new) e.keeps.ledger old.counted;

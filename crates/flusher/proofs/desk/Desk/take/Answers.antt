@@ -22,7 +22,7 @@ pub invariant_of-self-in-Ok-Already : goal.invariant_of-self-in-Ok-Already
 invariant_of-self-in-Ok-Already g c =
     let old = c.args.self.now in
     let same : c.owe.new.self ≡ old.station =
-    c.owe.ensures.same (c.in-Ok-Already.is ∙ ap Ok c.in-Ok-Already.field-0-is) in
+    c.owe.ensures.unchanged (c.in-Ok-Already.is ∙ ap Ok c.in-Ok-Already.field-0-is) in
     record {
       kept = subst (λ s. ∥ IsKept s ∥₁) (sym same) old.kept;
       one_part = old.one_part;

@@ -27,7 +27,7 @@ invariant_of-self c =
     let below = moves.below_by h agenda n (subst (AreBelow n) (sym c.self.view_is) c.requires) in
     let none : due_of agenda n ≡ None = moves.absent_last n agenda below in
     let ok = moves.ready_put c.put.result agenda c.put.new.self n c.due_at.result c.due_at.ensures c.put.ensures.ok in
-    kept.kept_put c.put.result agenda c.put.new.self h k n c.self.invariant none ok c.put.ensures.err
+    kept.kept_put c.put.result agenda c.put.new.self h k n c.self.invariant none ok c.put.ensures.unchanged
     (λ m. c.after_put.ensures.moments agenda n m (Some 0) none)
     (c.after_put.ensures.order agenda n (Some 0) c.self.invariant.rising)
 

@@ -4,7 +4,7 @@ use Rattle.std.specs.Ordering.{nat_cmp}
 use Rattle.std.specs.BTreeMap.{get}
 use Rattle.peer_queue.specs.Place.{AreRising, IsUnheld, Places, least_candidate}
 use Rattle.peer_queue.specs.Index.{Holders}
-use Rattle.peer_queue.proofs.Claims.{candidate_unheld}
+use Rattle.peer_queue.specs.ClaimLaws.{candidate_unheld}
 use Rattle.peer_queue.proofs.Moves as moves
 use Rattle.peer_queue.proofs.Releases.{rising_by}
 use Rattle.peer_queue.proofs.place_index.PlaceIndex.candidate.Goals as goal

@@ -19,6 +19,6 @@ invariant_of-self g c =
     let mid = c.owed_debt.new.self in
     record {
       all_placed = placed_hold c.hold.result mid.index c.hold.new.self c.in-Some.number c.args.connection.0
-          c.hold.ensures.ok c.hold.ensures.err ∙ mid.all_placed;
+          c.hold.ensures.ok c.hold.ensures.unchanged ∙ mid.all_placed;
       marked = mid.marked;
     }

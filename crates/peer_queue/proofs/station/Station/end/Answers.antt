@@ -39,4 +39,4 @@ returns-in-Err-clause-kinds g c =
     let legal = held_legal station.index (ledger_of station) c.args.note c.args.connection.0 c.args.number
     c.totals-totals.result c.requires station.all_placed held c.totals-totals.ensures.counts
     c.totals-totals.ensures.sum fits in
-    subst IsEndFault (sym c.station_fault.ensures) (end_kind (ledger_of station) c.args.note c.in-Err.fault legal c.in-Err.ensures.refuses.kinds (λ cause told. ((c.in-Err.ensures.refuses.refused cause).0 told).1))
+    subst IsEndFault (sym c.station_fault.ensures) (end_kind (ledger_of station) c.args.note c.in-Err.fault legal c.in-Err.ensures.refuses.kinds (λ cause told. ((c.in-Err.ensures.refuses.note cause).0 told).1))

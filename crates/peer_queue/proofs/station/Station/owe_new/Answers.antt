@@ -46,13 +46,13 @@ invariant_of-self-in_default g c =
 pub returns-in-Err-clause-count_full : goal.returns-in-Err-clause-count_full
 returns-in-Err-clause-count_full g c = λ is.
     let told : c.station_fault.result ≡ TapeRefused (RefusedNote CountFull) = cc in
-    ((c.in-Err.ensures.refuses.refused CountFull).0 (told_fault c.in-Err.fault (RefusedNote CountFull) (sym c.station_fault.ensures ∙ told))).1
+    ((c.in-Err.ensures.refuses.note CountFull).0 (told_fault c.in-Err.fault (RefusedNote CountFull) (sym c.station_fault.ensures ∙ told))).1
 
 pub returns-in-Err-clause-kinds : goal.returns-in-Err-clause-kinds
 returns-in-Err-clause-kinds g c =
     subst IsOweFault (sym c.station_fault.ensures)
     (owe_fault (tape_ledger c.args.self.now.tape) c.args.note c.args.number c.requires.owes c.requires.above c.in-Err.fault c.in-Err.ensures.refuses.kinds
-    (λ other is. ((c.in-Err.ensures.refuses.refused other).0 is).1))
+    (λ other is. ((c.in-Err.ensures.refuses.note other).0 is).1))
 
 pub returns-in-Err-clause-unchanged : goal.returns-in-Err-clause-unchanged
 returns-in-Err-clause-unchanged g c =
@@ -60,7 +60,7 @@ returns-in-Err-clause-unchanged g c =
     let n = c.args.number in
     let below : AreBelow n old.index = owed_below old.index (tape_ledger old.tape) n old.all_placed old.marked c.requires.above in
     record {
-      stands = λ h stands. (c.in-Err.ensures.takes h stands).err;
+      stands = λ h stands. (c.in-Err.ensures.takes h stands).stays;
       ledger = c.in-Err.ensures.refuses.unchanged.ledger;
       pending = pending_same old.tape.pending.items c.note.new.self.pending.items c.in-Err.ensures.refuses.unchanged.pending;
       disks = c.in-Err.ensures.disks;

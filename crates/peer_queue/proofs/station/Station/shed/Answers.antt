@@ -10,7 +10,8 @@ use Rattle.recovery.specs.Words.{ledger_of as tape_ledger}
 use Rattle.peer_queue.specs.Place.{AreUnheld, all_gone, placed}
 use Rattle.peer_queue.specs.Shed.{dropped}
 use Rattle.peer_queue.specs.Words.{ledger_of, places_of}
-use Rattle.peer_queue.proofs.Sheds.{drop_fault, marked_dropped, placed_dropped, shed_owed, shed_unheld}
+use Rattle.peer_queue.specs.ShedLaws.{shed_unheld}
+use Rattle.peer_queue.proofs.Sheds.{drop_fault, marked_dropped, placed_dropped, shed_owed}
 use Rattle.peer_queue.proofs.station.Station.shed.Goals as goal
 
 pub returns-in-Err-clause-kinds : goal.returns-in-Err-clause-kinds

@@ -1,4 +1,4 @@
-use Rattle.std.proofs.Common.{◌≡◌, ℕ, ◌+◌, ◌-◌, List, length, Option, refl, sym, ap, ◌∙◌, subst, inl, inr, arith}
+use Rattle.std.proofs.Common.{◌≡◌, ℕ, ◌+◌, ◌-◌, List, length, Option, sym, ap, ◌∙◌, subst, inl, inr, arith}
 use Rattle.std.specs.Prelude.{unwrap_or}
 use Rattle.std.proofs.lemmas.List.{length_push}
 use Rattle.ledger_core.specs.declared.ledger.Totals.{Totals}
@@ -66,11 +66,4 @@ returns-then-limit-eq0-clause-set g c =
                 c.totals-owed.ensures.counts,
           ))
     ] in
-    record {
-      count = 0;
-      within = omega arith;
-      front = c.new-set.ensures.items;
-      none = λ w. refl;
-      enough = λ over. absurd (over within);
-      shortest = λ over fewer less. absurd (over within);
-    }
+    inl (within, c.new-set.ensures.items)

@@ -3,13 +3,12 @@ use Rattle.std.proofs.Common.{rules, ◌≡◌, ℕ, List, ◌++◌, length, tak
 use Rattle.ledger_core.specs.Spelling.{spellings}
 use Rattle.disk_model.specs.Disk.{Event}
 use Rattle.tape_journal.specs.Journal.{Holds, appending, disk_of as journal_disk, end_of as journal_end}
-use Rattle.tape_journal.specs.Words.{octets_of}
 use Rattle.tape_journal.specs.declared.fault.AppendFault.{AppendFault}
 use Rattle.tape_journal.specs.declared.fault.AppendFault.TheVariants.{Disk as AppendDisk, Broken as AppendBroken, TapeFull as AppendTapeFull, PayloadTooLong, NoMemory as NoAppendMemory}
 use Rattle.disk_model.specs.declared.Disk.{Ghosts}
 use Rattle.tape_journal.specs.declared.journal.Journal.{Journal}
 use Rattle.ledger_core.specs.Base.{Restores}
-use Rattle.std.specs.Prelude.{◌-◌, ◌^◌, min}
+use Rattle.std.specs.Prelude.{◌-◌, ◌^◌, min, map, vec_items}
 use Rattle.ledger_core.specs.Index.{Indexes}
 use Rattle.ledger_core.specs.IndexLaws.{indexes-flushed}
 use Rattle.ledger_core.specs.Spots.{records_length}
@@ -45,7 +44,7 @@ returns-in-Ok-clause-flushes g c = λ h stands.
     let w = stands.working c.requires.works in
     let more = drop h.kept h.notes in
     let appends = rw c.deref.ensures.value at (c.in-Ok.ensures.appends w.payloads w.holds) in
-    let held : Holds c.append_all.new.self (w.payloads ++ octets_of tape.pending.items) = appends.ok in
+    let held : Holds c.append_all.new.self (w.payloads ++ map vec_items tape.pending.items) = appends.ok in
     let count = pending_count h.notes h.kept tape.pending.items w.pending stands.kept_within in
     let parts = take-append-drop h.kept h.notes in
     let are = subst (AreLegal h.base) (sym parts) stands.are_legal in
@@ -55,7 +54,7 @@ returns-in-Ok-clause-flushes g c = λ h stands.
     (AreNotes-back (take h.kept h.notes) more are.notes_are) (AllLegal-back h.base (take h.kept h.notes) more
     are.legal) in
     let called : g.D.Disk.log (journal_disk c.append_all.new.self)
-    ≡ appending (journal_end tape.segments.live) (octets_of tape.pending.items) (live_log tape)
+    ≡ appending (journal_end tape.segments.live) (map vec_items tape.pending.items) (live_log tape)
     = appends.calls (λ none. c.requires.pends (ap length none)) in
     record {
       ok = stands_whole _ (flushed h) (c.append_all.ensures.continues.honest.0 stands.honest.0, stands.honest.1)
@@ -67,10 +66,10 @@ returns-in-Ok-clause-flushes g c = λ h stands.
           (omega (arith, w.count, count, c.len.ensures, c.saturating_add-self.ensures, w.opened))
           (omega (arith, w.opened, stands.kept_within))
           (subst (λ (l : List (List ℕ)). Indexes (length (w.payloads ++ l)) (w.payloads ++ l) tape.ledger) w.pending
-          (indexes-flushed (length w.payloads) (w.payloads ++ octets_of tape.pending.items) tape.ledger
+          (indexes-flushed (length w.payloads) (w.payloads ++ map vec_items tape.pending.items) tape.ledger
           w.indexed.indexes))
           (w.indexed.next ∙ ap (λ (l : List (List ℕ)). min (records_length (w.payloads ++ l)) (2 ^ 64 - 1)) w.pending);
-      err = tt;
+      stays = tt;
       count = omega (arith, w.count, count, c.len.ensures, c.saturating_add-self.ensures, w.opened);
       moments = flush_moments tape h (g.D.Disk.log (journal_disk c.append_all.new.self)) stands c.requires.works
           (λ all holds. let run = rw c.deref.ensures.value at (c.append_all.ensures.appends all holds) in run.moments);
@@ -88,9 +87,9 @@ returns-in-Err-clause-flushes g c = λ h stands.
     (λ all holds. let run = rw c.deref.ensures.value at (c.append_all.ensures.appends all holds) in run.moments) in
     record {
       ok = tt;
-      err = stands_refused tape _ h stands (c.append_all.ensures.continues.honest.0 stands.honest.0, stands.honest.1)
+      stays = stands_refused tape _ h stands (c.append_all.ensures.continues.honest.0 stands.honest.0, stands.honest.1)
           refl refl refl moments
-          (λ works. same_segments tape.segments c.append_all.new.self (c.in-Err.ensures.refuses.unchanged works))
+          (λ works. same_segments tape.segments c.append_all.new.self (c.in-Err.ensures.refuses.works works))
           (λ kept was. record { indexes = was.indexes; next = was.next });
       count = tt;
       moments = moments;
@@ -106,8 +105,8 @@ returns-in-Err-clause-refuses g c =
     record {
       broken = search rules;
       full = search rules;
-      refused = λ other. same_tape tape _ (same_segments tape.segments c.append_all.new.self
-          (c.in-Err.ensures.refuses.refused (λ disk. other (c.append_fault.ensures ∙ ap append_fault disk)))) _ _;
+      unchanged = λ other. same_tape tape _ (same_segments tape.segments c.append_all.new.self
+          (c.in-Err.ensures.refuses.unchanged (λ disk. other (c.append_fault.ensures ∙ ap append_fault disk)))) _ _;
       breaks = λ told.
           c.in-Err.ensures.refuses.breaks (ap Err (disk_told c.in-Err.fault (cc (told, c.append_fault.ensures))));
       works = tt;

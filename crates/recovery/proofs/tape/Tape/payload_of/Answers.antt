@@ -2,11 +2,10 @@
 use Rattle.std.proofs.Common.{Err, ◌≡◌, ◌-◌, ◌<◌, ◌≤◌, ◌^◌, ◌++◌, ℕ, List, length, ap, ◌∙◌, subst, arith}
 use Rattle.std.proofs.lemmas.Result.{IfOk-weaker}
 use Rattle.std.proofs.lemmas.List.{length-map}
-use Rattle.std.specs.Prelude.{Vec}
+use Rattle.std.specs.Prelude.{Vec, map, vec_items}
 use Rattle.std.specs.declared.alloc.Global.{Global}
 use Rattle.tape_journal.specs.Journal.{Holds}
 use Rattle.tape_journal.specs.Segment.{records}
-use Rattle.tape_journal.specs.Words.{octets_of}
 use Rattle.ledger_core.specs.Spots.{StandsAt}
 use Rattle.recovery.proofs.Counts.{live_risen}
 use Rattle.recovery.proofs.Indexed.{Among, Pends, in_pending, on_tape, records-long}
@@ -41,7 +40,7 @@ pub returns-then-spot-end_of-clause-note : goal.returns-then-spot-end_of-clause-
 returns-then-spot-end_of-clause-note g c = λ h payload stands there.
     let tape = c.args.self.now in
     let w = stands.working c.requires.works in
-    let pending = octets_of tape.pending.items in
+    let pending = map vec_items tape.pending.items in
     let at = there (length w.payloads) (w.payloads ++ pending) w.indexed.indexes in
     let slot = slot_of w.payloads pending c.args.spot.at c.args.spot.slot tape.segments.live.end payload w.holds.end
     (omega (arith, c.if-spot-end_of.true, c.end_of.ensures)) at in
@@ -51,7 +50,7 @@ pub returns-then-spot-end_of-clause-cause : goal.returns-then-spot-end_of-clause
 returns-then-spot-end_of-clause-cause g c = λ h payload stands there told.
     let tape = c.args.self.now in
     let w = stands.working c.requires.works in
-    let pending = octets_of tape.pending.items in
+    let pending = map vec_items tape.pending.items in
     let at = there (length w.payloads) (w.payloads ++ pending) w.indexed.indexes in
     let slot = slot_of w.payloads pending c.args.spot.at c.args.spot.slot tape.segments.live.end payload w.holds.end
     (omega (arith, c.if-spot-end_of.true, c.end_of.ensures)) at in
@@ -68,7 +67,7 @@ returns-in-Ok-clause-note g c = λ h payload stands there.
     let tape = c.args.self.now in
     let live = tape.segments.live in
     let w = stands.working c.requires.works in
-    let pending = octets_of tape.pending.items in
+    let pending = map vec_items tape.pending.items in
     let at = there (length w.payloads) (w.payloads ++ pending) w.indexed.indexes in
     let before : c.args.spot.at < live.end = omega (arith, c.if-spot-end_of.false, c.end_of.ensures) in
     let among = among_of w.payloads pending c.args.spot.at c.args.spot.slot live.end payload w.holds.end before at
@@ -81,7 +80,7 @@ returns-in-Err-Disk-clause-cause g c = λ h payload stands there told.
     let tape = c.args.self.now in
     let live = tape.segments.live in
     let w = stands.working c.requires.works in
-    let pending = octets_of tape.pending.items in
+    let pending = map vec_items tape.pending.items in
     let at = there (length w.payloads) (w.payloads ++ pending) w.indexed.indexes in
     let before : c.args.spot.at < live.end = omega (arith, c.if-spot-end_of.false, c.end_of.ensures) in
     let among = among_of w.payloads pending c.args.spot.at c.args.spot.slot live.end payload w.holds.end before at

@@ -28,4 +28,4 @@ returns-in-Some-Tape-clause-broken c =
     let says =
     said_of c.args.line.now c.in_ok-read_sentence.field-0 c.in-Some-Tape.field-0 (Tape name octets)
     c.in-Some-Tape.is c.in-Some-Tape.field-0-is (c.in_ok-read_sentence.ensures {u = tt}) in
-    tape_told c.args.self.now c.args.place c.args.line.now name octets.items c.give.result says c.give.ensures.broken
+    tape_told c.args.self.now c.args.line_number c.args.line.now name octets.items c.give.result says c.give.ensures.broken

@@ -10,4 +10,4 @@ returns c = λ before drafts at.
       tapes = c.args.self.now.tapes;
       steps = c.push-2.new.self;
       lines = c.push.new.self;
-    }) c.args.step c.args.place before refl refl refl c.in_ok-push-2.ensures.items c.in_ok-push.ensures.items at drafts
+    }) c.args.step c.args.line_number before refl refl refl c.in_ok-push-2.ensures.items c.in_ok-push.ensures.items at drafts

@@ -34,7 +34,7 @@ returns-in_default-offer-clause-ok g c = λ id conn past pair.
     let debt = c.in-Some.debt in
     let some = if_some c.in-Ok.claimed debt _ c.in-Some.is is.some in
     let owed = if_some c.in-Ok.claimed debt _ c.in-Some.is (is.debt past.tape.history pair.stands.tape.stands) in
-    let taken = c.in_default-offer.ensures.accepted in
+    let taken = c.in_default-offer.ensures.ok in
     let ready = ready_told (λ (r : Readiness). r ≡ Readiness.Yes) past.conf conn c.args.self.now
     c.args.self.now.waiting pair.holds
     (λ o unread h stands. (taken o unread h stands).0) in
@@ -58,9 +58,9 @@ returns-in-Err-back-clause-err g c = λ id conn past pair.
     let there = subst (λ (d : Owing). IsHeldBy (places_of c.claim.new.self) c.id-id.result.0 d.0) (sym returned) held in
     let back = c.in-Err-back.ensures in
     absurd (elim back.kinds [
-      | inl broken ↦ (let now = back.refused.broken.0 broken in let was = is.reads.tape.works.1 now in
+      | inl broken ↦ (let now = back.refuses.broken.0 broken in let was = is.reads.tape.works.1 now in
           let never = is.refuses.broken.1 was in cc)
-      | inr not ↦ (back.refused.not_held.0 not).1 there
+      | inr not ↦ (back.refuses.not_held.0 not).1 there
     ])
 
 pub returns-in-Busy-clause-ok : goal.returns-in-Busy-clause-ok
@@ -71,14 +71,14 @@ returns-in-Busy-clause-ok g c = λ id conn past pair.
     let owed = if_some c.in-Ok.claimed debt _ c.in-Some.is (is.debt past.tape.history pair.stands.tape.stands) in
     let refused = c.in-Err-offer.ensures in
     let ready = ready_told (λ (r : Readiness). RefusesOffer c.in-Err-offer.refused.fault r) past.conf conn
-    c.args.self.now c.args.self.now.waiting pair.holds refused.refused in
+    c.args.self.now c.args.self.now.waiting pair.holds refused.refuses in
     let back = c.in_default-back.ensures.ok in
     gave_back_busy id c.args.now conn past c.args.self.now c.args.peer.now _ pair is.reads refl refl debt
     c.id-id.result.0
     (ap (λ i. i.0) c.id-id.ensures ∙ pair.id_is) (λ b. let never = is.refuses.broken.1 b in
     cc) some.0 some.1 owed c.each_number_has_one_place.ensures.rising
     _ back.0 (back.2 ∙ ap (λ (d : Owing). moved (places_of c.claim.new.self) d.0 Ready) refused.returned) refl refl _
-    (ap (λ conn. record { place = c.args.self.now.place; conn = conn; waiting = c.args.self.now.waiting })
+    (ap (λ conn. record { rank = c.args.self.now.rank; conn = conn; waiting = c.args.self.now.waiting })
     refused.unchanged)
     (subst (λ f. RefusesOffer f (ready_of (options_of past.conf) conn.transcript)) c.in-Busy.is ready)
 
@@ -90,14 +90,14 @@ returns-in-Closed-clause-ok g c = λ id conn past pair.
     let owed = if_some c.in-Ok.claimed debt _ c.in-Some.is (is.debt past.tape.history pair.stands.tape.stands) in
     let refused = c.in-Err-offer.ensures in
     let ready = ready_told (λ (r : Readiness). RefusesOffer c.in-Err-offer.refused.fault r) past.conf conn
-    c.args.self.now c.args.self.now.waiting pair.holds refused.refused in
+    c.args.self.now c.args.self.now.waiting pair.holds refused.refuses in
     let back = c.in_default-back.ensures.ok in
     gave_back_shut id c.args.now conn past c.args.self.now c.args.peer.now _ pair is.reads refl refl debt
     c.id-id.result.0
     (ap (λ i. i.0) c.id-id.ensures ∙ pair.id_is) (λ b. let never = is.refuses.broken.1 b in
     cc) some.0 some.1 owed c.each_number_has_one_place.ensures.rising
     _ back.0 (back.2 ∙ ap (λ (d : Owing). moved (places_of c.claim.new.self) d.0 Ready) refused.returned) refl refl _
-    (ap (λ conn. record { place = c.args.self.now.place; conn = conn; waiting = c.args.self.now.waiting })
+    (ap (λ conn. record { rank = c.args.self.now.rank; conn = conn; waiting = c.args.self.now.waiting })
     refused.unchanged)
     (subst (λ f. RefusesOffer f (ready_of (options_of past.conf) conn.transcript)) c.in-Closed.is ready)
 
@@ -109,13 +109,13 @@ returns-in-NoMemory-clause-err g c = λ id conn past pair.
     let owed = if_some c.in-Ok.claimed debt _ c.in-Some.is (is.debt past.tape.history pair.stands.tape.stands) in
     let refused = c.in-Err-offer.ensures in
     let ready = ready_told (λ (r : Readiness). RefusesOffer c.in-Err-offer.refused.fault r) past.conf conn
-    c.args.self.now c.args.self.now.waiting pair.holds refused.refused in
+    c.args.self.now c.args.self.now.waiting pair.holds refused.refuses in
     let back = c.in_default-back.ensures.ok in
     gave_back_memory id c.args.now conn past c.args.self.now c.args.peer.now _ pair is.reads refl refl debt
     c.id-id.result.0
     (ap (λ i. i.0) c.id-id.ensures ∙ pair.id_is) (λ b. let never = is.refuses.broken.1 b in
     cc) some.0 some.1 owed c.each_number_has_one_place.ensures.rising
     _ back.0 (back.2 ∙ ap (λ (d : Owing). moved (places_of c.claim.new.self) d.0 Ready) refused.returned) refl refl _
-    (ap (λ conn. record { place = c.args.self.now.place; conn = conn; waiting = c.args.self.now.waiting })
+    (ap (λ conn. record { rank = c.args.self.now.rank; conn = conn; waiting = c.args.self.now.waiting })
     refused.unchanged) _ refl
     (subst (λ f. RefusesOffer f (ready_of (options_of past.conf) conn.transcript)) c.in-NoMemory.is ready)

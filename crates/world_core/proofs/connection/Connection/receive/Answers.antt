@@ -13,15 +13,15 @@ returns-in_err-input-clause-err g c = λ id conn past pair.
     inl (
       is,
       pair_unread id conn past c.args.self.now _ c.args.peer.now pair refl refl c.in_err-input.ensures.same_id
-          c.args.octets.now c.in_err-input.ensures.refused,
+          c.args.octets.now c.in_err-input.ensures.err,
     ))
 
 pub returns-clause-ok : goal.returns-clause-ok
 returns-clause-ok g c = λ id conn past pair.
     let so = pair_received id conn past c.args.self.now _ c.args.peer.now pair refl refl c.in_ok-input.ensures.same_id
-    c.args.octets.now c.in_ok-input.ensures.received in
+    c.args.octets.now c.in_ok-input.ensures.ok in
     on_ok_map c.tell.result _ _
-    (c.tell.ensures.ok id (record { place = conn.place; unread = so.1; transcript = so.0 }) past conn.transcript
+    (c.tell.ensures.ok id (record { rank = conn.rank; unread = so.1; transcript = so.0 }) past conn.transcript
     so.3
     (none_told c.is_none-was_open.result c.closed.result c.is_none-was_open.ensures
     ∙ ap is_none (reason_told past.conf conn c.args.self.now c.args.self.now.waiting c.closed.result pair.holds
@@ -31,7 +31,7 @@ returns-clause-ok g c = λ id conn past pair.
 pub returns-clause-err : goal.returns-clause-err
 returns-clause-err g c = λ id conn past pair.
     let so = pair_received id conn past c.args.self.now _ c.args.peer.now pair refl refl c.in_ok-input.ensures.same_id
-    c.args.octets.now c.in_ok-input.ensures.received in
+    c.args.octets.now c.in_ok-input.ensures.ok in
     if_err_map c.tell.result _ _
-    (c.tell.ensures.err id (record { place = conn.place; unread = so.1; transcript = so.0 }) past so.3)
+    (c.tell.ensures.err id (record { rank = conn.rank; unread = so.1; transcript = so.0 }) past so.3)
     (λ fault followed. inr (so.0, so.1, so.2, followed))

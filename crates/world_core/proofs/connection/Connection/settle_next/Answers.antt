@@ -14,11 +14,11 @@ returns-in-Ok-clause-ok g c = λ id conn past pair.
     settled_one id c.args.now conn past c.args.self.now _ c.args.peer.now _ c.args.told.now.items
     c.reserve.new.self.items _ c.in-Some.outcome
     c.id-id.result.0 c.number_in-number.result c.in-Ok.settled pair taken c.next_outcome.ensures.waits
-    c.next_outcome.ensures.place
+    c.next_outcome.ensures.rank
     c.next_outcome.ensures.id (ap (λ i. i.0) (c.id-id.ensures ∙ c.next_outcome.ensures.id) ∙ pair.id_is)
     c.number_in-number.ensures is.settled is.ok
-    (λ b. is.refused.broken.1 b)
-    (λ ends held full. is.pending_full.1 (ends, ((λ b. is.refused.broken.1 b), held, full))) refl refl
+    (λ b. is.refuses.broken.1 b)
+    (λ ends held full. is.pending_full.1 (ends, ((λ b. is.refuses.broken.1 b), held, full))) refl refl
     c.reserve.ensures.items c.push_reserved.ensures.items
 
 pub returns-in-Err-clause-err : goal.returns-in-Err-clause-err
@@ -28,7 +28,7 @@ returns-in-Err-clause-err g c = λ id conn past pair.
     c.in-Some.is
     (c.next_outcome.ensures.takes past.conf conn pair.holds) in
     settled_not id c.args.now conn past c.args.self.now _ c.args.peer.now _ c.in-Some.outcome c.in-Err.outcome
-    c.id-id.result.0 c.in-Err.fault c.from_station.result pair taken refl is.handed c.next_outcome.ensures.place
+    c.id-id.result.0 c.in-Err.fault c.from_station.result pair taken refl is.returned c.next_outcome.ensures.rank
     c.next_outcome.ensures.id (ap (λ i. i.0) (c.id-id.ensures ∙ c.next_outcome.ensures.id) ∙ pair.id_is)
-    is.refused.broken is.refused.not_held is.pending_full is.no_memory is.kinds
+    is.refuses.broken is.refuses.not_held is.pending_full is.no_memory is.kinds
     c.from_station.ensures is.unchanged refl refl

@@ -35,7 +35,7 @@ returns-in-Ok-clause-ok g c = λ id conn past pair.
     let wanted = sym (need_told past.conf conn c.args.self.now c.args.self.now.waiting c.need.result pair.holds
     c.need.ensures) ∙ c.in-Some.is in
     let so = pair_handed id conn past c.args.self.now _ c.args.peer.now pair refl refl c.in-Ok.ensures.same_id
-    c.in_ok-found.found c.in-Some.number c.in-Ok.ensures.taken in
+    c.in_ok-found.found c.in-Some.number c.in-Ok.ensures.ok in
     on_ok_map c.tell.result _ _ (c.tell.ensures.ok id
     (with_transcript conn (after (options_of past.conf) conn.transcript (Handed c.in-Some.number so.0))) past
     conn.transcript so.2
@@ -55,7 +55,7 @@ returns-in-Ok-clause-err g c = λ id conn past pair.
     let wanted = sym (need_told past.conf conn c.args.self.now c.args.self.now.waiting c.need.result pair.holds
     c.need.ensures) ∙ c.in-Some.is in
     let so = pair_handed id conn past c.args.self.now _ c.args.peer.now pair refl refl c.in-Ok.ensures.same_id
-    c.in_ok-found.found c.in-Some.number c.in-Ok.ensures.taken in
+    c.in_ok-found.found c.in-Some.number c.in-Ok.ensures.ok in
     if_err_map c.tell.result _ _ (c.tell.ensures.err id
     (with_transcript conn (after (options_of past.conf) conn.transcript (Handed c.in-Some.number so.0))) past so.2)
     (λ fault followed. inr (
@@ -70,7 +70,7 @@ returns-in-Err-default-NotNeeded-clause-err g c = λ id conn past pair.
     c.need.ensures) ∙ c.in-Some.is in
     absurd (wanted_needed past.conf conn c.args.self.now c.args.self.now.waiting c.in-Some.number wanted pair.holds
     (λ o unread h stands. subst (λ f. RefusesArticle f (needed o h c.in-Some.number))
-    c.in-Err-default-NotNeeded.field-0-1-is (c.in-Err-default-NotNeeded.ensures.refused o unread h stands)))
+    c.in-Err-default-NotNeeded.field-0-1-is (c.in-Err-default-NotNeeded.ensures.refuses o unread h stands)))
 
 pub returns-clause-err : goal.returns-clause-err
 returns-clause-err g c = λ id conn past pair.
@@ -82,7 +82,7 @@ returns-clause-err g c = λ id conn past pair.
       inl (
         refl,
         subst (λ k. PairStands id conn past
-            (record { place = c.args.self.now.place; conn = k; waiting = c.args.self.now.waiting }) c.args.peer.now)
+            (record { rank = c.args.self.now.rank; conn = k; waiting = c.args.self.now.waiting }) c.args.peer.now)
             (sym c.in-Err-default-NoMemory.ensures.unchanged) pair,
       ),
     )

@@ -3,7 +3,7 @@ use Rattle.std.proofs.Common.{◌∷◌, [], refl, ap, ◌∙◌, subst}
 use Rattle.disk_model.specs.Disk.Event.{Made}
 use Rattle.recovery.specs.Image.{IsNoTapeAt, Log}
 use Rattle.recovery.specs.Tape.{contents_of}
-use Rattle.world_core.specs.Given.{octets_of}
+use Rattle.world_core.specs.Given.{given_octets}
 use Rattle.world_core.proofs.Making.{both_are, happened_as, none_told, opens_given, refuses_tape}
 use Rattle.world_core.proofs.peer.Peer+StopDisk.open_given.Goals as goal
 
@@ -35,7 +35,7 @@ returns-in_default c =
       ok = tt;
       err = (
         refl,
-        refuses_tape (octets_of c.args.given) c.in-Err.refused.fault is.kinds c.in_default.not-NoMemory
+        refuses_tape (given_octets c.args.given) c.in-Err.refused.fault is.kinds c.in_default.not-NoMemory
             (λ segment at fault. subst (λ (l : Log). IsNoTapeAt (contents_of l) segment at) log
             ((is.causes tt tt).damaged segment at fault)),
       );

@@ -33,7 +33,7 @@ returns-in-Err-clause-err g c = λ past stands.
     let h = past.tape.history in
     let done = unflushed_as g.met.D.Disk.content_is_image (KeepsNotes past) past.tape c.args.self.now.station
     c.flush.new.self stands.tape
-    (keeps_moments past _ _ ((is.flushes h stands.tape.stands).moments)) ((is.flushes h stands.tape.stands).err)
+    (keeps_moments past _ _ ((is.flushes h stands.tape.stands).moments)) ((is.flushes h stands.tape.stands).stays)
     c.in-Err.fault c.from_station.result c.from_station.ensures (
       (λ e. is.refuses.broken.0 cc),
       λ b. let e = is.refuses.broken.1 b in cc,
@@ -42,7 +42,7 @@ returns-in-Err-clause-err g c = λ past stands.
       λ both. let e = is.refuses.full.1 both in
           cc,
     ) (λ none works. let never = is.empty_ok none works in cc)
-    is.refuses.kinds is.refuses.refused (λ e. is.refuses.breaks cc) (λ e. (is.flushes h stands.tape.stands).cause cc) in
+    is.refuses.kinds is.refuses.unchanged (λ e. is.refuses.breaks cc) (λ e. (is.flushes h stands.tape.stands).cause cc) in
     record {
       later = done.later;
       refused = done.refused;

@@ -39,7 +39,7 @@ returns-in-Err-clause-err g c = λ past stands.
     let h = past.tape.history in
     let done = unrotated_as g.met.D.Disk.content_is_image (KeepsNotes past) past.tape c.args.self.now.station
     c.rotate.new.self stands.tape
-    (keeps_moments past _ _ ((is.rotates h stands.tape.stands).moments)) ((is.rotates h stands.tape.stands).err)
+    (keeps_moments past _ _ ((is.rotates h stands.tape.stands).moments)) ((is.rotates h stands.tape.stands).stays)
     c.in-Err.fault c.from_station.result c.from_station.ensures (
       (λ e. is.refuses.broken.0 cc),
       λ b. let e = is.refuses.broken.1 b in cc,
@@ -48,7 +48,7 @@ returns-in-Err-clause-err g c = λ past stands.
       λ both. let e = is.refuses.generation_full.1 both in
           cc,
     ) ((λ e. is.refuses.full.0 cc), λ both. let e = is.refuses.full.1 both in cc)
-    is.refuses.kinds (λ never. (is.refuses.refused never).tape) (λ e. is.refuses.breaks cc)
+    is.refuses.kinds (λ never. (is.refuses.unchanged never).tape) (λ e. is.refuses.breaks cc)
     (λ e. (is.rotates h stands.tape.stands).cause cc) in
     record {
       later = done.later;

@@ -23,5 +23,5 @@ returns-in-Err-clause-tries c = λ past rest tries.
     c.push_reserved-in-Err.new.self.items c.args.self.now.refused c.halt.new.self.refused c.args.peer c.in-Err.peer
     c.in-Err.fault rest
     (sym c.is_some.ensures ∙ c.if-is_some.false) c.push_reserved-in-Err.ensures.items
-    (c.halt.ensures.refused ∙ ap (λ (n : ℕ). Some (record { place = Some n; fault = c.in-Err.fault })) many)
+    (c.halt.ensures.refused ∙ ap (λ (n : ℕ). Some (record { rank = Some n; fault = c.in-Err.fault })) many)
     c.halt.ensures.stops tries c.in-Err.ensures.err

@@ -28,5 +28,5 @@ returns-in-Err-clause-err g c = λ past stands.
       λ both. let e = is.refuses.full.1 both in
           cc,
     ) (λ none works. let never = is.empty_ok none works in cc)
-    is.refuses.kinds is.refuses.refused (λ e. is.refuses.breaks cc)
-    (λ e. (is.flushes h stands.intake.stands).cause cc) ((is.flushes h stands.intake.stands).err)
+    is.refuses.kinds is.refuses.unchanged (λ e. is.refuses.breaks cc)
+    (λ e. (is.flushes h stands.intake.stands).cause cc) ((is.flushes h stands.intake.stands).stays)

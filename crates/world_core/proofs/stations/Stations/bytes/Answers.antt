@@ -16,7 +16,7 @@ returns-clause-ok g c = λ life running now_is.
     let peer = found.1 in
     let put = put_from life c.args.self.now _ c.args.connections.now.items _ c.args.id conn peer
     c.index_mut-connection.result.now c.receive.new.self
-    c.index_mut-peer.result.now c.receive.new.peer c.in-Some.index c.in-Some.place found.2 found.3 found.4
+    c.index_mut-peer.result.now c.receive.new.peer c.in-Some.index c.in-Some.rank found.2 found.3 found.4
     c.index_mut-connection.ensures.value
     (subst (λ (cs : List Connection). c.in-Some.index < length cs) deref within.0) c.index_mut-peer.ensures.value
     (omega (arith, within.1))
@@ -38,7 +38,7 @@ returns-clause-err g c = λ life running now_is.
     let peer = found.1 in
     let put = put_from life c.args.self.now _ c.args.connections.now.items _ c.args.id conn peer
     c.index_mut-connection.result.now c.receive.new.self
-    c.index_mut-peer.result.now c.receive.new.peer c.in-Some.index c.in-Some.place found.2 found.3 found.4
+    c.index_mut-peer.result.now c.receive.new.peer c.in-Some.index c.in-Some.rank found.2 found.3 found.4
     c.index_mut-connection.ensures.value
     (subst (λ (cs : List Connection). c.in-Some.index < length cs) deref within.0) c.index_mut-peer.ensures.value
     (omega (arith, within.1))

@@ -15,11 +15,11 @@ loop-name-preserved-in_ok-insert g c =
     let loop = c.loop-name in
     record {
       found = λ past stands.
-          found_more past loop.yielded c.in-Some.name c.in-Some-find.place loop.found.entries
+          found_more past loop.yielded c.in-Some.name c.in-Some-find.rank loop.found.entries
           c.insert.new.self.entries stands.sound.names
           (loop.invariant.found past stands) (c.in-Some-find.ensures.found past stands) c.in_ok-insert.ensures.entries;
       within = subst (AreWithin _) (sym c.in_ok-insert.ensures.entries)
-          (within_more _ loop.found.entries c.in-Some-find.place c.in-Some.name loop.invariant.within
+          (within_more _ loop.found.entries c.in-Some-find.rank c.in-Some.name loop.invariant.within
           c.in-Some-find.ensures.within);
     }
 
@@ -28,11 +28,11 @@ loop-name-preserved-in_ok-insert-2 g c =
     let loop = c.loop-name in
     record {
       found = λ past stands.
-          found_more past loop.yielded c.in-Some.name c.in-Some-find.place loop.found.entries
+          found_more past loop.yielded c.in-Some.name c.in-Some-find.rank loop.found.entries
           c.insert.new.self.entries stands.sound.names
           (loop.invariant.found past stands) (c.in-Some-find.ensures.found past stands) c.in_ok-insert.ensures.entries;
       within = subst (AreWithin _) (sym c.in_ok-insert.ensures.entries)
-          (within_more _ loop.found.entries c.in-Some-find.place c.in-Some.name loop.invariant.within
+          (within_more _ loop.found.entries c.in-Some-find.rank c.in-Some.name loop.invariant.within
           c.in-Some-find.ensures.within);
     }
 

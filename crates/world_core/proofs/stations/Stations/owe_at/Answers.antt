@@ -10,7 +10,7 @@ returns-clause-ok g c = λ past stands.
     if_ok_each c.owe.result (λ (p : PeerPast). PeerStands p c.index_mut-peer.result.now)
     (λ (p : PeerPast) owed. OwedTo (c.args.self.now.last + 1) c.args.token.now c.args.id.now p owed c.owe.new.self) _
     c.owe.ensures.ok
-    (did_owe c.args.self.now _ past c.args.place c.index_mut-peer.result.now c.owe.new.self stands (omega arith)
+    (did_owe c.args.self.now _ past c.args.rank c.index_mut-peer.result.now c.owe.new.self stands (omega arith)
     c.index_mut-peer.ensures.value
     (record { peers = refl; intake = refl; last = refl; begun = refl }) (c.args.self.now.last + 1) c.args.token.now
     c.args.id.now refl)
@@ -20,7 +20,7 @@ returns-clause-err g c = λ past stands.
     if_err_each c.owe.result (λ (p : PeerPast). PeerStands p c.index_mut-peer.result.now)
     (λ (p : PeerPast) fault. OwedNot (c.args.self.now.last + 1) c.args.token.now c.args.id.now p fault c.owe.new.self)
     _ c.owe.ensures.err
-    (failed_owe c.args.self.now _ past c.args.place c.index_mut-peer.result.now c.owe.new.self stands (omega arith)
+    (failed_owe c.args.self.now _ past c.args.rank c.index_mut-peer.result.now c.owe.new.self stands (omega arith)
     c.index_mut-peer.ensures.value
     (record { peers = refl; intake = refl; last = refl; begun = refl }) (c.args.self.now.last + 1) c.args.token.now
     c.args.id.now refl)

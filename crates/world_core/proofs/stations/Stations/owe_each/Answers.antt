@@ -1,4 +1,4 @@
--- One place more at each turn.
+-- One rank more at each turn.
 use Rattle.std.proofs.Common.{◌≡◌, ◌∙◌, ℕ, length, vec_len, refl, sym, ap, subst, arith}
 use Rattle.world_core.specs.Events.{Owes}
 use Rattle.world_core.specs.Stands.{FailedOne}
@@ -8,11 +8,11 @@ use Rattle.world_core.proofs.Lining.{split_here, split_more}
 use Rattle.world_core.proofs.Stepping.{if_err}
 use Rattle.world_core.proofs.stations.Stations.owe_each.Goals as goal
 
-pub loop-place-init : goal.loop-place-init
-loop-place-init g c =
-    let gives : c.into_iter-place-iterator.result ≡ c.args.found.entries =
-    c.into_iter-place-iterator.ensures.into_iter_gives.0 in
-    let long : length c.into_iter-place-iterator.result ≡ length c.args.found.entries = ap length gives in
+pub loop-rank-init : goal.loop-rank-init
+loop-rank-init g c =
+    let gives : c.into_iter-rank-iterator.result ≡ c.args.found.entries =
+    c.into_iter-rank-iterator.ensures.into_iter_gives.0 in
+    let long : length c.into_iter-rank-iterator.result ≡ length c.args.found.entries = ap length gives in
     let empty : vec_len c.args.told ≡ length c.args.told.items = omega arith in
     let none : length c.args.told.items ≡ 0 = ap length c.requires.none in
     record {
@@ -27,30 +27,30 @@ loop-place-init g c =
       count = refl;
     }
 
-pub loop-place-preserved : goal.loop-place-preserved
-loop-place-preserved g c =
-    let loop = c.loop-place in
+pub loop-rank-preserved : goal.loop-rank-preserved
+loop-rank-preserved g c =
+    let loop = c.loop-rank in
     let steps = c.in-Some.ensures.steps in
     let long = ap length steps in
     let within = subst (AreWithin (vec_len loop.self.peers)) steps loop.invariant.within in
     record {
       can = tt;
       finite = tt;
-      split = split_more c.args.found.entries loop.yielded loop.place-iterator c.next.new.self (
-        c.in-Some.place,
+      split = split_more c.args.found.entries loop.yielded loop.rank-iterator c.next.new.self (
+        c.in-Some.rank,
         c.in-Some.name,
       ) loop.invariant.split steps;
       owed = λ past named stands found.
           let so_far = loop.invariant.owed past named stands found in
           let here = subst (AreFound past named)
-          (split_here c.args.found.entries loop.yielded loop.place-iterator c.next.new.self (
-            c.in-Some.place,
+          (split_here c.args.found.entries loop.yielded loop.rank-iterator c.next.new.self (
+            c.in-Some.rank,
             c.in-Some.name,
           ) loop.invariant.split steps) found in
           subst (λ (n : ℕ). OwedSome past c.args.token.now c.args.id.now named n c.push_reserved.new.self.items
           c.owe_at.new.self)
-          (length_more loop.yielded (c.in-Some.place, c.in-Some.name))
-          (some_more past c.args.token.now c.args.id.now named loop.yielded (c.in-Some.place, c.in-Some.name)
+          (length_more loop.yielded (c.in-Some.rank, c.in-Some.name))
+          (some_more past c.args.token.now c.args.id.now named loop.yielded (c.in-Some.rank, c.in-Some.name)
           c.next.new.self here
           loop.told.items c.push_reserved.new.self.items c.in-Some.name c.in_ok-owed.owed loop.self c.owe_at.new.self
           so_far
@@ -63,27 +63,27 @@ loop-place-preserved g c =
 
 pub returns-in_err-owed-clause-err : goal.returns-in_err-owed-clause-err
 returns-in_err-owed-clause-err g c = λ past named stands found.
-    let loop = c.loop-place in
+    let loop = c.loop-rank in
     let so_far = loop.invariant.owed past named stands found in
     let here = subst (AreFound past named)
-    (split_here c.args.found.entries loop.yielded loop.place-iterator c.next.new.self (
-      c.in-Some.place,
+    (split_here c.args.found.entries loop.yielded loop.rank-iterator c.next.new.self (
+      c.in-Some.rank,
       c.in-Some.name,
     ) loop.invariant.split c.in-Some.ensures.steps) found in
     if_err c.from_residual.result _ _ c.from_residual.ensures.1
     (λ fault same. some_failed past c.args.token.now c.args.id.now named loop.yielded (
-      c.in-Some.place,
+      c.in-Some.rank,
       c.in-Some.name,
     ) c.next.new.self here
     loop.told.items fault loop.self c.owe_at.new.self so_far
-    (subst (λ f. FailedOne so_far.did.later (Owes c.in-Some.place c.args.token.now c.args.id.now) f c.owe_at.new.self)
+    (subst (λ f. FailedOne so_far.did.later (Owes c.in-Some.rank c.args.token.now c.args.id.now) f c.owe_at.new.self)
     (sym same)
     (c.in_err-owed.ensures.err so_far.did.later so_far.did.stands)))
 
 pub returns-clause-ok : goal.returns-clause-ok
 returns-clause-ok g c = λ past named stands found.
-    let loop = c.loop-place in
-    let all = split_end c.args.found.entries loop.yielded loop.place-iterator loop.invariant.split
+    let loop = c.loop-rank in
+    let all = split_end c.args.found.entries loop.yielded loop.rank-iterator loop.invariant.split
     c.in-None.ensures.steps.0 in
     some_all past c.args.token.now c.args.id.now named loop.yielded loop.told.items loop.self
     (subst (AreFound past named) all found)

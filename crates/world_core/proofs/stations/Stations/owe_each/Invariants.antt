@@ -6,15 +6,15 @@ use Rattle.world_core.proofs.Lining.{OwedSome}
 use Rattle.world_core.proofs.stations.Stations.owe_each.Given as goal
 
 -- the line was owed at the first of the places, and there is room for what is told of the others
-abbrev pub invariant-loop-place : goal.invariant-loop-place
-invariant-loop-place g l = record {
-  can : (goal.iterator-loop-place g).can_next l.place-iterator;
-  finite : (goal.iterator-loop-place g).is_finite l.place-iterator;
-  split : l.fn.found.entries ≡ l.yielded ++ l.place-iterator;
+abbrev pub invariant-loop-rank : goal.invariant-loop-rank
+invariant-loop-rank g l = record {
+  can : (goal.iterator-loop-rank g).can_next l.rank-iterator;
+  finite : (goal.iterator-loop-rank g).is_finite l.rank-iterator;
+  split : l.fn.found.entries ≡ l.yielded ++ l.rank-iterator;
   owed : (past : Past) (named : List (List ℕ)) → Stands l.initial.self past → AreFound past named l.fn.found.entries
       → OwedSome past l.token l.id named (length l.yielded) l.told.items l.self;
-  within : AreWithin (vec_len l.self.peers) l.place-iterator;
-  room : vec_len l.told + length l.place-iterator ≤ vec_capacity l.told;
+  within : AreWithin (vec_len l.self.peers) l.rank-iterator;
+  room : vec_len l.told + length l.rank-iterator ≤ vec_capacity l.told;
   last : l.self.last ≡ l.initial.self.last;
   count : vec_len l.self.peers ≡ vec_len l.initial.self.peers;
 }

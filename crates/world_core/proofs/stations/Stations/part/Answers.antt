@@ -1,27 +1,27 @@
--- The place of the name among the peers.
+-- The rank of the name among the peers.
 use Rattle.std.proofs.Common.{◌∙◌, refl, sym, subst}
 use Rattle.world_core.specs.Events.{Parts}
 use Rattle.world_core.specs.Stands.{FailedOne}
-use Rattle.world_core.proofs.Stepping.{if_err, part_absent, part_failed, part_took, place_same}
+use Rattle.world_core.proofs.Stepping.{if_err, part_absent, part_failed, part_took, rank_same}
 use Rattle.world_core.proofs.stations.Stations.part.Goals as goal
 
 pub returns-in_default-clause-err : goal.returns-in_default-clause-err
 returns-in_default-clause-err g c = λ past stands.
-    part_absent c.args.name.now past _ c.args.self.now refl (place_same c.args.name.now past c.args.self.now stands
-    ∙ sym c.place_of.ensures ∙ c.in_default.is) stands
+    part_absent c.args.name.now past _ c.args.self.now refl (rank_same c.args.name.now past c.args.self.now stands
+    ∙ sym c.rank_of.ensures ∙ c.in_default.is) stands
 
 pub returns-in_err-part_at-clause-err : goal.returns-in_err-part_at-clause-err
 returns-in_err-part_at-clause-err g c = λ past stands.
     if_err c.from_residual.result _ _ c.from_residual.ensures.1
-    (λ fault same. part_failed c.args.name.now past c.in-Some.place
-    (place_same c.args.name.now past c.args.self.now stands ∙ sym c.place_of.ensures ∙ c.in-Some.is)
+    (λ fault same. part_failed c.args.name.now past c.in-Some.rank
+    (rank_same c.args.name.now past c.args.self.now stands ∙ sym c.rank_of.ensures ∙ c.in-Some.is)
     c.part_at.new.self fault
-    (subst (λ f. FailedOne past (Parts c.in-Some.place) f c.part_at.new.self) (sym same)
+    (subst (λ f. FailedOne past (Parts c.in-Some.rank) f c.part_at.new.self) (sym same)
     (c.in_err-part_at.ensures.err past stands)))
 
 pub returns-clause-ok : goal.returns-clause-ok
 returns-clause-ok g c = λ past stands.
-    part_took c.args.name.now past c.in-Some.place
-    (place_same c.args.name.now past c.args.self.now stands ∙ sym c.place_of.ensures ∙ c.in-Some.is)
+    part_took c.args.name.now past c.in-Some.rank
+    (rank_same c.args.name.now past c.args.self.now stands ∙ sym c.rank_of.ensures ∙ c.in-Some.is)
     c.part_at.new.self _ c.new.ensures.items
     (c.in_ok-part_at.ensures.ok past stands)

@@ -9,7 +9,7 @@ pub returns-clause-ok : goal.returns-clause-ok
 returns-clause-ok g c = λ past stands.
     on_ok_each c.flush.result (λ (p : PeerPast). PeerStands p c.index_mut-peer.result.now)
     (λ (p : PeerPast). FlushedPeer p c.flush.new.self) _ c.flush.ensures.ok
-    (did_part c.args.self.now _ past c.args.place c.index_mut-peer.result.now c.flush.new.self stands (omega arith)
+    (did_part c.args.self.now _ past c.args.rank c.index_mut-peer.result.now c.flush.new.self stands (omega arith)
     c.index_mut-peer.ensures.value
     (record { peers = refl; intake = refl; last = refl; begun = refl }))
 
@@ -17,6 +17,6 @@ pub returns-clause-err : goal.returns-clause-err
 returns-clause-err g c = λ past stands.
     if_err_each c.flush.result (λ (p : PeerPast). PeerStands p c.index_mut-peer.result.now)
     (λ (p : PeerPast) fault. UnflushedPeer p fault c.flush.new.self) _ c.flush.ensures.err
-    (failed_part c.args.self.now _ past c.args.place c.index_mut-peer.result.now c.flush.new.self stands (omega arith)
+    (failed_part c.args.self.now _ past c.args.rank c.index_mut-peer.result.now c.flush.new.self stands (omega arith)
     c.index_mut-peer.ensures.value
     (record { peers = refl; intake = refl; last = refl; begun = refl }))

@@ -1,43 +1,43 @@
--- The place of the name among the peers, and what is told.
+-- The rank of the name among the peers, and what is told.
 use Rattle.std.proofs.Common.{◌∙◌, refl, sym, subst}
 use Rattle.world_core.specs.Events.{Rotates}
 use Rattle.world_core.specs.Stands.{FailedOne}
-use Rattle.world_core.proofs.Stepping.{if_err, place_same, pushed, rotate_absent, rotate_failed, rotate_memory}
+use Rattle.world_core.proofs.Stepping.{if_err, rank_same, pushed, rotate_absent, rotate_failed, rotate_memory}
 use Rattle.world_core.proofs.Stepping.{rotate_said, rotate_took}
 use Rattle.world_core.proofs.stations.Stations.rotate.Goals as goal
 
 pub returns-in_default-clause-err : goal.returns-in_default-clause-err
 returns-in_default-clause-err g c = λ past stands.
-    rotate_absent c.args.name.now past _ c.args.self.now refl (place_same c.args.name.now past c.args.self.now stands
-    ∙ sym c.place_of.ensures ∙ c.in_default.is) stands
+    rotate_absent c.args.name.now past _ c.args.self.now refl (rank_same c.args.name.now past c.args.self.now stands
+    ∙ sym c.rank_of.ensures ∙ c.in_default.is) stands
 
 pub returns-in_err-told-clause-err : goal.returns-in_err-told-clause-err
 returns-in_err-told-clause-err g c = λ past stands.
     if_err c.from_residual.result _ _ c.from_residual.ensures.1
-    (λ fault memory. rotate_memory c.args.name.now past c.in-Some.place
-    (place_same c.args.name.now past c.args.self.now stands ∙ sym c.place_of.ensures ∙ c.in-Some.is) c.args.self.now
+    (λ fault memory. rotate_memory c.args.name.now past c.in-Some.rank
+    (rank_same c.args.name.now past c.args.self.now stands ∙ sym c.rank_of.ensures ∙ c.in-Some.is) c.args.self.now
     fault memory stands)
 
 pub returns-in_err-name-clause-err : goal.returns-in_err-name-clause-err
 returns-in_err-name-clause-err g c = λ past stands.
     if_err c.from_residual-in_err-name.result _ _ c.from_residual-in_err-name.ensures.1
-    (λ fault memory. rotate_memory c.args.name.now past c.in-Some.place
-    (place_same c.args.name.now past c.args.self.now stands ∙ sym c.place_of.ensures ∙ c.in-Some.is) c.args.self.now
+    (λ fault memory. rotate_memory c.args.name.now past c.in-Some.rank
+    (rank_same c.args.name.now past c.args.self.now stands ∙ sym c.rank_of.ensures ∙ c.in-Some.is) c.args.self.now
     fault memory stands)
 
 pub returns-in_err-generation-clause-err : goal.returns-in_err-generation-clause-err
 returns-in_err-generation-clause-err g c = λ past stands.
     if_err c.from_residual-in_err-generation.result _ _ c.from_residual-in_err-generation.ensures.1
-    (λ fault same. rotate_failed c.args.name.now past c.in-Some.place
-    (place_same c.args.name.now past c.args.self.now stands ∙ sym c.place_of.ensures ∙ c.in-Some.is)
+    (λ fault same. rotate_failed c.args.name.now past c.in-Some.rank
+    (rank_same c.args.name.now past c.args.self.now stands ∙ sym c.rank_of.ensures ∙ c.in-Some.is)
     c.rotate_at.new.self fault
-    (subst (λ f. FailedOne past (Rotates c.in-Some.place 0) f c.rotate_at.new.self) (sym same)
+    (subst (λ f. FailedOne past (Rotates c.in-Some.rank 0) f c.rotate_at.new.self) (sym same)
     (c.in_err-generation.ensures.err past stands)))
 
 pub returns-clause-ok : goal.returns-clause-ok
 returns-clause-ok g c = λ past stands.
-    rotate_took c.args.name.now past c.in-Some.place
-    (place_same c.args.name.now past c.args.self.now stands ∙ sym c.place_of.ensures ∙ c.in-Some.is)
+    rotate_took c.args.name.now past c.in-Some.rank
+    (rank_same c.args.name.now past c.args.self.now stands ∙ sym c.rank_of.ensures ∙ c.in-Some.is)
     c.rotate_at.new.self _ c.in_ok-generation.generation
     (rotate_said c.args.name.now _ c.in_ok-generation.generation _ c.in_ok-name.ensures.cases
     (pushed _ _ _ c.push_reserved.ensures.items c.in_ok-told.ensures.items))

@@ -12,9 +12,9 @@ returns-in-Err-clause-err g c = λ past stands.
     let is = c.in-Err.ensures in
     failed_see c.args.self.now _ past c.args.number c.note.new.self stands
     (record { peers = refl; intake = refl; last = refl; begun = refl }) (omega (arith, c.mark.ensures))
-    c.in-Err.fault c.from_tape.result c.from_tape.ensures is.refuses.broken (λ f e. ((is.refuses.refused f).0 e).1)
+    c.in-Err.fault c.from_tape.result c.from_tape.ensures is.refuses.broken (λ f e. ((is.refuses.note f).0 e).1)
     (λ e. (is.refuses.pending_full.0 e).2)
-    (λ e. (is.refuses.no_memory e).2) is.refuses.kinds ((is.takes past.intake.history stands.intake.stands).err)
+    (λ e. (is.refuses.no_memory e).2) is.refuses.kinds ((is.takes past.intake.history stands.intake.stands).stays)
     is.disks is.works
 
 pub returns-clause-ok : goal.returns-clause-ok

@@ -1,43 +1,43 @@
--- The place of the name among the peers, and what is told.
+-- The rank of the name among the peers, and what is told.
 use Rattle.std.proofs.Common.{◌∙◌, [], refl, sym, subst}
 use Rattle.world_core.specs.Events.{Sheds}
 use Rattle.world_core.specs.Stands.{FailedOne}
-use Rattle.world_core.proofs.Stepping.{if_err, place_same, pushed, shed_absent, shed_failed, shed_memory, shed_said}
+use Rattle.world_core.proofs.Stepping.{if_err, rank_same, pushed, shed_absent, shed_failed, shed_memory, shed_said}
 use Rattle.world_core.proofs.Stepping.{shed_took}
 use Rattle.world_core.proofs.stations.Stations.shed.Goals as goal
 
 pub returns-in_default-clause-err : goal.returns-in_default-clause-err
 returns-in_default-clause-err g c = λ past stands.
-    shed_absent c.args.name.now past _ c.args.self.now refl (place_same c.args.name.now past c.args.self.now stands
-    ∙ sym c.place_of.ensures ∙ c.in_default.is) stands
+    shed_absent c.args.name.now past _ c.args.self.now refl (rank_same c.args.name.now past c.args.self.now stands
+    ∙ sym c.rank_of.ensures ∙ c.in_default.is) stands
 
 pub returns-in_err-told-clause-err : goal.returns-in_err-told-clause-err
 returns-in_err-told-clause-err g c = λ past stands.
     if_err c.from_residual.result _ _ c.from_residual.ensures.1
-    (λ fault memory. shed_memory c.args.name.now past c.in-Some.place
-    (place_same c.args.name.now past c.args.self.now stands ∙ sym c.place_of.ensures ∙ c.in-Some.is) c.args.self.now
+    (λ fault memory. shed_memory c.args.name.now past c.in-Some.rank
+    (rank_same c.args.name.now past c.args.self.now stands ∙ sym c.rank_of.ensures ∙ c.in-Some.is) c.args.self.now
     fault memory stands)
 
 pub returns-in_err-name-clause-err : goal.returns-in_err-name-clause-err
 returns-in_err-name-clause-err g c = λ past stands.
     if_err c.from_residual-in_err-name.result _ _ c.from_residual-in_err-name.ensures.1
-    (λ fault memory. shed_memory c.args.name.now past c.in-Some.place
-    (place_same c.args.name.now past c.args.self.now stands ∙ sym c.place_of.ensures ∙ c.in-Some.is) c.args.self.now
+    (λ fault memory. shed_memory c.args.name.now past c.in-Some.rank
+    (rank_same c.args.name.now past c.args.self.now stands ∙ sym c.rank_of.ensures ∙ c.in-Some.is) c.args.self.now
     fault memory stands)
 
 pub returns-in_err-numbers-clause-err : goal.returns-in_err-numbers-clause-err
 returns-in_err-numbers-clause-err g c = λ past stands.
     if_err c.from_residual-in_err-numbers.result _ _ c.from_residual-in_err-numbers.ensures.1
-    (λ fault same. shed_failed c.args.name.now past c.in-Some.place
-    (place_same c.args.name.now past c.args.self.now stands ∙ sym c.place_of.ensures ∙ c.in-Some.is)
+    (λ fault same. shed_failed c.args.name.now past c.in-Some.rank
+    (rank_same c.args.name.now past c.args.self.now stands ∙ sym c.rank_of.ensures ∙ c.in-Some.is)
     c.shed_at.new.self fault
-    (subst (λ f. FailedOne past (Sheds c.in-Some.place []) f c.shed_at.new.self) (sym same)
+    (subst (λ f. FailedOne past (Sheds c.in-Some.rank []) f c.shed_at.new.self) (sym same)
     (c.in_err-numbers.ensures.err past stands)))
 
 pub returns-clause-ok : goal.returns-clause-ok
 returns-clause-ok g c = λ past stands.
-    shed_took c.args.name.now past c.in-Some.place
-    (place_same c.args.name.now past c.args.self.now stands ∙ sym c.place_of.ensures ∙ c.in-Some.is)
+    shed_took c.args.name.now past c.in-Some.rank
+    (rank_same c.args.name.now past c.args.self.now stands ∙ sym c.rank_of.ensures ∙ c.in-Some.is)
     c.shed_at.new.self _ c.in_ok-numbers.numbers.items
     (shed_said c.args.name.now _ c.in_ok-numbers.numbers _ c.in_ok-name.ensures.cases
     (pushed _ _ _ c.push_reserved.ensures.items c.in_ok-told.ensures.items))

@@ -6,8 +6,8 @@ use Rattle.world_core.proofs.world.World.arm.Goals as goal
 pub returns-clause-ok : goal.returns-clause-ok
 returns-clause-ok c = λ life stands.
     c.arm_at-2.ensures life c.args.peer.now stands
-    (subst (λ peer. IsTapeOf life.past peer (Some c.in-Some-place_of.place)) (sym c.in-Some.is)
-    (sym (c.place_of.ensures life stands) ∙ c.in-Some-place_of.is))
+    (subst (λ peer. IsTapeOf life.past peer (Some c.in-Some-rank_of.rank)) (sym c.in-Some.is)
+    (sym (c.rank_of.ensures life stands) ∙ c.in-Some-rank_of.is))
 
 pub returns-in_default-clause-ok : goal.returns-in_default-clause-ok
 returns-in_default-clause-ok c = λ life stands.

@@ -13,8 +13,8 @@ pub returns-in-Ok-clause-begins : goal.returns-in-Ok-clause-begins
 returns-in-Ok-clause-begins c =
     begins c.args.peers.items c.in_ok-given.given.items c.in-Ok.world c.in_ok-given.ensures c.in-Ok.ensures.begins
 
-pub returns-in-Err-Tape-clause-refused : goal.returns-in-Err-Tape-clause-refused
-returns-in-Err-Tape-clause-refused c =
+pub returns-in-Err-Tape-clause-kinds : goal.returns-in-Err-Tape-clause-kinds
+returns-in-Err-Tape-clause-kinds c =
     let given = c.in_ok-given.given.items in
     make_fault c.args.peers.items given c.in-Err-Tape.field-0-0 c.in-Err-Tape.fault c.in_ok-given.ensures
-    (subst (RefusesTapes given) c.in-Err-Tape.field-0-is c.in-Err-Tape.ensures.refused)
+    (subst (RefusesTapes given) c.in-Err-Tape.field-0-is c.in-Err-Tape.ensures.refuses)

@@ -3,7 +3,7 @@ use Rattle.std.proofs.Common.{refl, sym, ◌∙◌}
 use Rattle.world_core.specs.Steps.{RefusesRotation, TakesRotate}
 use Rattle.world_core.specs.declared.step.Step.TheVariants.{Rotate}
 use Rattle.world_core.proofs.Steady.{holds_rotate, holds_rotate_not}
-use Rattle.world_core.proofs.Stepping.{place_same}
+use Rattle.world_core.proofs.Stepping.{rank_same}
 use Rattle.world_core.proofs.Taking.{rotate_fails, took_tapes, was_halted}
 use Rattle.world_core.proofs.world.World.rotate.Goals as goal
 
@@ -21,13 +21,13 @@ returns-in-Err-clause-ok c = λ life stands.
     c.settle.ensures.ok (Rotate name) life
     (was_halted c.args.self.now _ life c.in-Running.stations c.rotate.new.self c.in-Running.field-1 stands
     c.in-Running.is refl refl refl refl
-    (Rotate name) (RefusesRotation name) (record { place = c.place_of-place.result; fault = c.in-Err.fault })
+    (Rotate name) (RefusesRotation name) (record { rank = c.rank_of-rank.result; fault = c.in-Err.fault })
     (λ later r. r) (holds_rotate_not name)
     (λ on.
     let t = c.in-Err.ensures.err life.past on in (
       t,
-      λ disk runs. rotate_fails life name _ t.later (place_same name life.past c.in-Running.stations on
-          ∙ sym c.place_of-place.ensures) runs t.refuses disk,
+      λ disk runs. rotate_fails life name _ t.later (rank_same name life.past c.in-Running.stations on
+          ∙ sym c.rank_of-rank.ensures) runs t.refuses disk,
     )))
 
 pub returns-in-Err-clause-err : goal.returns-in-Err-clause-err
@@ -36,11 +36,11 @@ returns-in-Err-clause-err c = λ life stands.
     c.settle.ensures.err (Rotate name) life
     (was_halted c.args.self.now _ life c.in-Running.stations c.rotate.new.self c.in-Running.field-1 stands
     c.in-Running.is refl refl refl refl
-    (Rotate name) (RefusesRotation name) (record { place = c.place_of-place.result; fault = c.in-Err.fault })
+    (Rotate name) (RefusesRotation name) (record { rank = c.rank_of-rank.result; fault = c.in-Err.fault })
     (λ later r. r) (holds_rotate_not name)
     (λ on.
     let t = c.in-Err.ensures.err life.past on in (
       t,
-      λ disk runs. rotate_fails life name _ t.later (place_same name life.past c.in-Running.stations on
-          ∙ sym c.place_of-place.ensures) runs t.refuses disk,
+      λ disk runs. rotate_fails life name _ t.later (rank_same name life.past c.in-Running.stations on
+          ∙ sym c.rank_of-rank.ensures) runs t.refuses disk,
     )))

@@ -17,7 +17,7 @@ returns-in-Err-clause-ok c = λ life stands.
     c.settle.ensures.ok Seal life
     (was_halted c.args.self.now _ life c.in-Running.stations c.seal.new.self c.in-Running.field-1 stands
     c.in-Running.is refl refl refl refl
-    Seal RefusesSeal (record { place = None; fault = c.in-Err.fault }) (λ later r. r) holds_seal_not
+    Seal RefusesSeal (record { rank = None; fault = c.in-Err.fault }) (λ later r. r) holds_seal_not
     (λ on. let t = c.in-Err.ensures.err life.past on in
     (t, λ disk runs. seal_fails life _ t.later refl runs t.refuses disk)))
 
@@ -26,6 +26,6 @@ returns-in-Err-clause-err c = λ life stands.
     c.settle.ensures.err Seal life
     (was_halted c.args.self.now _ life c.in-Running.stations c.seal.new.self c.in-Running.field-1 stands
     c.in-Running.is refl refl refl refl
-    Seal RefusesSeal (record { place = None; fault = c.in-Err.fault }) (λ later r. r) holds_seal_not
+    Seal RefusesSeal (record { rank = None; fault = c.in-Err.fault }) (λ later r. r) holds_seal_not
     (λ on. let t = c.in-Err.ensures.err life.past on in
     (t, λ disk runs. seal_fails life _ t.later refl runs t.refuses disk)))

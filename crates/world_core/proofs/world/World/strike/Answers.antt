@@ -11,7 +11,7 @@ returns-in_err-leave-clause-err c = λ life now under_way goes stands.
     if_err c.from_residual-in_err-leave.result _ _ c.from_residual-in_err-leave.ensures.1
     (λ fault memory. inr (
       memory,
-      c.in_err-leave.ensures.err (halted AtRest under_way life)
+      c.in_err-leave.ensures.stays (halted AtRest under_way life)
           (c.in_default.ensures.ok life now under_way goes stands),
     ))
 

@@ -7,8 +7,8 @@ use Rattle.world_core.proofs.Making.{begins_from, refuses_tapes, sorted_rise}
 use Rattle.world_core.proofs.Stepping.{if_err}
 use Rattle.world_core.proofs.world.World.with_tapes.Goals as goal
 
-pub returns-in_err-peers-clause-refused : goal.returns-in_err-peers-clause-refused
-returns-in_err-peers-clause-refused c =
+pub returns-in_err-peers-clause-refuses : goal.returns-in_err-peers-clause-refuses
+returns-in_err-peers-clause-refuses c =
     let given = c.args.peers.items in
     let ordered = c.sort_by.new.self.items in
     let permuted = c.in_ok-sort_by.ensures.permutation in

@@ -1,0 +1,113 @@
+// The lexemes of a line of settings.
+ghost use Rattle.std.specs.Prelude.{◌≡◌, ◌∷◌, ◌<◌, ◌≤◌, [], IfSome, MatchOption, length, not, position};
+ghost use Rattle.feed_conf.specs.Lexemes.{is_blank, is_quoted_octet, is_word_octet};
+ghost use Rattle.feed_conf.specs.Scan.{BeginsWord, StopsAt, lexemes_of};
+ghost use Rattle.feed_conf.specs.View.{lexeme_of};
+
+/// What stands on a line besides blanks and a comment.
+#[derive(Clone, Copy, Debug)]
+pub(crate) enum Lexeme<'t> {
+    /// Octets that stand together, none of them blank, a quote, `#` or a brace.
+    Word(&'t [u8]),
+    /// What stands between two quotes.
+    Quoted(&'t [u8]),
+    /// The brace `{`.
+    Open,
+    /// The brace `}`.
+    Close,
+    /// A quote that no second quote follows on its line.
+    Unclosed,
+}
+
+// Whether the octet is a space, a tab or a CR.
+fn is_blank(octet: u8) -> bool
+    ensures { result ≡ is_blank octet }
+{
+    octet == b' ' || octet == b'\t' || octet == b'\r'
+}
+
+// Whether a word may have the octet.
+fn is_word_octet(octet: u8) -> bool
+    ensures { result ≡ is_word_octet octet }
+{
+    !(is_blank(octet) || octet == b'"' || octet == b'#' || octet == b'{' || octet == b'}')
+}
+
+// Whether the octet may stand in quoted text.
+fn is_quoted_octet(octet: u8) -> bool
+    ensures { result ≡ is_quoted_octet octet }
+{
+    octet != b'"'
+}
+
+// Where the first octet stands that is not blank.
+fn find_solid(line: &[u8]) -> Option<usize>
+    ensures { result ≡ position (λ octet. not (is_blank octet)) line.now }
+{
+    line.iter().position(|octet| !is_blank(*octet))
+}
+
+// Where the first octet stands that no word may have.
+fn find_word_end(line: &[u8]) -> Option<usize>
+    ensures { result ≡ position (λ octet. not (is_word_octet octet)) line.now }
+{
+    line.iter().position(|octet| !is_word_octet(*octet))
+}
+
+// Where the first quote stands.
+fn find_quote(line: &[u8]) -> Option<usize>
+    ensures { result ≡ position (λ octet. not (is_quoted_octet octet)) line.now }
+{
+    line.iter().position(|octet| !is_quoted_octet(*octet))
+}
+
+// The line from its first octet on that is not blank.
+fn skip_blanks(line: &[u8]) -> &[u8]
+    ensures keeps_lexemes { lexemes_of line.now ≡ lexemes_of result.now }
+    ensures first { StopsAt is_blank result.now }
+    ensures within { length result.now ≤ length line.now }
+{
+    let start = find_solid(line).unwrap_or(line.len());
+    line.split_at(start).1
+}
+
+// The word that the line begins with.
+fn word(line: &[u8]) -> (Lexeme<'_>, &[u8])
+    requires { BeginsWord line.now }
+    ensures lexemes { lexemes_of line.now ≡ lexeme_of result.0 ∷ lexemes_of result.1.now }
+    ensures shorter { length result.1.now < length line.now }
+{
+    let end = find_word_end(line).unwrap_or(line.len());
+    let (word, rest) = line.split_at(end);
+    (Lexeme::Word(word), rest)
+}
+
+// The quoted text that a line goes on with behind a quote.
+fn quoted(behind: &[u8]) -> (Lexeme<'_>, &[u8])
+    ensures lexemes { lexemes_of (34 ∷ behind.now) ≡ lexeme_of result.0 ∷ lexemes_of result.1.now }
+    ensures within { length result.1.now ≤ length behind.now }
+{
+    let end = find_quote(behind).unwrap_or(behind.len());
+    let (octets, rest) = behind.split_at(end);
+    match rest.split_first() {
+        Some((_, rest)) => (Lexeme::Quoted(octets), rest),
+        None => (Lexeme::Unclosed, rest),
+    }
+}
+
+/// The first lexeme of a line and what stands behind it, or `None` where blanks and a comment alone are left.
+pub(crate) fn next_lexeme(line: &[u8]) -> Option<(Lexeme<'_>, &[u8])>
+    ensures lexemes { MatchOption result (lexemes_of line.now ≡ [])
+        (λ r. lexemes_of line.now ≡ lexeme_of r.0 ∷ lexemes_of r.1.now) }
+    ensures shorter { IfSome result (λ r. length r.1.now < length line.now) }
+{
+    let line = skip_blanks(line);
+    match line.split_first() {
+        None => None,
+        Some((b'#', _)) => None,
+        Some((b'"', rest)) => Some(quoted(rest)),
+        Some((b'{', rest)) => Some((Lexeme::Open, rest)),
+        Some((b'}', rest)) => Some((Lexeme::Close, rest)),
+        Some(_) => Some(word(line)),
+    }
+}

@@ -1,0 +1,59 @@
+-- What happened at the slot of a connection, and when it is tried again (profile).
+use Rattle.std.specs.Prelude.{◌≡◌, ◌+◌, ◌-◌, ◌^◌, ◌&&◌, ℕ, Bool, true, false, not, min, nat_le, List, [], ◌∷◌}
+use Rattle.deferral.specs.Wait.{wait_after}
+use Rattle.deferral.specs.Failed.{Failed, first_wait_of, most_wait_of}
+use Rattle.feeder.specs.declared.slot.Slot.{Slot}
+use Rattle.feeder.specs.declared.slot.Standing.{Standing}
+use Rattle.feeder.specs.declared.slot.Standing.TheVariants.{Vacant, Taken, Waiting}
+
+-- what happens at a slot
+pub data Event : Type 0 where
+  -- a connection begins to be made
+  Tried : Event
+  -- the peer greeted it well
+  Greeted : Event
+  -- it could not be made at this moment, or closed then for another reason than that it was left in good order
+  Lost : (now : ℕ) → Event
+  -- it was left in good order
+  Left : Event
+
+-- how often it was lost in a row since the peer greeted it, newest event first
+abbrev pub losses : List Event → ℕ
+losses [] = 0
+losses (Tried ∷ h) = losses h
+losses (Greeted ∷ h) = 0
+losses (Lost now ∷ h) = losses h + 1
+losses (Left ∷ h) = losses h
+
+-- what it has: after each loss in a row it waits for twice as long as before, from the first wait to the most
+abbrev pub standing : (first most : ℕ) → List Event → Standing
+standing first most [] = Vacant
+standing first most (Tried ∷ h) = Taken
+standing first most (Greeted ∷ h) = standing first most h
+standing first most (Lost now ∷ h) = Waiting (min (now + wait_after first most (losses h + 1)) (2 ^ 64 - 1))
+standing first most (Left ∷ h) = Vacant
+
+-- whether one that has this is to be given a connection: one that waits only before the last phase
+abbrev pub is_due : Standing → (now : ℕ) → (last_phase : Bool) → Bool
+is_due Vacant now last_phase = true
+is_due Taken now last_phase = false
+is_due (Waiting until) now last_phase = not last_phase && nat_le until now
+
+-- whether it waits
+abbrev pub is_waiting : Standing → Bool
+is_waiting Vacant = false
+is_waiting Taken = false
+is_waiting (Waiting until) = true
+
+-- what a slot of these waits has after these events
+abbrev pub stands_at : Slot → List Event → Standing
+stands_at slot h = standing (first_wait_of slot.backoff) (most_wait_of slot.backoff) h
+
+-- the slot stands for these events
+abbrev pub StandsFor : Slot → List Event → Type 0
+StandsFor slot h = (slot.standing ≡ stands_at slot h) × Failed slot.backoff (losses h)
+
+-- the two have the same plan and the same waits
+abbrev pub IsSameSlot : Slot → Slot → Type 0
+IsSameSlot old new = (new.plan ≡ old.plan) × (first_wait_of new.backoff ≡ first_wait_of old.backoff)
+    × (most_wait_of new.backoff ≡ most_wait_of old.backoff)

@@ -1,0 +1,131 @@
+// The slots of connections, and when each is tried again.
+ghost use Rattle.std.specs.Prelude.{◌≡◌, ◌&&◌, List, [], ◌∷◌};
+ghost use Rattle.deferral.specs.Failed.{first_wait_of, most_wait_of};
+
+use deferral::Backoff;
+
+/// The slot of one connection of a peer. It has one, or may be given one, or waits since its last one was lost.
+///
+/// Contracts see what happened at it, newest first: each of its calls is an event more.
+#[derive(Clone, Copy, Debug)]
+pub struct Slot {
+    plan: usize,
+    tries: u64,
+    standing: Standing,
+    backoff: Backoff,
+}
+
+// What a slot has.
+#[derive(Clone, Copy, Debug, PartialEq, Eq)]
+enum Standing {
+    // No connection, and the last one was not lost.
+    Vacant,
+    // A connection, from the try on.
+    Taken,
+    // No connection, since the last one was lost: it is not tried before this moment.
+    Waiting { until: u64 },
+}
+
+impl Slot {
+    ghost use Rattle.feeder.specs.Slots.{Event, Tried, Greeted, Lost, Left};
+    ghost use Rattle.feeder.specs.Slots.{IsSameSlot, StandsFor, is_due, is_waiting, stands_at};
+
+    /// A slot that was never tried, of the peer of this plan, with its first wait and the most that it waits, in
+    /// seconds.
+    pub fn new(plan: usize, first_wait: u64, most_wait: u64) -> Self
+        ensures stands { StandsFor result [] }
+        ensures plan { result.plan ≡ plan }
+        ensures first { first_wait_of result.backoff ≡ first_wait }
+        ensures most { most_wait_of result.backoff ≡ most_wait }
+    {
+        Slot {
+            plan,
+            tries: 0,
+            standing: Standing::Vacant,
+            backoff: Backoff::new(first_wait, most_wait),
+        }
+    }
+
+    /// The index of its peer's plan among the plans.
+    pub fn plan(&self) -> usize
+        ensures { result ≡ self.now.plan }
+    {
+        self.plan
+    }
+
+    /// How many tries there were.
+    pub fn tries(&self) -> u64 {
+        self.tries
+    }
+
+    /// Whether its last connection was lost, and it has none since.
+    pub fn is_waiting(&self) -> bool
+        ensures { (h : List Event) → StandsFor self.now h
+            → result ≡ is_waiting (stands_at self.now h) }
+    {
+        match self.standing {
+            Standing::Vacant => false,
+            Standing::Taken => false,
+            Standing::Waiting { .. } => true,
+        }
+    }
+
+    /// Whether it is to be given a connection at this moment. In the last phase one that lost its connection is not
+    /// tried again.
+    pub fn is_due(&self, now: u64, last_phase: bool) -> bool
+        ensures { (h : List Event) → StandsFor self.now h
+            → result ≡ is_due (stands_at self.now h) now last_phase }
+    {
+        match self.standing {
+            Standing::Vacant => true,
+            Standing::Taken => false,
+            Standing::Waiting { until } => !last_phase && until <= now,
+        }
+    }
+
+    /// Whether it never gets a connection any more: in the last phase, where its last one was lost.
+    pub fn is_given_up(&self, last_phase: bool) -> bool
+        ensures { (h : List Event) → StandsFor self.now h
+            → result ≡ (last_phase && is_waiting (stands_at self.now h)) }
+    {
+        last_phase && self.is_waiting()
+    }
+
+    /// A connection begins to be made.
+    pub fn tried(&mut self)
+        ensures stands { (h : List Event) → StandsFor self.old h → StandsFor self.new (Tried ∷ h) }
+        ensures keeps_slot { IsSameSlot self.old self.new }
+    {
+        self.tries = self.tries.saturating_add(1);
+        self.standing = Standing::Taken;
+    }
+
+    /// The peer greeted its connection well: the next loss is a first one.
+    pub fn greeted(&mut self)
+        ensures stands { (h : List Event) → StandsFor self.old h
+            → StandsFor self.new (Greeted ∷ h) }
+        ensures keeps_slot { IsSameSlot self.old self.new }
+    {
+        self.backoff.opened();
+    }
+
+    /// Its connection could not be made, or closed for another reason than that it was left in good order: it waits,
+    /// from this moment on.
+    pub fn lost(&mut self, now: u64)
+        ensures stands { (h : List Event) → StandsFor self.old h
+            → StandsFor self.new (Lost now ∷ h) }
+        ensures keeps_slot { IsSameSlot self.old self.new }
+    {
+        self.backoff.failed();
+        let until = now.saturating_add(self.backoff.wait());
+        self.standing = Standing::Waiting { until };
+    }
+
+    /// Its connection was left in good order.
+    pub fn left(&mut self)
+        ensures stands { (h : List Event) → StandsFor self.old h → StandsFor self.new (Left ∷ h) }
+        ensures keeps_slot { IsSameSlot self.old self.new }
+    {
+        self.standing = Standing::Vacant;
+    }
+}
