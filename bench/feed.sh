@@ -38,13 +38,19 @@ listen() {
   rm -f port
   ./sink -p 0 -l "${late:-0}" >port &
   sink=$!
-  until [ -s port ]; do sleep 0.02; done
+  until [ -s port ]; do
+    kill -0 "$sink" 2>/dev/null || { echo 'feed.sh: the peer does not start' >&2; exit 1; }
+    sleep 0.02
+  done
   port=$(grep -o '[0-9]*$' port)
 }
-# rate: ends the peer, and gives the articles a second between its first and its last.
+# rate: ends the peer, and gives the articles a second between its first and its last. It tells where some are missing.
 rate() {
+  local got
   kill "$sink"
   wait "$sink" || true
+  got=$(sed -n 's/.*distinct=\([0-9]*\).*/\1/p' port)
+  [ "$got" = "$count" ] || echo "feed.sh: the peer has ${got:-0} of $count articles" >&2
   sed -n 's/.*art_per_s=\([0-9]*\).*/\1/p' port
 }
 

@@ -20,9 +20,9 @@ build() {
       "crate "*) crate=${line#crate } ;;
       "logic=proved "*) echo "$1: proved ${crate%%:*} after $SECONDS seconds" >&2 ;;
     esac
-  done < <(cd "$top/crates/$1" && rt run </dev/null 2>&1 >/dev/null; echo "status $?")
+  done < <(cd "$top/crates/$1" && { code=0; rt run </dev/null 2>&1 >/dev/null || code=$?; echo "status $code"; })
   if [[ $said != *$'status 0\n' ]]; then
-    printf '%s' "${said%status*}" >&2
+    printf '%s' "${said%status *}" >&2
     echo "$1: the program could not be built" >&2
     return 70
   fi
