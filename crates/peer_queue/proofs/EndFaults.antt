@@ -1,11 +1,11 @@
 -- The end of a debt that a connection holds is a legal note, and the tape refuses it for want of room or memory alone.
-use Rattle.std.proofs.Common.{◌≡◌, ◌==◌, ℕ, zero, suc, ◌+◌, ◌<◌, ◌^◌, Bool, true, false, cond, Some, List, [], ◌∷◌, length, Err, refl, sym, ap, ◌∙◌, subst, arith}
+use Rattle.std.proofs.Common.{◌≡◌, ◌==◌, ◌⊎◌, inl, inr, ℕ, zero, suc, ◌+◌, ◌<◌, ◌^◌, Bool, true, false, cond, Some, List, [], ◌∷◌, length, Err, refl, sym, ap, ◌∙◌, subst, arith}
 use Rattle.std.specs.Prelude.{◌↔◌, IsErrOf}
 use Rattle.std.specs.List.{Contains}
 use Rattle.std.proofs.lemmas.Bool.{eqb-true}
 use Rattle.std.proofs.lemmas.List.{length-map}
 use Rattle.ledger_core.specs.declared.ledger.LedgerFault.{LedgerFault}
-use Rattle.ledger_core.specs.declared.ledger.LedgerFault.TheVariants.{OldNumber, NotOwed, CountFull, NoMemory}
+use Rattle.ledger_core.specs.declared.ledger.LedgerFault.TheVariants.{OldNumber, NotOwed, CountFull, NoMemory as NoLedgerMemory}
 use Rattle.ledger_core.specs.declared.note.Note.{Note}
 use Rattle.ledger_core.specs.declared.note.Note.TheVariants.{Owe, Final, Drop, Seen}
 use Rattle.ledger_core.specs.StateLaws.{old-legal, lacks-legal, full-legal}
@@ -15,11 +15,11 @@ use Rattle.ledger_core.specs.declared.ledger.Totals.{Totals}
 use Rattle.recovery.specs.Words.{IsNoteFault, RefusesNote}
 use Rattle.recovery.specs.declared.fault.TapeFault.{TapeFault}
 use Rattle.recovery.specs.declared.fault.TapeFault.TheVariants.{Damaged, Disk, Broken, TapeFull, GenerationFull, PendingFull, NoMemory as NoTapeMemory, Note as RefusedNote}
-use Rattle.peer_queue.specs.Faults.{IsEndFault, station_fault}
+use Rattle.peer_queue.specs.Faults.{station_fault}
 use Rattle.peer_queue.specs.Place.{Place, Places, Held, IsHeldBy, place_at, placed}
 use Rattle.peer_queue.specs.Words.{IsEnd}
 use Rattle.peer_queue.specs.declared.fault.StationFault.{StationFault}
-use Rattle.peer_queue.specs.declared.fault.StationFault.TheVariants.{Tape as TapeRefused}
+use Rattle.peer_queue.specs.declared.fault.StationFault.TheVariants.{NoMemory, Tape as TapeRefused}
 
 contains_first : (n first : ℕ) (others : List ℕ) → first ≡ n → Contains (first ∷ others) n
 contains_first n first others same = (zero, omega arith, same)
@@ -62,17 +62,21 @@ pub none_refused : (state : State) (note : Note) (fault : LedgerFault) → IsLeg
 none_refused state note OldNumber legal refused = old-legal state note refused legal
 none_refused state note NotOwed legal refused = lacks-legal state note refused legal
 none_refused state note CountFull legal refused = full-legal state note refused legal
-none_refused state note NoMemory legal refused = refused
+none_refused state note NoLedgerMemory legal refused = refused
 
-pub end_kind : (state : State) (note : Note) (fault : TapeFault) → IsLegal state note → IsNoteFault fault → ((cause : LedgerFault) → fault ≡ RefusedNote cause → RefusesNote state note cause) → IsEndFault (station_fault fault)
-end_kind state note (Damaged segment at) legal kind refused = absurd kind
-end_kind state note Disk legal kind refused = absurd kind
-end_kind state note Broken legal kind refused = tt
-end_kind state note TapeFull legal kind refused = absurd kind
-end_kind state note GenerationFull legal kind refused = absurd kind
-end_kind state note PendingFull legal kind refused = refl
-end_kind state note NoTapeMemory legal kind refused = tt
-end_kind state note (RefusedNote cause) legal kind refused = absurd (none_refused state note cause legal (refused cause refl))
+-- a tape that works refuses a legal note for want of room or of memory alone
+pub end_kind : (state : State) (note : Note) (fault : TapeFault) → IsLegal state note → IsNoteFault fault
+    → (fault ≡ Broken → ⊥) → ((cause : LedgerFault) → fault ≡ RefusedNote cause → RefusesNote state note cause)
+    → (station_fault fault ≡ TapeRefused PendingFull) ⊎ (station_fault fault ≡ NoMemory)
+end_kind state note (Damaged segment at) legal kind works refused = absurd kind
+end_kind state note Disk legal kind works refused = absurd kind
+end_kind state note Broken legal kind works refused = absurd (works refl)
+end_kind state note TapeFull legal kind works refused = absurd kind
+end_kind state note GenerationFull legal kind works refused = absurd kind
+end_kind state note PendingFull legal kind works refused = inl refl
+end_kind state note NoTapeMemory legal kind works refused = inr refl
+end_kind state note (RefusedNote cause) legal kind works refused =
+    absurd (none_refused state note cause legal (refused cause refl))
 
 -- a station tells of no room where its tape does
 told_full : (fault : TapeFault) → station_fault fault ≡ TapeRefused PendingFull → fault ≡ PendingFull
@@ -85,12 +89,11 @@ told_full PendingFull told = refl
 told_full NoTapeMemory told = absurd (cc)
 told_full (RefusedNote cause) told = absurd (cc)
 
--- where a connection ends a debt that it holds, a station tells of no room exactly where its tape does
-pub full_iff : {Works Held Legal Full : Type 0} (fault : TapeFault) (told : StationFault) → told ≡ station_fault fault → Held → Legal → (fault ≡ PendingFull) ↔ (Works × Legal × Full)
-    → (IsErrOf {T = Unit {0}} (Err told) (TapeRefused PendingFull)) ↔ (Works × Held × Full)
-full_iff fault told is held legal full = (
-  λ here.
-      let there = full.0 (told_full fault (sym is ∙ (cc))) in
-      (there.0, held, there.2),
-  λ meets. ap Err (is ∙ ap station_fault (full.1 (meets.0, legal, meets.2))),
+-- where a legal note ends a debt, a station that works tells of no room exactly where its tape does
+pub full_iff : {Works Legal Full : Type 0} (fault : TapeFault) (told : StationFault) → told ≡ station_fault fault
+    → Works → Legal → (fault ≡ PendingFull) ↔ (Works × Legal × Full)
+    → (IsErrOf {T = Unit {0}} (Err told) (TapeRefused PendingFull)) ↔ Full
+full_iff fault told is works legal full = (
+  λ here. (full.0 (told_full fault (sym is ∙ (cc)))).2,
+  λ meets. ap Err (is ∙ ap station_fault (full.1 (works, legal, meets))),
 )

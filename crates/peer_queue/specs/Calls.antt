@@ -1,7 +1,7 @@
 -- What the calls of a station do, and when they are refused.
 use Rattle.std.specs.Prelude.{◌≡◌, ◌≢◌, ◌⊎◌, ◌+◌, ◌-◌, ◌^◌, ◌<◌, ◌↔◌, ℕ, true, false, length, IsErr, IsErrOf, IsSome, IfErr, OnErr, OnOk, Result}
 use Rattle.disk_model.specs.declared.Disk.{Ghosts}
-use Rattle.ledger_core.specs.State.{Overflows, after, numbers}
+use Rattle.ledger_core.specs.State.{IsOwed, Overflows, after, numbers}
 use Rattle.ledger_core.specs.declared.ledger.LedgerFault.TheVariants.{CountFull}
 use Rattle.ledger_core.specs.declared.note.Cause.TheVariants.{Deferred}
 use Rattle.ledger_core.specs.declared.note.Note.{Note}
@@ -62,6 +62,7 @@ module _ {D : Type 0} {g : Ghosts D} where
   pub record RefusesOwe {T : Type 0} (number : ℕ) (note : Note) (old new : Station D g) (result : Result T StationFault)
       : Type 0 where
     pub broken : IsErrOf result Broken ↔ IsBroken old
+    -- these two one way, since the station itself may be refused memory before either is looked at
     pub count_full : IsErrOf result (Tape (RefusedNote CountFull)) → Overflows (ledger_of old) note
     pub pending_full : IsErrOf result (Tape PendingFull)
         → ((ledger_of old).mark < number) × (pending_of old ≡ most_pending) × (Overflows (ledger_of old) note → ⊥)
@@ -79,6 +80,13 @@ module _ {D : Type 0} {g : Ghosts D} where
     pub refused : IfErr result (λ e. e ≢ Broken → IsSome (least_candidate now (places_of old)))
     pub kinds : IfErr result IsClaimFault
     pub places : OnErr result (places_of new ≡ places_of old)
+
+  -- When a debt of this number is not read.
+  pub record RefusesDebt {T : Type 0} (number : ℕ) (old : Station D g) (result : Result T StationFault) : Type 0 where
+    pub broken : IsErrOf result Broken ↔ IsBroken old
+    -- but for Broken the number is owed
+    pub owed : IfErr result (λ e. e ≢ Broken → IsOwed (ledger_of old) number)
+    pub kinds : IfErr result IsClaimFault
 
   -- a debt that the connection held was deferred at this moment: it waits, or is dropped where deferred debts are
   pub record Defers (connection : ℕ) (deferral : Deferral) (now : ℕ) (old new : Station D g) : Type 0 where

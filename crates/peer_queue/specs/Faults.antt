@@ -19,28 +19,23 @@ station_fault (RefusedNote fault) = TapeRefused (RefusedNote fault)
 
 -- the faults of a tape that `owe` tells
 abbrev pub IsOweTapeFault : TapeFault → Type 0
-IsOweTapeFault (Damaged segment at) = ⊥
-IsOweTapeFault Disk = ⊥
-IsOweTapeFault BrokenTape = ⊥
-IsOweTapeFault TapeFull = ⊥
-IsOweTapeFault GenerationFull = ⊥
 IsOweTapeFault PendingFull = Unit {0}
-IsOweTapeFault NoTapeMemory = ⊥
 IsOweTapeFault (RefusedNote fault) = fault ≡ CountFull
+IsOweTapeFault fault = ⊥
 
 -- the faults that `owe` tells
 abbrev pub IsOweFault : StationFault → Type 0
-IsOweFault NotHeld = ⊥
 IsOweFault Broken = Unit {0}
 IsOweFault (TapeRefused fault) = IsOweTapeFault fault
 IsOweFault NoMemory = Unit {0}
+IsOweFault fault = ⊥
 
 -- the faults that `claim` and `debt` tell
 abbrev pub IsClaimFault : StationFault → Type 0
-IsClaimFault NotHeld = ⊥
 IsClaimFault Broken = Unit {0}
 IsClaimFault (TapeRefused fault) = fault ≡ Disk
 IsClaimFault NoMemory = Unit {0}
+IsClaimFault fault = ⊥
 
 -- the faults of a tape that `flush` tells
 abbrev pub IsFlushTapeFault : TapeFault → Type 0
@@ -48,10 +43,10 @@ IsFlushTapeFault fault = (fault ≡ TapeFull) ⊎ (fault ≡ Disk)
 
 -- the faults that `flush` tells
 abbrev pub IsFlushFault : StationFault → Type 0
-IsFlushFault NotHeld = ⊥
 IsFlushFault Broken = Unit {0}
 IsFlushFault (TapeRefused fault) = IsFlushTapeFault fault
 IsFlushFault NoMemory = Unit {0}
+IsFlushFault fault = ⊥
 
 -- the faults of a tape that `rotate` tells
 abbrev pub IsRotateTapeFault : TapeFault → Type 0
@@ -59,10 +54,10 @@ IsRotateTapeFault fault = (fault ≡ GenerationFull) ⊎ (fault ≡ TapeFull) �
 
 -- the faults that `rotate` tells
 abbrev pub IsRotateFault : StationFault → Type 0
-IsRotateFault NotHeld = ⊥
 IsRotateFault Broken = Unit {0}
 IsRotateFault (TapeRefused fault) = IsRotateTapeFault fault
 IsRotateFault NoMemory = Unit {0}
+IsRotateFault fault = ⊥
 
 -- the faults that a call tells which ends a debt
 abbrev pub IsEndFault : StationFault → Type 0

@@ -52,7 +52,7 @@ impl<D: Disk> Station<D> {
     ghost use Rattle.ledger_core.specs.Index.{debt_at};
     ghost use Rattle.recovery.specs.Texts.{HasLengths};
     ghost use Rattle.peer_queue.specs.Calls.{Defers, IsFresh, KeepsDebts, RefusesClaim, RefusesFlush};
-    ghost use Rattle.peer_queue.specs.Calls.{RefusesOwe, RefusesRotation, Sheds};
+    ghost use Rattle.peer_queue.specs.Calls.{RefusesDebt, RefusesOwe, RefusesRotation, Sheds};
     ghost use Rattle.peer_queue.specs.Place.{AreRising, Held, IsHeldBy, IsLater, Later, Ready};
     ghost use Rattle.peer_queue.specs.Place.{gone, held_count, least_candidate, moved, released};
     ghost use Rattle.peer_queue.specs.Place.{unheld};
@@ -157,6 +157,7 @@ impl<D: Disk> Station<D> {
         ensures debt { (h : History) → StandsFor self.old h
             → IfOk result (λ debt. IfSome debt (λ d. Contains (ledger_of self.old).debts d)) }
         ensures reads { IsRead self.old self.new }
+        ensures quiet { OnOk result (told_of self.new ≡ told_of self.old) }
         ensures refuses { RefusesClaim now self.old self.new result }
         ensures cause { (h : History) → StandsFor self.old h
             → IsErrOf result (StationFault.Tape TapeFault.Disk)
@@ -390,6 +391,7 @@ impl<D: Disk> Station<D> {
         ensures kinds { IfErr result
             (λ e. (e ≡ StationFault.Tape TapeFault.Disk) ⊎ (e ≡ StationFault.NoMemory)) }
         ensures reads { IsRead self.old self.new }
+        ensures quiet { OnOk result (told_of self.new ≡ told_of self.old) }
         ensures places { places_of self.new ≡ places_of self.old }
     {
         match self.tape.debt(number) {
@@ -417,35 +419,40 @@ impl<D: Disk> Station<D> {
         ensures kinds { IfErr result IsEndFault }
         ensures unchanged { OnErr result (IsSame self.old self.new) }
     {
-        match settled {
-            Settled::Answered(code) => self.end(connection, number, Note::Final { number, code }),
-            Settled::Dropped(cause) => self.end(connection, number, Note::Drop { number, cause }),
-            Settled::Later(moment) => self.give_up(connection, number, Wait::Until(moment)),
-            Settled::Ready => self.give_up(connection, number, Wait::Ready),
-        }
-    }
-
-    // Ends a debt that this connection holds, by the note of its end.
-    fn end(&mut self, connection: CxnId, number: u64, note: Note) -> Result<(), StationFault>
-        requires { IsEnd note number }
-        ensures ok { OnOk result (Notes self.old self.new note) }
-        ensures places { OnOk result
-            (IsHeldBy (places_of self.old) connection.0 number
-            × (places_of self.new ≡ gone (places_of self.old) number)) }
-        ensures broken { IsErrOf result StationFault.Broken ↔ IsBroken self.old }
-        ensures not_held { IsErrOf result StationFault.NotHeld
-            ↔ ((IsBroken self.old → ⊥) × (IsHeldBy (places_of self.old) connection.0 number → ⊥)) }
-        ensures pending_full { IsErrOf result (StationFault.Tape TapeFault.PendingFull)
-            ↔ MeetsFull self.old connection.0 number }
-        ensures kinds { IfErr result IsEndFault }
-        ensures unchanged { OnErr result (IsSame self.old self.new) }
-    {
         if self.tape.is_broken() {
             return Err(StationFault::Broken);
         }
         if !self.index.is_held_by(connection, number) {
             return Err(StationFault::NotHeld);
         }
+        match settled {
+            Settled::Answered(code) => self.end(connection, number, Note::Final { number, code }),
+            Settled::Dropped(cause) => self.end(connection, number, Note::Drop { number, cause }),
+            Settled::Later(moment) => {
+                self.give_up(connection, number, Wait::Until(moment));
+                Ok(())
+            }
+            Settled::Ready => {
+                self.give_up(connection, number, Wait::Ready);
+                Ok(())
+            }
+        }
+    }
+
+    // Ends a debt that this connection holds, by the note of its end, at a station that works.
+    fn end(&mut self, connection: CxnId, number: u64, note: Note) -> Result<(), StationFault>
+        requires note { IsEnd note number }
+        requires works { IsBroken self.old → ⊥ }
+        requires held { IsHeldBy (places_of self.old) connection.0 number }
+        ensures ok { OnOk result (Notes self.old self.new note) }
+        ensures places { OnOk result
+            (places_of self.new ≡ gone (places_of self.old) number) }
+        ensures pending_full { IsErrOf result (StationFault.Tape TapeFault.PendingFull)
+            ↔ pending_of self.old ≡ most_pending }
+        ensures kinds { IfErr result (λ e. (e ≡ StationFault.Tape TapeFault.PendingFull)
+            ⊎ (e ≡ StationFault.NoMemory)) }
+        ensures unchanged { OnErr result (IsSame self.old self.new) }
+    {
         // What was taken is a sum with what has ended, so that no count passes the greatest number.
         let _totals = self.tape.totals();
         if let Err((_, fault)) = self.tape.note(note) {
@@ -456,24 +463,13 @@ impl<D: Disk> Station<D> {
     }
 
     // Has a debt that this connection holds wait for this.
-    fn give_up(&mut self, connection: CxnId, number: u64, wait: Wait) -> Result<(), StationFault>
-        ensures ok { OnOk result
-            (IsSameTape self.old self.new × IsHeldBy (places_of self.old) connection.0 number
-            × (places_of self.new ≡ moved (places_of self.old) number (place_for wait))) }
-        ensures broken { IsErrOf result StationFault.Broken ↔ IsBroken self.old }
-        ensures not_held { IsErrOf result StationFault.NotHeld
-            ↔ ((IsBroken self.old → ⊥) × (IsHeldBy (places_of self.old) connection.0 number → ⊥)) }
-        ensures kinds { IfErr result (λ e. (e ≡ StationFault.Broken) ⊎ (e ≡ StationFault.NotHeld)) }
-        ensures unchanged { OnErr result (self.new ≡ self.old) }
+    fn give_up(&mut self, connection: CxnId, number: u64, wait: Wait)
+        requires { IsHeldBy (places_of self.old) connection.0 number }
+        ensures tape { IsSameTape self.old self.new }
+        ensures places { places_of self.new
+            ≡ moved (places_of self.old) number (place_for wait) }
     {
-        if self.tape.is_broken() {
-            return Err(StationFault::Broken);
-        }
-        if !self.index.is_held_by(connection, number) {
-            return Err(StationFault::NotHeld);
-        }
         self.index.give_up(connection, number, wait);
-        Ok(())
     }
 
     // The least number above this one that no connection holds.
@@ -578,14 +574,12 @@ impl<D: Disk> Station<D> {
         // Whatever the disk gives, the number is owed, and the texts have the lengths that were noted.
         ensures owed { IfOk result (λ debt. (IsSome debt ↔ IsOwed (ledger_of self.old) number)
             × HasLengths (ledger_of self.old) number debt) }
-        ensures broken { IsErrOf result StationFault.Broken ↔ IsBroken self.old }
-        ensures refuses { IfErr result
-            (λ e. e ≢ StationFault.Broken → IsOwed (ledger_of self.old) number) }
+        ensures refuses { RefusesDebt number self.old result }
         ensures cause { (h : History) → StandsFor self.old h
             → IsErrOf result (StationFault.Tape TapeFault.Disk)
             → OneHasRisen (told_of self.old) (told_of self.new) }
-        ensures kinds { IfErr result IsClaimFault }
         ensures reads { IsRead self.old self.new }
+        ensures quiet { OnOk result (told_of self.new ≡ told_of self.old) }
         ensures places { places_of self.new ≡ places_of self.old }
     {
         match self.tape.debt(number) {

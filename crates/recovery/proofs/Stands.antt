@@ -22,7 +22,7 @@ use Rattle.ledger_core.specs.SpellingLaws.{AreNotes-back, spellings-append, spel
 use Rattle.ledger_core.specs.State.{State, AllLegal, after}
 use Rattle.ledger_core.specs.WrittenLaws.{restores-on}
 use Rattle.recovery.specs.Notes.{AreLegal, History, flushed, ledger_after, most_pending, noted_all}
-use Rattle.recovery.specs.Shorts.{AllShort-prop}
+use Rattle.recovery.specs.ShortLaws.{AllShort-prop}
 use Rattle.recovery.specs.Image.{EachTape, IsTape, Survives, TapeLeaves}
 use Rattle.recovery.specs.TapeLaws.{AreLegal-append, AreLegal-take, Survives-noted_all, Survives-whole, tape_placed}
 use Rattle.recovery.specs.PairLaws.{live_leaves, pair-placed, pairs-now}

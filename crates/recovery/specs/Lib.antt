@@ -1,5 +1,5 @@
 pub mod Notes
-pub mod Shorts
+pub mod ShortLaws
 pub mod Pairs
 pub mod PairLaws
 pub mod Image

@@ -2,7 +2,7 @@
 ghost use Rattle.std.specs.Prelude.{◌≡◌, ◌≢◌, ◌+◌, ◌-◌, ◌*◌, ◌^◌, ◌≤◌, ◌<◌, ◌↔◌, ℕ, List, length, IsTrue};
 ghost use Rattle.tape_journal.specs.Segment.{AllShort};
 ghost use Rattle.recovery.specs.Notes.{most_pending};
-ghost use Rattle.recovery.specs.Shorts.{AllShort-prop};
+ghost use Rattle.recovery.specs.ShortLaws.{AllShort-prop};
 ghost use Rattle.std.specs.Prelude.{IfOk, OnOk, map, vec_items};
 ghost use Rattle.std.specs.List.{All, Contains};
 ghost use Rattle.ledger_core.specs.Index.{Indexes};

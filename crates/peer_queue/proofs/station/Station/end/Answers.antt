@@ -1,12 +1,13 @@
-use Rattle.std.proofs.Common.{◌≡◌, ◌<◌, ◌≤◌, ◌^◌, sym, ap, ◌∙◌, subst, arith}
+use Rattle.std.proofs.Common.{◌≡◌, ◌⊎◌, ◌<◌, ◌≤◌, ◌^◌, sym, ap, ◌∙◌, subst, arith}
 use Rattle.std.specs.Prelude.{◌↔◌}
 use Rattle.std.specs.List.{All}
 use Rattle.ledger_core.specs.State.{State, IsLegal, numbers}
 use Rattle.recovery.specs.Notes.{most_pending}
 use Rattle.recovery.specs.declared.fault.TapeFault.TheVariants.{PendingFull}
-use Rattle.peer_queue.specs.Faults.{IsEndFault}
 use Rattle.peer_queue.specs.Place.{placed}
 use Rattle.peer_queue.specs.Words.{IsBroken, ledger_of, pending_of}
+use Rattle.peer_queue.specs.declared.fault.StationFault.{StationFault}
+use Rattle.peer_queue.specs.declared.fault.StationFault.TheVariants.{NoMemory, Tape as TapeRefused}
 use Rattle.peer_queue.proofs.EndFaults.{end_kind, full_iff, held_legal}
 use Rattle.peer_queue.proofs.Ends.{marked_ended, placed_ended}
 use Rattle.peer_queue.proofs.station.Station.end.Goals as goal
@@ -16,27 +17,28 @@ invariant_of-self-2 g c =
     let station = c.args.self.now in
     let step = c.in_default.ensures.ledger.1 in
     record {
-      all_placed = ap placed c.end.ensures ∙ (placed_ended station.index (ledger_of station) c.args.note c.args.number c.requires station.all_placed ∙ ap numbers (sym step));
-      marked = subst (λ (s : State). All (λ m. m ≤ s.mark) (numbers s)) (sym step) (marked_ended (ledger_of station) c.args.note c.args.number c.requires station.marked);
+      all_placed = ap placed c.end.ensures ∙ (placed_ended station.index (ledger_of station) c.args.note c.args.number c.requires.note station.all_placed ∙ ap numbers (sym step));
+      marked = subst (λ (s : State). All (λ m. m ≤ s.mark) (numbers s)) (sym step) (marked_ended (ledger_of station) c.args.note c.args.number c.requires.note station.marked);
     }
 
 pub returns-in-Err-clause-pending_full : goal.returns-in-Err-clause-pending_full
 returns-in-Err-clause-pending_full g c =
     let station = c.args.self.now in
-    let held = c.is_held_by.ensures.0 c.if-not-is_held_by.false in
     let fits : c.totals-totals.result.taken < 2 ^ 64 = omega arith in
     let legal = held_legal station.index (ledger_of station) c.args.note c.args.connection.0 c.args.number
-    c.totals-totals.result c.requires station.all_placed held c.totals-totals.ensures.counts
+    c.totals-totals.result c.requires.note station.all_placed c.requires.held c.totals-totals.ensures.counts
     c.totals-totals.ensures.sum fits in
     let here : (c.in-Err.fault ≡ PendingFull) ↔ ((IsBroken station → ⊥) × IsLegal (ledger_of station) c.args.note × (pending_of station ≡ most_pending)) = c.in-Err.ensures.refuses.pending_full in
-    full_iff c.in-Err.fault c.station_fault.result c.station_fault.ensures held legal here
+    full_iff c.in-Err.fault c.station_fault.result c.station_fault.ensures c.requires.works legal here
 
 pub returns-in-Err-clause-kinds : goal.returns-in-Err-clause-kinds
 returns-in-Err-clause-kinds g c =
     let station = c.args.self.now in
-    let held = c.is_held_by.ensures.0 c.if-not-is_held_by.false in
     let fits : c.totals-totals.result.taken < 2 ^ 64 = omega arith in
     let legal = held_legal station.index (ledger_of station) c.args.note c.args.connection.0 c.args.number
-    c.totals-totals.result c.requires station.all_placed held c.totals-totals.ensures.counts
+    c.totals-totals.result c.requires.note station.all_placed c.requires.held c.totals-totals.ensures.counts
     c.totals-totals.ensures.sum fits in
-    subst IsEndFault (sym c.station_fault.ensures) (end_kind (ledger_of station) c.args.note c.in-Err.fault legal c.in-Err.ensures.refuses.kinds (λ cause told. ((c.in-Err.ensures.refuses.note cause).0 told).1))
+    subst (λ (f : StationFault). (f ≡ TapeRefused PendingFull) ⊎ (f ≡ NoMemory)) (sym c.station_fault.ensures)
+    (end_kind (ledger_of station) c.args.note c.in-Err.fault legal c.in-Err.ensures.refuses.kinds
+    (λ told. c.requires.works (c.in-Err.ensures.refuses.broken.0 told))
+    (λ cause told. ((c.in-Err.ensures.refuses.note cause).0 told).1))
