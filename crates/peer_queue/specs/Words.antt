@@ -8,6 +8,7 @@ use Rattle.ledger_core.specs.State.{State, IsLegal, step}
 use Rattle.recovery.specs.Notes.{History, most_pending, noted}
 use Rattle.recovery.specs.Image.{Log}
 use Rattle.recovery.specs.Tape.{IsOpenedTape, IsRead as IsTapeRead, StandsFor as TapeStandsFor}
+use Rattle.recovery.specs.declared.tape.Tape.{Tape}
 use Rattle.recovery.specs.Words.{log_of as tape_log, disks_of as tape_disks, told_of as tape_told, generation_of as tape_generation, AreHonest as AreTapeHonest, Continues as TapeContinues, ledger_of as tape_ledger, pending_of as tape_pending, IsBroken as IsBrokenTape}
 use Rattle.conn_core.specs.declared.verdict.Verdict.{Verdict}
 use Rattle.conn_core.specs.declared.deferral.Deferral.{Deferral}
@@ -48,6 +49,10 @@ IsEnd (Drop other cause) number = other ≡ number
 IsEnd (Seen other) number = ⊥
 
 module _ {D : Type 0} {g : Ghosts D} where
+  -- the tape of a station
+  abbrev pub tape_of : Station D g → Tape D g
+  tape_of station = station.tape
+
   -- the disks beneath, the first and the second
   abbrev pub disks_of : Station D g → D × D
   disks_of station = tape_disks station.tape

@@ -6,6 +6,7 @@ pub mod Image
 pub mod Words
 pub mod Tape
 pub mod TapeLaws
+pub mod DiskLaws
 pub mod Leaving
 pub mod LeavingLaws
 pub mod Texts

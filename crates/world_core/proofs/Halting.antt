@@ -23,6 +23,7 @@ use Rattle.world_core.specs.declared.stations.Stations.{Stations}
 use Rattle.world_core.specs.declared.stop.StopDisk.{StopDisk}
 use Rattle.world_core.proofs.Sound.{each_front, safe_of}
 use Rattle.world_core.proofs.Zips.{zip_push, zip_through}
+use Rattle.peer_queue.specs.Words.{tape_of}
 
 -- ---- what a stop leaves is sound
 
@@ -84,8 +85,8 @@ module _ {D : Type 0} {g : Ghosts D} where
 
   pub peer_halted : (past : PeerPast) (peer : Peer D g) (stopped : StoppedPeer) → PeerStands past peer
       → stopped.conf ≡ peer.conf
-      → (happened stopped.disks.0, happened stopped.disks.1) ≡ log_of peer.station.tape
-      → (all_faults stopped.disks.0, all_faults stopped.disks.1) ≡ told_of peer.station.tape
+      → (happened stopped.disks.0, happened stopped.disks.1) ≡ log_of (tape_of peer.station)
+      → (all_faults stopped.disks.0, all_faults stopped.disks.1) ≡ told_of (tape_of peer.station)
       → StoppedStands (left_peer AtRest past) stopped
   peer_halted past peer stopped stands conf log told = record {
     conf = conf ∙ stands.conf;
@@ -94,7 +95,7 @@ module _ {D : Type 0} {g : Ghosts D} where
       faults = told ∙ stands.tape.faults;
       works = refl;
       legal = stands.tape.stands.are_legal;
-      images = each_front past peer.station.tape stands.tape;
+      images = each_front past (tape_of peer.station) stands.tape;
     };
   }
 

@@ -21,7 +21,7 @@ use Rattle.peer_queue.specs.Faults.{IsClaimFault}
 use Rattle.peer_queue.specs.Place.{AreRising, Held, IsHeldBy, IsUnheld, Place, Places, Ready, is_held, least_candidate}
 use Rattle.peer_queue.specs.Place.{moved, place_at}
 use Rattle.peer_queue.specs.ClaimLaws.{candidate_unheld}
-use Rattle.peer_queue.specs.Words.{IsRead, IsSameTape, ledger_of, places_of}
+use Rattle.peer_queue.specs.Words.{IsRead, IsSameTape, ledger_of, places_of, tape_of}
 use Rattle.peer_queue.specs.declared.fault.StationFault.{StationFault}
 use Rattle.peer_queue.specs.declared.fault.StationFault.TheVariants.{NotHeld, Broken, Tape as TapeRefused, NoMemory}
 use Rattle.world_core.specs.Past.{ConnPast, PeerPast, TapePast, options_of, with_places, with_tape}
@@ -108,14 +108,14 @@ module _ {D : Type 0} {g : Ghosts D} where
       (reads : IsRead old.station new.station)
       (conf : new.conf ≡ old.conf) (parts : new.parted ≡ old.parted) where
     abbrev tape_now : TapePast
-    tape_now = read_now past.tape new.station.tape
+    tape_now = read_now past.tape (tape_of new.station)
 
     -- it was read
     read_peer : places_of new.station ≡ places_of old.station → PeerStands (with_tape past tape_now) new
     read_peer places = record {
       conf = conf ∙ stands.conf;
       limits = reads.limits ∙ stands.limits;
-      tape = (read_tape past.tape old.station.tape new.station.tape stands.tape reads.tape).1;
+      tape = (read_tape past.tape (tape_of old.station) (tape_of new.station) stands.tape reads.tape).1;
       places = places ∙ stands.places;
       parted = parts ∙ stands.parted;
     }
@@ -126,7 +126,7 @@ module _ {D : Type 0} {g : Ghosts D} where
     claimed_stands id n places = record {
       conf = conf ∙ stands.conf;
       limits = reads.limits ∙ stands.limits;
-      tape = (read_tape past.tape old.station.tape new.station.tape stands.tape reads.tape).1;
+      tape = (read_tape past.tape (tape_of old.station) (tape_of new.station) stands.tape reads.tape).1;
       places = places ∙ ap (λ (p : Places). moved p n (Held id)) stands.places;
       parted = parts ∙ stands.parted;
     }
@@ -153,14 +153,14 @@ module _ {D : Type 0} {g : Ghosts D} where
     }
 
     refused_claim : (fault : StationFault) (told : Fault) → told ≡ fault_of_station fault
-        → ((fault ≡ Broken) ↔ IsBroken old.station.tape)
+        → ((fault ≡ Broken) ↔ IsBroken (tape_of old.station))
         → (fault ≢ Broken → IsSome (least_candidate now (places_of old.station)))
-        → (fault ≡ TapeRefused Disk → OneHasRisen (told_of old.station.tape) (told_of new.station.tape))
+        → (fault ≡ TapeRefused Disk → OneHasRisen (told_of (tape_of old.station)) (told_of (tape_of new.station)))
         → IsClaimFault fault
         → RefusesClaim now past told tape_read
     refused_claim fault told e broken some cause kind = (
       why fault e broken some cause kind,
-      (read_tape past.tape old.station.tape new.station.tape pair.stands.tape reads.tape).0,
+      (read_tape past.tape (tape_of old.station) (tape_of new.station) pair.stands.tape reads.tape).0,
     )
       where
         there : (f : StationFault) → f ≢ Broken → (f ≢ Broken → IsSome (least_candidate now (places_of old.station)))
@@ -168,35 +168,35 @@ module _ {D : Type 0} {g : Ghosts D} where
         there f not s = some_there (least_candidate now past.places)
             (subst (λ (p : Places). IsSome (least_candidate now p)) pair.stands.places (s not))
 
-        why : (f : StationFault) → told ≡ fault_of_station f → ((f ≡ Broken) ↔ IsBroken old.station.tape)
+        why : (f : StationFault) → told ≡ fault_of_station f → ((f ≡ Broken) ↔ IsBroken (tape_of old.station))
             → (f ≢ Broken → IsSome (least_candidate now (places_of old.station)))
-            → (f ≡ TapeRefused Disk → OneHasRisen (told_of old.station.tape) (told_of new.station.tape))
+            → (f ≡ TapeRefused Disk → OneHasRisen (told_of (tape_of old.station)) (told_of (tape_of new.station)))
             → IsClaimFault f
             → ((told ≡ TapeRefusal BrokenTape) × (past.tape.broken ≡ true))
             ⊎ ((past.tape.broken ≡ false) × ((number : ℕ) × (least_candidate now past.places ≡ Some number))
             × ((told ≡ NoStepMemory) ⊎ ((told ≡ TapeRefusal Disk) × OneHasRisen past.tape.faults tape_read.faults)))
         why NotHeld e b s c k = absurd k
-        why Broken e b s c k = inl (e, tape_broken past.tape old.station.tape pair.stands.tape (b.0 refl))
+        why Broken e b s c k = inl (e, tape_broken past.tape (tape_of old.station) pair.stands.tape (b.0 refl))
         why (TapeRefused f) e b s c k = inr (
-          tape_works past.tape old.station.tape pair.stands.tape (λ is. let never : TapeRefused f ≡ Broken = b.1 is in
+          tape_works past.tape (tape_of old.station) pair.stands.tape (λ is. let never : TapeRefused f ≡ Broken = b.1 is in
               cc),
           there (TapeRefused f) (λ is. cc) s,
           inr (
             e ∙ ap (λ t. fault_of_station (TapeRefused t)) k,
-            subst (λ (n : ℕ × ℕ). OneHasRisen n (told_of new.station.tape)) pair.stands.tape.faults
+            subst (λ (n : ℕ × ℕ). OneHasRisen n (told_of (tape_of new.station))) pair.stands.tape.faults
                 (c (ap TapeRefused k)),
           ),
         )
         why NoMemory e b s c k = inr (
-          tape_works past.tape old.station.tape pair.stands.tape (λ is. let never : NoMemory ≡ Broken = b.1 is in cc),
+          tape_works past.tape (tape_of old.station) pair.stands.tape (λ is. let never : NoMemory ≡ Broken = b.1 is in cc),
           there NoMemory (λ is. cc) s,
           inl e,
         )
 
     pub claim_refused : (fault : StationFault) (told : Fault) → told ≡ fault_of_station fault
-        → ((fault ≡ Broken) ↔ IsBroken old.station.tape)
+        → ((fault ≡ Broken) ↔ IsBroken (tape_of old.station))
         → (fault ≢ Broken → IsSome (least_candidate now (places_of old.station)))
-        → (fault ≡ TapeRefused Disk → OneHasRisen (told_of old.station.tape) (told_of new.station.tape))
+        → (fault ≡ TapeRefused Disk → OneHasRisen (told_of (tape_of old.station)) (told_of (tape_of new.station)))
         → IsClaimFault fault
         → places_of new.station ≡ places_of old.station → HandedNot id now conn past told connection new
     claim_refused fault told e broken some cause kind places = record {
@@ -205,20 +205,20 @@ module _ {D : Type 0} {g : Ghosts D} where
       stand = pair_read places;
     }
 
-    pub none_claimed : (IsBroken old.station.tape → ⊥) → least_candidate now (places_of old.station) ≡ None
+    pub none_claimed : (IsBroken (tape_of old.station) → ⊥) → least_candidate now (places_of old.station) ≡ None
         → places_of new.station ≡ places_of old.station → HandedOver id now conn past Nothing connection new
     none_claimed works none places = record {
       transcript = conn.transcript;
       later = with_tape past tape_read;
-      hands = None_at tape_read (tape_works past.tape old.station.tape pair.stands.tape works)
+      hands = None_at tape_read (tape_works past.tape (tape_of old.station) pair.stands.tape works)
           (subst (λ (p : Places). least_candidate now p ≡ None) pair.stands.places none)
-          (read_tape past.tape old.station.tape new.station.tape pair.stands.tape reads.tape).0;
+          (read_tape past.tape (tape_of old.station) (tape_of new.station) pair.stands.tape reads.tape).0;
       stand = pair_read places;
     }
 
     -- ---- a claim
 
-    module _ (debt : Owing) (cxn : ℕ) (own : cxn ≡ id) (works : IsBroken old.station.tape → ⊥)
+    module _ (debt : Owing) (cxn : ℕ) (own : cxn ≡ id) (works : IsBroken (tape_of old.station) → ⊥)
         (least : least_candidate now (places_of old.station) ≡ Some debt.0)
         (places : places_of new.station ≡ moved (places_of old.station) debt.0 (Held cxn))
         (owed : Contains (ledger_of old.station).debts debt)
@@ -235,14 +235,14 @@ module _ {D : Type 0} {g : Ghosts D} where
       claims : ClaimsAt id now debt past claimed
       claims = record {
         tape = tape_read;
-        works = tape_works past.tape old.station.tape pair.stands.tape works;
+        works = tape_works past.tape (tape_of old.station) pair.stands.tape works;
         candidate = record {
           least = least_here;
           owed =
               subst (λ (s : State). Contains s.debts debt) pair.stands.tape.stands.ledger owed;
         };
         free = λ other. unheld_free past.places debt.0 other is_unheld;
-        reads = (read_tape past.tape old.station.tape new.station.tape pair.stands.tape reads.tape).0;
+        reads = (read_tape past.tape (tape_of old.station) (tape_of new.station) pair.stands.tape reads.tape).0;
         changed = refl;
       }
 
@@ -306,7 +306,7 @@ module _ {D : Type 0} {g : Ghosts D} where
           mid = claimed;
           claims = claims;
           returns = record {
-            works = tape_works past.tape old.station.tape pair.stands.tape works;
+            works = tape_works past.tape (tape_of old.station) pair.stands.tape works;
             held =
                 held_now;
             changed = refl;

@@ -22,7 +22,7 @@ use Rattle.disk_model.specs.declared.Disk.{Ghosts}
 use Rattle.feed_conf.specs.declared.conf.PeerConf.{PeerConf}
 use Rattle.ledger_core.specs.State.{State, numbers, start}
 use Rattle.peer_queue.specs.Place.{all_ready}
-use Rattle.peer_queue.specs.Words.{limits_of as station_limits, places_of}
+use Rattle.peer_queue.specs.Words.{limits_of as station_limits, places_of, tape_of}
 use Rattle.recovery.specs.Image.{IsNoTapeAt, IsSomeTape, IsTape, Log, Octets}
 use Rattle.recovery.specs.TapeLaws.{tape_nowhere_damaged, tape_once}
 use Rattle.recovery.specs.Leaving.{broken_of}
@@ -142,8 +142,8 @@ module _ {D : Type 0} {g : Ghosts D} where
 
   -- the peer's tape was opened on the given octets
   pub opens_given : (given : GivenPeer) (old : Log) (peer : Peer D g) → old ≡ (Made given.1.items ∷ [], [])
-      → IsOpenedTape old peer.station.tape → told_of peer.station.tape ≡ (0, 0) → (IsBroken peer.station.tape → ⊥)
-      → places_of peer.station ≡ all_ready (numbers (ledger_of peer.station.tape))
+      → IsOpenedTape old (tape_of peer.station) → told_of (tape_of peer.station) ≡ (0, 0) → (IsBroken (tape_of peer.station) → ⊥)
+      → places_of peer.station ≡ all_ready (numbers (ledger_of (tape_of peer.station)))
       → station_limits peer.station ≡ limits_of given.0 → peer.conf ≡ given.0 → peer.parted ≡ false
       → OpensGiven given peer
   opens_given given old peer log opened told works ready limits conf parts = record {
@@ -152,7 +152,7 @@ module _ {D : Type 0} {g : Ghosts D} where
     stands = record {
       conf = conf;
       limits = limits;
-      tape = is_found opened.state peer.station.tape opened.stands told works;
+      tape = is_found opened.state (tape_of peer.station) opened.stands told works;
       places = ready ∙ ap (λ (state : State). all_ready (numbers state)) opened.stands.ledger;
       parted = parts;
     };
@@ -256,7 +256,7 @@ module _ {D : Type 0} {g : Ghosts D} where
   have_pasts (one ∷ given) [] all = absurd all
   have_pasts (one ∷ given) (peer ∷ peers) all =
       let rest = have_pasts given peers all.1 in
-      let past = found_peer one.0 all.0.state (log_of peer.station.tape) in
+      let past = found_peer one.0 all.0.state (log_of (tape_of peer.station)) in
       record {
         pasts = past ∷ rest.pasts;
         given_are = (
@@ -269,7 +269,7 @@ module _ {D : Type 0} {g : Ghosts D} where
                 history = refl;
                 faults = refl;
                 works = refl;
-                safe = each_front past peer.station.tape all.0.stands.tape;
+                safe = each_front past (tape_of peer.station) all.0.stands.tape;
               };
               places = refl;
               parted = refl;

@@ -12,7 +12,7 @@ use Rattle.recovery.specs.declared.fault.TapeFault.{TapeFault}
 use Rattle.recovery.specs.declared.fault.TapeFault.TheVariants.{Damaged, Disk, Broken, TapeFull, GenerationFull}
 use Rattle.recovery.specs.declared.fault.TapeFault.TheVariants.{PendingFull, NoMemory, Note}
 use Rattle.peer_queue.specs.Place.{all_ready}
-use Rattle.peer_queue.specs.Words.{limits_of as station_limits, places_of}
+use Rattle.peer_queue.specs.Words.{limits_of as station_limits, places_of, tape_of}
 use Rattle.world_core.specs.Past.{PeerPast, limits_of}
 use Rattle.world_core.specs.Safe.{KeepsNotes}
 use Rattle.world_core.specs.Fault.{fault_of}
@@ -33,15 +33,15 @@ each_there past log same images = subst (λ (l : Log). EachTape (Survives past.t
 module _ {D : Type 0} {g : Ghosts D} where
   pub opened_as : (past : PeerPast) (old : Log) (told : ℕ × ℕ) (peer : Peer D g) → old ≡ past.tape.log
       → told ≡ past.tape.faults
-      → Recovers past.tape.history old peer.station.tape → IsOpenedTape old peer.station.tape
-      → (IsBroken peer.station.tape → ⊥)
-      → told_of peer.station.tape ≡ told → places_of peer.station ≡ all_ready (numbers (ledger_of peer.station.tape))
+      → Recovers past.tape.history old (tape_of peer.station) → IsOpenedTape old (tape_of peer.station)
+      → (IsBroken (tape_of peer.station) → ⊥)
+      → told_of (tape_of peer.station) ≡ told → places_of peer.station ≡ all_ready (numbers (ledger_of (tape_of peer.station)))
       → station_limits peer.station ≡ limits_of past.conf → peer.conf ≡ past.conf → peer.parted ≡ false
       → OpenedAs past peer
   opened_as past old told peer log faults recovers opened works quiet ready limits conf parts = record {
     later = record {
       history = recovered past.tape.history recovers.count;
-      log = log_of peer.station.tape;
+      log = log_of (tape_of peer.station);
       faults =
           past.tape.faults;
       broken = false;
@@ -51,9 +51,9 @@ module _ {D : Type 0} {g : Ghosts D} where
       enough = recovers.enough;
       within = recovers.within;
       found = subst (λ (l : Log). LiesOn l (ledger_of_first past.tape.history recovers.count)) log
-          (found_first peer.station.tape past.tape.history old opened recovers);
-      moments = subst (λ (l : Log). LedgersLeave (KeepsNotes past) l (log_of peer.station.tape)) log
-          (keeps_moments past old (log_of peer.station.tape) recovers.moments);
+          (found_first (tape_of peer.station) past.tape.history old opened recovers);
+      moments = subst (λ (l : Log). LedgersLeave (KeepsNotes past) l (log_of (tape_of peer.station))) log
+          (keeps_moments past old (log_of (tape_of peer.station)) recovers.moments);
       all = refl;
     };
     stands = record {
@@ -64,7 +64,7 @@ module _ {D : Type 0} {g : Ghosts D} where
         log = refl;
         faults = quiet ∙ faults;
         broken =
-            not_true (broken_of peer.station.tape) works;
+            not_true (broken_of (tape_of peer.station)) works;
       };
       places = ready ∙ ap (λ (state : State). all_ready (numbers state)) recovers.stands.ledger;
       parted = parts;

@@ -18,7 +18,7 @@ use Rattle.recovery.specs.declared.fault.TapeFault.TheVariants.{GenerationFull, 
 use Rattle.recovery.specs.declared.fault.TapeFault.TheVariants.{Note as RefusedNote}
 use Rattle.peer_queue.specs.Faults.{IsOweFault, IsOweTapeFault}
 use Rattle.peer_queue.specs.Place.{Places, Ready}
-use Rattle.peer_queue.specs.Words.{IsSame, Notes, limits_of as station_limits, places_of}
+use Rattle.peer_queue.specs.Words.{IsSame, Notes, limits_of as station_limits, places_of, tape_of}
 use Rattle.peer_queue.specs.declared.fault.StationFault.{StationFault}
 use Rattle.peer_queue.specs.declared.fault.StationFault.TheVariants.{NotHeld, Broken, Tape as TapeRefused, NoMemory}
 use Rattle.peer_queue.specs.declared.limits.Owed.{Owed}
@@ -75,9 +75,9 @@ module _ {D : Type 0} {g : Ghosts D} where
   no_room_here past tape stands works full = λ room. room (sym (pends_by tape past.history stands.stands works) ∙ full)
 
   owed_new : (number : ℕ) (past : PeerPast) (token id : List ℕ) (old new : Peer D g) → PeerStands past old
-      → (IsBroken old.station.tape → ⊥)
-      → (ledger_of old.station.tape).mark < number → pending_of old.station.tape ≢ most_pending
-      → (Overflows (ledger_of old.station.tape) (Owe number token id) → ⊥)
+      → (IsBroken (tape_of old.station) → ⊥)
+      → (ledger_of (tape_of old.station)).mark < number → pending_of (tape_of old.station) ≢ most_pending
+      → (Overflows (ledger_of (tape_of old.station)) (Owe number token id) → ⊥)
       → Notes old.station new.station (Owe number token id)
       → places_of new.station ≡ places_of old.station ++ (number, Ready) ∷ [] → new.conf ≡ old.conf
       → new.parted ≡ old.parted
@@ -86,10 +86,10 @@ module _ {D : Type 0} {g : Ghosts D} where
       let mark : mark_at past.tape < number =
       subst (λ (state : State). state.mark < number) stands.tape.stands.ledger above in
       record {
-        works = tape_works past.tape old.station.tape stands.tape works;
+        works = tape_works past.tape (tape_of old.station) stands.tape works;
         owed_is = sym (new_where number past true (lt-ltb _ _ mark));
         room = λ _. (
-          room_here past.tape old.station.tape stands.tape works room,
+          room_here past.tape (tape_of old.station) stands.tape works room,
           subst (λ (state : State). Overflows state (Owe number token id) → ⊥) stands.tape.stands.ledger fits,
         );
         stands = record {
@@ -102,13 +102,13 @@ module _ {D : Type 0} {g : Ghosts D} where
       }
 
   owed_old : (number : ℕ) (past : PeerPast) (token id : List ℕ) (peer : Peer D g) → PeerStands past peer
-      → (IsBroken peer.station.tape → ⊥)
-      → number ≤ (ledger_of peer.station.tape).mark → OwedTo number token id past Already peer
+      → (IsBroken (tape_of peer.station) → ⊥)
+      → number ≤ (ledger_of (tape_of peer.station)).mark → OwedTo number token id past Already peer
   owed_old number past token id peer stands works below =
       let mark : number ≤ mark_at past.tape =
       subst (λ (state : State). number ≤ state.mark) stands.tape.stands.ledger below in
       record {
-        works = tape_works past.tape peer.station.tape stands.tape works;
+        works = tape_works past.tape (tape_of peer.station) stands.tape works;
         owed_is = sym (new_where number past false (le-ltb _ _ mark));
         room = λ e. cc;
         stands = stands;
@@ -117,12 +117,12 @@ module _ {D : Type 0} {g : Ghosts D} where
   -- what a station answered
   pub owed_answered : (number : ℕ) (past : PeerPast) (token id : List ℕ) (old new : Peer D g) (owed : Owed)
       → PeerStands past old
-      → (IsBroken old.station.tape → ⊥) → (owed ≡ Already → number ≤ (ledger_of old.station.tape).mark)
+      → (IsBroken (tape_of old.station) → ⊥) → (owed ≡ Already → number ≤ (ledger_of (tape_of old.station)).mark)
       → (owed ≡ Already → new.station ≡ old.station)
       → (owed ≡ New → Notes old.station new.station (Owe number token id))
       → (owed ≡ New → places_of new.station ≡ places_of old.station ++ (number, Ready) ∷ [])
-      → (Overflows (ledger_of old.station.tape) (Owe number token id) → ⊥)
-      → ((ledger_of old.station.tape).mark < number → pending_of old.station.tape ≢ most_pending)
+      → (Overflows (ledger_of (tape_of old.station)) (Owe number token id) → ⊥)
+      → ((ledger_of (tape_of old.station)).mark < number → pending_of (tape_of old.station) ≢ most_pending)
       → new.conf ≡ old.conf → new.parted ≡ old.parted → OwedTo number token id past owed new
   owed_answered number past token id old new New stands works below same notes places fits room conf parts =
       let above = (notes refl).legal.1 in
@@ -184,24 +184,24 @@ module _ {D : Type 0} {g : Ghosts D} where
       → IsSame old.station new.station
       → new.conf ≡ old.conf → new.parted ≡ old.parted → (fault : StationFault) (told : Fault)
       → told ≡ fault_of_station fault
-      → ((fault ≡ Broken) ↔ IsBroken old.station.tape)
-      → (fault ≡ TapeRefused (RefusedNote CountFull) → Overflows (ledger_of old.station.tape) (Owe number token id))
+      → ((fault ≡ Broken) ↔ IsBroken (tape_of old.station))
+      → (fault ≡ TapeRefused (RefusedNote CountFull) → Overflows (ledger_of (tape_of old.station)) (Owe number token id))
       → (fault ≡ TapeRefused PendingFull
-      → (pending_of old.station.tape ≡ most_pending)
-      × (Overflows (ledger_of old.station.tape) (Owe number token id) → ⊥))
-      → IsOweFault fault → ((IsBroken old.station.tape → ⊥) → number ≤ (ledger_of old.station.tape).mark → ⊥)
+      → (pending_of (tape_of old.station) ≡ most_pending)
+      × (Overflows (ledger_of (tape_of old.station)) (Owe number token id) → ⊥))
+      → IsOweFault fault → ((IsBroken (tape_of old.station) → ⊥) → number ≤ (ledger_of (tape_of old.station)).mark → ⊥)
       → OwedNot number token id past told new
   owed_refused past old new number token id stands same conf parts fault told e broken full pending kind never =
       record {
         refused = (
-          λ works. above_mark (λ b. let told_so = tape_broken past.tape old.station.tape stands.tape b in cc),
+          λ works. above_mark (λ b. let told_so = tape_broken past.tape (tape_of old.station) stands.tape b in cc),
           unowed past.tape old.station (Owe number token id) stands.tape fault told e broken full pending kind,
           refl,
         );
         stands = same_peer past old new stands same conf parts;
       }
     where
-      above_mark : (IsBroken old.station.tape → ⊥) → owed_as number past ≡ New
+      above_mark : (IsBroken (tape_of old.station) → ⊥) → owed_as number past ≡ New
       above_mark works = elim (cases_lt (mark_at past.tape) number) [
         | inl above ↦ new_where number past true (lt-ltb _ _ above)
         | inr below ↦ absurd (never works

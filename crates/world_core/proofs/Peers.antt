@@ -141,9 +141,7 @@ module _ {D : Type 0} {g : Ghosts D} where
   pub read_tape : (past : TapePast) (old new : Tape D g) → TapeStands past old → IsRead old new
       → IsReadTape past (read_now past new) × TapeStands (read_now past new) new
   read_tape past old new stands reads =
-      let logs : log_of new ≡ log_of old = ap (λ (s : Bool). placed s (live_log new) (other_log new)) reads.second
-      ∙ (ap (λ (l : List DiskEvent). placed old.segments.second l (other_log new)) (reads.log stands.stands.honest)
-      ∙ ap (λ (d : D). placed old.segments.second (live_log old) (g.log d)) reads.other) in (
+      let logs = log-read old new reads stands.stands.honest in (
         record {
           first = subst (λ (n : ℕ × ℕ). n.0 ≤ (told_of new).0) stands.faults reads.continues.first;
           second = subst (λ (n : ℕ × ℕ). n.1 ≤ (told_of new).1) stands.faults reads.continues.second;

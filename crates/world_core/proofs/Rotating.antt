@@ -16,7 +16,7 @@ use Rattle.peer_queue.specs.Faults.{IsRotateFault}
 use Rattle.peer_queue.specs.Place.{AreRising, AreUnheld, Places, all_gone}
 use Rattle.peer_queue.specs.Shed.{IsShedSet, dropped}
 use Rattle.peer_queue.specs.Station.{IsShed}
-use Rattle.peer_queue.specs.Words.{limits_of as station_limits, places_of}
+use Rattle.peer_queue.specs.Words.{limits_of as station_limits, places_of, tape_of}
 use Rattle.peer_queue.specs.declared.fault.StationFault.{StationFault}
 use Rattle.peer_queue.specs.declared.fault.StationFault.TheVariants.{NotHeld, Broken, Tape as TapeRefused, NoMemory}
 use Rattle.peer_queue.specs.declared.limits.Limits.{Limits}
@@ -208,33 +208,33 @@ module _ {D : Type 0} {g : Ghosts D} where
 
   -- what a station shed
   pub shed_as : (past : PeerPast) (old new : Peer D g) (shed : Shed) → PeerStands past old
-      → (IsBroken old.station.tape → ⊥)
+      → (IsBroken (tape_of old.station) → ⊥)
       → AreRising (places_of old.station)
-      → IsShed (station_limits old.station) (ledger_of old.station.tape) (places_of old.station)
-      (pending_of old.station.tape) shed
-      → StandsFor new.station.tape (noted_all past.tape.history (dropped shed.numbers.items))
+      → IsShed (station_limits old.station) (ledger_of (tape_of old.station)) (places_of old.station)
+      (pending_of (tape_of old.station)) shed
+      → StandsFor (tape_of new.station) (noted_all past.tape.history (dropped shed.numbers.items))
       → places_of new.station ≡ all_gone (places_of old.station) shed.numbers.items
-      → disks_of new.station.tape ≡ disks_of old.station.tape
-      → (IsBroken old.station.tape ↔ IsBroken new.station.tape)
+      → disks_of (tape_of new.station) ≡ disks_of (tape_of old.station)
+      → (IsBroken (tape_of old.station) ↔ IsBroken (tape_of new.station))
       → station_limits new.station ≡ station_limits old.station → new.conf ≡ old.conf
       → new.parted ≡ old.parted → ShedPeer past shed.numbers.items new
   shed_as past old new shed stands works rising is notes places disks same limits conf parts =
-      let here = same_disks new.station.tape old.station.tape disks in
+      let here = same_disks (tape_of new.station) (tape_of old.station) disks in
       record {
-        works = tape_works past.tape old.station.tape stands.tape works;
+        works = tape_works past.tape (tape_of old.station) stands.tape works;
         sheds = record {
           set = is.set;
           is_set = subst (λ (p : Places). IsShedSet (limits_of past.conf) (ledger_at past.tape) p is.set) stands.places
               (subst (λ (s : State). IsShedSet (limits_of past.conf) s (places_of old.station) is.set)
               stands.tape.stands.ledger
-              (subst (λ (l : Limits). IsShedSet l (ledger_of old.station.tape) (places_of old.station) is.set)
+              (subst (λ (l : Limits). IsShedSet l (ledger_of (tape_of old.station)) (places_of old.station) is.set)
               stands.limits is.is_set));
           numbers_are = is.numbers ∙ ap (λ (n : ℕ). take (most_pending - n) is.set)
-              (pends_by old.station.tape past.tape.history stands.tape.stands works);
+              (pends_by (tape_of old.station) past.tape.history stands.tape.stands works);
           free = subst (λ (p : Places). AreUnheld p shed.numbers.items) stands.places
               (subst (λ (numbers : List ℕ). AreUnheld (places_of old.station) numbers) (sym is.numbers)
-              (shed_unheld (station_limits old.station) (ledger_of old.station.tape) (places_of old.station) is.set
-              (most_pending - pending_of old.station.tape) rising is.is_set));
+              (shed_unheld (station_limits old.station) (ledger_of (tape_of old.station)) (places_of old.station) is.set
+              (most_pending - pending_of (tape_of old.station)) rising is.is_set));
         };
         stands = record {
           conf = conf ∙ stands.conf;
@@ -243,7 +243,7 @@ module _ {D : Type 0} {g : Ghosts D} where
             stands = notes;
             log = here.0 ∙ stands.tape.log;
             faults = here.1 ∙ stands.tape.faults;
-            broken = same_truth (broken_of old.station.tape) (broken_of new.station.tape) same ∙ stands.tape.broken;
+            broken = same_truth (broken_of (tape_of old.station)) (broken_of (tape_of new.station)) same ∙ stands.tape.broken;
           };
           places = places ∙ ap (λ (p : Places). all_gone p shed.numbers.items) stands.places;
           parted = parts ∙ stands.parted;

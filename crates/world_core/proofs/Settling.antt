@@ -16,7 +16,7 @@ use Rattle.conn_core.specs.declared.outcome.Outcome.{Outcome}
 use Rattle.peer_queue.specs.Faults.{IsEndFault}
 use Rattle.peer_queue.specs.Place.{Held, IsHeldBy, Later as LaterPlace, Places, Ready, gone, moved, place_at}
 use Rattle.peer_queue.specs.Settled.{Finishes, IsEnded, Settles, number_in, settled_by}
-use Rattle.peer_queue.specs.Words.{IsSame, limits_of as station_limits, places_of}
+use Rattle.peer_queue.specs.Words.{IsSame, limits_of as station_limits, places_of, tape_of}
 use Rattle.peer_queue.specs.Words.{MeetsFull}
 use Rattle.peer_queue.specs.declared.fault.StationFault.{StationFault}
 use Rattle.peer_queue.specs.declared.fault.StationFault.TheVariants.{NotHeld, Broken, Tape as TapeRefused, NoMemory}
@@ -141,10 +141,10 @@ module _ {D : Type 0} {g : Ghosts D} where
       → after.waiting ≡ None → after.rank ≡ before.rank → after.conn.id ≡ before.conn.id → cxn ≡ id
       → number ≡ number_in outcome
       → told_so ≡ settled_by (station_limits old.station) now outcome → Finishes cxn now outcome old.station new.station
-      → (IsBroken old.station.tape → ⊥)
+      → (IsBroken (tape_of old.station) → ⊥)
       → (IsEnded (settled_by (station_limits old.station) now outcome)
       → IsHeldBy (places_of old.station) cxn (number_in outcome)
-      → pending_of old.station.tape ≢ most_pending) → new.conf ≡ old.conf → new.parted ≡ old.parted → mid ≡ was
+      → pending_of (tape_of old.station) ≢ most_pending) → new.conf ≡ old.conf → new.parted ≡ old.parted → mid ≡ was
       → told ≡ mid ++ ToldSettled cxn number told_so ∷ []
       → SettledOne id now conn past was after new told
   settled_one id now conn past before after old new was mid told outcome cxn number told_so pair takes waits rank
@@ -171,9 +171,9 @@ module _ {D : Type 0} {g : Ghosts D} where
         next = next;
         later = settled now outcome past;
         settles = record {
-          works = tape_works past.tape old.station.tape pair.stands.tape works;
+          works = tape_works past.tape (tape_of old.station) pair.stands.tape works;
           held = held;
-          room = λ ends. room_here past.tape old.station.tape pair.stands.tape works (room (subst IsEnded (sym by) ends)
+          room = λ ends. room_here past.tape (tape_of old.station) pair.stands.tape works (room (subst IsEnded (sym by) ends)
               (was_held (settled_by (station_limits old.station) now outcome) cxn n old.station new.station finishes));
           changed = refl;
         };
@@ -201,34 +201,34 @@ module _ {D : Type 0} {g : Ghosts D} where
   -- ---- it was refused
 
   refused_end : (past : PeerPast) (old : Peer D g) (s : Settled) (fault : StationFault) (told : Fault)
-      → TapeStands past.tape old.station.tape
-      → told ≡ fault_of_station fault → ((fault ≡ Broken) ↔ IsBroken old.station.tape) → (fault ≡ NotHeld → ⊥)
-      → (fault ≡ TapeRefused PendingFull → IsEnded s × (pending_of old.station.tape ≡ most_pending))
-      → ((IsBroken old.station.tape → ⊥) → IsEnded s → pending_of old.station.tape ≡ most_pending
+      → TapeStands past.tape (tape_of old.station)
+      → told ≡ fault_of_station fault → ((fault ≡ Broken) ↔ IsBroken (tape_of old.station)) → (fault ≡ NotHeld → ⊥)
+      → (fault ≡ TapeRefused PendingFull → IsEnded s × (pending_of (tape_of old.station) ≡ most_pending))
+      → ((IsBroken (tape_of old.station) → ⊥) → IsEnded s → pending_of (tape_of old.station) ≡ most_pending
       → fault ≡ TapeRefused PendingFull)
       → (fault ≡ NoMemory → IsEnded s) → IsEndFault fault → RefusesEnd s past.tape told
   refused_end past old s NotHeld told stands e broken held full never_full memory kind = absurd (held refl)
   refused_end past old s Broken told stands e broken held full never_full memory kind =
-      inl (e, tape_broken past.tape old.station.tape stands (broken.0 refl))
+      inl (e, tape_broken past.tape (tape_of old.station) stands (broken.0 refl))
   refused_end past old s (TapeRefused fault) told stands e broken held full never_full memory kind =
-      let works : IsBroken old.station.tape → ⊥ = λ b. let never : TapeRefused fault ≡ Broken = broken.1 b in cc in
+      let works : IsBroken (tape_of old.station) → ⊥ = λ b. let never : TapeRefused fault ≡ Broken = broken.1 b in cc in
       let is = full (ap TapeRefused kind) in
       inr (
         is.0,
         inr (inl (
           e ∙ ap (λ f. fault_of_station (TapeRefused f)) kind,
-          tape_works past.tape old.station.tape stands works,
-          no_room_here past.tape old.station.tape stands works is.1,
+          tape_works past.tape (tape_of old.station) stands works,
+          no_room_here past.tape (tape_of old.station) stands works is.1,
         )),
       )
   refused_end past old s NoMemory told stands e broken held full never_full memory kind =
-      let works : IsBroken old.station.tape → ⊥ = λ b. let never : NoMemory ≡ Broken = broken.1 b in cc in
+      let works : IsBroken (tape_of old.station) → ⊥ = λ b. let never : NoMemory ≡ Broken = broken.1 b in cc in
       inr (
         memory refl,
         inr (inr (
           e,
-          tape_works past.tape old.station.tape stands works,
-          room_here past.tape old.station.tape stands works
+          tape_works past.tape (tape_of old.station) stands works,
+          room_here past.tape (tape_of old.station) stands works
               (λ most. let never : NoMemory ≡ TapeRefused PendingFull = never_full works (memory refl) most in cc),
         )),
       )
@@ -238,8 +238,8 @@ module _ {D : Type 0} {g : Ghosts D} where
       → Takes (options_of past.conf) conn.unread conn.transcript (Some outcome) after.conn
       → after.waiting ≡ Some back → back ≡ outcome → after.rank ≡ before.rank → after.conn.id ≡ before.conn.id
       → cxn ≡ id
-      → ((fault ≡ Broken) ↔ IsBroken old.station.tape)
-      → ((fault ≡ NotHeld) ↔ ((IsBroken old.station.tape → ⊥)
+      → ((fault ≡ Broken) ↔ IsBroken (tape_of old.station))
+      → ((fault ≡ NotHeld) ↔ ((IsBroken (tape_of old.station) → ⊥)
       × (IsHeldBy (places_of old.station) cxn (number_in outcome) → ⊥)))
       → ((fault ≡ TapeRefused PendingFull) ↔ (IsEnded (settled_by (station_limits old.station) now outcome)
       × MeetsFull old.station cxn (number_in outcome)))

@@ -24,6 +24,7 @@ use Rattle.world_core.specs.declared.peer.Peer.{Peer}
 use Rattle.world_core.specs.declared.stations.Stations.{Stations}
 use Rattle.world_core.proofs.Acknowledged.{all_at}
 use Rattle.world_core.proofs.Pure.{above_flushed, above_noted, all_set, keeps_lines, map_set}
+use Rattle.peer_queue.specs.Words.{tape_of}
 
 -- the names stay where one peer's settings do
 pub names_set : (past : Past) (rank : ℕ) (was now : PeerPast) → NamesRise (names_of past.peers)
@@ -200,7 +201,7 @@ module _ {D : Type 0} {g : Ghosts D} where
   safe_peers [] (peer ∷ peers) all = tt
   safe_peers (past ∷ pasts) [] all = absurd all
   safe_peers (past ∷ pasts) (peer ∷ peers) all =
-      (each_front past peer.station.tape all.0.tape, safe_peers pasts peers all.1)
+      (each_front past (tape_of peer.station) all.0.tape, safe_peers pasts peers all.1)
 
   pub safe_of : (stations : Stations D g) (past : Past) → Stands stations past → IsSafe past
   safe_of stations past stands = record {

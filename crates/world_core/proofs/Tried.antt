@@ -23,6 +23,7 @@ use Rattle.world_core.proofs.Sound.{each_front, sound_same}
 use Rattle.world_core.proofs.Trying.{get_at, get_rank, has_opened, length_push, length_set, map_push, safe_put, set_at}
 use Rattle.world_core.proofs.Trying.{sound_opened, take_places}
 use Rattle.world_core.proofs.Zips.{zip_length, zip_push}
+use Rattle.peer_queue.specs.Words.{tape_of}
 
 -- none of what is ready is held
 pub none_held : (numbers : List ℕ) (id number : ℕ) → place_at (all_ready numbers) number ≡ Some (Held id) → ⊥
@@ -80,7 +81,7 @@ module _ {D : Type 0} {g : Ghosts D} (past : Past) (front behind : List PeerPast
       let history = ap (λ (t : TapePast). t.history) is.opens.all in
       let is_safe : IsSafe (with_peers past ((front ++ q ∷ []) ++ behind)) =
       subst IsSafe (changed q)
-      (safe_put mid (length front) p q safe here (each_front q peer.station.tape is.stands.tape)
+      (safe_put mid (length front) p q safe here (each_front q (tape_of peer.station) is.stands.tape)
       (λ mark _. has_opened mark p is.later is.opens.count history)) in
       record {
         front = front ++ q ∷ [];

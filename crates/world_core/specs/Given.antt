@@ -21,6 +21,7 @@ use Rattle.world_core.specs.declared.fault.TapesFault.{TapesFault}
 use Rattle.world_core.specs.declared.fault.TapesFault.TheVariants.{NoMemory, Tape}
 use Rattle.world_core.specs.declared.peer.Peer.{Peer}
 use Rattle.world_core.specs.declared.world.World.{World}
+use Rattle.peer_queue.specs.Words.{tape_of}
 
 -- the settings of a peer, and the octets of the first disk of its tape
 abbrev pub GivenPeer : Type 0
@@ -117,4 +118,4 @@ module _ {D : Type 0} {g : Ghosts D} where
   pub record OpensGiven (given : GivenPeer) (peer : Peer D g) : Type 0 where
     pub state : State
     pub was : IsTape (given_octets given) state
-    pub stands : PeerStands (found_peer given.0 state (log_of peer.station.tape)) peer
+    pub stands : PeerStands (found_peer given.0 state (log_of (tape_of peer.station))) peer

@@ -18,7 +18,7 @@ use Rattle.conn_core.specs.History.{Taken, outcomes, taken}
 use Rattle.conn_core.specs.Stands.{StandsFor as ConnStands}
 use Rattle.conn_core.specs.declared.outcome.Outcome.{Outcome}
 use Rattle.peer_queue.specs.Place.{all_ready}
-use Rattle.peer_queue.specs.Words.{limits_of as station_limits, places_of}
+use Rattle.peer_queue.specs.Words.{limits_of as station_limits, places_of, tape_of}
 use Rattle.peer_queue.specs.declared.limits.Owed.{Owed}
 use Rattle.peer_queue.specs.declared.limits.Owed.TheVariants.{New}
 use Rattle.world_core.specs.Past.{Armed, ConnPast, Life, Past, PeerPast, TapePast, ledger_at, limits_of, options_of}
@@ -58,7 +58,7 @@ module _ {D : Type 0} {g : Ghosts D} where
   pub record PeerStands (past : PeerPast) (peer : Peer D g) : Type 0 where
     pub conf : peer.conf ≡ past.conf
     pub limits : station_limits peer.station ≡ limits_of past.conf
-    pub tape : TapeStands past.tape peer.station.tape
+    pub tape : TapeStands past.tape (tape_of peer.station)
     pub places : places_of peer.station ≡ past.places
     pub parted : peer.parted ≡ past.parted
 

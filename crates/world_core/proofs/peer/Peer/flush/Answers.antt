@@ -3,12 +3,13 @@ use Rattle.std.proofs.Common.{◌∙◌, ap, refl}
 use Rattle.world_core.specs.Safe.{KeepsNotes}
 use Rattle.world_core.proofs.Peers.{flushed_as, keeps_moments, unflushed_as}
 use Rattle.world_core.proofs.peer.Peer.flush.Goals as goal
+use Rattle.peer_queue.specs.Words.{tape_of}
 
 pub returns-in-Ok-clause-ok : goal.returns-in-Ok-clause-ok
 returns-in-Ok-clause-ok g c = λ past stands.
     let is = c.in-Ok.ensures in
     let h = past.tape.history in
-    let done = flushed_as g.met.D.Disk.content_is_image (KeepsNotes past) past.tape c.args.self.now.station.tape
+    let done = flushed_as g.met.D.Disk.content_is_image (KeepsNotes past) past.tape (tape_of c.args.self.now.station)
     c.flush.new.self.tape stands.tape
     (keeps_moments past _ _ ((is.flushes h stands.tape.stands).moments))
     (λ b. let never = is.refuses.broken.1 b in cc) is.refuses.works

@@ -4,12 +4,13 @@ use Rattle.world_core.specs.Safe.{KeepsNotes}
 use Rattle.world_core.proofs.Peers.{keeps_moments}
 use Rattle.world_core.proofs.Rotating.{rotated_as, unrotated_as}
 use Rattle.world_core.proofs.peer.Peer.rotate.Goals as goal
+use Rattle.peer_queue.specs.Words.{tape_of}
 
 pub returns-in-Ok-clause-ok : goal.returns-in-Ok-clause-ok
 returns-in-Ok-clause-ok g c = λ past stands.
     let is = c.in-Ok.ensures in
     let h = past.tape.history in
-    let done = rotated_as g.met.D.Disk.content_is_image (KeepsNotes past) past.tape c.args.self.now.station.tape
+    let done = rotated_as g.met.D.Disk.content_is_image (KeepsNotes past) past.tape (tape_of c.args.self.now.station)
     c.rotate.new.self.tape stands.tape
     (keeps_moments past _ _ ((is.rotates h stands.tape.stands).moments)) c.in-Ok.generation
     (λ b. let never = is.refuses.broken.1 b in cc) is.refuses.works
