@@ -1,16 +1,15 @@
 -- What the calls of a station make of its peer.
 use Rattle.std.proofs.Common.{◌≡◌, ◌≢◌, ◌↔◌, ℕ, ◌≤◌, Bool, true, false, List, [], ◌∷◌, length, refl, sym, ap, ◌∙◌}
 use Rattle.std.proofs.Common.{subst, inl, inr, arith}
-use Rattle.disk_model.specs.Disk.{Event as DiskEvent}
 use Rattle.disk_model.specs.declared.Disk.{Ghosts}
 use Rattle.ledger_core.specs.State.{State}
 use Rattle.recovery.specs.Notes.{flushed}
-use Rattle.recovery.specs.Pairs.{placed}
+use Rattle.recovery.specs.DiskLaws.{log-read}
 use Rattle.recovery.specs.Tape.{IsRead, StandsFor}
 use Rattle.recovery.specs.Image.{Log, Survives, TapeLeaves}
 use Rattle.recovery.specs.Leaving.{HasLedger, IsFullBy, LedgersLeave, LiesLeft, broken_of, pending_notes}
 use Rattle.recovery.specs.LeavingLaws.{TapeLeaves-weaker, front_of_survives, full_by, pends_by, same_disks}
-use Rattle.recovery.specs.Words.{IsBroken, IsFull, OneHasRisen, live_log, log_of, other_log, pending_of, told_of}
+use Rattle.recovery.specs.Words.{IsBroken, IsFull, OneHasRisen, log_of, pending_of, told_of}
 use Rattle.recovery.specs.declared.tape.Tape.{Tape}
 use Rattle.recovery.specs.declared.fault.TapeFault.{TapeFault}
 use Rattle.recovery.specs.declared.fault.TapeFault.TheVariants.{Disk, TapeFull}
