@@ -1,11 +1,13 @@
 -- The end of a debt that a connection holds is a legal note, and the tape refuses it for want of room or memory alone.
-use Rattle.std.proofs.Common.{◌≡◌, ◌==◌, ◌⊎◌, inl, inr, ℕ, zero, suc, ◌+◌, ◌<◌, ◌^◌, Bool, true, false, cond, Some, List, [], ◌∷◌, length, Err, refl, sym, ap, ◌∙◌, subst, arith}
+use Rattle.std.proofs.Common.{◌≡◌, ◌==◌, ◌⊎◌, inl, inr, ℕ, zero, suc, ◌+◌, ◌<◌, ◌^◌, Bool, true, false, cond}
+use Rattle.std.proofs.Common.{Some, List, [], ◌∷◌, length, Err, refl, sym, ap, ◌∙◌, subst, arith}
 use Rattle.std.specs.Prelude.{◌↔◌, IsErrOf}
 use Rattle.std.specs.List.{Contains}
 use Rattle.std.proofs.lemmas.Bool.{eqb-true}
 use Rattle.std.proofs.lemmas.List.{length-map}
 use Rattle.ledger_core.specs.declared.ledger.LedgerFault.{LedgerFault}
-use Rattle.ledger_core.specs.declared.ledger.LedgerFault.TheVariants.{OldNumber, NotOwed, CountFull, NoMemory as NoLedgerMemory}
+use Rattle.ledger_core.specs.declared.ledger.LedgerFault.TheVariants.{OldNumber, NotOwed, CountFull}
+use Rattle.ledger_core.specs.declared.ledger.LedgerFault.TheVariants.{NoMemory as NoLedgerMemory}
 use Rattle.ledger_core.specs.declared.note.Note.{Note}
 use Rattle.ledger_core.specs.declared.note.Note.TheVariants.{Owe, Final, Drop, Seen}
 use Rattle.ledger_core.specs.StateLaws.{old-legal, lacks-legal, full-legal}

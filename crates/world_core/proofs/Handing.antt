@@ -178,7 +178,8 @@ module _ {D : Type 0} {g : Ghosts D} where
         why NotHeld e b s c k = absurd k
         why Broken e b s c k = inl (e, tape_broken past.tape (tape_of old.station) pair.stands.tape (b.0 refl))
         why (TapeRefused f) e b s c k = inr (
-          tape_works past.tape (tape_of old.station) pair.stands.tape (λ is. let never : TapeRefused f ≡ Broken = b.1 is in
+          tape_works past.tape (tape_of old.station) pair.stands.tape
+              (λ is. let never : TapeRefused f ≡ Broken = b.1 is in
               cc),
           there (TapeRefused f) (λ is. cc) s,
           inr (
@@ -188,7 +189,8 @@ module _ {D : Type 0} {g : Ghosts D} where
           ),
         )
         why NoMemory e b s c k = inr (
-          tape_works past.tape (tape_of old.station) pair.stands.tape (λ is. let never : NoMemory ≡ Broken = b.1 is in cc),
+          tape_works past.tape (tape_of old.station) pair.stands.tape
+              (λ is. let never : NoMemory ≡ Broken = b.1 is in cc),
           there NoMemory (λ is. cc) s,
           inl e,
         )

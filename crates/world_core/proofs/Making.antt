@@ -142,7 +142,8 @@ module _ {D : Type 0} {g : Ghosts D} where
 
   -- the peer's tape was opened on the given octets
   pub opens_given : (given : GivenPeer) (old : Log) (peer : Peer D g) → old ≡ (Made given.1.items ∷ [], [])
-      → IsOpenedTape old (tape_of peer.station) → told_of (tape_of peer.station) ≡ (0, 0) → (IsBroken (tape_of peer.station) → ⊥)
+      → IsOpenedTape old (tape_of peer.station) → told_of (tape_of peer.station) ≡ (0, 0)
+      → (IsBroken (tape_of peer.station) → ⊥)
       → places_of peer.station ≡ all_ready (numbers (ledger_of (tape_of peer.station)))
       → station_limits peer.station ≡ limits_of given.0 → peer.conf ≡ given.0 → peer.parted ≡ false
       → OpensGiven given peer

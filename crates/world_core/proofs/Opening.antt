@@ -35,7 +35,8 @@ module _ {D : Type 0} {g : Ghosts D} where
       → told ≡ past.tape.faults
       → Recovers past.tape.history old (tape_of peer.station) → IsOpenedTape old (tape_of peer.station)
       → (IsBroken (tape_of peer.station) → ⊥)
-      → told_of (tape_of peer.station) ≡ told → places_of peer.station ≡ all_ready (numbers (ledger_of (tape_of peer.station)))
+      → told_of (tape_of peer.station) ≡ told
+      → places_of peer.station ≡ all_ready (numbers (ledger_of (tape_of peer.station)))
       → station_limits peer.station ≡ limits_of past.conf → peer.conf ≡ past.conf → peer.parted ≡ false
       → OpenedAs past peer
   opened_as past old told peer log faults recovers opened works quiet ready limits conf parts = record {

@@ -185,7 +185,8 @@ module _ {D : Type 0} {g : Ghosts D} where
       → new.conf ≡ old.conf → new.parted ≡ old.parted → (fault : StationFault) (told : Fault)
       → told ≡ fault_of_station fault
       → ((fault ≡ Broken) ↔ IsBroken (tape_of old.station))
-      → (fault ≡ TapeRefused (RefusedNote CountFull) → Overflows (ledger_of (tape_of old.station)) (Owe number token id))
+      → (fault ≡ TapeRefused (RefusedNote CountFull)
+      → Overflows (ledger_of (tape_of old.station)) (Owe number token id))
       → (fault ≡ TapeRefused PendingFull
       → (pending_of (tape_of old.station) ≡ most_pending)
       × (Overflows (ledger_of (tape_of old.station)) (Owe number token id) → ⊥))

@@ -243,7 +243,8 @@ module _ {D : Type 0} {g : Ghosts D} where
             stands = notes;
             log = here.0 ∙ stands.tape.log;
             faults = here.1 ∙ stands.tape.faults;
-            broken = same_truth (broken_of (tape_of old.station)) (broken_of (tape_of new.station)) same ∙ stands.tape.broken;
+            broken = same_truth (broken_of (tape_of old.station)) (broken_of (tape_of new.station)) same
+                ∙ stands.tape.broken;
           };
           places = places ∙ ap (λ (p : Places). all_gone p shed.numbers.items) stands.places;
           parted = parts ∙ stands.parted;

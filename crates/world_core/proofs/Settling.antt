@@ -173,7 +173,8 @@ module _ {D : Type 0} {g : Ghosts D} where
         settles = record {
           works = tape_works past.tape (tape_of old.station) pair.stands.tape works;
           held = held;
-          room = λ ends. room_here past.tape (tape_of old.station) pair.stands.tape works (room (subst IsEnded (sym by) ends)
+          room = λ ends. room_here past.tape (tape_of old.station) pair.stands.tape works
+              (room (subst IsEnded (sym by) ends)
               (was_held (settled_by (station_limits old.station) now outcome) cxn n old.station new.station finishes));
           changed = refl;
         };

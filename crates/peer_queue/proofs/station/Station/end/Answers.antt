@@ -17,8 +17,11 @@ invariant_of-self-2 g c =
     let station = c.args.self.now in
     let step = c.in_default.ensures.ledger.1 in
     record {
-      all_placed = ap placed c.end.ensures ∙ (placed_ended station.index (ledger_of station) c.args.note c.args.number c.requires.note station.all_placed ∙ ap numbers (sym step));
-      marked = subst (λ (s : State). All (λ m. m ≤ s.mark) (numbers s)) (sym step) (marked_ended (ledger_of station) c.args.note c.args.number c.requires.note station.marked);
+      all_placed = ap placed c.end.ensures
+          ∙ (placed_ended station.index (ledger_of station) c.args.note c.args.number c.requires.note station.all_placed
+          ∙ ap numbers (sym step));
+      marked = subst (λ (s : State). All (λ m. m ≤ s.mark) (numbers s)) (sym step)
+          (marked_ended (ledger_of station) c.args.note c.args.number c.requires.note station.marked);
     }
 
 pub returns-in-Err-clause-pending_full : goal.returns-in-Err-clause-pending_full
