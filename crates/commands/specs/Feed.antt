@@ -1,5 +1,5 @@
 -- The status that tells how a feed ended (docs/MANUAL.md).
-use Rattle.std.specs.Prelude.{ℕ, Bool, true, false, List, [], ◌∷◌}
+use Rattle.std.specs.Prelude.{Bool, true, false, List, [], ◌∷◌}
 use Rattle.commands.specs.declared.exit.Exit.{Exit}
 use Rattle.commands.specs.declared.exit.Exit.TheVariants.{Done, Tape, Unreadable, NoMemory}
 use Rattle.commands.specs.declared.feeds.FeedEnd.{FeedEnd}

@@ -11,7 +11,8 @@ use bytes::Bytes;
 use memchr::{memchr_iter, memchr2_iter};
 use std::alloc::{AllocError, Global};
 
-const LONGEST_TEXT: usize = 16_777_216;
+/// The greatest length of a text that can be sent, in octets (profile).
+pub const LONGEST_TEXT: usize = 16_777_216;
 
 /// The block of a text, in its written form: each line with CR LF, and one more dot before it where it begins with one,
 /// and at the end a dot alone (RFC 3977, section 3.1.1).

@@ -322,8 +322,8 @@ impl Ledger {
             → LeavesFrom (state_of self.old) (map vec_items payloads.now) state
             → MatchResult result (λ _. state_of self.new ≡ state)
             (λ fault. fault ≡ ReplayFault.NoMemory) }
-        ensures refused { (place : ℕ) → IsErrOf result (ReplayFault.Refused place)
-            → (index : ℕ) × (place ≡ first + index)
+        ensures refused { (told : ℕ) → IsErrOf result (ReplayFault.Refused told)
+            → (index : ℕ) × (told ≡ first + index)
             × StopsFrom (state_of self.old) (map vec_items payloads.now) index }
         ensures indexes { (kept : ℕ) (front : List (List ℕ))
             → Follows kept front (map vec_items payloads.now) offset
@@ -350,8 +350,8 @@ impl Ledger {
             ((note : Note) × IsNote note × (payload.now ≡ spelling note)
             × IsLegal (state_of self.old) note
             × (state_of self.new ≡ step (state_of self.old) note)) }
-        ensures refused { (place : ℕ) → IsErrOf result (ReplayFault.Refused place)
-            → (place ≡ index) × SpellsNoLegal (state_of self.old) payload.now }
+        ensures refused { (told : ℕ) → IsErrOf result (ReplayFault.Refused told)
+            → (told ≡ index) × SpellsNoLegal (state_of self.old) payload.now }
         ensures indexes { (kept : ℕ) (payloads : List (List ℕ)) → Indexes kept payloads self.old
             → StandsAt kept payloads at 0 payload.now
             → OnOk result (Indexes kept payloads self.new) }
@@ -371,8 +371,8 @@ impl Ledger {
     ) -> Result<(), ReplayFault>
         ensures ok { OnOk result (IsLegal (state_of self.old) note.now
             × (state_of self.new ≡ step (state_of self.old) note.now)) }
-        ensures refused { (place : ℕ) → IsErrOf result (ReplayFault.Refused place)
-            → (place ≡ index) × (IsLegal (state_of self.old) note.now → ⊥) }
+        ensures refused { (told : ℕ) → IsErrOf result (ReplayFault.Refused told)
+            → (told ≡ index) × (IsLegal (state_of self.old) note.now → ⊥) }
         ensures indexes { (kept : ℕ) (payloads : List (List ℕ)) → Indexes kept payloads self.old
             → IsPlaced kept payloads at 0 note.now → OnOk result (Indexes kept payloads self.new) }
     {

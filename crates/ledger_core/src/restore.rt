@@ -157,8 +157,8 @@ impl Ledger {
     ) -> Result<(), ReplayFault>
         ensures ok { OnOk result
             (TakesDebt mark payload.now (state_of self.old) (state_of self.new)) }
-        ensures refused { (place : ℕ) → IsErrOf result (ReplayFault.Refused place)
-            → (place ≡ index) × SpellsNoNext mark payload.now (state_of self.old) }
+        ensures refused { (told : ℕ) → IsErrOf result (ReplayFault.Refused told)
+            → (told ≡ index) × SpellsNoNext mark payload.now (state_of self.old) }
         ensures indexes { (kept : ℕ) (payloads : List (List ℕ)) → Indexes kept payloads self.old
             → StandsAt kept payloads at 0 payload.now
             → OnOk result (Indexes kept payloads self.new) }

@@ -13,7 +13,7 @@ pub struct Spot {
     /// The offset of its record on the tape, in octets, or the greatest u64 where that is less. Until the note is on
     /// the tape it is the offset that the record will have.
     pub at: u64,
-    /// Its place among the notes that pend, as long as it does.
+    /// Its index among the notes that pend, as long as it does.
     pub slot: u32,
     /// The octets of the token.
     pub token_len: u8,
