@@ -41,7 +41,7 @@ zip_push R [] (b ∷ ys) x y all one = absurd all
 zip_push R (a ∷ xs) [] x y all one = absurd all
 zip_push R (a ∷ xs) (b ∷ ys) x y all one = (all.0, zip_push R xs ys x y all.1 one)
 
-map_push : {A B : Type 0} (f : A → B) (xs : List A) (x : A) → map f (xs ++ x ∷ []) ≡ map f xs ++ f x ∷ []
+pub map_push : {A B : Type 0} (f : A → B) (xs : List A) (x : A) → map f (xs ++ x ∷ []) ≡ map f xs ++ f x ∷ []
 map_push f [] x = refl
 map_push f (y ∷ xs) x = ap (λ l. f y ∷ l) (map_push f xs x)
 
@@ -54,12 +54,12 @@ sorted_push (x ∷ xs) n below sorted = (
   sorted_push xs n below.1 sorted.1,
 )
 
-rises_push : (xs : List ℕ) (n : ℕ) → AllByRecursion (λ (x : ℕ). x < n) xs → IsStrictlyIncreasing xs
+pub rises_push : (xs : List ℕ) (n : ℕ) → AllByRecursion (λ (x : ℕ). x < n) xs → IsStrictlyIncreasing xs
     → IsStrictlyIncreasing (xs ++ n ∷ [])
 rises_push xs n below rises =
     IsStrictlyIncreasing-from_sorted (xs ++ n ∷ []) (sorted_push xs n below (sorted_from_strictly_increasing xs rises))
 
-numbers_below : (n : ℕ) (conns : List Entry) → AllByRecursion (λ (entry : Entry). entry.0 ≤ n) conns
+pub numbers_below : (n : ℕ) (conns : List Entry) → AllByRecursion (λ (entry : Entry). entry.0 ≤ n) conns
     → AllByRecursion (λ (x : ℕ). x < n + 1) (map (λ (entry : Entry). entry.0) conns)
 numbers_below n [] all = tt
 numbers_below n (e ∷ conns) all = (omega (arith, all.0), numbers_below n conns all.1)
@@ -88,7 +88,7 @@ one_step true new k is = let same : Some new ≡ Some k = is in cc
 one_step false new k is = let never : None ≡ Some k = is in cc
 
 -- what is found was there, or is the new one
-at_last : (conns : List Entry) (new : Entry) (id : ℕ) (k : ConnPast) → conn_at (conns ++ new ∷ []) id ≡ Some k
+pub at_last : (conns : List Entry) (new : Entry) (id : ℕ) (k : ConnPast) → conn_at (conns ++ new ∷ []) id ≡ Some k
     → (conn_at conns id ≡ Some k) ⊎ (k ≡ new.1)
 at_last [] new id k is = inr (one_step (new.0 == id) new.1 k is)
 at_last (e ∷ conns) new id k is =

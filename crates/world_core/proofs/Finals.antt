@@ -1,112 +1,82 @@
--- Each final answer among a peer's notes has a verdict that is right by the transcript of its connection.
-use Rattle.std.proofs.Common.{◌≡◌, ◌⊎◌, ℕ, zero, suc, ◌+◌, ◌<◌, Bool, true, false, cond, Option, None, Some, List, []}
-use Rattle.std.proofs.Common.{◌∷◌, ◌++◌, length, drop, map, refl, sym, ap, ◌∙◌, subst, inl, inr, arith}
-use Rattle.std.specs.Prelude.{◌==◌, Contains, if◌then◌else◌, is_some}
+-- Each final answer among a peer's notes has a verdict, to which a connection of the run has come.
+use Rattle.std.proofs.Common.{◌≡◌, ◌⊎◌, ℕ, zero, suc, ◌+◌, ◌<◌, Bool, true, false, cond, Option, None, Some, List}
+use Rattle.std.proofs.Common.{[], ◌∷◌, ◌++◌, length, drop, map, refl, sym, ap, ◌∙◌, subst, inl, inr, arith}
+use Rattle.std.proofs.Common.{append_assoc, append-nil}
+use Rattle.std.specs.Prelude.{◌==◌, Contains, if◌then◌else◌, option_map}
 use Rattle.std.proofs.Math.ListN.{set}
-use Rattle.std.specs.List.{AllByRecursion, AllZip, slice_get}
-use Rattle.conn_core.specs.History.{needed, Came, End, Event as Happening, Faulted, Taken, after, ends, need, outcomes}
-use Rattle.conn_core.specs.History.{Broke, Handed, Offered, Sent, Tick as Ticked, output, outside, reason, story, taken}
-use Rattle.conn_core.specs.Receipt.Receives.{Is_closed, Waits, Reads, Fails as FailsToRead}
-use Rattle.conn_core.specs.Receipt.{Receives}
-use Rattle.conn_core.specs.Stands.{Arises, Starts, Goes_on}
-use Rattle.conn_core.specs.Stands.{left_behind}
+use Rattle.std.proofs.lemmas.Bool.{cases_eq, eq-eqb, eqb-true}
+use Rattle.std.proofs.lemmas.Option.{slice_get-map}
+use Rattle.std.specs.List.{AllByRecursion, slice_get}
+use Rattle.std.specs.List.Sorted.{IsStrictlyIncreasing}
+use Rattle.disk_model.specs.declared.choice.Choice.{Choice}
+use Rattle.ledger_core.specs.State.{Owing}
+use Rattle.ledger_core.specs.declared.note.FinalCode.{FinalCode}
+use Rattle.ledger_core.specs.declared.note.Note.{Note}
+use Rattle.ledger_core.specs.declared.note.Note.TheVariants.{Drop, Final, Owe}
+use Rattle.conn_core.specs.Commands.{debt_in}
+use Rattle.conn_core.specs.History.{Broke, End, Event as Happening, Handed, Offered, Tick as Ticked, accepted, after}
+use Rattle.conn_core.specs.History.{ends, outcomes, outside, taken}
+use Rattle.conn_core.specs.Stands.{Arises, Goes_on, Starts, left_behind}
 use Rattle.conn_core.specs.declared.options.Options.{Options}
 use Rattle.conn_core.specs.declared.outcome.Outcome.{Outcome}
 use Rattle.conn_core.specs.declared.outcome.Outcome.TheVariants.{Back, Deferred, Final as FinalOutcome, Lost}
 use Rattle.conn_core.specs.declared.verdict.Verdict.{Verdict}
-use Rattle.conn_laws.specs.Laws.{AllRight, IsRightAt}
-use Rattle.ledger_core.specs.declared.note.FinalCode.{FinalCode}
-use Rattle.ledger_core.specs.declared.note.Note.{Note}
-use Rattle.ledger_core.specs.declared.note.Note.TheVariants.{Drop, Final, Owe}
-use Rattle.peer_queue.specs.Settled.{deferred_as}
+use Rattle.conn_laws.specs.Laws.{AllAreTheirOwn, AllRight, IsRightAt}
+use Rattle.feed_conf.specs.declared.conf.PeerConf.{PeerConf}
 use Rattle.peer_queue.specs.Place.{Ready as ReadyPlace, moved}
+use Rattle.peer_queue.specs.Settled.{deferred_as}
 use Rattle.peer_queue.specs.Shed.{dropped}
 use Rattle.peer_queue.specs.declared.limits.Owed.{Owed}
 use Rattle.peer_queue.specs.declared.limits.Owed.TheVariants.{Already, New}
 use Rattle.peer_queue.specs.declared.settled.Settled.{Settled}
 use Rattle.peer_queue.specs.declared.settled.Settled.TheVariants.{Answered, Dropped, Later, Ready}
 use Rattle.recovery.specs.Notes.{History}
-use Rattle.world_core.specs.Past.{ConnPast, Life, Past, PeerPast, TapePast, conn_at, limits_of, options_of, with_past}
-use Rattle.world_core.specs.Past.{with_peer, with_places, with_tape}
+use Rattle.world_core.specs.Past.{ConnPast, Life, Past, PeerPast, TapePast, conn_at, limits_of, options_of}
+use Rattle.world_core.specs.Past.{with_conn, with_past, with_peer, with_places, with_tape}
 use Rattle.world_core.specs.Events.{Acknowledges, AllDo, Claims, Does, Event, Opens, OpensIntake, Owes, Parts, Returns}
-use Rattle.world_core.specs.Events.{Rotates, Sees, Settles, Sheds}
+use Rattle.world_core.specs.Events.{IsCandidate, Rotates, Sees, Settles, Sheds}
 use Rattle.world_core.specs.Events.{Refuses as RefusesEvent, claimed_peer, each_rank, opened_peer, owed_as, owing_as}
 use Rattle.world_core.specs.Events.{parted, settled, settled_as, shed_peer}
 use Rattle.world_core.specs.Events.AllDo.{Start as NoEvent, Next as OneEvent}
-use Rattle.world_core.specs.Exchange.{with_transcript, Follows, HandsOver, TicksEach, settle_events, sent_out, told_out}
-use Rattle.world_core.specs.Exchange.{untold, with_taken}
+use Rattle.world_core.specs.Exchange.{Follows, HandsOver, IsConn, TicksEach, sent_out, settle_events, told_out, untold}
+use Rattle.world_core.specs.Exchange.{with_transcript}
 use Rattle.world_core.specs.Exchange.HandsOver.{None_there, Taken_over, Has_no_room, Is_shut}
 use Rattle.world_core.specs.Exchange.TicksEach.{Start as NoneTicked, Next as OneTicked}
-use Rattle.world_core.specs.Told.{Said}
-use Rattle.world_core.specs.declared.told.Handed.{Handed as Handover}
-use Rattle.world_core.specs.Laws.{AllFinalsAreRight, HasRightFinals, HasVerdict, OverRuns}
-use Rattle.world_core.proofs.Holding.{contains_first, contains_more, outcomes_taken}
 use Rattle.world_core.specs.Halts.{AtRest, ByChoice, CallsDisks, Manner, Strikes, TakesStop, left_peer, restart_events}
+use Rattle.world_core.specs.Laws.{AllFinalsAreRight, HasVerdict, Passes, Rules, WasAccepted, WasTaken}
 use Rattle.world_core.specs.Runs.{Does as DoesStep, Runs, Takes}
 use Rattle.world_core.specs.Runs.Runs.{Start as NoStep, Next as OneStep}
-use Rattle.world_core.specs.Safe.{KeepsNotes}
-use Rattle.world_core.specs.Sound.{IsSoundConn}
+use Rattle.world_core.specs.Safe.{IsSafe, KeepsNotes}
+use Rattle.world_core.specs.Sound.{IsSoundConn, IsSoundLife}
 use Rattle.world_core.specs.Steps.{Good, NotGood, Reading, TakesReading, begun_at, flush_events, is_named, owes_from}
 use Rattle.world_core.specs.Steps.{seal_events}
+use Rattle.world_core.specs.Told.{Said}
 use Rattle.world_core.specs.declared.fault.Fault.{Fault}
 use Rattle.world_core.specs.declared.step.Step.{Step}
 use Rattle.world_core.specs.declared.step.Step.TheVariants.{Line, Flush, Begin, Part, Seal, Connect, Hand, Bytes}
 use Rattle.world_core.specs.declared.step.Step.TheVariants.{Article, Break, Tick, Shed}
 use Rattle.world_core.specs.declared.step.Step.TheVariants.{Rotate, Stop, Restart}
-use Rattle.disk_model.specs.declared.choice.Choice.{Choice}
-use Rattle.world_core.proofs.Pure.{all_weaker}
-use Rattle.world_core.proofs.Receiving.{wanted_step}
+use Rattle.world_core.specs.declared.told.Handed.{Handed as Handover}
+use Rattle.world_core.proofs.Connecting.{at_last, map_push, numbers_below, rises_push}
+use Rattle.world_core.proofs.Growing.{Grew, accepted_offered, ends_grew, grew_by, grew_outside, grew_received}
+use Rattle.world_core.proofs.Growing.{grew_same, grew_sent, grew_then, receives, sends, wanted_there}
+use Rattle.world_core.proofs.Holding.{contains_first, contains_more}
+use Rattle.world_core.proofs.Joining.{conn_there, put_other}
+use Rattle.world_core.proofs.Lifting.{get_apart, get_set}
+use Rattle.world_core.proofs.Pure.{all_push, all_weaker}
 use Rattle.world_core.proofs.Recovering.{contains_taken}
 use Rattle.world_core.proofs.Shedding.{same_rotated}
 use Rattle.world_core.proofs.Stationed.{same_history}
 use Rattle.world_core.proofs.Steady.{both_all, first_all}
 
--- ---- outcomes
+once : {A : Type 0} (x y : A) → Some x ≡ Some y → x ≡ y
+once x y same = cc
 
--- the law of one connection: each verdict is right by its transcript
-abbrev pub VerdictsAreRight : Type 0
-VerdictsAreRight = (options : Options) (h : List Happening) → Arises options h → AllRight options h
-
--- where the outcome is a verdict, that is right
-abbrev IsRight : Options → Outcome → Type 0
-IsRight options outcome = (verdict : Verdict) → outcome ≡ FinalOutcome verdict
-    → HasVerdict options verdict.debt.0 verdict.code
-
-all_dropped : {A : Type 0} (P : A → Type 0) (n : ℕ) (xs : List A) → AllByRecursion P xs → AllByRecursion P (drop n xs)
-all_dropped P zero xs all = all
-all_dropped P (suc n) [] all = tt
-all_dropped P (suc n) (x ∷ xs) all = all_dropped P n xs all.1
-
-module _ (options : Options) (h : List Happening) (arises : Arises options h) where
-  right_each : (xs : List End) → ((x : End) → Contains xs x → Contains (ends options h) x)
-      → AllByRecursion (λ (x : End). IsRightAt options h x.ticket x.outcome) xs
-      → AllByRecursion (IsRight options) (map (λ (x : End). x.outcome) xs)
-  right_each [] among all = tt
-  right_each (x ∷ xs) among all = (
-    λ verdict is. record {
-      transcript = h;
-      arises = arises;
-      end = x;
-      among = among x (contains_first xs x);
-      verdict = verdict;
-      is_final = is;
-      of_number = refl;
-      of_code = refl;
-      right = all.0;
-    },
-    right_each xs (λ y has. among y (contains_more xs x y has)) all.1,
-  )
-
-  -- each outcome that is still to be taken is right
-  untold_right : VerdictsAreRight → AllByRecursion (IsRight options) (untold options h)
-  untold_right law = all_dropped (IsRight options) (taken h) (outcomes options h)
-      (right_each (ends options h) (λ x has. has) (law options h arises))
-
--- ---- a peer
-
--- a peer has its settings still, and each final answer among its notes was there before, or is right
-abbrev pub HasRight : PeerPast → PeerPast → Type 0
-HasRight was now = (now.conf ≡ was.conf) × HasRightFinals was now
+-- what a list of elements that a property holds of contains
+all_contained : {A : Type 0} (P : A → Type 0) (xs : List A) (x : A) → AllByRecursion P xs → Contains xs x → P x
+all_contained P [] x all (k, below, is) = absurd (omega (arith, below))
+all_contained P (y ∷ xs) x all (zero, below, is) = subst P is all.0
+all_contained P (y ∷ xs) x all (suc k, below, is) = all_contained P xs x all.1 (k, omega (arith, below), is)
 
 contains_either : {A : Type 0} (xs ys : List A) (x : A) → Contains (xs ++ ys) x → Contains xs x ⊎ Contains ys x
 contains_either [] ys x has = inr has
@@ -120,38 +90,11 @@ contains_one : {A : Type 0} (y x : A) → Contains (y ∷ []) x → y ≡ x
 contains_one y x (zero, below, is) = is
 contains_one y x (suc k, below, is) = absurd (omega (arith, below))
 
-right_notes : (was now : PeerPast) → now.conf ≡ was.conf → now.tape.history.notes ≡ was.tape.history.notes
-    → HasRight was now
-right_notes was now conf same =
-    (conf, λ number code has. inl (subst (λ (notes : List Note). Contains notes (Final number code)) same has))
-
-right_more : (was now : PeerPast) (more : List Note) → now.conf ≡ was.conf
-    → now.tape.history.notes ≡ was.tape.history.notes ++ more
-    → ((number : ℕ) (code : FinalCode) → Contains more (Final number code)
-    → HasVerdict (options_of now.conf) number code) → HasRight was now
-right_more was now more conf is each = (
-  conf,
-  λ number code has. elim (contains_either was.tape.history.notes more (Final number code)
-      (subst (λ (notes : List Note). Contains notes (Final number code)) is has)) [
-        | inl front ↦ inl front
-        | inr behind ↦ inr (each number code behind)
-      ],
-)
-
-right_same : (peer : PeerPast) → HasRight peer peer
-right_same peer = right_notes peer peer refl refl
-
-right_then : (was mid now : PeerPast) → HasRight was mid → HasRight mid now → HasRight was now
-right_then was mid now one other = (
-  other.0 ∙ one.0,
-  λ number code has. elim (other.1 number code has) [
-    | inl before ↦ elim (one.1 number code before) [
-      | inl first ↦ inl first
-      | inr verdict ↦ inr (subst (λ conf. HasVerdict (options_of conf) number code) (sym other.0) verdict)
-    ]
-    | inr verdict ↦ inr verdict
-  ],
-)
+get_map : {A B : Type 0} (f : A → B) (xs : List A) (i : ℕ) (y : B) → slice_get (map f xs) i ≡ Some y
+    → (x : A) × (slice_get xs i ≡ Some x) × (f x ≡ y)
+get_map f [] i y is = let never : None ≡ Some y = is in cc
+get_map f (x ∷ xs) zero y is = (x, refl, once (f x) y is)
+get_map f (x ∷ xs) (suc i) y is = get_map f xs i y is
 
 no_final : (note : Note) (number : ℕ) (code : FinalCode) → (note ≡ Final number code → ⊥)
     → Contains (note ∷ []) (Final number code) → ⊥
@@ -162,370 +105,304 @@ no_drops [] number code (k, below, is) = absurd (omega (arith, below))
 no_drops (n ∷ numbers) number code (zero, below, is) = absurd cc
 no_drops (n ∷ numbers) number code (suc k, below, is) = no_drops numbers number code (k, omega (arith, below), is)
 
-owing_right : (owed : Owed) (number : ℕ) (token id : List ℕ) (peer : PeerPast)
-    → HasRight peer (owing_as owed number token id peer)
-owing_right New number token id peer =
-    right_more peer (owing_as New number token id peer) (Owe number token id ∷ []) refl refl
-    (λ n code has. absurd (no_final (Owe number token id) n code (λ is. cc) has))
-owing_right Already number token id peer = right_same peer
-
--- a debt of this number that was answered so, by a right verdict, or that was not answered
-answered_right : (settled : Settled) (number : ℕ) (peer : PeerPast)
-    → ((code : FinalCode) → settled ≡ Answered code → HasVerdict (options_of peer.conf) number code)
-    → HasRight peer (settled_as settled number peer)
-answered_right (Answered code) number peer right =
-    right_more peer (settled_as (Answered code) number peer) (Final number code ∷ []) refl refl
-    (λ n c has.
-    let is : Final number code ≡ Final n c = contains_one (Final number code) (Final n c) has in
-    let one : number ≡ n = cc in
-    let other : code ≡ c = cc in
-    subst (λ (m : ℕ). HasVerdict (options_of peer.conf) m c) one
-    (subst (λ (k : FinalCode). HasVerdict (options_of peer.conf) number k) other (right code refl)))
-answered_right (Dropped cause) number peer right =
-    right_more peer (settled_as (Dropped cause) number peer) (Drop number cause ∷ []) refl refl
-    (λ n c has. absurd (no_final (Drop number cause) n c (λ is. cc) has))
-answered_right (Later moment) number peer right = right_notes peer (settled_as (Later moment) number peer) refl refl
-answered_right Ready number peer right = right_notes peer (settled_as Ready number peer) refl refl
-
-deferred_not : (b : Bool) (now : ℕ) (code : FinalCode) → deferred_as b now ≡ Answered code → ⊥
-deferred_not true now code is = cc
-deferred_not false now code is = cc
-
-settled_right : (now : ℕ) (outcome : Outcome) (peer : PeerPast) → IsRight (options_of peer.conf) outcome
-    → HasRight peer (settled now outcome peer)
-settled_right now (FinalOutcome verdict) peer right =
-    answered_right (Answered verdict.code) verdict.debt.0 peer
-    (λ code is. subst (λ (c : FinalCode). HasVerdict (options_of peer.conf) verdict.debt.0 c)
-    (answered_code verdict.code code is) (right verdict refl))
-  where
-    answered_code : (one other : FinalCode) → Answered one ≡ Answered other → one ≡ other
-    answered_code one other is = cc
-settled_right now (Deferred deferral) peer right =
-    answered_right (deferred_as (limits_of peer.conf).drop_deferred now) _ peer
-    (λ code is. absurd (deferred_not (limits_of peer.conf).drop_deferred now code is))
-settled_right now (Lost debt cause) peer right = answered_right (Dropped cause) debt.0 peer (λ code is. absurd cc)
-settled_right now (Back debt) peer right = answered_right Ready debt.0 peer (λ code is. absurd cc)
-
--- ---- all peers
-
-abbrev AllRightSince : Past → Past → Type 0
-AllRightSince was now = AllZip HasRight was.peers now.peers
-
-all_same : (peers : List PeerPast) → AllZip HasRight peers peers
-all_same [] = tt
-all_same (peer ∷ peers) = (right_same peer, all_same peers)
-
-all_then : (was mid now : List PeerPast) → AllZip HasRight was mid → AllZip HasRight mid now → AllZip HasRight was now
-all_then [] [] [] one other = tt
-all_then [] [] (c ∷ now) one other = absurd other
-all_then [] (b ∷ mid) now one other = absurd one
-all_then (a ∷ was) [] now one other = absurd one
-all_then (a ∷ was) (b ∷ mid) [] one other = absurd other
-all_then (a ∷ was) (b ∷ mid) (c ∷ now) one other = (right_then a b c one.0 other.0, all_then was mid now one.1 other.1)
-
-all_put : (peers : List PeerPast) (rank : ℕ) (was now : PeerPast) → slice_get peers rank ≡ Some was → HasRight was now
-    → AllZip HasRight peers (set peers rank now)
-all_put [] rank was now here same = absurd cc
-all_put (peer ∷ peers) zero was now here same =
-    let is : peer ≡ was = cc in
-    (subst (λ (p : PeerPast). HasRight p now) (sym is) same, all_same peers)
-all_put (peer ∷ peers) (suc rank) was now here same = (right_same peer, all_put peers rank was now here same)
-
-one_put : (past later : Past) (rank : ℕ) (was now : PeerPast) → slice_get past.peers rank ≡ Some was
-    → HasRight was now
-    → later ≡ with_peer past rank now → AllRightSince past later
-one_put past later rank was now here same is =
-    subst (AllRightSince past) (sym is) (all_put past.peers rank was now here same)
-
-none_put : (past later : Past) → later.peers ≡ past.peers → AllRightSince past later
-none_put past later same =
-    subst (λ (ps : List PeerPast). AllZip HasRight past.peers ps) (sym same) (all_same past.peers)
-
--- the peer at a rank had the same settings before
-peer_before : (was now : List PeerPast) (rank : ℕ) (peer : PeerPast) → AllZip HasRight was now
-    → slice_get now rank ≡ Some peer
-    → (before : PeerPast) × (slice_get was rank ≡ Some before) × (peer.conf ≡ before.conf)
-peer_before [] [] rank peer all here = absurd cc
-peer_before [] (b ∷ now) rank peer all here = absurd all
-peer_before (a ∷ was) [] rank peer all here = absurd all
-peer_before (a ∷ was) (b ∷ now) zero peer all here =
-    let same : b ≡ peer = cc in
-    (a, refl, ap (λ (p : PeerPast). p.conf) (sym same) ∙ all.0.0)
-peer_before (a ∷ was) (b ∷ now) (suc rank) peer all here = peer_before was now rank peer all.1 here
-
--- ---- events
-
--- where an outcome goes to a peer it is right
-abbrev pub EventRight : Past → Event → Type 0
-EventRight past (Owes rank token id) = Unit {0}
-EventRight past (Parts rank) = Unit {0}
-EventRight past (Rotates rank generation) = Unit {0}
-EventRight past (Sheds rank numbers) = Unit {0}
-EventRight past (Claims rank id now) = Unit {0}
-EventRight past (Returns rank id number) = Unit {0}
-EventRight past (Settles rank id now outcome) = (peer : PeerPast) → slice_get past.peers rank ≡ Some peer
-    → IsRight (options_of peer.conf) outcome
-EventRight past (Sees number) = Unit {0}
-EventRight past Acknowledges = Unit {0}
-EventRight past (Opens rank) = Unit {0}
-EventRight past OpensIntake = Unit {0}
-
 notes_of : (one other : TapePast) → one ≡ other → one.history.notes ≡ other.history.notes
 notes_of one other same = ap (λ (t : TapePast). t.history.notes) same
 
-right_does : (event : Event) (past later : Past) → EventRight past event → Does event past later
-    → AllRightSince past later
-right_does (Owes rank token id) past later right d =
-    one_put past later rank d.peer _ d.here
-    (owing_right (owed_as (past.last + 1) d.peer) (past.last + 1) token id d.peer) d.changed
-right_does (Parts rank) past later right d =
-    one_put past later rank d.peer (parted d.peer d.tape) d.here
-    (right_notes d.peer (parted d.peer d.tape) refl (notes_of d.tape _ d.flushes.all)) d.changed
-right_does (Rotates rank generation) past later right d =
-    one_put past later rank d.peer (record d.peer { tape = d.tape }) d.here
-    (right_notes d.peer (record d.peer { tape = d.tape }) refl (notes_of d.tape _ d.rotates.all)) d.changed
-right_does (Sheds rank numbers) past later right d =
-    one_put past later rank d.peer (shed_peer numbers d.peer) d.here
-    (right_more d.peer (shed_peer numbers d.peer) (dropped numbers) refl refl
-    (λ n code has. absurd (no_drops numbers n code has))) d.changed
-right_does (Claims rank id now) past later right d =
-    one_put past later rank d.peer (claimed_peer id d.debt.0 d.tape d.peer) d.here
-    (right_notes d.peer (claimed_peer id d.debt.0 d.tape d.peer) refl (notes_of d.tape _ d.reads.all)) d.changed
-right_does (Returns rank id number) past later right d =
-    one_put past later rank d.peer (with_places d.peer (moved d.peer.places number ReadyPlace)) d.here
-    (right_notes d.peer (with_places d.peer (moved d.peer.places number ReadyPlace)) refl refl) d.changed
-right_does (Settles rank id now outcome) past later right d =
-    one_put past later rank d.peer (settled now outcome d.peer) d.here
-    (settled_right now outcome d.peer (right d.peer d.here)) d.changed
-right_does (Sees number) past later right d = none_put past later (ap (λ (p : Past). p.peers) d.changed)
-right_does Acknowledges past later right d = none_put past later (ap (λ (p : Past). p.peers) d.changed)
-right_does (Opens rank) past later right d =
-    one_put past later rank d.peer (opened_peer d.peer d.tape) d.here (
-      refl,
-      λ number code has. inl (contains_taken d.opens.count d.peer.tape.history.notes (Final number code)
-          (subst (λ (notes : List Note). Contains notes (Final number code)) (notes_of d.tape _ d.opens.all) has)),
-    ) d.changed
-right_does OpensIntake past later right d = none_put past later (ap (λ (p : Past). p.peers) d.changed)
+history_same : (one other : TapePast) → one ≡ other → one.history ≡ other.history
+history_same one other same = ap (λ (t : TapePast). t.history) same
 
--- what is right at first is so still, since settings stay
-right_still : (past later : Past) (event : Event) → AllRightSince past later → EventRight past event
-    → EventRight later event
-right_still past later (Owes rank token id) all right = tt
-right_still past later (Parts rank) all right = tt
-right_still past later (Rotates rank generation) all right = tt
-right_still past later (Sheds rank numbers) all right = tt
-right_still past later (Claims rank id now) all right = tt
-right_still past later (Returns rank id number) all right = tt
-right_still past later (Settles rank id now outcome) all right = λ peer here.
-    let at = peer_before past.peers later.peers rank peer all here in
-    subst (λ conf. IsRight (options_of conf) outcome) (sym at.2) (right at.0 at.1)
-right_still past later (Sees number) all right = tt
-right_still past later Acknowledges all right = tt
-right_still past later (Opens rank) all right = tt
-right_still past later OpensIntake all right = tt
+-- ---- peers
 
-front_all : {A : Type 0} (P : A → Type 0) (xs ys : List A) → AllByRecursion P (xs ++ ys) → AllByRecursion P xs
-front_all P [] ys all = tt
-front_all P (x ∷ xs) ys all = (all.0, front_all P xs ys all.1)
+-- what is said of a final answer: at which rank, of which number, which code
+abbrev Says : Type 1
+Says = ℕ → ℕ → FinalCode → Type 0
 
-last_all : {A : Type 0} (P : A → Type 0) (xs : List A) (y : A) → AllByRecursion P (xs ++ y ∷ []) → P y
-last_all P [] y all = all.0
-last_all P (x ∷ xs) y all = last_all P xs y all.1
+-- a peer had these settings, and each final answer among its notes was there before, or has what is said of it
+abbrev HasRight : Says → ℕ → PeerPast → PeerPast → Type 0
+HasRight V rank was now = (now.conf ≡ was.conf)
+    × ((number : ℕ) (code : FinalCode) → Contains now.tape.history.notes (Final number code)
+    → Contains was.tape.history.notes (Final number code) ⊎ V rank number code)
 
-pub right_events : (begun later : Past) (events : List Event) → AllDo begun events later
-    → AllByRecursion (EventRight begun) events → AllRightSince begun later
-right_events begun _ _ NoEvent right = all_same begun.peers
-right_events begun later _ (OneEvent events event past _ does one safe) right =
-    let before = right_events begun past events does (front_all (EventRight begun) events (event ∷ []) right) in
-    all_then begun.peers past.peers later.peers before
-    (right_does event past later
-    (right_still begun past event before (last_all (EventRight begun) events event right)) one)
+-- of one of the peers at this rank
+pub record PeerRight (V : Says) (was : List PeerPast) (rank : ℕ) (now : PeerPast) : Type 0 where
+  pub before : PeerPast
+  pub here : slice_get was rank ≡ Some before
+  pub right : HasRight V rank before now
 
--- outcomes that are right go to the peer
-right_settles : (past : Past) (rank id now : ℕ) (peer : PeerPast) (os : List Outcome)
-    → slice_get past.peers rank ≡ Some peer
-    → AllByRecursion (IsRight (options_of peer.conf)) os
-    → AllByRecursion (EventRight past) (settle_events rank id now os)
-right_settles past rank id now peer [] here all = tt
-right_settles past rank id now peer (o ∷ os) here all = (
-  λ other there.
-      let same : peer ≡ other = cc in
-      subst (λ (p : PeerPast). IsRight (options_of p.conf) o) same all.0,
-  right_settles past rank id now peer os here all.1,
-)
+-- of all of them, and none is lost
+pub record AllRightly (V : Says) (was now : List PeerPast) : Type 0 where
+  pub fore : (rank : ℕ) (peer : PeerPast) → slice_get was rank ≡ Some peer
+      → (later : PeerPast) × (slice_get now rank ≡ Some later) × (later.conf ≡ peer.conf)
+  pub back : (rank : ℕ) (peer : PeerPast) → slice_get now rank ≡ Some peer → PeerRight V was rank peer
 
--- ---- transcripts
+-- nothing is said
+abbrev Anyhow : Says
+Anyhow rank number code = Unit {0}
 
-drop_some : {A : Type 0} (n : ℕ) (xs : List A) (o : A) (rest : List A) → o ∷ rest ≡ drop n xs
-    → (n < length xs) × (rest ≡ drop (suc n) xs)
-drop_some zero [] o rest is = absurd cc
-drop_some (suc n) [] o rest is = absurd cc
-drop_some zero (x ∷ xs) o rest is = (omega arith, let same : rest ≡ xs = cc in same)
-drop_some (suc n) (x ∷ xs) o rest is = let so = drop_some n xs o rest is in (omega (arith, so.0), so.1)
-
-module _ (options : Options) where
-  takes : (os : List Outcome) (h : List Happening) → os ≡ untold options h → Arises options h
-      → Arises options (with_taken os h)
-  takes [] h is arises = arises
-  takes (o ∷ os) h is arises =
-      let so = drop_some (taken h) (outcomes options h) o os is in
-      let more : suc (taken h) ≡ taken h + 1 = omega arith in
-      takes os (Taken ∷ h)
-      (so.1 ∙ ap (λ (n : ℕ). drop n (outcomes options h)) more
-      ∙ ap (λ (l : List Outcome). drop (taken h + 1) l) (sym (outcomes_taken options h)))
-      (Goes_on h Taken arises so.0)
-
-  sends : (h : List Happening) → Arises options h → Arises options (sent_out options h)
-  sends h arises =
-      Goes_on (told_out options h) (Sent (length (output options (told_out options h)))) (takes (untold options h) h refl arises) (omega arith)
-
-  alive_outside : (h : List Happening) (e : Happening) → reason options h ≡ None
-      → outside options h e ≡ after options h e
-  alive_outside h e alive = ap (λ r. if is_some r then h else after options h e) alive
-
-  receives : (waiting left : List ℕ) (h later : List Happening) → Arises options h
-      → Receives options waiting h later left → Arises options later
-  receives _ _ h _ arises (Is_closed waiting _ closed) = arises
-  receives _ _ h _ arises (Waits waiting _ alive short) = arises
-  receives _ left h later arises (Reads waiting rest _ _ _ reply alive begins more) =
-      receives rest left (after options h (Came reply)) later
-      (subst (Arises options) (alive_outside h (Came reply) alive) (Goes_on h (Came reply) arises tt)) more
-  receives _ _ h _ arises (FailsToRead waiting _ fault alive begins) =
-      subst (Arises options) (alive_outside h (Faulted fault) alive) (Goes_on h (Faulted fault) arises tt)
-
--- ---- connections
-
--- the transcript of a connection can have come about
-abbrev ArisesAt : List PeerPast → ConnPast → Type 0
-ArisesAt peers conn = (peer : PeerPast) → slice_get peers conn.rank ≡ Some peer
-    → Arises (options_of peer.conf) conn.transcript
-
-abbrev pub AllArise : List PeerPast → List (ℕ × ConnPast) → Type 0
-AllArise peers conns = AllByRecursion (λ (entry : ℕ × ConnPast). ArisesAt peers entry.1) conns
-
-still : (was now : List PeerPast) → AllZip HasRight was now → (conn : ConnPast) → ArisesAt was conn → ArisesAt now conn
-still was now all conn arises = λ peer here.
-    let at = peer_before was now conn.rank peer all here in
-    subst (λ conf. Arises (options_of conf) conn.transcript) (sym at.2) (arises at.0 at.1)
-
-all_still : (was now : List PeerPast) → AllZip HasRight was now → (conns : List (ℕ × ConnPast)) → AllArise was conns
-    → AllArise now conns
-all_still was now all [] each = tt
-all_still was now all (entry ∷ conns) each = (still was now all entry.1 each.0, all_still was now all conns each.1)
-
-put_step : (b : Bool) (peers : List PeerPast) (id : ℕ) (conn : ConnPast) (entry : ℕ × ConnPast) → ArisesAt peers conn
-    → ArisesAt peers entry.1
-    → ArisesAt peers (if b then (id, conn) else entry).1
-put_step true peers id conn entry one other = one
-put_step false peers id conn entry one other = other
-
-put_conn : (peers : List PeerPast) (conns : List (ℕ × ConnPast)) (id : ℕ) (conn : ConnPast) → AllArise peers conns
-    → ArisesAt peers conn
-    → AllArise peers (map (λ (entry : ℕ × ConnPast). if entry.0 == id then (id, conn) else entry) conns)
-put_conn peers [] id conn all one = tt
-put_conn peers (entry ∷ conns) id conn all one =
-    (put_step (entry.0 == id) peers id conn entry one all.0, put_conn peers conns id conn all.1 one)
-
-there_step : (b : Bool) (peers : List PeerPast) (e : ConnPast) (o : Option ConnPast) (conn : ConnPast)
-    → cond b (Some e) o ≡ Some conn → ArisesAt peers e
-    → (o ≡ Some conn → ArisesAt peers conn) → ArisesAt peers conn
-there_step true peers e o conn is one rest = let same : e ≡ conn = cc in subst (ArisesAt peers) same one
-there_step false peers e o conn is one rest = rest is
-
-conn_there : (peers : List PeerPast) (conns : List (ℕ × ConnPast)) (id : ℕ) (conn : ConnPast) → AllArise peers conns
-    → conn_at conns id ≡ Some conn
-    → ArisesAt peers conn
-conn_there peers [] id conn all is = let never : None ≡ Some conn = is in cc
-conn_there peers (entry ∷ conns) id conn all is =
-    there_step (entry.0 == id) peers entry.1 (conn_at conns id) conn is all.0
-    (λ rest. conn_there peers conns id conn all.1 rest)
-
-get_conn : (peers : List PeerPast) (conns : List (ℕ × ConnPast)) (n id : ℕ) (conn : ConnPast) → AllArise peers conns
-    → slice_get conns n ≡ Some (id, conn)
-    → ArisesAt peers conn
-get_conn peers [] n id conn all is = absurd cc
-get_conn peers (entry ∷ conns) zero id conn all is =
-    let same : entry ≡ (id, conn) = cc in
-    subst (λ (e : ℕ × ConnPast). ArisesAt peers e.1) same all.0
-get_conn peers (entry ∷ conns) (suc n) id conn all is = get_conn peers conns n id conn all.1 is
-
-push_conn : (peers : List PeerPast) (conns : List (ℕ × ConnPast)) (entry : ℕ × ConnPast) → AllArise peers conns
-    → ArisesAt peers entry.1
-    → AllArise peers (conns ++ entry ∷ [])
-push_conn peers [] entry all one = (one, tt)
-push_conn peers (e ∷ conns) entry all one = (all.0, push_conn peers conns entry all.1 one)
-
--- ---- what follows a step on a connection
-
--- what steps make of a world whose transcripts can have come about
-pub record Rights (life later : Life) : Type 0 where
-  pub right : AllRightSince life.past later.past
-  pub arise : AllArise later.past.peers later.conns
-
-rights_then : (life mid later : Life) → Rights life mid → Rights mid later → Rights life later
-rights_then life mid later one other = record {
-  right = all_then life.past.peers mid.past.peers later.past.peers one.right other.right;
-  arise = other.arise;
+right_weaker : (V W : Says) → ((rank number : ℕ) (code : FinalCode) → V rank number code → W rank number code)
+    → (was now : List PeerPast) → AllRightly V was now → AllRightly W was now
+right_weaker V W weaker was now all = record {
+  fore = all.fore;
+  back = λ rank peer here.
+      let one = all.back rank peer here in
+      record {
+        before = one.before;
+        here = one.here;
+        right = (
+          one.right.0,
+          λ number code has. elim (one.right.1 number code has) [
+            | inl first ↦ inl first
+            | inr says ↦ inr (weaker rank number code says)
+          ],
+        );
+      };
 }
 
-same_peer : (peers : List PeerPast) (rank : ℕ) (one other : PeerPast) (h : List Happening)
-    → slice_get peers rank ≡ Some one → slice_get peers rank ≡ Some other
-    → Arises (options_of one.conf) h → Arises (options_of other.conf) h
-same_peer peers rank one other h here there arises =
-    let same : one ≡ other = cc in
-    subst (λ (p : PeerPast). Arises (options_of p.conf) h) same arises
+module _ (V : Says) where
+  abbrev AllRightSince : Past → Past → Type 0
+  AllRightSince was now = AllRightly V was.peers now.peers
 
--- what follows rests on the law of one connection
-module _ (law : VerdictsAreRight) where
-  follows_right : (id : ℕ) (was : List Happening) (conn : ConnPast) (life later : Life) (told : List Said)
-      → Follows id was conn life told later
-      → ArisesAt life.past.peers conn → AllArise life.past.peers life.conns → Rights life later
-  follows_right id was conn life later told f arises all =
-      let options = options_of f.peer.conf in
-      let right = right_events life.past f.past _ f.settles
-      (right_settles life.past conn.rank id life.now f.peer (untold options conn.transcript) f.here
-      (untold_right options conn.transcript (arises f.peer f.here) law)) in
-      let next : ConnPast = record {
-        rank = conn.rank;
-        unread = left_behind options conn.unread (told_out options conn.transcript);
-        transcript = sent_out options conn.transcript;
-      } in
-      let before : ArisesAt life.past.peers next = λ peer here.
-      same_peer life.past.peers conn.rank f.peer peer (sent_out options conn.transcript) f.here here
-      (sends options conn.transcript (arises f.peer f.here)) in
-      subst (Rights life) (sym f.changed) (record {
-        right = right;
-        arise = put_conn f.past.peers life.conns id next (all_still life.past.peers f.past.peers right life.conns all)
-            (still life.past.peers f.past.peers right next before);
-      })
+  right_notes : (rank : ℕ) (was now : PeerPast) → now.conf ≡ was.conf
+      → now.tape.history.notes ≡ was.tape.history.notes
+      → HasRight V rank was now
+  right_notes rank was now conf same =
+      (conf, λ number code has. inl (subst (λ (notes : List Note). Contains notes (Final number code)) same has))
 
-  hands_right : (id now : ℕ) (conn : ConnPast) (peer : PeerPast) (past : Past) (handed : Handover) (h : List Happening)
-      (later : Past)
-      → HandsOver id now conn peer past handed h later → slice_get past.peers conn.rank ≡ Some peer
-      → ArisesAt past.peers conn
-      → AllRightSince past later × Arises (options_of peer.conf) h
-  hands_right id now conn peer past _ _ _ (None_there tape works none reads) here arises = (
-    one_put past _ conn.rank peer (with_tape peer tape) here
-        (right_notes peer (with_tape peer tape) refl (notes_of tape _ reads.all)) refl,
-    arises peer here,
+  right_more : (rank : ℕ) (was now : PeerPast) (more : List Note) → now.conf ≡ was.conf
+      → now.tape.history.notes ≡ was.tape.history.notes ++ more
+      → ((number : ℕ) (code : FinalCode) → Contains more (Final number code) → V rank number code)
+      → HasRight V rank was now
+  right_more rank was now more conf is each = (
+    conf,
+    λ number code has. elim (contains_either was.tape.history.notes more (Final number code)
+        (subst (λ (notes : List Note). Contains notes (Final number code)) is has)) [
+          | inl front ↦ inl front
+          | inr behind ↦ inr (each number code behind)
+        ],
   )
-  hands_right id now conn peer past _ _ _ (Taken_over debt later is ready does) here arises =
-      (right_events past later _ does (tt, tt), Goes_on conn.transcript (Offered debt) (arises peer here) ready)
-  hands_right id now conn peer past _ _ _ (Has_no_room debt later is ready does) here arises =
-      (right_events past later _ does (tt, (tt, tt)), arises peer here)
-  hands_right id now conn peer past _ _ _ (Is_shut debt later is ready does) here arises =
-      (right_events past later _ does (tt, (tt, tt)), arises peer here)
 
-  ticks_right : (begun : Life) (count : ℕ) (told : List Said) (later : Life) → TicksEach begun count told later
-      → AllArise begun.past.peers begun.conns → Rights begun later
-  ticks_right begun _ _ _ NoneTicked all = record { right = all_same begun.past.peers; arise = all }
-  ticks_right begun _ _ _ (OneTicked count told more mid later id conn peer ticks here at follows) all =
-      let before = ticks_right begun count told mid ticks all in
-      let arises = get_conn mid.past.peers mid.conns count id conn before.arise here in
-      rights_then begun mid later before
-      (follows_right id conn.transcript _ mid later more follows
-      (λ other there. same_peer mid.past.peers conn.rank peer other _ at there
-      (Goes_on conn.transcript (Ticked mid.now) (arises peer at) tt)) before.arise)
+  right_same : (rank : ℕ) (peer : PeerPast) → HasRight V rank peer peer
+  right_same rank peer = right_notes rank peer peer refl refl
+
+  all_same : (peers : List PeerPast) → AllRightly V peers peers
+  all_same peers = record {
+    fore = λ rank peer here. (peer, here, refl);
+    back = λ rank peer here. record { before = peer; here = here; right = right_same rank peer };
+  }
+
+  right_then : (rank : ℕ) (was mid now : PeerPast) → HasRight V rank was mid → HasRight V rank mid now
+      → HasRight V rank was now
+  right_then rank was mid now one other = (
+    other.0 ∙ one.0,
+    λ number code has. elim (other.1 number code has) [
+      | inl before ↦ one.1 number code before
+      | inr says ↦ inr says
+    ],
+  )
+
+  all_then : (was mid now : List PeerPast) → AllRightly V was mid → AllRightly V mid now → AllRightly V was now
+  all_then was mid now one other = record {
+    fore = λ rank peer here.
+        let first = one.fore rank peer here in
+        let second = other.fore rank first.0 first.1 in
+        (second.0, second.1, second.2 ∙ first.2);
+    back = λ rank peer here.
+        let second = other.back rank peer here in
+        let first = one.back rank second.before second.here in
+        record {
+          before = first.before;
+          here = first.here;
+          right = right_then rank first.before second.before peer first.right second.right;
+        };
+  }
+
+  put_back : (peers : List PeerPast) (rank at : ℕ) (was now peer : PeerPast) → slice_get peers rank ≡ Some was
+      → HasRight V rank was now → at ≡ rank → slice_get (set peers rank now) at ≡ Some peer → PeerRight V peers at peer
+  put_back peers rank at was now peer here right same there =
+      let own : now ≡ peer = once now peer (sym (get_set peers rank was now here)
+      ∙ (ap (slice_get (set peers rank now)) (sym same) ∙ there)) in
+      record {
+        before = was;
+        here = ap (slice_get peers) same ∙ here;
+        right = subst (λ (p : PeerPast). HasRight V at was p) own
+            (subst (λ (n : ℕ). HasRight V n was now) (sym same) right);
+      }
+
+  put_fore : (peers : List PeerPast) (rank at : ℕ) (was now peer : PeerPast) → slice_get peers rank ≡ Some was
+      → now.conf ≡ was.conf → at ≡ rank → slice_get peers at ≡ Some peer
+      → (later : PeerPast) × (slice_get (set peers rank now) at ≡ Some later) × (later.conf ≡ peer.conf)
+  put_fore peers rank at was now peer here conf same there =
+      let own : was ≡ peer = once was peer (sym here ∙ (ap (slice_get peers) (sym same) ∙ there)) in (
+        now,
+        ap (slice_get (set peers rank now)) same ∙ get_set peers rank was now here,
+        conf ∙ ap (λ (p : PeerPast). p.conf) own,
+      )
+
+  all_put : (peers : List PeerPast) (rank : ℕ) (was now : PeerPast) → slice_get peers rank ≡ Some was
+      → HasRight V rank was now
+      → AllRightly V peers (set peers rank now)
+  all_put peers rank was now here right = record {
+    fore = λ at peer there. elim (cases_eq at rank) [
+      | inl same ↦ put_fore peers rank at was now peer here right.0 same there
+      | inr apart ↦ (peer, get_apart peers rank at now apart ∙ there, refl)
+    ];
+    back = λ at peer there. elim (cases_eq at rank) [
+      | inl same ↦ put_back peers rank at was now peer here right same there
+      | inr apart ↦ record {
+        before = peer;
+        here = sym (get_apart peers rank at now apart) ∙ there;
+        right = right_same at peer;
+      }
+    ];
+  }
+
+  all_map : (f : PeerPast → PeerPast) → ((peer : PeerPast) → (f peer).conf ≡ peer.conf)
+      → ((peer : PeerPast) → (f peer).tape.history.notes ≡ peer.tape.history.notes)
+      → (peers : List PeerPast) → AllRightly V peers (map f peers)
+  all_map f conf notes peers = record {
+    fore = λ rank peer here. (f peer, slice_get-map f peers rank ∙ ap (option_map f) here, conf peer);
+    back = λ rank peer here.
+        let at = get_map f peers rank peer here in
+        record {
+          before = at.0;
+          here = at.1;
+          right = subst (λ (p : PeerPast). HasRight V rank at.0 p) at.2
+              (right_notes rank at.0 (f at.0) (conf at.0) (notes at.0));
+        };
+  }
+
+  one_put : (past later : Past) (rank : ℕ) (was now : PeerPast) → slice_get past.peers rank ≡ Some was
+      → HasRight V rank was now
+      → later ≡ with_peer past rank now → AllRightSince past later
+  one_put past later rank was now here same is =
+      subst (AllRightSince past) (sym is) (all_put past.peers rank was now here same)
+
+  none_put : (past later : Past) → later.peers ≡ past.peers → AllRightSince past later
+  none_put past later same =
+      subst (λ (ps : List PeerPast). AllRightly V past.peers ps) (sym same) (all_same past.peers)
+
+  -- ---- what an event makes of a peer
+
+  owing_right : (rank : ℕ) (owed : Owed) (number : ℕ) (token id : List ℕ) (peer : PeerPast)
+      → HasRight V rank peer (owing_as owed number token id peer)
+  owing_right rank New number token id peer =
+      right_more rank peer (owing_as New number token id peer) (Owe number token id ∷ []) refl refl
+      (λ n code has. absurd (no_final (Owe number token id) n code (λ is. cc) has))
+  owing_right rank Already number token id peer = right_same rank peer
+
+  -- a debt of this number that was answered so, of which something is said, or that was not answered
+  answered_right : (rank : ℕ) (settled : Settled) (number : ℕ) (peer : PeerPast)
+      → ((code : FinalCode) → settled ≡ Answered code → V rank number code)
+      → HasRight V rank peer (settled_as settled number peer)
+  answered_right rank (Answered code) number peer right =
+      right_more rank peer (settled_as (Answered code) number peer) (Final number code ∷ []) refl refl
+      (λ n c has.
+      let is : Final number code ≡ Final n c = contains_one (Final number code) (Final n c) has in
+      let one : number ≡ n = cc in
+      let other : code ≡ c = cc in
+      subst (λ (m : ℕ). V rank m c) one (subst (λ (k : FinalCode). V rank number k) other (right code refl)))
+  answered_right rank (Dropped cause) number peer right =
+      right_more rank peer (settled_as (Dropped cause) number peer) (Drop number cause ∷ []) refl refl
+      (λ n c has. absurd (no_final (Drop number cause) n c (λ is. cc) has))
+  answered_right rank (Later moment) number peer right =
+      right_notes rank peer (settled_as (Later moment) number peer) refl refl
+  answered_right rank Ready number peer right = right_notes rank peer (settled_as Ready number peer) refl refl
+
+  -- where the outcome is a verdict, that is said
+  abbrev IsRight : ℕ → Outcome → Type 0
+  IsRight rank outcome = (verdict : Verdict) → outcome ≡ FinalOutcome verdict → V rank verdict.debt.0 verdict.code
+
+  deferred_not : (b : Bool) (now : ℕ) (code : FinalCode) → deferred_as b now ≡ Answered code → ⊥
+  deferred_not true now code is = cc
+  deferred_not false now code is = cc
+
+  settled_right : (rank now : ℕ) (outcome : Outcome) (peer : PeerPast) → IsRight rank outcome
+      → HasRight V rank peer (settled now outcome peer)
+  settled_right rank now (FinalOutcome verdict) peer right =
+      answered_right rank (Answered verdict.code) verdict.debt.0 peer
+      (λ code is. subst (λ (c : FinalCode). V rank verdict.debt.0 c)
+      (answered_code verdict.code code is) (right verdict refl))
+    where
+      answered_code : (one other : FinalCode) → Answered one ≡ Answered other → one ≡ other
+      answered_code one other is = cc
+  settled_right rank now (Deferred deferral) peer right =
+      answered_right rank (deferred_as (limits_of peer.conf).drop_deferred now) _ peer
+      (λ code is. absurd (deferred_not (limits_of peer.conf).drop_deferred now code is))
+  settled_right rank now (Lost debt cause) peer right =
+      answered_right rank (Dropped cause) debt.0 peer (λ code is. absurd cc)
+  settled_right rank now (Back debt) peer right = answered_right rank Ready debt.0 peer (λ code is. absurd cc)
+
+  -- ---- events
+
+  -- where an outcome goes to a peer it is right
+  abbrev EventRight : Event → Type 0
+  EventRight (Owes rank token id) = Unit {0}
+  EventRight (Parts rank) = Unit {0}
+  EventRight (Rotates rank generation) = Unit {0}
+  EventRight (Sheds rank numbers) = Unit {0}
+  EventRight (Claims rank id now) = Unit {0}
+  EventRight (Returns rank id number) = Unit {0}
+  EventRight (Settles rank id now outcome) = IsRight rank outcome
+  EventRight (Sees number) = Unit {0}
+  EventRight Acknowledges = Unit {0}
+  EventRight (Opens rank) = Unit {0}
+  EventRight OpensIntake = Unit {0}
+
+  right_does : (event : Event) (past later : Past) → EventRight event → Does event past later
+      → AllRightSince past later
+  right_does (Owes rank token id) past later right d =
+      one_put past later rank d.peer _ d.here
+      (owing_right rank (owed_as (past.last + 1) d.peer) (past.last + 1) token id d.peer) d.changed
+  right_does (Parts rank) past later right d =
+      one_put past later rank d.peer (parted d.peer d.tape) d.here
+      (right_notes rank d.peer (parted d.peer d.tape) refl (notes_of d.tape _ d.flushes.all)) d.changed
+  right_does (Rotates rank generation) past later right d =
+      one_put past later rank d.peer (record d.peer { tape = d.tape }) d.here
+      (right_notes rank d.peer (record d.peer { tape = d.tape }) refl (notes_of d.tape _ d.rotates.all)) d.changed
+  right_does (Sheds rank numbers) past later right d =
+      one_put past later rank d.peer (shed_peer numbers d.peer) d.here
+      (right_more rank d.peer (shed_peer numbers d.peer) (dropped numbers) refl refl
+      (λ n code has. absurd (no_drops numbers n code has))) d.changed
+  right_does (Claims rank id now) past later right d =
+      one_put past later rank d.peer (claimed_peer id d.debt.0 d.tape d.peer) d.here
+      (right_notes rank d.peer (claimed_peer id d.debt.0 d.tape d.peer) refl (notes_of d.tape _ d.reads.all)) d.changed
+  right_does (Returns rank id number) past later right d =
+      one_put past later rank d.peer (with_places d.peer (moved d.peer.places number ReadyPlace)) d.here
+      (right_notes rank d.peer (with_places d.peer (moved d.peer.places number ReadyPlace)) refl refl) d.changed
+  right_does (Settles rank id now outcome) past later right d =
+      one_put past later rank d.peer (settled now outcome d.peer) d.here
+      (settled_right rank now outcome d.peer right) d.changed
+  right_does (Sees number) past later right d = none_put past later (ap (λ (p : Past). p.peers) d.changed)
+  right_does Acknowledges past later right d = none_put past later (ap (λ (p : Past). p.peers) d.changed)
+  right_does (Opens rank) past later right d =
+      one_put past later rank d.peer (opened_peer d.peer d.tape) d.here (
+        refl,
+        λ number code has. inl (contains_taken d.opens.count d.peer.tape.history.notes (Final number code)
+            (subst (λ (notes : List Note). Contains notes (Final number code)) (notes_of d.tape _ d.opens.all) has)),
+      ) d.changed
+  right_does OpensIntake past later right d = none_put past later (ap (λ (p : Past). p.peers) d.changed)
+
+  front_all : {A : Type 0} (P : A → Type 0) (xs ys : List A) → AllByRecursion P (xs ++ ys) → AllByRecursion P xs
+  front_all P [] ys all = tt
+  front_all P (x ∷ xs) ys all = (all.0, front_all P xs ys all.1)
+
+  last_all : {A : Type 0} (P : A → Type 0) (xs : List A) (y : A) → AllByRecursion P (xs ++ y ∷ []) → P y
+  last_all P [] y all = all.0
+  last_all P (x ∷ xs) y all = last_all P xs y all.1
+
+  right_events : (begun later : Past) (events : List Event) → AllDo begun events later
+      → AllByRecursion EventRight events → AllRightSince begun later
+  right_events begun _ _ NoEvent right = all_same begun.peers
+  right_events begun later _ (OneEvent events event past _ does one safe) right =
+      all_then begun.peers past.peers later.peers
+      (right_events begun past events does (front_all EventRight events (event ∷ []) right))
+      (right_does event past later (last_all EventRight events event right) one)
+
+  -- outcomes that are right go to the peer
+  right_settles : (rank id now : ℕ) (os : List Outcome) → AllByRecursion (IsRight rank) os
+      → AllByRecursion EventRight (settle_events rank id now os)
+  right_settles rank id now [] all = tt
+  right_settles rank id now (o ∷ os) all = (all.0, right_settles rank id now os all.1)
 
   -- ---- events that take no outcome
 
@@ -542,23 +419,23 @@ module _ (law : VerdictsAreRight) where
   Plain (Opens rank) = Unit {0}
   Plain OpensIntake = Unit {0}
 
-  plain_right : (past : Past) (event : Event) → Plain event → EventRight past event
-  plain_right past (Owes rank token id) plain = tt
-  plain_right past (Parts rank) plain = tt
-  plain_right past (Rotates rank generation) plain = tt
-  plain_right past (Sheds rank numbers) plain = tt
-  plain_right past (Claims rank id now) plain = tt
-  plain_right past (Returns rank id number) plain = tt
-  plain_right past (Settles rank id now outcome) plain = absurd plain
-  plain_right past (Sees number) plain = tt
-  plain_right past Acknowledges plain = tt
-  plain_right past (Opens rank) plain = tt
-  plain_right past OpensIntake plain = tt
+  plain_right : (event : Event) → Plain event → EventRight event
+  plain_right (Owes rank token id) plain = tt
+  plain_right (Parts rank) plain = tt
+  plain_right (Rotates rank generation) plain = tt
+  plain_right (Sheds rank numbers) plain = tt
+  plain_right (Claims rank id now) plain = tt
+  plain_right (Returns rank id number) plain = tt
+  plain_right (Settles rank id now outcome) plain = absurd plain
+  plain_right (Sees number) plain = tt
+  plain_right Acknowledges plain = tt
+  plain_right (Opens rank) plain = tt
+  plain_right OpensIntake plain = tt
 
   plain_events : (begun later : Past) (events : List Event) → AllDo begun events later → AllByRecursion Plain events
       → AllRightSince begun later
   plain_events begun later events does plain =
-      right_events begun later events does (all_weaker Plain (EventRight begun) (plain_right begun) events plain)
+      right_events begun later events does (all_weaker Plain EventRight plain_right events plain)
 
   owes_step : (b : Bool) (x : Event) (xs : List Event) → Plain x → AllByRecursion Plain xs
       → AllByRecursion Plain (if b then x ∷ xs else xs)
@@ -594,10 +471,7 @@ module _ (law : VerdictsAreRight) where
       → now ≡ with_peer was rank (with_tape peer tape) → tape.history ≡ peer.tape.history → AllRightSince was now
   at_same was now rank peer tape here changed same =
       one_put was now rank peer (with_tape peer tape) here
-      (right_notes peer (with_tape peer tape) refl (ap (λ (h : History). h.notes) same)) changed
-
-  history_same : (one other : TapePast) → one ≡ other → one.history ≡ other.history
-  history_same one other same = ap (λ (t : TapePast). t.history) same
+      (right_notes rank peer (with_tape peer tape) refl (ap (λ (h : History). h.notes) same)) changed
 
   right_refused : (event : Event) (was now : Past) (fault : Fault) → RefusesEvent event was fault now
       → AllRightSince was now
@@ -623,24 +497,16 @@ module _ (law : VerdictsAreRight) where
       at_same was now rank r.peer r.tape r.here r.changed (ap (λ (t : TapePast). t.history) r.refused.all)
   right_refused OpensIntake was now fault r = none_put was now (ap (λ (p : Past). p.peers) r.changed)
 
-  left_right : (manner : Manner) (peers : List PeerPast) → AllZip HasRight peers (map (left_peer manner) peers)
-  left_right manner [] = tt
-  left_right AtRest (peer ∷ peers) = (right_notes peer (left_peer AtRest peer) refl refl, left_right AtRest peers)
-  left_right (ByChoice choice) (peer ∷ peers) =
-      (right_notes peer (left_peer (ByChoice choice) peer) refl refl, left_right (ByChoice choice) peers)
+  left_right : (manner : Manner) (peers : List PeerPast) → AllRightly V peers (map (left_peer manner) peers)
+  left_right AtRest peers = all_map (left_peer AtRest) (λ peer. refl) (λ peer. refl) peers
+  left_right (ByChoice choice) peers = all_map (left_peer (ByChoice choice)) (λ peer. refl) (λ peer. refl) peers
 
   begun_right : (peers : List PeerPast)
-      → AllZip HasRight peers (map (λ (peer : PeerPast). record peer { parted = false }) peers)
-  begun_right [] = tt
-  begun_right (peer ∷ peers) = (right_notes peer (record peer { parted = false }) refl refl, begun_right peers)
+      → AllRightly V peers (map (λ (peer : PeerPast). record peer { parted = false }) peers)
+  begun_right peers =
+      all_map (λ (peer : PeerPast). record peer { parted = false }) (λ peer. refl) (λ peer. refl) peers
 
-  -- ---- steps
-
-  tapes_right : (life later : Life) (past : Past) → AllRightSince life.past past → later ≡ with_past life past
-      → AllArise life.past.peers life.conns → Rights life later
-  tapes_right life later past right changed all =
-      subst (Rights life) (sym changed)
-      (record { right = right; arise = all_still life.past.peers past.peers right life.conns all })
+  -- ---- steps on tapes
 
   reading_right : (reading : Reading) (past later : Past) (told : List Said) → TakesReading reading past told later
       → AllRightSince past later
@@ -649,85 +515,20 @@ module _ (law : VerdictsAreRight) where
   reading_right (NotGood fault) past later told (said, changed) =
       none_put past later (ap (λ (p : Past). p.peers) changed)
 
-  stop_right : (peer : Option (List ℕ)) (call : ℕ) (choice : Choice) (life : Life) (told : List Said) (later : Life)
-      → TakesStop peer call choice life told later → AllArise life.past.peers life.conns → Rights life later
-  stop_right peer zero choice life told later (runs, said, changed) all =
-      subst (Rights life) (sym changed) (record { right = left_right AtRest life.past.peers; arise = tt })
-  stop_right peer (suc calls) choice life told later (rank, is, said, changed) all =
-      subst (Rights life) (sym changed) (record { right = all_same life.past.peers; arise = all })
-
-  some_there : {A : Type 0} (o : Option A) → (o ≡ None → ⊥) → is_some o ≡ true
-  some_there None never = absurd (never refl)
-  some_there (Some x) never = refl
-
-  wanted_there : (options : Options) (h : List Happening) (number : ℕ) → need options h ≡ Some number
-      → is_some (needed options h number) ≡ true
-  wanted_there options h number is =
-      some_there (needed options h number)
-      (wanted_step options (is_some (reason options h)) (story options h).wants (story options h).handed number is)
-
-  step_right : (step : Step) (life : Life) (told : List Said) (later : Life) → DoesStep step life told later
-      → AllArise life.past.peers life.conns
-      → Rights life later
-  step_right (Line text) life told later (runs, (past, takes, changed)) all =
-      tapes_right life later past (reading_right takes.reading life.past past told takes.takes) changed all
-  step_right Flush life told later (runs, (past, (does, said), changed)) all =
-      tapes_right life later past
-      (all_then life.past.peers (begun_at life.past).peers past.peers (begun_right life.past.peers)
-      (plain_events (begun_at life.past) past _ does (flush_plain life.past))) changed all
-  step_right Begin life told later (runs, (past, (said, is), changed)) all =
-      tapes_right life later past (subst (AllRightSince life.past) (sym is) (begun_right life.past.peers)) changed all
-  step_right (Part name) life told later (runs, (past, (rank, here, does, said), changed)) all =
-      tapes_right life later past (plain_events life.past past _ does (tt, tt)) changed all
-  step_right Seal life told later (runs, (past, (number, sealable, does, said), changed)) all =
-      tapes_right life later past (plain_events life.past past _ does (tt, (tt, tt))) changed all
-  step_right (Connect name) life told later (runs, t) all =
-      subst (Rights life) (sym t.changed) (record {
-        right = all_same life.past.peers;
-        arise = push_conn life.past.peers life.conns _ all (λ peer here. Starts);
-      })
-  step_right (Hand id) life told later (runs, t) all =
-      let arises = conn_there life.past.peers life.conns id t.conn all t.is.conn_is in
-      let hands = hands_right id life.now t.conn t.peer life.past t.handed t.transcript t.past t.hands t.is.peer_is
-      arises in
-      let mid = with_past life t.past in
-      let conns = all_still life.past.peers t.past.peers hands.0 life.conns all in
-      let next = with_transcript t.conn t.transcript in
-      let before : ArisesAt life.past.peers next = λ peer here.
-      same_peer life.past.peers t.conn.rank t.peer peer t.transcript t.is.peer_is here hands.1 in
-      rights_then life mid later (record { right = hands.0; arise = conns })
-      (follows_right id t.conn.transcript next mid later t.behind t.follows
-      (still life.past.peers t.past.peers hands.0 next before) conns)
-  step_right (Bytes id octets) life told later (runs, t) all =
-      let arises = conn_there life.past.peers life.conns id t.conn all t.is.conn_is in
-      follows_right id t.conn.transcript _ life later told t.follows
-      (λ peer here. same_peer life.past.peers t.conn.rank t.peer peer t.transcript t.is.peer_is here
-      (receives (options_of t.peer.conf) _ t.left t.conn.transcript t.transcript (arises t.peer t.is.peer_is)
-      t.receives)) all
-  step_right (Article id found) life told later (runs, t) all =
-      let arises = conn_there life.past.peers life.conns id t.conn all t.is.conn_is in
-      follows_right id t.conn.transcript _ life later told t.follows
-      (λ peer here. same_peer life.past.peers t.conn.rank t.peer peer _ t.is.peer_is here
-      (Goes_on t.conn.transcript (Handed t.number t.handing) (arises t.peer t.is.peer_is) (wanted_there (options_of t.peer.conf) t.conn.transcript t.number t.wanted))) all
-  step_right (Break id) life told later (runs, t) all =
-      let arises = conn_there life.past.peers life.conns id t.conn all t.is.conn_is in
-      follows_right id t.conn.transcript _ life later told t.follows
-      (λ peer here. same_peer life.past.peers t.conn.rank t.peer peer _ t.is.peer_is here
-      (Goes_on t.conn.transcript Broke (arises t.peer t.is.peer_is) tt)) all
-  step_right (Tick now) life told later (runs, t) all =
-      let ticks = ticks_right _ _ told later t all in
-      record { right = ticks.right; arise = ticks.arise }
-  step_right (Shed name) life told later (runs, (past, (rank, numbers, here, does, said), changed)) all =
-      tapes_right life later past (plain_events life.past past _ does (tt, tt)) changed all
-  step_right (Rotate name) life told later (runs, (past, (rank, generation, here, does, said), changed)) all =
-      tapes_right life later past (plain_events life.past past _ does (tt, tt)) changed all
-  step_right (Stop peer call choice) life told later takes all = stop_right peer call choice life told later takes all
-  step_right Restart life told later t all =
-      let right = plain_events life.past t.past _ t.opens (restart_plain life.past) in
-      subst (Rights life) (sym t.changed)
-      (record { right = right; arise = all_still life.past.peers t.past.peers right life.conns all })
-
-  -- ---- a stop that is met
+  -- what hands a debt over takes no outcome
+  handing_right : (id now : ℕ) (conn : ConnPast) (peer : PeerPast) (past : Past) (handed : Handover)
+      (h : List Happening) (later : Past)
+      → HandsOver id now conn peer past handed h later → slice_get past.peers conn.rank ≡ Some peer
+      → AllRightSince past later
+  handing_right id now conn peer past _ _ _ (None_there tape works none reads) here =
+      one_put past _ conn.rank peer (with_tape peer tape) here
+      (right_notes conn.rank peer (with_tape peer tape) refl (notes_of tape _ reads.all)) refl
+  handing_right id now conn peer past _ _ _ (Taken_over debt later is ready does) here =
+      plain_events past later _ does (tt, tt)
+  handing_right id now conn peer past _ _ _ (Has_no_room debt later is ready does) here =
+      plain_events past later _ does (tt, (tt, tt))
+  handing_right id now conn peer past _ _ _ (Is_shut debt later is ready does) here =
+      plain_events past later _ does (tt, (tt, tt))
 
   same_begun : (life : Life) (begun : Past) → begun ≡ life.past → AllRightSince life.past begun
   same_begun life begun same = none_put life.past begun (ap (λ (p : Past). p.peers) same)
@@ -760,53 +561,723 @@ module _ (law : VerdictsAreRight) where
   calls_right Restart life begun events (runs, is, its) =
       (same_begun life begun is, plain_at events _ its (restart_plain life.past))
 
-  strikes_right : (step : Step) (life : Life) (told : List Said) (later : Life) → Strikes step life told later
-      → Rights life later
-  strikes_right step life told later strikes =
+  struck_right : (step : Step) (life : Life) (told : List Said) (later : Life) → Strikes step life told later
+      → AllRightSince life.past later.past
+  struck_right step life told later strikes =
       let meets = strikes.meets in
       let calls = calls_right step life meets.begun meets.events meets.calls in
       let front = plain_events meets.begun meets.mid _ meets.front (first_all Plain meets.count meets.events calls.1) in
       let refused = right_refused meets.event meets.mid strikes.under_way _ meets.met in
       let under_way = all_then life.past.peers meets.begun.peers strikes.under_way.peers calls.0
       (all_then meets.begun.peers meets.mid.peers strikes.under_way.peers front refused) in
-      subst (Rights life) (sym strikes.changed) (record {
-        right = all_then life.past.peers strikes.under_way.peers _ under_way
-            (left_right (ByChoice strikes.stop.choice) strikes.under_way.peers);
-        arise = tt;
-      })
+      subst (λ (l : Life). AllRightly V life.past.peers l.past.peers) (sym strikes.changed)
+      (all_then life.past.peers strikes.under_way.peers _ under_way
+      (left_right (ByChoice strikes.stop.choice) strikes.under_way.peers))
+
+-- whatever is taken, no peer is lost, and its settings stay
+any_event : (event : Event) → EventRight Anyhow event
+any_event (Owes rank token id) = tt
+any_event (Parts rank) = tt
+any_event (Rotates rank generation) = tt
+any_event (Sheds rank numbers) = tt
+any_event (Claims rank id now) = tt
+any_event (Returns rank id number) = tt
+any_event (Settles rank id now outcome) = λ verdict is. tt
+any_event (Sees number) = tt
+any_event Acknowledges = tt
+any_event (Opens rank) = tt
+any_event OpensIntake = tt
+
+all_events : {A : Type 0} (P : A → Type 0) → ((x : A) → P x) → (xs : List A) → AllByRecursion P xs
+all_events P each [] = tt
+all_events P each (x ∷ xs) = (each x, all_events P each xs)
+
+none_lost : (begun later : Past) (events : List Event) → AllDo begun events later → AllRightSince Anyhow begun later
+none_lost begun later events does =
+    right_events Anyhow begun later events does (all_events (EventRight Anyhow) any_event events)
+
+-- ---- connections by their numbers
+
+abbrev Entry : Type 0
+Entry = ℕ × ConnPast
+
+abbrev ids_of : List Entry → List ℕ
+ids_of conns = map (λ (entry : Entry). entry.0) conns
+
+abbrev put : ℕ → ConnPast → Entry → Entry
+put id conn entry = if entry.0 == id then (id, conn) else entry
+
+put_here_step : (b : Bool) (e : Entry) (conns : List Entry) (id : ℕ) (conn was : ConnPast) → (e.0 == id) ≡ b
+    → (conn_at conns id ≡ Some was → conn_at (map (put id conn) conns) id ≡ Some conn)
+    → cond b (Some e.1) (conn_at conns id) ≡ Some was
+    → conn_at ((if b then (id, conn) else e) ∷ map (put id conn) conns) id ≡ Some conn
+put_here_step true e conns id conn was is rest here =
+    ap (λ (b : Bool). cond b (Some conn) (conn_at (map (put id conn) conns) id)) (eq-eqb id id refl)
+put_here_step false e conns id conn was is rest here =
+    ap (λ (b : Bool). cond b (Some e.1) (conn_at (map (put id conn) conns) id)) is ∙ rest here
+
+-- the connection of this number becomes the new one, where there is one
+put_here : (conns : List Entry) (id : ℕ) (conn was : ConnPast) → conn_at conns id ≡ Some was
+    → conn_at (map (put id conn) conns) id ≡ Some conn
+put_here [] id conn was here = let never : None ≡ Some was = here in cc
+put_here (e ∷ conns) id conn was here =
+    put_here_step (e.0 == id) e conns id conn was refl (put_here conns id conn was) here
+
+put_own_step : (b : Bool) (e : Entry) (conns : List Entry) (id : ℕ) (conn found : ConnPast) → (e.0 == id) ≡ b
+    → (conn_at (map (put id conn) conns) id ≡ Some found → found ≡ conn)
+    → conn_at ((if b then (id, conn) else e) ∷ map (put id conn) conns) id ≡ Some found → found ≡ conn
+put_own_step true e conns id conn found is rest here =
+    sym (once conn found
+    (sym (ap (λ (b : Bool). cond b (Some conn) (conn_at (map (put id conn) conns) id)) (eq-eqb id id refl)) ∙ here))
+put_own_step false e conns id conn found is rest here =
+    rest (sym (ap (λ (b : Bool). cond b (Some e.1) (conn_at (map (put id conn) conns) id)) is) ∙ here)
+
+put_own : (conns : List Entry) (id : ℕ) (conn found : ConnPast) → conn_at (map (put id conn) conns) id ≡ Some found
+    → found ≡ conn
+put_own [] id conn found here = let never : None ≡ Some found = here in cc
+put_own (e ∷ conns) id conn found here =
+    put_own_step (e.0 == id) e conns id conn found refl (put_own conns id conn found) here
+
+ids_step : (b : Bool) (e : Entry) (conns : List Entry) (id : ℕ) (conn : ConnPast) → (e.0 == id) ≡ b
+    → ids_of (map (put id conn) conns) ≡ ids_of conns
+    → ids_of ((if b then (id, conn) else e) ∷ map (put id conn) conns) ≡ ids_of (e ∷ conns)
+ids_step true e conns id conn is rest =
+    ap (λ (n : ℕ). n ∷ ids_of (map (put id conn) conns)) (sym (eqb-true e.0 id is)) ∙ ap (λ l. e.0 ∷ l) rest
+ids_step false e conns id conn is rest = ap (λ l. e.0 ∷ l) rest
+
+ids_put : (conns : List Entry) (id : ℕ) (conn : ConnPast) → ids_of (map (put id conn) conns) ≡ ids_of conns
+ids_put [] id conn = refl
+ids_put (e ∷ conns) id conn = ids_step (e.0 == id) e conns id conn refl (ids_put conns id conn)
+
+-- numbers rise, and none was not made
+record AreNumbered (connected : ℕ) (ids : List ℕ) : Type 0 where
+  rising : IsStrictlyIncreasing ids
+  below : AllByRecursion (λ (n : ℕ). n < connected + 1) ids
+
+-- ---- what holds of the connections of a world
+
+-- which debts a connection of this number, to the peer at this rank, may have accepted
+abbrev Owned : Type 1
+Owned = ℕ → ℕ → Owing → Type 0
+
+-- the transcript can have come about, and each debt that was accepted is one of those
+record Fits (O : Owned) (peers : List PeerPast) (id : ℕ) (conn : ConnPast) : Type 0 where
+  arises : (peer : PeerPast) → slice_get peers conn.rank ≡ Some peer → Arises (options_of peer.conf) conn.transcript
+  owned : (ticket : ℕ) (debt : Owing) → slice_get (accepted conn.transcript) ticket ≡ Some debt → O conn.rank id debt
+
+record AllFit (O : Owned) (peers : List PeerPast) (conns : List Entry) (connected : ℕ) : Type 0 where
+  each : (id : ℕ) (conn : ConnPast) → conn_at conns id ≡ Some conn → Fits O peers id conn
+  numbered : AreNumbered connected (ids_of conns)
+
+fits_owned : (O P : Owned) → ((rank id : ℕ) (debt : Owing) → O rank id debt → P rank id debt)
+    → (peers : List PeerPast) (conns : List Entry) (connected : ℕ) → AllFit O peers conns connected
+    → AllFit P peers conns connected
+fits_owned O P weaker peers conns connected all = record {
+  each = λ id conn here.
+      let one = all.each id conn here in
+      record { arises = one.arises; owned = λ ticket debt is. weaker conn.rank id debt (one.owned ticket debt is) };
+  numbered = all.numbered;
+}
+
+module _ (O : Owned) where
+  none_fit : (peers : List PeerPast) (connected : ℕ) → AllFit O peers [] connected
+  none_fit peers connected = record {
+    each = λ id conn here. (let never : None ≡ Some conn = here in cc);
+    numbered = record { rising = λ k less. absurd (omega (arith, less)); below = tt };
+  }
+
+  -- settings stay
+  still : (V : Says) (was now : List PeerPast) → AllRightly V was now → (id : ℕ) (conn : ConnPast)
+      → Fits O was id conn → Fits O now id conn
+  still V was now all id conn fits = record {
+    arises = λ peer here.
+        let at = all.back conn.rank peer here in
+        subst (λ (conf : PeerConf). Arises (options_of conf) conn.transcript) (sym at.right.0)
+        (fits.arises at.before at.here);
+    owned = fits.owned;
+  }
+
+  all_still : (V : Says) (was now : List PeerPast) → AllRightly V was now → (conns : List Entry) (connected : ℕ)
+      → AllFit O was conns connected → AllFit O now conns connected
+  all_still V was now all conns connected fit = record {
+    each = λ id conn here. still V was now all id conn (fit.each id conn here);
+    numbered = fit.numbered;
+  }
+
+  put_fits : (peers : List PeerPast) (conns : List Entry) (connected id : ℕ) (conn : ConnPast)
+      → AllFit O peers conns connected → Fits O peers id conn → AllFit O peers (map (put id conn) conns) connected
+  put_fits peers conns connected id conn all one = record {
+    each = λ at found here. elim (cases_eq at id) [
+      | inl same ↦
+          let own = put_own conns id conn found
+          (sym (ap (conn_at (map (put id conn) conns)) same) ∙ here) in
+          subst (λ (n : ℕ). Fits O peers n found) (sym same) (subst (Fits O peers id) (sym own) one)
+      | inr apart ↦ all.each at found (sym (put_other conns id at conn apart) ∙ here)
+    ];
+    numbered = subst (AreNumbered connected) (sym (ids_put conns id conn)) all.numbered;
+  }
+
+  -- a connection more, which has the next number
+  push_fits : (peers : List PeerPast) (conns : List Entry) (connected rank : ℕ) → AllFit O peers conns connected
+      → AllFit O peers (conns ++ (connected + 1, record { rank = rank; unread = []; transcript = [] }) ∷ [])
+      (connected + 1)
+  push_fits peers conns connected rank all =
+      let fresh : ConnPast = record { rank = rank; unread = []; transcript = [] } in
+      record {
+        each = λ id found here. elim (at_last conns (connected + 1, fresh) id found here) [
+          | inl there ↦ all.each id found there
+          | inr is ↦ subst (Fits O peers id) (sym is) (record {
+            arises = λ peer at. Starts;
+            owned = λ ticket debt none. (let never : None ≡ Some debt = none in cc);
+          })
+        ];
+        numbered = subst (AreNumbered (connected + 1))
+            (sym (map_push (λ (entry : Entry). entry.0) conns (connected + 1, fresh)))
+            (record {
+              rising = rises_push (ids_of conns) (connected + 1) all.numbered.below all.numbered.rising;
+              below = all_push (λ (n : ℕ). n < connected + 1 + 1) (ids_of conns) (connected + 1)
+                  (all_weaker (λ (n : ℕ). n < connected + 1) (λ (n : ℕ). n < connected + 1 + 1)
+                  (λ n less. omega (arith, less)) (ids_of conns) all.numbered.below) (omega arith);
+            });
+      }
+
+-- the laws of one connection
+abbrev pub VerdictsAreRight : Type 0
+VerdictsAreRight = (options : Options) (h : List Happening) → Arises options h → AllRight options h
+
+abbrev pub EndsAreOwn : Type 0
+EndsAreOwn = (options : Options) (h : List Happening) → AllAreTheirOwn options h
+
+all_dropped : {A : Type 0} (P : A → Type 0) (n : ℕ) (xs : List A) → AllByRecursion P xs → AllByRecursion P (drop n xs)
+all_dropped P zero xs all = all
+all_dropped P (suc n) [] all = tt
+all_dropped P (suc n) (x ∷ xs) all = all_dropped P n xs all.1
+
+all_mapped : (P : Outcome → Type 0) (xs all : List End) → ((x : End) → Contains xs x → Contains all x)
+    → ((x : End) → Contains all x → P x.outcome) → AllByRecursion P (map (λ (x : End). x.outcome) xs)
+all_mapped P [] all among each = tt
+all_mapped P (x ∷ xs) all among each = (
+  each x (among x (contains_first xs x)),
+  all_mapped P xs all (λ y has. among y (contains_more xs x y has)) each,
+)
+
+-- each outcome that is still to be taken has what each that came out has
+untold_all : (P : Outcome → Type 0) (options : Options) (h : List Happening)
+    → ((x : End) → Contains (ends options h) x → P x.outcome) → AllByRecursion P (untold options h)
+untold_all P options h each =
+    all_dropped P (taken h) (outcomes options h) (all_mapped P (ends options h) (ends options h) (λ x has. has) each)
+
+-- ---- verdicts in a world
+
+-- a connection of this world has come to a verdict of this number and code, on a debt that it may have accepted
+record IsRuled (O : Owned) (life : Life) (rank number : ℕ) (code : FinalCode) : Type 0 where
+  id : ℕ
+  verdict : Verdict
+  rules : Rules life rank id verdict
+  of_number : verdict.debt.0 ≡ number
+  of_code : verdict.code ≡ code
+  owned : O rank id verdict.debt
+
+-- what a step makes of a world whose connections fit
+record Rights (O : Owned) (life later : Life) : Type 0 where
+  right : AllRightly (IsRuled O later) life.past.peers later.past.peers
+  fit : AllFit O later.past.peers later.conns later.connected
+
+-- each connection is there still, and no debt was accepted
+abbrev Carries : Life → Life → Type 0
+Carries life later = (id : ℕ) (conn : ConnPast) → conn_at life.conns id ≡ Some conn
+    → (next : ConnPast) × (conn_at later.conns id ≡ Some next) × (next.rank ≡ conn.rank)
+    × Grew conn.transcript next.transcript
+
+module _ (law : VerdictsAreRight) (own : EndsAreOwn) where
+  rules_by : (life : Life) (rank id : ℕ) (conn : ConnPast) (peer : PeerPast) → IsConn id life conn peer
+      → conn.rank ≡ rank → Arises (options_of peer.conf) conn.transcript
+      → (x : End) → Contains (ends (options_of peer.conf) conn.transcript) x
+      → (verdict : Verdict) → x.outcome ≡ FinalOutcome verdict → Rules life rank id verdict
+  rules_by life rank id conn peer is its arises x among verdict final =
+      let options = options_of peer.conf in
+      let h = conn.transcript in
+      record {
+        conn = conn;
+        peer = peer;
+        is = is;
+        its = its;
+        arises = arises;
+        end = x;
+        among = among;
+        is_final = final;
+        own = all_contained (λ (y : End). slice_get (accepted h) y.ticket ≡ Some (debt_in y.outcome)) (ends options h)
+            x (own options h) among ∙ ap (λ (o : Outcome). Some (debt_in o)) final;
+        right = all_contained (λ (y : End). IsRightAt options h y.ticket y.outcome) (ends options h) x
+            (law options h arises) among;
+      }
+
+  -- a verdict stands as its connection goes on
+  rules_on : (O : Owned) (V : Says) (life later : Life) → Carries life later
+      → AllRightly V life.past.peers later.past.peers
+      → AllFit O later.past.peers later.conns later.connected → (rank id : ℕ) (verdict : Verdict)
+      → Rules life rank id verdict
+      → Rules later rank id verdict
+  rules_on O V life later carries all fit rank id verdict rules =
+      let next = carries id rules.conn rules.is.conn_is in
+      let peer = all.fore rules.conn.rank rules.peer rules.is.peer_is in
+      let here : slice_get later.past.peers next.0.rank ≡ Some peer.0 =
+      ap (slice_get later.past.peers) next.2 ∙ peer.1 in
+      rules_by later rank id next.0 peer.0 (record { conn_is = next.1; peer_is = here }) (next.2 ∙ rules.its)
+      ((fit.each id next.0 next.1).arises peer.0 here) rules.end
+      (subst (λ (conf : PeerConf). Contains (ends (options_of conf) next.0.transcript) rules.end) (sym peer.2)
+      (ends_grew (options_of rules.peer.conf) rules.conn.transcript next.0.transcript next.3 rules.end rules.among))
+      verdict rules.is_final
+
+  ruled_on : (O : Owned) (V : Says) (life later : Life) → Carries life later
+      → AllRightly V life.past.peers later.past.peers
+      → AllFit O later.past.peers later.conns later.connected → (rank number : ℕ) (code : FinalCode)
+      → IsRuled O life rank number code → IsRuled O later rank number code
+  ruled_on O V life later carries all fit rank number code ruled = record {
+    id = ruled.id;
+    verdict = ruled.verdict;
+    rules = rules_on O V life later carries all fit rank ruled.id ruled.verdict ruled.rules;
+    of_number = ruled.of_number;
+    of_code = ruled.of_code;
+    owned = ruled.owned;
+  }
+
+  -- ---- what follows a step on a connection
+
+  module _ (O : Owned) (id : ℕ) (was : List Happening) (conn : ConnPast) (life later : Life) (told : List Said)
+      (f : Follows id was conn life told later)
+      (there : ConnPast) (is_there : conn_at life.conns id ≡ Some there) where
+    abbrev its_options : Options
+    its_options = options_of f.peer.conf
+
+    abbrev next : ConnPast
+    next = record {
+      rank = conn.rank;
+      unread = left_behind its_options conn.unread (told_out its_options conn.transcript);
+      transcript = sent_out its_options conn.transcript;
+    }
+
+    abbrev behind : Life
+    behind = with_conn (with_past life f.past) id next
+
+    next_there : conn_at behind.conns id ≡ Some next
+    next_there = put_here life.conns id next there is_there
+
+    same_owned : (fits : Fits O life.past.peers id conn) (ticket : ℕ) (debt : Owing)
+        → slice_get (accepted (sent_out its_options conn.transcript)) ticket ≡ Some debt → O conn.rank id debt
+    same_owned fits ticket debt is = fits.owned ticket debt
+        (sym (ap (λ (l : List Owing). slice_get l ticket) (grew_sent its_options conn.transcript).same) ∙ is)
+
+    follows_right : Fits O life.past.peers id conn → AllFit O life.past.peers life.conns life.connected
+        → Rights O life later
+    follows_right fits fit =
+        let h = conn.transcript in
+        let sent = sends its_options h (fits.arises f.peer f.here) in
+        let kept = (none_lost life.past f.past _ f.settles).fore conn.rank f.peer f.here in
+        let outcome : (x : End) → Contains (ends its_options h) x → IsRight (IsRuled O behind) conn.rank x.outcome =
+        λ x among verdict final. record {
+          id = id;
+          verdict = verdict;
+          rules = rules_by behind conn.rank id next kept.0 (record { conn_is = next_there; peer_is = kept.1 }) refl
+              (subst (λ (conf : PeerConf). Arises (options_of conf) next.transcript) (sym kept.2) sent) x
+              (subst (λ (conf : PeerConf). Contains (ends (options_of conf) next.transcript) x) (sym kept.2)
+              (ends_grew its_options h next.transcript (grew_sent its_options h) x among)) verdict final;
+          of_number = refl;
+          of_code = refl;
+          owned = fits.owned x.ticket verdict.debt
+              (all_contained (λ (y : End). slice_get (accepted h) y.ticket ≡ Some (debt_in y.outcome))
+              (ends its_options h) x (own its_options h) among ∙ ap (λ (o : Outcome). Some (debt_in o)) final);
+        } in
+        let right = right_events (IsRuled O behind) life.past f.past _ f.settles
+        (right_settles (IsRuled O behind) conn.rank id life.now (untold its_options h)
+        (untold_all (IsRight (IsRuled O behind) conn.rank) its_options h outcome)) in
+        let before : Fits O life.past.peers id next = record {
+          arises = λ peer here.
+              let same = once f.peer peer (sym f.here ∙ here) in
+              subst (λ (p : PeerPast). Arises (options_of p.conf) next.transcript) same sent;
+          owned = same_owned fits;
+        } in
+        subst (Rights O life) (sym f.changed) (record {
+          right = right;
+          fit = put_fits O f.past.peers life.conns life.connected id next
+              (all_still O (IsRuled O behind) life.past.peers f.past.peers right life.conns life.connected fit)
+              (still O (IsRuled O behind) life.past.peers f.past.peers right id next before);
+        })
+
+    follows_carries : conn.rank ≡ there.rank → Grew there.transcript conn.transcript → Carries life later
+    follows_carries rank grew = subst (Carries life) (sym f.changed) (λ at found here. elim (cases_eq at id) [
+      | inl same ↦
+          let own = once found there (sym here ∙ (ap (conn_at life.conns) same ∙ is_there)) in (
+            next,
+            ap (conn_at behind.conns) same ∙ next_there,
+            rank ∙ ap (λ (c : ConnPast). c.rank) (sym own),
+            subst (λ (c : ConnPast). Grew c.transcript next.transcript) (sym own)
+                (grew_then there.transcript conn.transcript next.transcript grew
+                (grew_sent its_options conn.transcript)),
+          )
+      | inr apart ↦ (found, put_other life.conns id at next apart ∙ here, refl, grew_same found.transcript)
+    ])
+
+  -- a connection whose transcript has grown, and whose peer it may arise with, fits still
+  grown_fits : (O : Owned) (peers : List PeerPast) (id : ℕ) (conn new : ConnPast) (peer : PeerPast)
+      → Fits O peers id conn → new.rank ≡ conn.rank → slice_get peers conn.rank ≡ Some peer
+      → Arises (options_of peer.conf) new.transcript
+      → Grew conn.transcript new.transcript → Fits O peers id new
+  grown_fits O peers id conn new peer fits rank here arises grew = record {
+    arises = λ other at.
+        let same = once peer other (sym here ∙ (ap (slice_get peers) (sym rank) ∙ at)) in
+        subst (λ (p : PeerPast). Arises (options_of p.conf) new.transcript) same arises;
+    owned = λ ticket debt is.
+        subst (λ (n : ℕ). O n id debt) (sym rank)
+        (fits.owned ticket debt (sym (ap (λ (l : List Owing). slice_get l ticket) grew.same) ∙ is));
+  }
+
+  ticks_right : (O : Owned) (begun : Life) (count : ℕ) (told : List Said) (later : Life)
+      → TicksEach begun count told later
+      → AllFit O begun.past.peers begun.conns begun.connected → Rights O begun later
+  ticks_right O begun _ _ _ NoneTicked fit =
+      record { right = all_same (IsRuled O begun) begun.past.peers; fit = fit }
+  ticks_right O begun _ _ _ (OneTicked count told more mid later id conn peer ticks here at follows) fit =
+      let before = ticks_right O begun count told mid ticks fit in
+      let is = conn_there mid.conns before.fit.numbered.rising count id conn here in
+      let options = options_of peer.conf in
+      let ticked = with_transcript conn (outside options conn.transcript (Ticked mid.now)) in
+      let one = before.fit.each id conn is in
+      let grew = grew_outside options conn.transcript (Ticked mid.now) refl in
+      let fits = grown_fits O mid.past.peers id conn ticked peer one refl at
+      (Goes_on conn.transcript (Ticked mid.now) (one.arises peer at) tt) grew in
+      let now = follows_right O id conn.transcript ticked mid later more follows conn is fits before.fit in
+      let carries = follows_carries O id conn.transcript ticked mid later more follows conn is refl grew in
+      record {
+        right = all_then (IsRuled O later) begun.past.peers mid.past.peers later.past.peers
+            (right_weaker (IsRuled O mid) (IsRuled O later)
+            (ruled_on O (IsRuled O later) mid later carries now.right now.fit)
+            begun.past.peers mid.past.peers before.right) now.right;
+        fit = now.fit;
+      }
+
+  -- ---- steps
+
+  module _ (O : Owned) (life : Life) (taken_step : Step)
+      (owes : (rank id : ℕ) (debt : Owing) (conn : ConnPast) (peer : PeerPast) → taken_step ≡ Hand id
+      → IsConn id life conn peer → conn.rank ≡ rank
+      → IsCandidate life.now peer debt → O rank id debt) where
+    -- what is handed over fits, since its debt was owed
+    handed_fits : (id : ℕ) (conn : ConnPast) (peer : PeerPast) (handed : Handover)
+        (h : List Happening) (later : Past) → taken_step ≡ Hand id
+        → HandsOver id life.now conn peer life.past handed h later → IsConn id life conn peer
+        → Fits O life.past.peers id conn
+        → Fits O life.past.peers id (with_transcript conn h)
+    handed_fits id conn peer _ _ _ hand (None_there tape works none reads) there fits = fits
+    handed_fits id conn peer _ _ _ hand (Taken_over debt later is ready does) there fits =
+        let o = options_of peer.conf in
+        let h = after o conn.transcript (Offered debt) in
+        record {
+          arises = λ other at.
+              let same = once peer other (sym there.peer_is ∙ at) in
+              subst (λ (p : PeerPast). Arises (options_of p.conf) h) same
+              (Goes_on conn.transcript (Offered debt) (fits.arises peer there.peer_is) ready);
+          owned = λ ticket one has. elim (accepted_offered o conn.transcript debt ticket one has) [
+            | inl first ↦ fits.owned ticket one first
+            | inr own ↦ subst (O conn.rank id) (sym own) (owes conn.rank id debt conn peer hand there refl is)
+          ];
+        }
+    handed_fits id conn peer _ _ _ hand (Has_no_room debt later is ready does) there fits = fits
+    handed_fits id conn peer _ _ _ hand (Is_shut debt later is ready does) there fits = fits
+
+    on_tapes : (later : Life) (past : Past) → AllRightSince (IsRuled O later) life.past past → later ≡ with_past life past
+        → AllFit O life.past.peers life.conns life.connected → Rights O life later
+    on_tapes later past right changed fit =
+        let peers : past.peers ≡ later.past.peers = ap (λ (l : Life). l.past.peers) (sym changed) in
+        let same : AllRightly (IsRuled O later) life.past.peers later.past.peers =
+        subst (AllRightly (IsRuled O later) life.past.peers) peers right in
+        record {
+          right = same;
+          fit = subst (λ (l : Life). AllFit O l.past.peers l.conns l.connected) (sym changed)
+              (all_still O (IsRuled O later) life.past.peers past.peers right life.conns life.connected fit);
+        }
+
+    -- no connection is left
+    halted_right : (later : Life) → AllRightly (IsRuled O later) life.past.peers later.past.peers → later.conns ≡ []
+        → Rights O life later
+    halted_right later right none = record {
+      right = right;
+      fit = subst (λ (conns : List Entry). AllFit O later.past.peers conns later.connected) (sym none)
+          (none_fit O later.past.peers later.connected);
+    }
+
+    -- the tapes are as they were
+    same_right : (later : Life) → later.past ≡ life.past
+        → AllFit O life.past.peers later.conns later.connected → Rights O life later
+    same_right later same fit = record {
+      right = none_put (IsRuled O later) life.past later.past (ap (λ (p : Past). p.peers) same);
+      fit = subst (λ (p : Past). AllFit O p.peers later.conns later.connected) (sym same) fit;
+    }
+
+    stop_right : (peer : Option (List ℕ)) (call : ℕ) (choice : Choice) (told : List Said) (later : Life)
+        → TakesStop peer call choice life told later → AllFit O life.past.peers life.conns life.connected
+        → Rights O life later
+    stop_right peer zero choice told later (runs, said, changed) fit =
+        halted_right later
+        (subst (λ (l : Life). AllRightly (IsRuled O later) life.past.peers l.past.peers) (sym changed)
+        (left_right (IsRuled O later) AtRest life.past.peers)) (ap (λ (l : Life). l.conns) changed)
+    stop_right peer (suc calls) choice told later (rank, is, said, changed) fit =
+        same_right later (ap (λ (l : Life). l.past) changed)
+        (subst (λ (l : Life). AllFit O life.past.peers l.conns l.connected) (sym changed) fit)
+
+    step_right : (step : Step) → taken_step ≡ step → (told : List Said) (later : Life) → DoesStep step life told later
+        → AllFit O life.past.peers life.conns life.connected
+        → Rights O life later
+    step_right (Line text) same told later (runs, (past, takes, changed)) fit =
+        on_tapes later past (reading_right (IsRuled O later) takes.reading life.past past told takes.takes) changed fit
+    step_right Flush same told later (runs, (past, (does, said), changed)) fit =
+        on_tapes later past
+        (all_then (IsRuled O later) life.past.peers (begun_at life.past).peers past.peers
+        (begun_right (IsRuled O later) life.past.peers)
+        (plain_events (IsRuled O later) (begun_at life.past) past _ does (flush_plain (IsRuled O later) life.past)))
+        changed fit
+    step_right Begin same told later (runs, (past, (said, is), changed)) fit =
+        on_tapes later past (subst (AllRightSince (IsRuled O later) life.past) (sym is)
+        (begun_right (IsRuled O later) life.past.peers)) changed fit
+    step_right (Part name) same told later (runs, (past, (rank, here, does, said), changed)) fit =
+        on_tapes later past (plain_events (IsRuled O later) life.past past _ does (tt, tt)) changed fit
+    step_right Seal same told later (runs, (past, (number, sealable, does, said), changed)) fit =
+        on_tapes later past (plain_events (IsRuled O later) life.past past _ does (tt, (tt, tt))) changed fit
+    step_right (Connect name) same told later (runs, t) fit =
+        same_right later (ap (λ (l : Life). l.past) t.changed)
+        (subst (λ (l : Life). AllFit O life.past.peers l.conns l.connected) (sym t.changed)
+        (push_fits O life.past.peers life.conns life.connected t.rank fit))
+    step_right (Hand id) same told later (runs, t) fit =
+        let fits = fit.each id t.conn t.is.conn_is in
+        let hands = handing_right (IsRuled O later) id life.now t.conn t.peer life.past t.handed t.transcript t.past
+        t.hands t.is.peer_is in
+        let next = with_transcript t.conn t.transcript in
+        let one = handed_fits id t.conn t.peer t.handed t.transcript t.past same t.hands t.is fits in
+        let follows = follows_right O id t.conn.transcript next (with_past life t.past) later t.behind t.follows t.conn
+        t.is.conn_is (still O (IsRuled O later) life.past.peers t.past.peers hands id next one)
+        (all_still O (IsRuled O later) life.past.peers t.past.peers hands life.conns life.connected fit) in
+        record {
+          right = all_then (IsRuled O later) life.past.peers t.past.peers later.past.peers hands follows.right;
+          fit = follows.fit;
+        }
+    step_right (Bytes id octets) same told later (runs, t) fit =
+        let fits = fit.each id t.conn t.is.conn_is in
+        let o = options_of t.peer.conf in
+        follows_right O id t.conn.transcript _ life later told t.follows t.conn t.is.conn_is
+        (grown_fits O life.past.peers id t.conn _ t.peer fits refl t.is.peer_is
+        (receives o _ t.left t.conn.transcript t.transcript (fits.arises t.peer t.is.peer_is) t.receives)
+        (grew_received o _ t.left t.conn.transcript t.transcript t.receives)) fit
+    step_right (Article id found) same told later (runs, t) fit =
+        let fits = fit.each id t.conn t.is.conn_is in
+        let o = options_of t.peer.conf in
+        follows_right O id t.conn.transcript _ life later told t.follows t.conn t.is.conn_is
+        (grown_fits O life.past.peers id t.conn _ t.peer fits refl t.is.peer_is
+        (Goes_on t.conn.transcript (Handed t.number t.handing) (fits.arises t.peer t.is.peer_is)
+        (wanted_there o t.conn.transcript t.number t.wanted))
+        (grew_by o t.conn.transcript (Handed t.number t.handing) refl)) fit
+    step_right (Break id) same told later (runs, t) fit =
+        let fits = fit.each id t.conn t.is.conn_is in
+        let o = options_of t.peer.conf in
+        follows_right O id t.conn.transcript _ life later told t.follows t.conn t.is.conn_is
+        (grown_fits O life.past.peers id t.conn _ t.peer fits refl t.is.peer_is
+        (Goes_on t.conn.transcript Broke (fits.arises t.peer t.is.peer_is) tt)
+        (grew_outside o t.conn.transcript Broke refl)) fit
+    step_right (Tick now) same told later (runs, t) fit =
+        let ticks = ticks_right O _ _ told later t fit in
+        record { right = ticks.right; fit = ticks.fit }
+    step_right (Shed name) same told later (runs, (past, (rank, numbers, here, does, said), changed)) fit =
+        on_tapes later past (plain_events (IsRuled O later) life.past past _ does (tt, tt)) changed fit
+    step_right (Rotate name) same told later (runs, (past, (rank, generation, here, does, said), changed)) fit =
+        on_tapes later past (plain_events (IsRuled O later) life.past past _ does (tt, tt)) changed fit
+    step_right (Stop peer call choice) same told later takes fit = stop_right peer call choice told later takes fit
+    step_right Restart same told later t fit =
+        let right = plain_events (IsRuled O later) life.past t.past _ t.opens
+        (restart_plain (IsRuled O later) life.past) in
+        record {
+          right = subst (λ (l : Life). AllRightly (IsRuled O later) life.past.peers l.past.peers) (sym t.changed) right;
+          fit = subst (λ (l : Life). AllFit O l.past.peers l.conns l.connected) (sym t.changed)
+              (all_still O (IsRuled O later) life.past.peers t.past.peers right life.conns life.connected fit);
+        }
+
+    takes_right : (step : Step) → taken_step ≡ step → (told : List Said) (later : Life) → Takes step life told later
+        → AllFit O life.past.peers life.conns life.connected
+        → Rights O life later
+    takes_right step same told later (inl does) fit = step_right step same told later does fit
+    takes_right step same told later (inr strikes) fit =
+        halted_right later (struck_right (IsRuled O later) step life told later strikes)
+        (ap (λ (l : Life). l.conns) strikes.changed)
 
   -- ---- runs
 
-  takes_right : (step : Step) (life : Life) (told : List Said) (later : Life) → Takes step life told later
-      → AllArise life.past.peers life.conns
-      → Rights life later
-  takes_right step life told later (inl does) all = step_right step life told later does all
-  takes_right step life told later (inr strikes) all = strikes_right step life told later strikes
+  abbrev passes_last : (begun : Life) (steps : List Step) (lines : List (List Said)) (later : Life)
+      → Runs begun steps lines later → IsSafe later.past → Passes begun steps lines later later
+  passes_last begun steps lines later runs safe = record {
+    first = steps;
+    others = [];
+    first_lines = lines;
+    other_lines = [];
+    steps_are = sym (append-nil steps);
+    lines_are = sym (append-nil lines);
+    made = runs;
+    went_on = NoStep safe;
+  }
+
+  abbrev passes_on : (begun : Life) (steps : List Step) (lines : List (List Said)) (mid : Life) (step : Step)
+      (told : List Said) (later life : Life)
+      → Takes step mid told later → IsSafe later.past → Passes begun steps lines mid life
+      → Passes begun (steps ++ step ∷ []) (lines ++ told ∷ []) later life
+  passes_on begun steps lines mid step told later life takes safe p = record {
+    first = p.first;
+    others = p.others ++ step ∷ [];
+    first_lines = p.first_lines;
+    other_lines = p.other_lines ++ told ∷ [];
+    steps_are = ap (λ (l : List Step). l ++ step ∷ []) p.steps_are ∙ append_assoc p.first p.others (step ∷ []);
+    lines_are = ap (λ (l : List (List Said)). l ++ told ∷ []) p.lines_are
+        ∙ append_assoc p.first_lines p.other_lines (told ∷ []);
+    made = p.made;
+    went_on = OneStep p.others step p.other_lines told mid later p.went_on takes safe;
+  }
+
+  -- which debts connections of a run may have accepted
+  abbrev RunOwned : Life → List Step → List (List Said) → Life → Owned
+  RunOwned begun steps lines later rank id debt =
+      WasTaken begun steps lines later rank id debt ⊎ WasAccepted begun rank id debt
+
+  record RunRight (begun : Life) (steps : List Step) (lines : List (List Said)) (later : Life) : Type 0 where
+    right : AllRightly (HasVerdict begun steps lines later) begun.past.peers later.past.peers
+    fit : AllFit (RunOwned begun steps lines later) later.past.peers later.conns later.connected
+
+  is_safe : (begun : Life) (steps : List Step) (lines : List (List Said)) (later : Life)
+      → Runs begun steps lines later → IsSafe later.past
+  is_safe begun _ _ _ (NoStep safe) = safe
+  is_safe begun _ _ _ (OneStep steps step lines told life later runs takes safe) = safe
+
+  module _ (begun : Life) (steps : List Step) (step : Step) (lines : List (List Said)) (told : List Said)
+      (life later : Life)
+      (runs : Runs begun steps lines life) (takes : Takes step life told later) (safe : IsSafe later.past) where
+    abbrev all_steps : List Step
+    all_steps = steps ++ step ∷ []
+
+    abbrev all_lines : List (List Said)
+    all_lines = lines ++ told ∷ []
+
+    abbrev passes_here : (at : Life) → Passes begun steps lines life at → Passes begun all_steps all_lines later at
+    passes_here at p = passes_on begun steps lines life step told later at takes safe p
+
+    owned_on : (rank id : ℕ) (debt : Owing) → RunOwned begun steps lines life rank id debt
+        → RunOwned begun all_steps all_lines later rank id debt
+    owned_on rank id debt (inl was) = inl (record {
+      life = was.life;
+      passes = passes_here was.life was.passes;
+      behind = was.behind ++ step ∷ [];
+      hand = ap (λ (l : List Step). l ++ step ∷ []) was.hand;
+      conn = was.conn;
+      peer = was.peer;
+      is = was.is;
+      its = was.its;
+      candidate = was.candidate;
+    })
+    owned_on rank id debt (inr was) = inr was
+
+    verdict_on : (rank number : ℕ) (code : FinalCode) → HasVerdict begun steps lines life rank number code
+        → HasVerdict begun all_steps all_lines later rank number code
+    verdict_on rank number code has = record {
+      life = has.life;
+      passes = passes_here has.life has.passes;
+      id = has.id;
+      verdict = has.verdict;
+      rules = has.rules;
+      of_number = has.of_number;
+      of_code = has.of_code;
+      owed = owned_on rank has.id has.verdict.debt has.owed;
+    }
+
+    verdict_now : (rank number : ℕ) (code : FinalCode)
+        → IsRuled (RunOwned begun all_steps all_lines later) later rank number code
+        → HasVerdict begun all_steps all_lines later rank number code
+    verdict_now rank number code ruled = record {
+      life = later;
+      passes = passes_last begun all_steps all_lines later
+          (OneStep steps step lines told life later runs takes safe) safe;
+      id = ruled.id;
+      verdict = ruled.verdict;
+      rules = ruled.rules;
+      of_number = ruled.of_number;
+      of_code = ruled.of_code;
+      owed = ruled.owned;
+    }
+
+    goes_right : RunRight begun steps lines life → RunRight begun all_steps all_lines later
+    goes_right before =
+        let V = HasVerdict begun all_steps all_lines later in
+        let O = RunOwned begun all_steps all_lines later in
+        let now = takes_right O life step
+        (λ rank id debt conn peer hand is its candidate. inl (record {
+          life = life;
+          passes = passes_here life (passes_last begun steps lines life runs (is_safe begun steps lines life runs));
+          behind = [];
+          hand = ap (λ (s : Step). s ∷ []) hand;
+          conn = conn;
+          peer = peer;
+          is = is;
+          its = its;
+          candidate = candidate;
+        }))
+        step refl told later takes
+        (fits_owned (RunOwned begun steps lines life) O owned_on life.past.peers life.conns life.connected before.fit) in
+        record {
+          right = all_then V begun.past.peers life.past.peers later.past.peers
+              (right_weaker (HasVerdict begun steps lines life) V verdict_on begun.past.peers life.past.peers
+              before.right)
+              (right_weaker (IsRuled O later) V verdict_now life.past.peers later.past.peers now.right);
+          fit = now.fit;
+        }
 
   runs_right : (begun : Life) (steps : List Step) (lines : List (List Said)) (later : Life)
       → Runs begun steps lines later
-      → AllArise begun.past.peers begun.conns → Rights begun later
-  runs_right begun _ _ _ (NoStep safe) all = record { right = all_same begun.past.peers; arise = all }
-  runs_right begun _ _ _ (OneStep steps step lines told life later runs takes safe) all =
-      let before = runs_right begun steps lines life runs all in
-      rights_then begun life later before (takes_right step life told later takes before.arise)
+      → AllFit (RunOwned begun [] [] begun) begun.past.peers begun.conns begun.connected
+      → RunRight begun steps lines later
+  runs_right begun _ _ _ (NoStep safe) fit =
+      record { right = all_same (HasVerdict begun [] [] begun) begun.past.peers; fit = fit }
+  runs_right begun _ _ _ (OneStep steps step lines told life later runs takes safe) fit =
+      goes_right begun steps step lines told life later runs takes safe (runs_right begun steps lines life runs fit)
 
-  arise_sound : (peers : List PeerPast) (conns : List (ℕ × ConnPast))
-      → AllByRecursion (λ (entry : ℕ × ConnPast). IsSoundConn peers entry.1) conns
-      → AllArise peers conns
-  arise_sound peers [] all = tt
-  arise_sound peers (entry ∷ conns) all = (
-    λ peer here. same_peer peers entry.1.rank all.0.peer peer entry.1.transcript all.0.here here all.0.arises,
-    arise_sound peers conns all.1,
-  )
+  sound_at : (peers : List PeerPast) (conns : List Entry) (id : ℕ) (conn : ConnPast)
+      → AllByRecursion (λ (entry : Entry). IsSoundConn peers entry.1) conns
+      → conn_at conns id ≡ Some conn → IsSoundConn peers conn
+  sound_at peers [] id conn all here = let never : None ≡ Some conn = here in cc
+  sound_at peers (e ∷ conns) id conn all here =
+      sound_step (e.0 == id) e (conn_at conns id) all.0 here (λ rest. sound_at peers conns id conn all.1 rest)
+    where
+      sound_step : (b : Bool) (e : Entry) (o : Option ConnPast) → IsSoundConn peers e.1
+          → cond b (Some e.1) o ≡ Some conn
+          → (o ≡ Some conn → IsSoundConn peers conn) → IsSoundConn peers conn
+      sound_step true e o one is rest = subst (IsSoundConn peers) (once e.1 conn is) one
+      sound_step false e o one is rest = rest is
 
-  finals : (was now : List PeerPast) → AllZip HasRight was now → AllZip HasRightFinals was now
-  finals [] [] all = tt
-  finals [] (b ∷ now) all = absurd all
-  finals (a ∷ was) [] all = absurd all
-  finals (a ∷ was) (b ∷ now) all = (all.0.1, finals was now all.1)
+  begun_fit : (begun : Life) → IsSoundLife begun
+      → AllFit (RunOwned begun [] [] begun) begun.past.peers begun.conns begun.connected
+  begun_fit begun sound = record {
+    each = λ id conn here.
+        let is = sound_at begun.past.peers begun.conns id conn sound.conns.each here in
+        record {
+          arises = λ peer at.
+              let same = once is.peer peer (sym is.here ∙ at) in
+              subst (λ (p : PeerPast). Arises (options_of p.conf) conn.transcript) same is.arises;
+          owned = λ ticket debt has.
+              inr (record { conn = conn; is = here; its = refl; ticket = ticket; accepts = has });
+        };
+    numbered = record {
+      rising = sound.conns.rising;
+      below = numbers_below begun.connected begun.conns sound.conns.made;
+    };
+  }
 
-  pub finals_right : OverRuns AllFinalsAreRight
-  finals_right = λ begun later steps lines sound runs.
-      finals begun.past.peers later.past.peers
-      (runs_right begun steps lines later runs (arise_sound begun.past.peers begun.conns sound.conns.each)).right
+  pub finals_right : AllFinalsAreRight
+  finals_right = λ begun later steps lines sound runs rank number code has.
+      let all = (runs_right begun steps lines later runs (begun_fit begun sound)).right in
+      let at = all.back rank has.0 has.1 in
+      elim (at.right.1 number code has.2) [
+        | inl before ↦ inl (at.before, at.here, before)
+        | inr verdict ↦ inr verdict
+      ]

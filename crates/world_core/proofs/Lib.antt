@@ -37,6 +37,7 @@ pub mod Placing
 pub mod Holding
 pub mod Settling
 pub mod Following
+pub mod Growing
 pub mod Outputs
 pub mod Telling
 pub mod Waiting

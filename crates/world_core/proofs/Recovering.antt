@@ -26,7 +26,7 @@ use Rattle.world_core.proofs.Running.{all_stay}
 -- ---- the elements of a list
 
 module _ {A : Type 0} where
-  contains_left : (xs ys : List A) (x : A) → Contains xs x → Contains (xs ++ ys) x
+  pub contains_left : (xs ys : List A) (x : A) → Contains xs x → Contains (xs ++ ys) x
   contains_left [] ys x (k, below, is) = absurd (omega (arith, below))
   contains_left (y ∷ xs) ys x (zero, below, is) = (zero, omega arith, is)
   contains_left (y ∷ xs) ys x (suc k, below, is) =

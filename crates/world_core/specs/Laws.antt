@@ -1,23 +1,25 @@
 -- What holds over any run of steps, in an administrator's words: the headline and its parts.
-use Rattle.std.specs.Prelude.{◌≡◌, ◌⊎◌, ◌<◌, ◌≤◌, ℕ, Some, List, ◌++◌, take, slice_get, Contains}
+use Rattle.std.specs.Prelude.{◌≡◌, ◌⊎◌, ◌<◌, ◌≤◌, ℕ, Some, List, ◌∷◌, ◌++◌, take, slice_get, Contains}
 use Rattle.std.specs.List.{AllZip}
-use Rattle.ledger_core.specs.State.{State}
+use Rattle.ledger_core.specs.State.{Owing, State}
 use Rattle.ledger_core.specs.declared.note.FinalCode.{FinalCode}
 use Rattle.ledger_core.specs.declared.note.Note.{Note}
 use Rattle.ledger_core.specs.declared.note.Note.TheVariants.{Final, Owe}
 use Rattle.recovery.specs.Leaving.{IsFront, MayLeave}
-use Rattle.conn_core.specs.History.{End, Event as Happening, ends}
+use Rattle.conn_core.specs.History.{End, accepted, ends}
 use Rattle.conn_core.specs.Stands.{Arises}
-use Rattle.conn_core.specs.declared.options.Options.{Options}
 use Rattle.conn_core.specs.declared.outcome.Outcome.TheVariants.{Final as FinalOutcome}
 use Rattle.conn_core.specs.declared.verdict.Verdict.{Verdict}
 use Rattle.conn_laws.specs.Laws.{IsRightAt}
 use Rattle.peer_queue.specs.Words.{IsEnd}
-use Rattle.world_core.specs.Past.{Life, Past, PeerPast, TapePast, options_of}
+use Rattle.world_core.specs.Past.{ConnPast, Life, Past, PeerPast, TapePast, conn_at, options_of}
+use Rattle.world_core.specs.Events.{IsCandidate}
+use Rattle.world_core.specs.Exchange.{IsConn}
 use Rattle.world_core.specs.Runs.{Runs}
 use Rattle.world_core.specs.Sound.{IsSoundLife}
 use Rattle.world_core.specs.Told.{Said}
 use Rattle.world_core.specs.declared.step.Step.{Step}
+use Rattle.world_core.specs.declared.step.Step.TheVariants.{Hand}
 
 -- what holds of any two worlds of which steps make the one of the other
 abbrev pub OverRuns : (Life → Life → Type 0) → Type 0
@@ -39,27 +41,85 @@ pub record AllStayAcknowledged (begun later : Life) : Type 0 where
 
 -- ---- each final answer is right
 
--- A connection to a peer with these settings had a verdict of this code on a debt of this number, and it is right: of
--- the replies that came one is the final answer to a command about that very debt (RFC 3977, section 3.2; RFC 4644,
--- section 2).
-pub record HasVerdict (options : Options) (number : ℕ) (code : FinalCode) : Type 0 where
-  pub transcript : List Happening
-  pub arises : Arises options transcript
+-- A world that a run passes: the first of its steps made this world, and the others went on from it.
+pub record Passes (begun : Life) (steps : List Step) (lines : List (List Said)) (later life : Life) : Type 0 where
+  pub first : List Step
+  pub others : List Step
+  pub first_lines : List (List Said)
+  pub other_lines : List (List Said)
+  pub steps_are : steps ≡ first ++ others
+  pub lines_are : lines ≡ first_lines ++ other_lines
+  pub made : Runs begun first first_lines life
+  pub went_on : Runs life others other_lines later
+
+-- In this world the connection of this number, which is to the peer at this rank, has come to this verdict, and it is
+-- right: of the replies that came one is the final answer to a command about that very debt (RFC 3977, section 3.2;
+-- RFC 4644, section 2).
+pub record Rules (life : Life) (rank id : ℕ) (verdict : Verdict) : Type 0 where
+  -- the connection, with the transcript that the run has made of it, and its peer
+  pub conn : ConnPast
+  pub peer : PeerPast
+  pub is : IsConn id life conn peer
+  pub its : conn.rank ≡ rank
+  -- the transcript can have come about, by that peer's settings
+  pub arises : Arises (options_of peer.conf) conn.transcript
+  -- of what came out of it the verdict is one
   pub end : End
-  pub among : Contains (ends options transcript) end
-  pub verdict : Verdict
+  pub among : Contains (ends (options_of peer.conf) conn.transcript) end
   pub is_final : end.outcome ≡ FinalOutcome verdict
+  -- on the debt, by its number, token and id, that was accepted at its ticket
+  pub own : slice_get (accepted conn.transcript) end.ticket ≡ Some verdict.debt
+  -- and it says what was answered of it
+  pub right : IsRightAt (options_of peer.conf) conn.transcript end.ticket end.outcome
+
+-- A step `hand` of the run handed the debt to the connection of this number: in the world before it, the peer at this
+-- rank owed it, under this number, token and id, as the least that might be claimed.
+pub record WasTaken (begun : Life) (steps : List Step) (lines : List (List Said)) (later : Life) (rank id : ℕ)
+    (debt : Owing) : Type 0 where
+  pub life : Life
+  pub passes : Passes begun steps lines later life
+  pub behind : List Step
+  pub hand : passes.others ≡ Hand id ∷ behind
+  pub conn : ConnPast
+  pub peer : PeerPast
+  pub is : IsConn id life conn peer
+  pub its : conn.rank ≡ rank
+  pub candidate : IsCandidate life.now peer debt
+
+-- or that connection had accepted it before the run began
+pub record WasAccepted (begun : Life) (rank id : ℕ) (debt : Owing) : Type 0 where
+  pub conn : ConnPast
+  pub is : conn_at begun.conns id ≡ Some conn
+  pub its : conn.rank ≡ rank
+  pub ticket : ℕ
+  pub accepts : slice_get (accepted conn.transcript) ticket ≡ Some debt
+
+-- A verdict of this code on the peer's debt of this number, to which a connection of the run has come.
+pub record HasVerdict (begun : Life) (steps : List Step) (lines : List (List Said)) (later : Life)
+    (rank number : ℕ) (code : FinalCode) : Type 0 where
+  -- a world that the run passes, and in it the connection, by its number, that has come to the verdict
+  pub life : Life
+  pub passes : Passes begun steps lines later life
+  pub id : ℕ
+  pub verdict : Verdict
+  pub rules : Rules life rank id verdict
+  -- the verdict is the one noted
   pub of_number : verdict.debt.0 ≡ number
   pub of_code : verdict.code ≡ code
-  pub right : IsRightAt options transcript end.ticket end.outcome
+  -- its debt is one of the peer's, which the connection took over
+  pub owed : WasTaken begun steps lines later rank id verdict.debt ⊎ WasAccepted begun rank id verdict.debt
 
--- a final answer among a peer's notes was there before, or has its verdict
-abbrev pub HasRightFinals : PeerPast → PeerPast → Type 0
-HasRightFinals was now = (number : ℕ) (code : FinalCode) → Contains now.tape.history.notes (Final number code)
-    → Contains was.tape.history.notes (Final number code) ⊎ HasVerdict (options_of now.conf) number code
+-- the peer at this rank has noted this final answer
+abbrev pub HasFinal : Life → ℕ → ℕ → FinalCode → Type 0
+HasFinal life rank number code = (peer : PeerPast) × (slice_get life.past.peers rank ≡ Some peer)
+    × Contains peer.tape.history.notes (Final number code)
 
-abbrev pub AllFinalsAreRight : Life → Life → Type 0
-AllFinalsAreRight begun later = AllZip HasRightFinals begun.past.peers later.past.peers
+-- a final answer among a peer's notes was there as the run began, or has its verdict
+abbrev pub AllFinalsAreRight : Type 0
+AllFinalsAreRight = (begun later : Life) (steps : List Step) (lines : List (List Said)) → IsSoundLife begun
+    → Runs begun steps lines later
+    → (rank number : ℕ) (code : FinalCode) → HasFinal later rank number code
+    → HasFinal begun rank number code ⊎ HasVerdict begun steps lines later rank number code
 
 -- ---- the headline
 

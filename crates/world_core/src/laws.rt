@@ -7,7 +7,7 @@ ghost use Rattle.world_core.specs.Laws.{LinesAreAcknowledged, OverRuns};
 ghost use Rattle.world_core.specs.Past.{Past};
 ghost use Rattle.world_core.specs.Safe.{IsSafe};
 
-use conn_laws::verdicts_are_right;
+use conn_laws::{each_debt_comes_out_once, verdicts_are_right};
 
 /// As soon as a stop may leave the intake's tape with a mark at or above a line's number, each note that the line made
 /// is acknowledged at its peer.
@@ -33,11 +33,14 @@ pub fn all_are_recovered()
     ensures { OverRuns AllAreRecovered }
 {}
 
-/// Over any run of steps, each final answer among a peer's notes that was not there before has a verdict that is right
-/// by the transcript of its connection: of the replies that came one is the final answer to a command about that very
-/// debt.
+/// Over any run of steps, each final answer among a peer's notes that was not there as the run began has its verdict:
+/// in a world that the run passes, a connection to that peer has come to it, of this number and code; it is right by
+/// the transcript that the run has made of that connection, where of the replies that came one is the final answer to
+/// a command about that very debt; and that connection took its debt over, by number, token and id, at a step `hand`
+/// of the run, where that peer owed it, or before the run began.
 pub fn all_finals_are_right()
-    ensures { OverRuns AllFinalsAreRight }
+    ensures { AllFinalsAreRight }
 {
+    each_debt_comes_out_once();
     verdicts_are_right()
 }

@@ -1,0 +1,194 @@
+-- Transcripts that grow: what came out of one stays, and a debt is accepted only where it is offered.
+use Rattle.std.proofs.Common.{◌≡◌, ◌⊎◌, ℕ, zero, suc, ◌+◌, ◌<◌, Bool, true, false, Option, None, Some, List, [], ◌∷◌}
+use Rattle.std.proofs.Common.{◌++◌, length, drop, refl, sym, ap, ◌∙◌, subst, inl, inr, arith, append_assoc}
+use Rattle.std.specs.Prelude.{Contains, if◌then◌else◌, is_some}
+use Rattle.std.specs.List.{slice_get}
+use Rattle.ledger_core.specs.State.{Owing}
+use Rattle.conn_core.specs.Commands.{Command}
+use Rattle.conn_core.specs.History.{accepted, after, answered_ask, closes, ends, ends_at_close, ends_by_answer}
+use Rattle.conn_core.specs.History.{ends_by_loss, held, held_wanting, is_quit_due, needed, need, outcomes}
+use Rattle.conn_core.specs.History.{output, outside, puts, reason, story, taken, with_puts, with_quit}
+use Rattle.conn_core.specs.History.{Broke, Came, End, Event as Happening, Faulted, Handed, Leave, Offered, Put, Sent}
+use Rattle.conn_core.specs.History.{Taken, Tick}
+use Rattle.conn_core.specs.Receipt.Receives.{Is_closed, Waits, Reads, Fails as FailsToRead}
+use Rattle.conn_core.specs.Receipt.{Receives}
+use Rattle.conn_core.specs.Stands.{Arises, Goes_on}
+use Rattle.conn_core.specs.StoryLaws.{ends-offered}
+use Rattle.conn_core.specs.declared.options.Options.{Options}
+use Rattle.conn_core.specs.declared.outcome.Outcome.{Outcome}
+use Rattle.world_core.specs.Exchange.{sent_out, told_out, untold, with_taken}
+use Rattle.world_core.proofs.Holding.{outcomes_taken}
+use Rattle.world_core.proofs.Receiving.{wanted_step}
+use Rattle.world_core.proofs.Recovering.{contains_left}
+
+-- ---- lists
+
+-- what stands in a list with one more stood there before, or is that one
+get_push : {A : Type 0} (xs : List A) (y : A) (i : ℕ) (x : A) → slice_get (xs ++ y ∷ []) i ≡ Some x
+    → (slice_get xs i ≡ Some x) ⊎ (x ≡ y)
+get_push [] y zero x is = inr cc
+get_push [] y (suc i) x is = let never : None ≡ Some x = is in cc
+get_push (z ∷ xs) y zero x is = inl is
+get_push (z ∷ xs) y (suc i) x is = get_push xs y i x is
+
+-- ---- transcripts that grow
+
+-- more has happened, and no debt was accepted
+pub record Grew (h later : List Happening) : Type 0 where
+  pub more : List Happening
+  pub is : later ≡ more ++ h
+  pub same : accepted later ≡ accepted h
+
+pub grew_same : (h : List Happening) → Grew h h
+grew_same h = record { more = []; is = refl; same = refl }
+
+pub grew_one : (h : List Happening) (e : Happening) → accepted (e ∷ h) ≡ accepted h → Grew h (e ∷ h)
+grew_one h e same = record { more = e ∷ []; is = refl; same = same }
+
+pub grew_then : (h mid later : List Happening) → Grew h mid → Grew mid later → Grew h later
+grew_then h mid later one other = record {
+  more = other.more ++ one.more;
+  is = other.is ∙ (ap (λ (l : List Happening). other.more ++ l) one.is ∙ sym (append_assoc other.more one.more h));
+  same = other.same ∙ one.same;
+}
+
+grew_if : (b : Bool) (h one other : List Happening) → Grew h one → Grew h other → Grew h (if b then one else other)
+grew_if true h one other first second = first
+grew_if false h one other first second = second
+
+grew_puts : (commands : List Command) (h : List Happening) → Grew h (with_puts commands h)
+grew_puts [] h = grew_same h
+grew_puts (command ∷ commands) h =
+    grew_then h (Put command ∷ h) (with_puts commands (Put command ∷ h)) (grew_one h (Put command) refl)
+    (grew_puts commands (Put command ∷ h))
+
+grew_taken : (os : List Outcome) (h : List Happening) → Grew h (with_taken os h)
+grew_taken [] h = grew_same h
+grew_taken (o ∷ os) h = grew_then h (Taken ∷ h) (with_taken os (Taken ∷ h)) (grew_one h Taken refl)
+    (grew_taken os (Taken ∷ h))
+
+module _ (options : Options) where
+  grew_quit : (h : List Happening) → Grew h (with_quit options h)
+  grew_quit h = grew_if (is_quit_due options h) h _ h (grew_one h _ refl) (grew_same h)
+
+  grew_after : (h : List Happening) (e : Happening) → Grew (e ∷ h) (after options h e)
+  unfolding after
+  grew_after h e =
+      grew_then (e ∷ h) (with_puts (puts options h e) (e ∷ h)) _ (grew_puts (puts options h e) (e ∷ h))
+      (grew_quit (with_puts (puts options h e) (e ∷ h)))
+
+  pub grew_by : (h : List Happening) (e : Happening) → accepted (e ∷ h) ≡ accepted h → Grew h (after options h e)
+  grew_by h e same = grew_then h (e ∷ h) (after options h e) (grew_one h e same) (grew_after h e)
+
+  pub grew_outside : (h : List Happening) (e : Happening) → accepted (e ∷ h) ≡ accepted h
+      → Grew h (outside options h e)
+  grew_outside h e same =
+      grew_if (is_some (reason options h)) h h (after options h e) (grew_same h) (grew_by h e same)
+
+  pub grew_sent : (h : List Happening) → Grew h (sent_out options h)
+  grew_sent h =
+      let out = told_out options h in
+      grew_then h out (sent_out options h) (grew_taken (untold options h) h)
+      (grew_if (is_some (reason options out)) out out (Sent (length (output options out)) ∷ out) (grew_same out)
+      (grew_one out (Sent (length (output options out))) refl))
+
+  pub grew_received : (waiting left : List ℕ) (h later : List Happening) → Receives options waiting h later left
+      → Grew h later
+  grew_received _ _ h _ (Is_closed waiting _ closed) = grew_same h
+  grew_received _ _ h _ (Waits waiting _ alive short) = grew_same h
+  grew_received _ left h later (Reads waiting rest _ _ _ reply alive begins more) =
+      grew_then h (after options h (Came reply)) later (grew_by h (Came reply) refl)
+      (grew_received rest left (after options h (Came reply)) later more)
+  grew_received _ _ h _ (FailsToRead waiting _ fault alive begins) = grew_by h (Faulted fault) refl
+
+  -- where a debt is offered, that one is accepted
+  pub accepted_offered : (h : List Happening) (debt : Owing) (ticket : ℕ) (one : Owing)
+      → slice_get (accepted (after options h (Offered debt))) ticket ≡ Some one
+      → (slice_get (accepted h) ticket ≡ Some one) ⊎ (one ≡ debt)
+  accepted_offered h debt ticket one is =
+      get_push (accepted h) debt ticket one
+      (sym (ap (λ (l : List Owing). slice_get l ticket) (grew_after h (Offered debt)).same) ∙ is)
+
+  -- ---- what came out
+
+  -- what came out stays, whatever happens
+  ends_stay : (e : Happening) (h : List Happening) (x : End) → Contains (ends options h) x
+      → Contains (ends options (e ∷ h)) x
+  unfolding story
+  ends_stay (Offered debt) h x has =
+      subst (λ (xs : List End). Contains xs x) (sym (ends-offered options h debt)) has
+  ends_stay (Came reply) h x has =
+      contains_left _ (ends_at_close (closes options h (Came reply)) (held options h)) x
+      (contains_left (ends options h) (ends_by_answer (held options h) reply.code (answered_ask options h reply)) x has)
+  ends_stay (Handed number handing) h x has =
+      contains_left (ends options h) (ends_by_loss handing (held_wanting h (story options h) number)) x has
+  ends_stay (Faulted fault) h x has =
+      contains_left (ends options h) (ends_at_close (closes options h (Faulted fault)) (held options h)) x has
+  ends_stay (Tick now) h x has =
+      contains_left (ends options h) (ends_at_close (closes options h (Tick now)) (held options h)) x has
+  ends_stay Broke h x has =
+      contains_left (ends options h) (ends_at_close (closes options h Broke) (held options h)) x has
+  ends_stay (Put command) h x has = has
+  ends_stay (Sent count) h x has = has
+  ends_stay Leave h x has = has
+  ends_stay Taken h x has = has
+
+  ends_behind : (more h : List Happening) (x : End) → Contains (ends options h) x
+      → Contains (ends options (more ++ h)) x
+  ends_behind [] h x has = has
+  ends_behind (e ∷ more) h x has = ends_stay e (more ++ h) x (ends_behind more h x has)
+
+  pub ends_grew : (h later : List Happening) → Grew h later → (x : End) → Contains (ends options h) x
+      → Contains (ends options later) x
+  ends_grew h later grew x has =
+      subst (λ (l : List Happening). Contains (ends options l) x) (sym grew.is) (ends_behind grew.more h x has)
+
+-- ---- they can have come about
+
+drop_some : {A : Type 0} (n : ℕ) (xs : List A) (o : A) (rest : List A) → o ∷ rest ≡ drop n xs
+    → (n < length xs) × (rest ≡ drop (suc n) xs)
+drop_some zero [] o rest is = absurd cc
+drop_some (suc n) [] o rest is = absurd cc
+drop_some zero (x ∷ xs) o rest is = (omega arith, let same : rest ≡ xs = cc in same)
+drop_some (suc n) (x ∷ xs) o rest is = let so = drop_some n xs o rest is in (omega (arith, so.0), so.1)
+
+some_there : {A : Type 0} (o : Option A) → (o ≡ None → ⊥) → is_some o ≡ true
+some_there None never = absurd (never refl)
+some_there (Some x) never = refl
+
+module _ (options : Options) where
+  takes : (os : List Outcome) (h : List Happening) → os ≡ untold options h → Arises options h
+      → Arises options (with_taken os h)
+  takes [] h is arises = arises
+  takes (o ∷ os) h is arises =
+      let so = drop_some (taken h) (outcomes options h) o os is in
+      let more : suc (taken h) ≡ taken h + 1 = omega arith in
+      takes os (Taken ∷ h)
+      (so.1 ∙ ap (λ (n : ℕ). drop n (outcomes options h)) more
+      ∙ ap (λ (l : List Outcome). drop (taken h + 1) l) (sym (outcomes_taken options h)))
+      (Goes_on h Taken arises so.0)
+
+  pub sends : (h : List Happening) → Arises options h → Arises options (sent_out options h)
+  sends h arises =
+      Goes_on (told_out options h) (Sent (length (output options (told_out options h))))
+      (takes (untold options h) h refl arises) (omega arith)
+
+  alive_outside : (h : List Happening) (e : Happening) → reason options h ≡ None
+      → outside options h e ≡ after options h e
+  alive_outside h e alive = ap (λ r. if is_some r then h else after options h e) alive
+
+  pub receives : (waiting left : List ℕ) (h later : List Happening) → Arises options h
+      → Receives options waiting h later left → Arises options later
+  receives _ _ h _ arises (Is_closed waiting _ closed) = arises
+  receives _ _ h _ arises (Waits waiting _ alive short) = arises
+  receives _ left h later arises (Reads waiting rest _ _ _ reply alive begins more) =
+      receives rest left (after options h (Came reply)) later
+      (subst (Arises options) (alive_outside h (Came reply) alive) (Goes_on h (Came reply) arises tt)) more
+  receives _ _ h _ arises (FailsToRead waiting _ fault alive begins) =
+      subst (Arises options) (alive_outside h (Faulted fault) alive) (Goes_on h (Faulted fault) arises tt)
+
+  pub wanted_there : (h : List Happening) (number : ℕ) → need options h ≡ Some number
+      → is_some (needed options h number) ≡ true
+  wanted_there h number is =
+      some_there (needed options h number)
+      (wanted_step options (is_some (reason options h)) (story options h).wants (story options h).handed number is)
