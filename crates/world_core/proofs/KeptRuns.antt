@@ -1,5 +1,6 @@
 -- The names of the peers stay, whatever steps are taken.
-use Rattle.std.proofs.Common.{◌≡◌, ℕ, zero, suc, Option, Some, List, [], ◌∷◌, map, refl, ap, ◌∙◌, inl, inr}
+use Rattle.std.proofs.Common.{◌≡◌, ℕ, zero, suc, Option, Some, List, [], ◌∷◌, length, map, refl, sym, ap, ◌∙◌}
+use Rattle.std.proofs.Common.{inl, inr}
 use Rattle.std.specs.List.{AllZip, slice_get}
 use Rattle.disk_model.specs.declared.Disk.{Ghosts}
 use Rattle.disk_model.specs.declared.choice.Choice.{Choice}
@@ -27,6 +28,7 @@ use Rattle.world_core.specs.declared.world.World.{World}
 use Rattle.world_core.proofs.Halting.{names_left}
 use Rattle.world_core.proofs.Kept.{names_all, names_put, names_refuses}
 use Rattle.world_core.proofs.Sound.{names_begun}
+use Rattle.world_core.proofs.Zips.{zip_length}
 
 -- the names of its peers
 abbrev named : Life → List (List ℕ)
@@ -156,3 +158,16 @@ stage_names life (Stopped peers intake) stands = stopped_names life.past.peers p
 
 pub names_stage : (world : World) (life : Life) → WorldStands world life → names_at world.stage ≡ named life
 names_stage world life stands = stage_names life world.stage stands.stage
+
+-- how many peers a stage has
+abbrev pub count_at : Stage → ℕ
+count_at (Running stations connections) = length stations.peers.items
+count_at (Stopped peers intake) = length peers.items
+
+stage_count : (life : Life) (stage : Stage) → StageStands life stage → count_at stage ≡ length life.past.peers
+stage_count life (Running stations connections) stands =
+    sym (zip_length PeerStands life.past.peers stations.peers.items stands.1.peers)
+stage_count life (Stopped peers intake) stands = sym (zip_length StoppedStands life.past.peers peers.items stands.1)
+
+pub count_stage : (world : World) (life : Life) → WorldStands world life → count_at world.stage ≡ length life.past.peers
+count_stage world life stands = stage_count life world.stage stands.stage

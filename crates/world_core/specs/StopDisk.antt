@@ -14,6 +14,10 @@ beneath disk = disk.disk
 abbrev pub happened : StopDisk → List Event
 happened disk = events (beneath disk)
 
+-- the rank of its tape: a peer's among the peers, and behind them the intake's
+abbrev pub rank_at : StopDisk → ℕ
+rank_at disk = disk.rank
+
 -- how many faults it told by itself
 abbrev pub own_faults : StopDisk → ℕ
 own_faults disk = disk.faults

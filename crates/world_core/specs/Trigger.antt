@@ -1,10 +1,15 @@
 -- A stop that waits for a call (docs/FORMATS.md).
-use Rattle.std.specs.Prelude.{ℕ, ◌-◌, ◌==◌, ◌&&◌, nat_le, if◌then◌else◌, Option, None, Some}
+use Rattle.std.specs.Prelude.{◌≡◌, ℕ, ◌-◌, ◌==◌, ◌&&◌, Bool, true, false, nat_le, if◌then◌else◌, Option, None, Some}
+use Rattle.std.specs.Prelude.{IsSome}
 use Rattle.disk_model.specs.declared.choice.Choice.{Choice}
+use Rattle.recovery.specs.declared.fault.TapeFault.TheVariants.{Disk}
+use Rattle.world_core.specs.declared.fault.Fault.TheVariants.{Tape}
+use Rattle.world_core.specs.declared.fault.Halt.{Halt}
 use Rattle.world_core.specs.declared.stop.Trigger.{Trigger}
 use Rattle.world_core.specs.declared.stop.Trigger.TheVariants.{Idle, Armed, Met}
 use Rattle.world_core.specs.declared.stop.Fate.{Fate}
 use Rattle.world_core.specs.declared.stop.Fate.TheVariants.{Completes, Stops, Fails}
+use Rattle.world_core.specs.declared.world.Arming.{Arming}
 
 -- what becomes of the next call of the disk of the peer at this rank: the stop comes at the last call up to it
 abbrev pub fate_of : Trigger → ℕ → Fate
@@ -18,8 +23,27 @@ counted Idle rank = Idle
 counted (Armed stop) rank = Armed (record stop { calls = if stop.rank == rank then stop.calls - 1 else stop.calls })
 counted (Met choice) rank = Met choice
 
+-- a stop was met, so that all has stopped
+abbrev pub has_met : Trigger → Bool
+has_met Idle = false
+has_met (Armed stop) = false
+has_met (Met choice) = true
+
 -- what waits behind a step, and what a stop that was met in it leaves
 abbrev pub settled : Trigger → Trigger × Option Choice
 settled Idle = (Idle, None)
 settled (Armed stop) = (Armed stop, None)
 settled (Met choice) = (Idle, Some choice)
+
+-- what waits once a stop is armed: at the tape of the peer at this rank, or else at the intake's, whose rank is behind
+-- all peers', it comes at this call
+abbrev pub armed_at : Option ℕ → (last call : ℕ) → Choice → Trigger
+armed_at None last call choice = Armed (record { rank = last; calls = call; choice = choice })
+armed_at (Some rank) last call choice = Armed (record { rank = rank; calls = call; choice = choice })
+
+-- A step was refused so, and it was the armed stop that was met in it: one was met, a disk failed, and at the tape that
+-- the stop names.
+pub record IsMet (met : Option Choice) (armed : Arming) (halt : Halt) : Type 0 where
+  pub some : IsSome met
+  pub disk : halt.fault ≡ Tape Disk
+  pub tape : armed.rank ≡ halt.rank

@@ -40,7 +40,7 @@ enum Fate {
 }
 
 impl Trigger {
-    ghost use Rattle.world_core.specs.Trigger.{fate_of, counted, settled};
+    ghost use Rattle.world_core.specs.Trigger.{fate_of, counted, has_met, settled};
 
     // What becomes of the next call of this peer's disk.
     fn fate(self, rank: usize) -> Fate
@@ -66,6 +66,23 @@ impl Trigger {
                 choice: stop.choice,
             }),
             other => other,
+        }
+    }
+
+    // What waits behind the next call of this peer's disk, and what becomes of that call.
+    fn step(self, rank: usize) -> (Trigger, Fate)
+        ensures { result ≡ (counted self rank, fate_of self rank) }
+    {
+        (self.count(rank), self.fate(rank))
+    }
+
+    // Whether a stop was met, so that all has stopped.
+    fn has_met(self) -> bool
+        ensures { result ≡ has_met self }
+    {
+        match self {
+            Trigger::Met(_) => true,
+            Trigger::Idle | Trigger::Armed(_) => false,
         }
     }
 
@@ -100,12 +117,14 @@ impl StopDisk {
     ghost use Rattle.disk_model.specs.Choice.{chosen_image};
     ghost use Rattle.disk_model.specs.Disk.Event.{Made, Wrote, WasCut};
     ghost use Rattle.disk_model.specs.InMemory.{held};
-    ghost use Rattle.world_core.specs.StopDisk.{beneath, happened, own_faults, all_faults, Passes, Reaches, Refuses};
+    ghost use Rattle.world_core.specs.StopDisk.{beneath, happened, own_faults, all_faults, rank_at};
+    ghost use Rattle.world_core.specs.StopDisk.{Passes, Reaches, Refuses};
 
     /// A disk of the tape at this rank.
     pub fn new(disk: MemDisk, rank: usize, trigger: Rc<Cell<Trigger>>) -> Self
         ensures disk { beneath result ≡ disk }
         ensures told { own_faults result ≡ 0 }
+        ensures rank { rank_at result ≡ rank }
     {
         StopDisk {
             disk,
@@ -124,17 +143,19 @@ impl StopDisk {
             (λ left. happened left ≡ Made (chosen_image choice (happened self.now)) ∷ []) }
         ensures image { Image (happened self.now) (chosen_image choice (happened self.now)) }
         ensures told { IfOk result (λ left. all_faults left ≡ 0) }
+        ensures rank { IfOk result (λ left. rank_at left ≡ rank_at self.now) }
     {
         let disk = self.disk.image(choice)?;
         let trigger = self.trigger.clone()?;
         Ok(StopDisk::new(disk, self.rank, trigger))
     }
 
-    // Counts a call that completes, and tells what becomes of it.
+    // Counts a call, and tells what becomes of it. No contract sees into the cell, so that all but the reading and the
+    // writing of it is `step`.
     fn count(&self) -> Fate {
-        let trigger = self.trigger.get();
-        self.trigger.set(trigger.count(self.rank));
-        trigger.fate(self.rank)
+        let (waits, fate) = self.trigger.get().step(self.rank);
+        self.trigger.set(waits);
+        fate
     }
 
     // Stops all disks.
@@ -216,10 +237,7 @@ impl StopDisk {
 
     // Whether all has stopped.
     fn has_stopped(&self) -> bool {
-        match self.trigger.get() {
-            Trigger::Met(_) => true,
-            Trigger::Idle | Trigger::Armed(_) => false,
-        }
+        self.trigger.get().has_met()
     }
 }
 

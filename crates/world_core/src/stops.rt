@@ -1,6 +1,8 @@
 // Stops of a world, at rest or met, and its restart.
-ghost use Rattle.std.specs.Prelude.{◌≡◌, ◌<◌, ℕ, [], true, false, List, Option, position, IfErr, IfOk, OnErr, OnOk};
+ghost use Rattle.std.specs.Prelude.{◌≡◌, ◌↔◌, ◌<◌, ℕ, [], true, false, length, List, Option, position, IfErr, IfOk};
+ghost use Rattle.std.specs.Prelude.{OnErr, OnOk};
 ghost use Rattle.std.specs.Str.{bytes_eq};
+ghost use Rattle.world_core.specs.Trigger.{IsMet, armed_at};
 
 use crate::fault::{Fault, Halt};
 use crate::halt::{left_disks, left_each, with_disks};
@@ -73,7 +75,7 @@ impl World {
         let Some(arming) = self.armed else {
             return Err(halt.fault);
         };
-        if met.is_none() || !is_disk(halt.fault) || !is_one_tape(arming.rank, halt.rank) {
+        if !is_met(met, arming, halt) {
             return Err(halt.fault);
         }
         self.strike(halt.fault, arming.choice, out)
@@ -176,16 +178,15 @@ impl World {
             → IsTapeOf life.past peer rank → Made (TakesStop peer call choice) life [] self.new }
     {
         let last = self.count();
-        self.trigger.set(Trigger::Armed(Stop {
-            rank: rank.unwrap_or(last),
-            calls: call,
-            choice,
-        }));
+        self.trigger.set(trigger_of(rank, last, call, choice));
         self.armed = Some(Arming { rank, call, choice });
     }
 
     // How many peers there are.
-    fn count(&self) -> usize {
+    fn count(&self) -> usize
+        ensures { (life : Life) → WorldStands self.entry.now life
+            → result ≡ length life.past.peers }
+    {
         match &self.stage {
             Stage::Running(stations, _) => stations.peers.len(),
             Stage::Stopped(peers, _) => peers.len(),
@@ -204,16 +205,34 @@ impl World {
     }
 }
 
+// What waits once a stop is armed at the tape of the peer at this rank, or at the intake's, which has the last rank.
+fn trigger_of(rank: Option<usize>, last: usize, call: u64, choice: Choice) -> Trigger
+    ensures { result ≡ armed_at rank last call choice }
+{
+    Trigger::Armed(Stop {
+        rank: rank.unwrap_or(last),
+        calls: call,
+        choice,
+    })
+}
+
+// Whether it was the armed stop that was met in a step that was refused so.
+fn is_met(met: Option<Choice>, armed: Arming, halt: Halt) -> bool
+    ensures { result ≡ true ↔ IsMet met armed halt }
+{
+    met.is_some() && is_disk(halt.fault) && is_one_tape(armed.rank, halt.rank)
+}
+
 // Whether a disk failed.
 fn is_disk(fault: Fault) -> bool
-    ensures { result ≡ true → fault ≡ Fault.Tape TapeFault.Disk }
+    ensures { result ≡ true ↔ fault ≡ Fault.Tape TapeFault.Disk }
 {
     matches!(fault, Fault::Tape(TapeFault::Disk))
 }
 
 // Whether these are the places of one tape.
 fn is_one_tape(one: Option<usize>, other: Option<usize>) -> bool
-    ensures { result ≡ true → one ≡ other }
+    ensures { result ≡ true ↔ one ≡ other }
 {
     match (one, other) {
         (Some(one), Some(other)) => one == other,

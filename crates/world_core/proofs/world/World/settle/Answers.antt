@@ -5,16 +5,14 @@ use Rattle.world_core.proofs.world.World.settle.Goals as goal
 
 pub returns-clause-ok : goal.returns-clause-ok
 returns-clause-ok c = λ step life was.
-    let disk = c.is_disk.ensures c.if-not-is_disk.false in
-    let same = c.is_one_tape.ensures c.if-not-is_one_tape.false in
+    let met = c.is_met.ensures.0 c.if-not-is_met.false in
     on_ok_map c.strike.result _ _ (c.strike.ensures.ok life was.now was.under_way was.goes_on was.stands)
-    (struck step life c.args.halt c.args.self.now was c.in-Some.arming c.in-Some.is disk same c.strike.new.out.items
-    c.strike.new.self)
+    (struck step life c.args.halt c.args.self.now was c.in-Some.arming c.in-Some.is met.disk met.tape
+    c.strike.new.out.items c.strike.new.self)
 
 pub returns-clause-err : goal.returns-clause-err
 returns-clause-err c = λ step life was.
-    let disk = c.is_disk.ensures c.if-not-is_disk.false in
-    let same = c.is_one_tape.ensures c.if-not-is_one_tape.false in
+    let met = c.is_met.ensures.0 c.if-not-is_met.false in
     if_err_map c.strike.result _ _ (c.strike.ensures.err life was.now was.under_way was.goes_on was.stands)
-    (λ fault. struck_untold step life c.args.halt c.args.self.now was c.in-Some.arming c.in-Some.is disk same fault
-    c.strike.new.self)
+    (λ fault. struck_untold step life c.args.halt c.args.self.now was c.in-Some.arming c.in-Some.is met.disk met.tape
+    fault c.strike.new.self)
