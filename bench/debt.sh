@@ -11,10 +11,15 @@
 # which cc builds, counts what is asked of malloc.
 #
 # CHECKOUT is another checkout of this repository, of which the same is told beside: its program has
-# to be built, and to know the word `debt` (crates/bench/src/ways.rt).
+# to be built, and to know the word `debt` (crates/bench/src/ways.rt). Where that program is missing,
+# or older than its sources, nothing is measured, and the status is 70.
 #
 # Other programs that run at the same time move the time. It fails on none.
 . "$(dirname "$(readlink -f "${BASH_SOURCE[0]}")")/lib.sh"
+if [ $# -gt 0 ] && (top=$1 && stale bench); then
+  echo "debt.sh: the program of the benchmarks is missing in $1, or older than its sources: build it there" >&2
+  exit 70
+fi
 build bench
 run=$(mktemp -d)
 memory=/dev/shm

@@ -25,12 +25,12 @@ domain: example.com
 hismethod: hisv6
 enableoverview: false
 pathnews: /usr/lib/news
-pathetc: $run/inn
-pathdb: $run/inn
-pathlog: $run/inn
-pathrun: $run/inn
-pathspool: $run
-patharticles: $run/articles
+pathetc: "$run/inn"
+pathdb: "$run/inn"
+pathlog: "$run/inn"
+pathrun: "$run/inn"
+pathspool: "$run"
+patharticles: "$run/articles"
 END
 
 # listen: a peer; its port is set.
@@ -63,9 +63,9 @@ timed() {
 spent() { awk -v count="$1" '{ printf "%.1f", ($1 + $2) * 1000000 / count }' times; }
 
 settings() {
-  echo "news-spool: $run/articles"
-  echo "backlog-directory: $run/backlog"
-  echo "status-file: $run/status"
+  echo "news-spool: \"$run/articles\""
+  echo "backlog-directory: \"$run/backlog\""
+  echo "status-file: \"$run/status\""
   echo "max-queue-size: 20 max-connections: $1"
   echo "peer p { ip-name: 127.0.0.1 port-number: $2 }"
 }
@@ -90,11 +90,11 @@ from_inn() {
   cp batch backlog/p
   listen
   cat >conf <<END
-news-spool: $run/articles
-backlog-directory: $run/backlog
-pid-file: $run/inn/pid
-log-file: $run/inn/log
-status-file: $run/inn/status
+news-spool: "$run/articles"
+backlog-directory: "$run/backlog"
+pid-file: "$run/inn/pid"
+log-file: "$run/inn/log"
+status-file: "$run/inn/status"
 dynamic-method: 0
 initial-connections: $1
 max-connections: $1

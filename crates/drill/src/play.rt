@@ -101,7 +101,8 @@ fn done(alloc: Global, report: &Report, steps: usize) -> Result<Played, AllocErr
 // A step was refused.
 fn refused(alloc: Global, lines: &[usize], fault: &WorldFault) -> Result<Played, AllocError>
     ensures prints { IfOk result (λ played. played.printed.items
-        ≡ steps_text (said_by fault.now.lines.items) ++ refused_text fault.now.step fault.now.kind) }
+        ≡ steps_text (said_by fault.now.lines.items)
+        ++ refused_text fault.now.step fault.now.kind) }
     ensures no_memory { fault.now.kind ≡ Fault.NoMemory
         → IfOk result (λ played. played.ending ≡ Ending.NoMemory) }
     ensures refused { fault.now.kind ≢ Fault.NoMemory → IfOk result (λ played. played.ending
