@@ -6,13 +6,14 @@ use Rattle.commands.specs.declared.feeds.FeedEnd.{FeedEnd}
 use Rattle.commands.specs.declared.feeds.FileTrouble.{FileTrouble}
 use Rattle.commands.specs.declared.feeds.TapeTrouble.{TapeTrouble}
 
--- by what is wrong with tapes, whether memory or a thread was refused, and what is wrong with other files
+-- by what is wrong with tapes, whether memory, a thread or what sockets want was refused, and what is wrong with other
+-- files
 abbrev pub worst : List TapeTrouble → Bool → List FileTrouble → Exit
 worst (trouble ∷ more) lacks files = Tape
 worst [] true files = NoMemory
 worst [] false (trouble ∷ more) = Unreadable
 worst [] false [] = Done
 
--- what is wrong with tapes goes first, then want of memory or of a thread, then other files
+-- what is wrong with tapes goes first, then memory, a thread or what sockets want, then other files
 abbrev pub exit_of_end : FeedEnd → Exit
 exit_of_end end = worst end.tapes.items end.lacks end.files.items

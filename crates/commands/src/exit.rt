@@ -16,7 +16,7 @@ pub enum Exit {
     Tape,
     /// A file or standard input could not be read, or another file or an output not be written: status 4.
     Unreadable,
-    /// Memory was refused, or a thread: status 5.
+    /// Memory, a thread or what sockets want was refused: status 5.
     NoMemory,
 }
 

@@ -42,7 +42,7 @@ pub struct FeedEnd {
     pub tapes: Vec<TapeTrouble>,
     /// What went wrong with other files.
     pub files: Vec<FileTrouble>,
-    /// Whether memory or a thread was refused, of which nothing is told.
+    /// Whether memory, a thread or what sockets want was refused, of which nothing is told.
     pub lacks: bool,
     /// The peers that are still owed debts, by name.
     pub owing: Vec<Owing>,
@@ -65,7 +65,7 @@ impl FeedEnd {
         }
     }
 
-    /// A feed that ended since memory or a thread was refused.
+    /// A feed that ended since memory, a thread or what sockets want was refused.
     pub fn lacking(alloc: Global) -> Self
         ensures { (result.tapes.items ≡ []) × (result.files.items ≡ []) × (result.lacks ≡ true)
             × (result.owing.items ≡ []) }
@@ -76,7 +76,8 @@ impl FeedEnd {
         }
     }
 
-    /// The status that tells of it: what is wrong with tapes goes first, then want of memory or of a thread.
+    /// The status that tells of it: what is wrong with tapes goes first, then memory, a thread or what sockets want
+    /// where that was refused, then other files.
     pub fn exit(&self) -> Exit
         ensures { result ≡ exit_of_end self.now }
     {

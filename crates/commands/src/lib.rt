@@ -5,7 +5,8 @@
 //! it stands on `drill` and `feed_conf`, and on `recovery` for the faults of tapes. What feeds peers is told here by a
 //! trait, [`Feeds`], so that threads and sockets stay out of it. The program above uses `run`: its clause says which
 //! exit status comes with which text on standard output and which line on standard error (docs/MANUAL.md), and a status
-//! is never lost where that line cannot be written. What a drill prints is said by no clause; it is tested.
+//! is never lost where that line cannot be written. What a drill prints is what the contract of `drill` has it print,
+//! which that clause cites (`specs/Ends.antt`).
 #![tactic(auto)]
 
 mod check;

@@ -123,7 +123,7 @@ impl Conn {
         Ok(())
     }
 
-    /// The number whose article came to be wanted first.
+    /// The number whose article came to be wanted first. None where none is wanted, and once closed.
     pub fn need(&self) -> Option<u64>
         ensures { (options : Options) (unread : List ℕ) (h : List Event)
             → StandsFor options self.now unread h → result ≡ need options h }
@@ -247,7 +247,7 @@ impl Conn {
         }
     }
 
-    /// The moment is this, in seconds. It closes where an answer is late.
+    /// The moment is this, in seconds. It closes where an answer is late; a closed connection stays as it is.
     pub fn tick(&mut self, now: u64)
         ensures stands { (options : Options) (unread : List ℕ) (h : List Event)
             → StandsFor options self.old unread h
@@ -258,7 +258,7 @@ impl Conn {
         self.machine.tick(now)
     }
 
-    /// The connection broke.
+    /// The connection broke: it closes. A closed one stays as it is.
     pub fn broken(&mut self)
         ensures stands { (options : Options) (unread : List ℕ) (h : List Event)
             → StandsFor options self.old unread h
@@ -295,7 +295,8 @@ impl Conn {
         self.machine.output()
     }
 
-    /// So many octets at the front of the output count as sent.
+    /// So many octets at the front of the output count as sent, at most all of them: none, once closed, and a closed
+    /// connection stays as it is.
     pub fn sent(&mut self, count: usize)
         requires { count ≤ length (output_at self.old) }
         ensures stands { (options : Options) (unread : List ℕ) (h : List Event)

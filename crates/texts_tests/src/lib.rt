@@ -1,4 +1,5 @@
-//! Tests of the crates that read and write texts: lines and names, blocks, replies, configurations, stores of articles.
+//! Tests of the crates that read and write texts: lines and names, blocks, replies, configurations, stores of articles,
+//! status reports.
 //!
 //! Has no item of its own, and nothing stands on it. Each module asks the public calls of one crate about rows of
 //! texts: one small function a call tells its answer as octets, and a loop compares that with what the row has. The

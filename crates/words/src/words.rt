@@ -16,12 +16,13 @@ const ABOUT: &str =
     "The outgoing feeder of a news server: offers peers the articles of a funnel file, and of their backlogs.";
 
 const MORE: &str =
-    "Of -C, --owed and -x the first that is given acts alone, and FUNNEL is not read; else it is needed.
+    "Of -C, --owed and -x the first in this order acts alone, and FUNNEL is not read; else it is needed.
 With no argument a drill script is read on standard input.
 
 Exit status: 0 done; 1 a bad configuration, or a script that breaks its rules or whose step was refused;
 2 a mistake in the words; 3 a tape that cannot be opened, broke, is damaged or full; 4 another file or standard
-input that cannot be read, or a file or standard output that cannot be written; 5 no memory, or no thread.";
+input that cannot be read, or a file or standard output that cannot be written; 5 memory, a thread or what
+sockets want was refused.";
 
 /// Reads the words of the command line, of which the first is the program's own name.
 ///
