@@ -17,6 +17,9 @@ pub(crate) struct Desk<'a, D: Disk, N: Naming, P: Pace> {
     pub who: Who,
     /// The moment, in seconds.
     pub now: u64,
+    /// The moment up to which debts that wait are offered: in the last phase its beginning, so that what is deferred in
+    /// it is not offered again in it.
+    pub due: u64,
     /// Whether it waits where a station is in use. Else it is refused, and asks again at the next turn.
     pub waits: bool,
 }
@@ -36,9 +39,9 @@ impl<D: Disk, N: Naming, P: Pace> Desk<'_, D, N, P> {
             return Err(FeederFault::NoPeer);
         }
         let claimed = if self.waits {
-            self.post.claim(rt, peer, connection, self.now)
+            self.post.claim(rt, peer, connection, self.due)
         } else {
-            self.post.try_claim(peer, connection, self.now)
+            self.post.try_claim(peer, connection, self.due)
         };
         match claimed {
             Ok(debt) => Ok(debt),

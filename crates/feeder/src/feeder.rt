@@ -44,6 +44,8 @@ pub struct Feeder<S: Articles + Drop, C: Net + Drop, N: Naming> {
     pub(crate) number: u64,
     // The last second that passed for the connections.
     pub(crate) ticked: Option<u64>,
+    // The second in which it first saw the last phase.
+    pub(crate) last_phase_since: Option<u64>,
 }
 
 impl<S: Articles + Drop, C: Net + Drop, N: Naming> Feeder<S, C, N> {
@@ -81,6 +83,7 @@ impl<S: Articles + Drop, C: Net + Drop, N: Naming> Feeder<S, C, N> {
             buffer,
             number: u64::from(which),
             ticked: None,
+            last_phase_since: None,
         })
     }
 

@@ -48,6 +48,9 @@ impl<S: Articles + Drop, C: Net + Drop, N: Naming> Feeder<S, C, N> {
             }
             let last_phase = signals.is_last_phase();
             let now = Moment::now(rt, self.start)?;
+            if last_phase {
+                self.last_phase_since = self.last_phase_since.or(Some(now.seconds));
+            }
             let desk = self.desk(post, pace, now.seconds, false);
             self.pass_second(rt, now.seconds, last_phase);
             self.visit_all(rt, &desk)?;
@@ -76,6 +79,7 @@ impl<S: Articles + Drop, C: Net + Drop, N: Naming> Feeder<S, C, N> {
             pace,
             who: Who::Feeder(self.which),
             now,
+            due: self.last_phase_since.unwrap_or(now),
             waits,
         }
     }
