@@ -247,14 +247,17 @@ impl Connection {
         self.conn.output().is_empty() && self.conn.need().is_some()
     }
 
-    /// The next outcome, and what it was about is held no more.
+    /// The next outcome, and what it was about is held no more. Behind one that is lost it is to be looked at again: no
+    /// answer comes that would tell that there is room for another debt.
     pub fn next_outcome(&mut self) -> Option<Outcome> {
         if let Some(kept) = self.kept.take() {
             return Some(kept);
         }
         let outcome = self.conn.outcome()?;
-        if matches!(outcome, Outcome::Deferred(_)) {
-            self.deferred = self.deferred.saturating_add(1);
+        match outcome {
+            Outcome::Deferred(_) => self.deferred = self.deferred.saturating_add(1),
+            Outcome::Lost(_, _) => self.is_touched = true,
+            Outcome::Final(_) | Outcome::Back(_) => {}
         }
         let _ = self.held.remove(&number_of(&outcome));
         Some(outcome)
