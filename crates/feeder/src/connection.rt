@@ -185,7 +185,7 @@ impl Connection {
 
     /// Whether its peer has agreed to a mode since it was asked last.
     pub fn is_newly_greeted(&mut self) -> bool {
-        if self.is_greeted || !self.is_ready() {
+        if self.is_greeted || self.conn.mode().is_none() {
             return false;
         }
         self.is_greeted = true;
