@@ -16,7 +16,7 @@ use std::time::Instant;
 const BUFFER: usize = 65_536;
 
 // How many reports one wait gives at most.
-const EVENTS: usize = 256;
+const EVENTS: usize = 1_024;
 
 /// The token of the wakers. Connections have their keys.
 pub(crate) const WAKER: Token = Token(usize::MAX);

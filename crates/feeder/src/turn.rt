@@ -52,8 +52,9 @@ impl<S: Articles + Drop, C: Net + Drop, N: Naming> Feeder<S, C, N> {
                 self.last_phase_since = self.last_phase_since.or(Some(now.seconds));
             }
             let desk = self.desk(post, pace, now.seconds, false);
-            self.pass_second(rt, now.seconds, last_phase);
+            self.catch_up(now.seconds)?;
             self.visit_all(rt, &desk)?;
+            self.pass_second(rt, now.seconds, last_phase);
             if last_phase && self.is_done(&desk)? {
                 self.tell_given_up(rt, &desk);
                 return Ok(());
@@ -81,6 +82,16 @@ impl<S: Articles + Drop, C: Net + Drop, N: Naming> Feeder<S, C, N> {
             now,
             due: self.last_phase_since.unwrap_or(now),
             waits,
+        }
+    }
+
+    // Where a second has passed, notes once more what has come: what came before it is not late, also where this thread
+    // stood still.
+    fn catch_up(&mut self, now: u64) -> Result<(), FeederFault> {
+        if self.ticked == Some(now) {
+            Ok(())
+        } else {
+            self.wait(0)
         }
     }
 
