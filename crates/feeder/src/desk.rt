@@ -102,6 +102,11 @@ impl<D: Disk, N: Naming, P: Pace> Desk<'_, D, N, P> {
         Ok(self.post.try_all_later(peer).unwrap_or(false))
     }
 
+    /// Whether a debt of the peer is ready, or a connection holds one. It waits for the station.
+    pub fn has_work<R: Wait>(&self, rt: &R, peer: usize) -> bool {
+        peer < self.post.peers() && !self.post.all_later(rt, peer)
+    }
+
     /// Whether half of the notes that may pend have come to pend at the peer's station, since anyone asked last.
     pub fn is_newly_half_full(&self, peer: usize) -> bool {
         peer < self.post.peers() && self.post.is_newly_half_full(peer)

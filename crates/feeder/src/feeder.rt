@@ -35,7 +35,10 @@ pub struct Feeder<S: Articles + Drop, C: Net + Drop, N: Naming> {
     pub(crate) start: Instant,
     pub(crate) which: u8,
     pub(crate) plans: Vec<PeerPlan>,
+    // Plan by plan.
     pub(crate) slots: Vec<Slot>,
+    // How many slots there are up to the end of each plan's.
+    ends: Vec<usize>,
     pub(crate) connections: Slab<Connection>,
     pub(crate) poll: Poll,
     pub(crate) events: Events,
@@ -66,7 +69,7 @@ impl<S: Articles + Drop, C: Net + Drop, N: Naming> Feeder<S, C, N> {
         let poll = Poll::new(&net)?;
         let events = Events::with_capacity(alloc, EVENTS)?;
         let buffer = vec![in alloc; 0u8; BUFFER]?;
-        let slots = slots_of(alloc, &plans, which)?;
+        let (slots, ends) = slots_of(alloc, &plans, which)?;
         Ok(Feeder {
             share,
             fault: None,
@@ -77,6 +80,7 @@ impl<S: Articles + Drop, C: Net + Drop, N: Naming> Feeder<S, C, N> {
             which,
             plans,
             slots,
+            ends,
             connections: Slab::new(alloc),
             poll,
             events,
@@ -94,18 +98,38 @@ impl<S: Articles + Drop, C: Net + Drop, N: Naming> Feeder<S, C, N> {
     pub fn waker(&self) -> io::Result<Waker> {
         Waker::new(self.poll.registry(), WAKER)
     }
+
+    /// Its slots of the peer of this plan.
+    pub(crate) fn slots_of(&self, plan: usize) -> &[Slot] {
+        let begin = match plan.checked_sub(1) {
+            Some(before) => self.end_of(before),
+            None => 0,
+        };
+        self.slots.get(begin..self.end_of(plan)).unwrap_or(&[])
+    }
+
+    // How many slots there are up to the end of this plan's.
+    fn end_of(&self, plan: usize) -> usize {
+        self.ends.get(plan).copied().unwrap_or(0)
+    }
 }
 
-// The slots of all peers that are this feeder's.
-fn slots_of(alloc: Global, plans: &Vec<PeerPlan>, which: u8) -> Result<Vec<Slot>, AllocError> {
+// The slots of all peers that are this feeder's, plan by plan, and how many there are up to the end of each plan's.
+fn slots_of(
+    alloc: Global,
+    plans: &Vec<PeerPlan>,
+    which: u8,
+) -> Result<(Vec<Slot>, Vec<usize>), AllocError> {
     let mut slots = Vec::new(alloc);
+    let mut ends = Vec::new(alloc);
     for at in 0..plans.len() {
         let plan = &plans[at];
         for _ in 0..share_of(plan.connections, which) {
             slots.push(Slot::new(at, plan.first_wait, plan.most_wait))?;
         }
+        ends.push(slots.len())?;
     }
-    Ok(slots)
+    Ok((slots, ends))
 }
 
 // How many of so many connections, numbered from 0, are this feeder's: those whose number mod 2 it is.

@@ -213,18 +213,20 @@ impl<S: Articles + Drop, C: Net + Drop, N: Naming> Feeder<S, C, N> {
 
     // Whether in the last phase each of its slots of this peer is given up.
     fn is_given_up(&self, plan: usize) -> bool {
-        self.slots
+        self.slots_of(plan)
             .iter()
-            .all(|slot| slot.plan() != plan || slot.is_given_up(true))
+            .all(|slot| slot.is_given_up(true))
     }
 
-    // Tells of each of its peers that it gives up, where it is the last feeder of the peer to do so.
-    fn tell_given_up<D: Disk, R: Log, P: Pace>(&self, rt: &R, desk: &Desk<'_, D, N, P>) {
+    // Tells of each of its peers that it gives up, where it is the last feeder of the peer to do so, and a debt of the
+    // peer could go.
+    fn tell_given_up<D: Disk, R: Wait + Log, P: Pace>(&self, rt: &R, desk: &Desk<'_, D, N, P>) {
         for at in 0..self.plans.len() {
             let plan = &self.plans[at];
             if self.is_given_up(at)
-                && self.slots.iter().any(|slot| slot.plan() == at)
+                && !self.slots_of(at).is_empty()
                 && desk.give_up(plan.peer, plan.feeders())
+                && desk.has_work(rt, plan.peer)
             {
                 tell_given_up(rt, name_of(&self.plans, at));
             }
