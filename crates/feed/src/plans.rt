@@ -2,8 +2,9 @@
 use conn_core::Options;
 use feed_conf::{Conf, PeerConf};
 use feeder::PeerPlan;
+use log::Log;
 use std::alloc::{AllocError, Global};
-use std::net::{Net, SocketAddr, ToSocketAddrs};
+use std::net::{Net, SocketAddr};
 use std::str;
 
 /// The peers of these settings, in byte order of their names.
@@ -13,35 +14,27 @@ pub(crate) fn by_name(conf: Conf) -> Vec<PeerConf> {
     peers
 }
 
-/// The addresses of each of these peers' hosts, as they are known now: none where a name was not found.
+/// The addresses of each of these peers' hosts, as they are known now: none where a host can't be looked up, which is
+/// told.
 ///
 /// # Errors
 /// Memory was refused.
-pub(crate) fn look_up<C: Net>(
+pub(crate) fn look_up<R: Log, C: Net>(
+    rt: &R,
     alloc: Global,
     net: &C,
     peers: &[PeerConf],
 ) -> Result<Vec<Vec<SocketAddr>>, AllocError> {
     let mut found = Vec::new(alloc);
     for peer in peers {
-        found.push(addresses_of(alloc, net, peer)?)?;
+        let addresses = feeder::look_up(rt, alloc, net, &peer.name, host_of(peer), port_of(peer))?;
+        found.push(addresses)?;
     }
     Ok(found)
 }
 
-fn addresses_of<C: Net>(
-    alloc: Global,
-    net: &C,
-    peer: &PeerConf,
-) -> Result<Vec<SocketAddr>, AllocError> {
-    let mut addresses = Vec::new(alloc);
-    let host = str::from_utf8(&peer.ip_name).unwrap_or("");
-    if let Ok(found) = (host, port_of(peer)).to_socket_addrs(net) {
-        for address in found {
-            addresses.push(address)?;
-        }
-    }
-    Ok(addresses)
+fn host_of(peer: &PeerConf) -> &str {
+    str::from_utf8(&peer.ip_name).unwrap_or("")
 }
 
 fn port_of(peer: &PeerConf) -> u16 {
@@ -73,9 +66,10 @@ fn plan_of(
     Ok(PeerPlan {
         peer: index,
         name: peer.name.clone()?,
-        host: String::from_str(alloc, str::from_utf8(&peer.ip_name).unwrap_or(""))?,
+        host: String::from_str(alloc, host_of(peer))?,
         port: port_of(peer),
         addresses: Vec::from_slice(alloc, addresses)?,
+        looked_up: None,
         options: Options {
             streaming: peer.streaming,
             max_queue: peer.max_queue,

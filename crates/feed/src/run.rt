@@ -91,7 +91,7 @@ pub(crate) fn feed<
 }
 
 // Looks up the peers' hosts, and opens the spool for each feeder.
-fn prepare<R: Clock, F: AllocGlobal, S: Drop, H: Spools<Store = S>, C: Net>(
+fn prepare<R: Clock + Log, F: AllocGlobal, S: Drop, H: Spools<Store = S>, C: Net>(
     means: &Means<'_, R, F, H, C>,
     peers: &[PeerConf],
     spool: &[u8],
@@ -102,7 +102,7 @@ fn prepare<R: Clock, F: AllocGlobal, S: Drop, H: Spools<Store = S>, C: Net>(
     let Ok(path) = str::from_utf8(spool) else {
         return Err(Trouble::unread(alloc, spool, &io::Error::from(ErrorKind::InvalidInput)));
     };
-    let addresses = look_up(alloc, &means.net, peers)?;
+    let addresses = look_up(means.rt, alloc, &means.net, peers)?;
     let mut names = Vec::new(alloc);
     for peer in peers {
         names.push(peer.name.clone()?)?;

@@ -1,5 +1,6 @@
 -- What happened at the slot of a connection, and when it is tried again (profile).
-use Rattle.std.specs.Prelude.{◌≡◌, ◌+◌, ◌-◌, ◌^◌, ◌&&◌, ℕ, Bool, true, false, not, min, nat_le, List, [], ◌∷◌}
+use Rattle.std.specs.Prelude.{◌≡◌, ◌+◌, ◌-◌, ◌^◌, ◌&&◌, ℕ, Bool, true, false, not, min, nat_le, nat_lt}
+use Rattle.std.specs.Prelude.{if◌then◌else◌, List, [], ◌∷◌}
 use Rattle.deferral.specs.Wait.{wait_after}
 use Rattle.deferral.specs.Failed.{Failed, first_wait_of, most_wait_of}
 use Rattle.feeder.specs.declared.slot.Slot.{Slot}
@@ -12,7 +13,10 @@ pub data Event : Type 0 where
   Tried : Event
   -- the peer greeted it well
   Greeted : Event
-  -- it could not be made at this moment, or closed then for another reason than that it was left in good order
+  -- it could not be made to one of the peer's addresses, and the next one is tried at once
+  Missed : Event
+  -- at this moment no address was left to which it could be made, or it closed, but not as one that was left in good
+  -- order
   Lost : (now : ℕ) → Event
   -- it was left in good order
   Left : Event
@@ -22,14 +26,29 @@ abbrev pub losses : List Event → ℕ
 losses [] = 0
 losses (Tried ∷ h) = losses h
 losses (Greeted ∷ h) = 0
+losses (Missed ∷ h) = losses h
 losses (Lost now ∷ h) = losses h + 1
 losses (Left ∷ h) = losses h
+
+-- to how many addresses in a row it could not be made, since it was lost, greeted or left
+abbrev pub misses : List Event → ℕ
+misses [] = 0
+misses (Tried ∷ h) = misses h
+misses (Greeted ∷ h) = 0
+misses (Missed ∷ h) = misses h + 1
+misses (Lost now ∷ h) = 0
+misses (Left ∷ h) = 0
+
+-- it could not be made to one of so many addresses: it is lost where that was so at as many in a row
+abbrev pub unmade : (now addresses : ℕ) → List Event → List Event
+unmade now addresses h = (if nat_lt (misses h + 1) addresses then Missed else Lost now) ∷ h
 
 -- what it has: after each loss in a row it waits for twice as long as before, from the first wait to the most
 abbrev pub standing : (first most : ℕ) → List Event → Standing
 standing first most [] = Vacant
 standing first most (Tried ∷ h) = Taken
 standing first most (Greeted ∷ h) = standing first most h
+standing first most (Missed ∷ h) = Vacant
 standing first most (Lost now ∷ h) = Waiting (min (now + wait_after first most (losses h + 1)) (2 ^ 64 - 1))
 standing first most (Left ∷ h) = Vacant
 
@@ -51,7 +70,7 @@ stands_at slot h = standing (first_wait_of slot.backoff) (most_wait_of slot.back
 
 -- the slot stands for these events
 abbrev pub StandsFor : Slot → List Event → Type 0
-StandsFor slot h = (slot.standing ≡ stands_at slot h) × Failed slot.backoff (losses h)
+StandsFor slot h = (slot.standing ≡ stands_at slot h) × (slot.missed ≡ misses h) × Failed slot.backoff (losses h)
 
 -- the two have the same plan and the same waits
 abbrev pub IsSameSlot : Slot → Slot → Type 0

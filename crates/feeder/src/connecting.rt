@@ -1,7 +1,8 @@
 // Making connections.
+use crate::Feeder;
 use crate::connection::Connection;
+use crate::hosts::look_up;
 use crate::telling::{name_of, tell_unmade};
-use crate::{Feeder, PeerPlan};
 use article_store::Articles;
 use conn_core::{Conn, CxnId};
 use event_loop::SocketLink;
@@ -9,9 +10,8 @@ use flusher::Naming;
 use log::Log;
 use mio::Token;
 use mio::net::TcpStream;
-use std::alloc::Global;
 use std::io::{self, ErrorKind};
-use std::net::{Net, ToSocketAddrs};
+use std::net::Net;
 
 impl<S: Articles + Drop, C: Net + Drop, N: Naming> Feeder<S, C, N> {
     /// Begins to connect each slot that is due.
@@ -21,19 +21,51 @@ impl<S: Articles + Drop, C: Net + Drop, N: Naming> Feeder<S, C, N> {
         }
     }
 
-    // Begins to connect a slot, where it is due. One that fails at once is lost.
+    // Begins to connect a slot, where it is due; where it waited, its peer's host is looked up again before.
     fn connect_if_due<R: Log>(&mut self, rt: &R, at: usize, now: u64, last_phase: bool) {
-        let is_due = match self.slots.get(at) {
-            Some(slot) => slot.is_due(now, last_phase),
-            None => false,
+        let Some(slot) = self.slots.get(at).copied() else {
+            return;
         };
-        if is_due
-            && let Err(error) = self.connect(at)
-            && let Some(slot) = self.slots.get_mut(at)
-        {
-            slot.lost(now);
-            tell_unmade(rt, name_of(&self.plans, slot.plan()), &error);
+        if !slot.is_due(now, last_phase) {
+            return;
         }
+        if slot.is_waiting() {
+            self.look_up_again(rt, slot.plan(), now);
+        }
+        if let Err(error) = self.connect(at) {
+            tell_unmade(rt, name_of(&self.plans, slot.plan()), &error);
+            self.unmade(at, now);
+        }
+    }
+
+    // Looks the host of a plan's peer up again, once in a second at most, however many of its slots are due: a resolver
+    // that does not answer holds the thread up. What is found replaces its addresses; else they stay.
+    fn look_up_again<R: Log>(&mut self, rt: &R, plan: usize, now: u64) {
+        let Some(plan) = self.plans.get_mut(plan) else {
+            return;
+        };
+        if plan.looked_up == Some(now) {
+            return;
+        }
+        plan.looked_up = Some(now);
+        let host = plan.host.as_str();
+        if let Ok(found) = look_up(rt, self.alloc, &self.net, &plan.name, host, plan.port)
+            && !found.is_empty()
+        {
+            plan.addresses = found;
+        }
+    }
+
+    /// A slot's connection could not be made, to one of as many addresses as its peer has now.
+    pub(crate) fn unmade(&mut self, at: usize, now: u64) {
+        let Some(slot) = self.slots.get_mut(at) else {
+            return;
+        };
+        let addresses = match self.plans.get(slot.plan()) {
+            Some(plan) => plan.addresses.len(),
+            None => 0,
+        };
+        slot.unmade(now, addresses);
     }
 
     // Begins to connect a slot, to the next address of its peer.
@@ -41,12 +73,9 @@ impl<S: Articles + Drop, C: Net + Drop, N: Naming> Feeder<S, C, N> {
         let Some(slot) = self.slots.get_mut(at) else {
             return Err(io::Error::from(ErrorKind::NotFound));
         };
-        let Some(plan) = self.plans.get_mut(slot.plan()) else {
+        let Some(plan) = self.plans.get(slot.plan()) else {
             return Err(io::Error::from(ErrorKind::NotFound));
         };
-        if slot.is_waiting() {
-            let _ = look_up_again(self.alloc, &self.net, plan);
-        }
         let address = plan.address(slot.tries());
         slot.tried();
         let Some(address) = address else {
@@ -64,17 +93,4 @@ impl<S: Articles + Drop, C: Net + Drop, N: Naming> Feeder<S, C, N> {
         self.number = next;
         Ok(())
     }
-}
-
-// Looks a peer's host up again. What is found replaces its addresses; else they stay.
-fn look_up_again<C: Net>(alloc: Global, net: &C, plan: &mut PeerPlan) -> io::Result<()> {
-    let found = (plan.host.as_str(), plan.port).to_socket_addrs(net)?;
-    let mut addresses = Vec::new(alloc);
-    for address in found {
-        addresses.push(address)?;
-    }
-    if !addresses.is_empty() {
-        plan.addresses = addresses;
-    }
-    Ok(())
 }

@@ -104,6 +104,11 @@ impl Connection {
         deferred
     }
 
+    /// Whether its peer's host took it: else it could not be made, or was not made in time.
+    pub fn is_made(&self) -> bool {
+        !self.is_connecting && self.failure.is_none()
+    }
+
     /// Why it closed, once it has.
     pub fn closed(&self) -> Option<Reason> {
         self.conn.closed()

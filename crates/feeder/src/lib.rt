@@ -11,6 +11,7 @@ mod connection;
 mod desk;
 mod fault;
 mod feeder;
+mod hosts;
 mod leaving;
 mod moment;
 mod plan;
@@ -21,5 +22,6 @@ mod visit;
 
 pub use fault::FeederFault;
 pub use feeder::Feeder;
+pub use hosts::look_up;
 pub use plan::PeerPlan;
 pub use slot::Slot;

@@ -16,6 +16,8 @@ pub struct PeerPlan {
     pub port: u16,
     /// The addresses of its host, as they were looked up; they are tried in turn, one a try.
     pub addresses: Vec<SocketAddr>,
+    /// The second in which its host was looked up again last: none before that.
+    pub looked_up: Option<u64>,
     /// How each connection to it works.
     pub options: Options,
     /// How many connections it is to have (`max-connections`).

@@ -11,6 +11,8 @@ use deferral::Backoff;
 pub struct Slot {
     plan: usize,
     tries: u64,
+    // At how many of its peer's addresses in a row no connection could be made, since it was lost, greeted or left.
+    missed: u64,
     standing: Standing,
     backoff: Backoff,
 }
@@ -18,7 +20,7 @@ pub struct Slot {
 // What a slot has.
 #[derive(Clone, Copy, Debug, PartialEq, Eq)]
 enum Standing {
-    // No connection, and the last one was not lost.
+    // No connection, and the last one was not lost: none was tried yet, it was left, or another address is next.
     Vacant,
     // A connection, from the try on.
     Taken,
@@ -28,7 +30,7 @@ enum Standing {
 
 impl Slot {
     ghost use Rattle.feeder.specs.Slots.{Event, Tried, Greeted, Lost, Left};
-    ghost use Rattle.feeder.specs.Slots.{IsSameSlot, StandsFor, is_due, is_waiting, stands_at};
+    ghost use Rattle.feeder.specs.Slots.{IsSameSlot, StandsFor, is_due, is_waiting, stands_at, unmade};
 
     /// A slot that was never tried, of the peer of this plan, with its first wait and the most that it waits, in
     /// seconds.
@@ -41,6 +43,7 @@ impl Slot {
         Slot {
             plan,
             tries: 0,
+            missed: 0,
             standing: Standing::Vacant,
             backoff: Backoff::new(first_wait, most_wait),
         }
@@ -106,16 +109,33 @@ impl Slot {
             → StandsFor self.new (Greeted ∷ h) }
         ensures keeps_slot { IsSameSlot self.old self.new }
     {
+        self.missed = 0;
         self.backoff.opened();
     }
 
-    /// Its connection could not be made, or closed for another reason than that it was left in good order: it waits,
-    /// from this moment on.
+    /// Its connection could not be made to one of its peer's addresses, of which there are so many: at each of them in
+    /// a row it is lost, and before that it is tried at once again, with the next. Where there is none it is lost.
+    pub fn unmade(&mut self, now: u64, addresses: usize)
+        ensures stands { (h : List Event) → StandsFor self.old h
+            → StandsFor self.new (unmade now addresses h) }
+        ensures keeps_slot { IsSameSlot self.old self.new }
+    {
+        if self.missed < (addresses as u64).saturating_sub(1) {
+            self.missed += 1;
+            self.standing = Standing::Vacant;
+        } else {
+            self.lost(now);
+        }
+    }
+
+    /// Its connection closed for another reason than that it was left in good order, or could be made to no address: it
+    /// waits, from this moment on.
     pub fn lost(&mut self, now: u64)
         ensures stands { (h : List Event) → StandsFor self.old h
             → StandsFor self.new (Lost now ∷ h) }
         ensures keeps_slot { IsSameSlot self.old self.new }
     {
+        self.missed = 0;
         self.backoff.failed();
         let until = now.saturating_add(self.backoff.wait());
         self.standing = Standing::Waiting { until };
@@ -126,6 +146,7 @@ impl Slot {
         ensures stands { (h : List Event) → StandsFor self.old h → StandsFor self.new (Left ∷ h) }
         ensures keeps_slot { IsSameSlot self.old self.new }
     {
+        self.missed = 0;
         self.standing = Standing::Vacant;
     }
 }

@@ -2,7 +2,7 @@
 use crate::PeerPlan;
 use crate::connection::Connection;
 use conn_core::{Mode, Reason};
-use funnel::Token;
+use funnel::{PeerName, Token};
 use log::{Log, info};
 use std::net::SocketAddr;
 use std::{io, str};
@@ -10,9 +10,19 @@ use std::{io, str};
 /// The name of the peer of this plan.
 pub(crate) fn name_of(plans: &[PeerPlan], at: usize) -> &str {
     match plans.get(at) {
-        Some(plan) => str::from_utf8(plan.name.bytes()).unwrap_or(""),
+        Some(plan) => text_of(&plan.name),
         None => "",
     }
+}
+
+// A peer's name, which is ASCII.
+fn text_of(name: &PeerName) -> &str {
+    str::from_utf8(name.bytes()).unwrap_or("")
+}
+
+/// A peer's host could not be looked up.
+pub(crate) fn tell_unknown<R: Log>(rt: &R, name: &PeerName, host: &str, error: &io::Error) {
+    info!(rt; "{}: cannot look up {}: {}", text_of(name), host, error);
 }
 
 /// A peer agreed to be fed over a connection, in this mode.

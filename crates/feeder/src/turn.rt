@@ -1,4 +1,5 @@
 // The turns of a feeder, until its work is done.
+use crate::connection::Connection;
 use crate::desk::Desk;
 use crate::feeder::WAKER;
 use crate::moment::{Haste, Moment, millis};
@@ -185,12 +186,21 @@ impl<S: Articles + Drop, C: Net + Drop, N: Naming> Feeder<S, C, N> {
         let Some(connection) = self.connections.try_remove(key) else {
             return;
         };
-        if let Some(slot) = self.slots.get_mut(connection.slot()) {
+        self.note_over(&connection, desk.now);
+        if let Some(slot) = self.slots.get(connection.slot()) {
+            tell_over(rt, name_of(&self.plans, slot.plan()), &connection);
+        }
+    }
+
+    // Notes at its slot how a connection ended.
+    fn note_over(&mut self, connection: &Connection, now: u64) {
+        if !connection.is_made() {
+            self.unmade(connection.slot(), now);
+        } else if let Some(slot) = self.slots.get_mut(connection.slot()) {
             match connection.closed() {
                 Some(Reason::Quit) => slot.left(),
-                _ => slot.lost(desk.now),
+                _ => slot.lost(now),
             }
-            tell_over(rt, name_of(&self.plans, slot.plan()), &connection);
         }
     }
 
