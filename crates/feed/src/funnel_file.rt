@@ -47,17 +47,17 @@ impl FunnelFile {
         Ok(None)
     }
 
-    /// Passes over so many lines, or to the end.
+    /// Passes over so many lines, and tells whether all of them were there.
     ///
     /// # Errors
     /// The system's.
-    pub fn skip(&mut self, lines: u64) -> io::Result<()> {
+    pub fn skip(&mut self, lines: u64) -> io::Result<bool> {
         for _ in 0..lines {
             if self.next_line()?.is_none() {
-                return Ok(());
+                return Ok(false);
             }
         }
-        Ok(())
+        Ok(true)
     }
 
     // Reads a piece, and tells whether there was one.

@@ -276,7 +276,7 @@ fn add_owing(name: &PeerName, owed: u64, end: &mut FeedEnd) -> Result<(), AllocE
     Ok(())
 }
 
-// Opens the funnel, behind the lines that are acknowledged.
+// Opens the funnel, behind the lines that are acknowledged. One that has not all of them is another, and is not read.
 fn open_funnel<F: AllocGlobal + Files<File = File>>(
     files: &F,
     path: Option<&str>,
@@ -301,6 +301,8 @@ fn open_behind<F: AllocGlobal + Files<File = File>>(
     acknowledged: u64,
 ) -> io::Result<FunnelFile> {
     let mut file = FunnelFile::open(files, path)?;
-    file.skip(acknowledged)?;
+    if !file.skip(acknowledged)? {
+        return Err(io::Error::from(ErrorKind::UnexpectedEof));
+    }
     Ok(file)
 }
