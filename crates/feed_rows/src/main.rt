@@ -11,6 +11,8 @@ use anyhow::Result;
 use peer::Manner;
 use row::Row;
 use std::fs;
+use std::sync::Wait;
+use std::thread::Threads;
 
 // How many octets a peer answers to one article, from its greeting to the final answer.
 const ANSWERS: usize = 38;
@@ -60,6 +62,29 @@ fn main(rt: HostRuntime) -> Result<()> {
     for octets in 0..=ANSWERS {
         row.cut(&rt, octets)?;
     }
+    gone(&rt, rt)?;
+    short(&rt, rt)?;
     fs::remove_dir_all(&rt, "rows")?;
     Ok(())
+}
+
+// Articles that are gone hold up no other.
+fn gone<R: AllocGlobal + Threads + Wait + Print + Sync>(rt: &R, host: HostRuntime) -> Result<()> {
+    let row = Row::new(rt, host, "gone")?;
+    row.lines_of_gone(300)?;
+    row.take(rt, "300 lines, nobody listens")?;
+    row.feed(rt, Manner::Ihave, "it knows IHAVE alone, three articles are there")?;
+    row.owed(rt, "and is owed")
+}
+
+// A funnel that has not all lines that were acknowledged is another.
+fn short<R: AllocGlobal + Threads + Wait + Print + Sync>(rt: &R, host: HostRuntime) -> Result<()> {
+    let row = Row::new(rt, host, "short")?;
+    row.lines(3)?;
+    row.take(rt, "three lines, nobody listens")?;
+    row.lines_cut_short(3)?;
+    row.take(rt, "two lines and a rest")?;
+    row.owed(rt, "and is owed")?;
+    row.lines(4)?;
+    row.take(rt, "four lines")
 }

@@ -67,7 +67,29 @@ impl Row {
         for number in 1..=count {
             writeln!(text, "{number} <{number}@x> p")?;
         }
-        fs::write(&self.host, self.path("funnel")?.as_str(), &text)?;
+        self.funnel(&text)
+    }
+
+    /// Writes a funnel of so many lines, the last one without its LF.
+    pub fn lines_cut_short(&self, count: u64) -> Result<()> {
+        self.lines(count)?;
+        let mut text = fs::read(&self.host, self.path("funnel")?.as_str())?;
+        let _ = text.pop();
+        self.funnel(&text)
+    }
+
+    /// Writes a funnel of so many lines, of which each hundredth alone names an article that is there.
+    pub fn lines_of_gone(&self, count: u64) -> Result<()> {
+        let mut text = Vec::new(self.host.alloc());
+        for number in 1..=count {
+            let folder = if number % 100 == 0 { "" } else { "gone/" };
+            writeln!(text, "{folder}{number} <{number}@x> p")?;
+        }
+        self.funnel(&text)
+    }
+
+    fn funnel(&self, text: &[u8]) -> Result<()> {
+        fs::write(&self.host, self.path("funnel")?.as_str(), text)?;
         Ok(())
     }
 }
