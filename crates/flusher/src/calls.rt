@@ -1,8 +1,14 @@
 // What workers ask of a post.
 ghost use Rattle.std.specs.Prelude.{◌≡◌, ◌+◌, ◌-◌, ◌<◌, ◌≤◌, ◌^◌, [], length, slice_index_or, true, false};
 ghost use Rattle.std.specs.Prelude.{if◌then◌else◌, IfOk, IfErr, OnOk, OnErr, max, nat_lt};
+ghost use Rattle.std.specs.Prelude.{◌≢◌, ◌⊎◌, ◌↔◌, IsErr, IsErrAnd, IsErrOf, Contains};
 ghost use Rattle.flusher.specs.Counted.{IsCounted};
+ghost use Rattle.flusher.specs.Faults.{IsDiskFault, IsFlushAllFault, IsLineFault, IsNamedBy, IsOfStation};
+ghost use Rattle.flusher.specs.Faults.{IsRotateAllFault, IsSealFault, IsShedFault};
 ghost use Rattle.flusher.specs.Marks.{IsRaised, IsRaisedBy, IsTakenAt, rises};
+ghost use Rattle.flusher.specs.Room.{IsCountFull};
+ghost use Rattle.peer_queue.specs.Faults.{IsClaimFault, IsEndFault, IsFlushFault};
+ghost use Rattle.peer_queue.specs.Words.{ledger_of};
 
 use crate::desk::Desk;
 use crate::fault::TakeFault;
@@ -10,6 +16,7 @@ use crate::naming::TakenByIntake;
 use crate::pace::{Pace, Point, Who};
 use crate::post::Intake;
 use crate::share::{FeederShare, IntakeShare};
+use crate::tally::Tally;
 use crate::{Naming, Post, PostFault};
 use conn_core::{CxnId, Outcome};
 use disk_model::Disk;
@@ -105,6 +112,9 @@ impl<D: Disk, N: Naming> Post<D, N> {
     }
 
     /// Claims the least candidate of a peer.
+    ///
+    /// # Errors
+    /// The station's.
     pub fn claim<R: Wait>(
         &self,
         rt: &R,
@@ -113,6 +123,7 @@ impl<D: Disk, N: Naming> Post<D, N> {
         now: u64,
     ) -> Result<Option<Debt>, PostFault>
         requires { peer < length self.now.names }
+        ensures kinds { IfErr result (IsOfStation peer IsClaimFault) }
     {
         claim_at(peer, &mut self.peers[peer].desk.lock(rt), connection, now)
     }
@@ -128,6 +139,8 @@ impl<D: Disk, N: Naming> Post<D, N> {
         now: u64,
     ) -> Result<Option<Debt>, PostFault>
         requires { peer < length self.now.names }
+        ensures kinds { IfErr result
+            (λ e. (e ≡ PostFault.Busy peer) ⊎ IsOfStation peer IsClaimFault e) }
     {
         match self.free_desk(peer) {
             Some(mut desk) => claim_at(peer, &mut desk, connection, now),
@@ -152,6 +165,9 @@ impl<D: Disk, N: Naming> Post<D, N> {
     }
 
     /// Drops what exceeds a peer's limit, and counts it.
+    ///
+    /// # Errors
+    /// `CountFull` where the tally of what was dropped has no room for 65,537 more; then the station's.
     pub fn shed<R: Wait>(
         &self,
         rt: &R,
@@ -162,24 +178,21 @@ impl<D: Disk, N: Naming> Post<D, N> {
         ensures counted { IfOk result
             (λ shed. (mine.new.dropped ≡ mine.old.dropped + length shed.numbers.items)
             × (mine.new.answered ≡ mine.old.answered)) }
+        ensures kinds { IfErr result
+            (λ e. (e ≡ PostFault.CountFull) ⊎ IsOfStation peer IsShedFault e) }
         ensures unchanged { OnErr result
             ((mine.new.answered ≡ mine.old.answered) × (mine.new.dropped ≡ mine.old.dropped)) }
     {
         let mut desk = self.peers[peer].desk.lock(rt);
         let mut tally = self.tally.lock(rt);
-        if tally.dropped.is_full() {
-            return Err(PostFault::CountFull);
-        }
-        match desk.shed(&mut tally.dropped, &mut mine.dropped) {
-            Ok(shed) => Ok(shed),
-            Err(fault) => Err(PostFault::Station { peer, fault }),
-        }
+        shed_in(peer, &mut desk, &mut tally, mine)
     }
 
     /// Takes what a connection tells of a debt to its peer's station, and counts what became of it.
     ///
     /// # Errors
-    /// The outcome is handed back. `CountFull`; then the station's.
+    /// The outcome is handed back. `CountFull` where the tally of what was answered, or of what was dropped, has no
+    /// room for 65,537 more; then the station's.
     pub fn finish<R: Wait>(
         &self,
         rt: &R,
@@ -193,6 +206,8 @@ impl<D: Disk, N: Naming> Post<D, N> {
         ensures counted { IfOk result
             (λ settled. IsCounted outcome now settled mine.old mine.new) }
         ensures returned { IfErr result (λ e. e.0 ≡ outcome) }
+        ensures kinds { IfErr result
+            (λ e. (e.1 ≡ PostFault.CountFull) ⊎ IsOfStation peer IsEndFault e.1) }
         ensures unchanged { OnErr result
             ((mine.new.answered ≡ mine.old.answered) × (mine.new.dropped ≡ mine.old.dropped)) }
     {
@@ -217,6 +232,9 @@ impl<D: Disk, N: Naming> Post<D, N> {
         ensures counted { IfOk result
             (λ settled. IsCounted outcome now settled mine.old mine.new) }
         ensures returned { IfErr result (λ e. e.0 ≡ outcome) }
+        ensures kinds { IfErr result
+            (λ e. (e.1 ≡ PostFault.Busy peer) ⊎ (e.1 ≡ PostFault.CountFull)
+            ⊎ IsOfStation peer IsEndFault e.1) }
         ensures unchanged { OnErr result
             ((mine.new.answered ≡ mine.old.answered) × (mine.new.dropped ≡ mine.old.dropped)) }
     {
@@ -243,20 +261,16 @@ impl<D: Disk, N: Naming> Post<D, N> {
         ensures counted { IfOk result
             (λ settled. IsCounted outcome now settled mine.old mine.new) }
         ensures returned { IfErr result (λ e. e.0 ≡ outcome) }
+        ensures kinds { IfErr result
+            (λ e. (e.1 ≡ PostFault.CountFull) ⊎ IsOfStation peer IsEndFault e.1) }
         ensures unchanged { OnErr result
             ((mine.new.answered ≡ mine.old.answered) × (mine.new.dropped ≡ mine.old.dropped)) }
     {
         let mut tally = self.tally.lock(rt);
-        if !tally.has_room() {
-            return Err((outcome, PostFault::CountFull));
-        }
         let before = desk.pending();
-        let finished = desk.finish(&mut tally, mine, connection, outcome, now);
+        let finished = finish_in(peer, desk, &mut tally, connection, outcome, now, mine);
         self.note_half_full(peer, before, desk.pending());
-        match finished {
-            Ok(settled) => Ok(settled),
-            Err((outcome, fault)) => Err((outcome, PostFault::Station { peer, fault })),
-        }
+        finished
     }
 
     // Notes whether half of the notes that may pend have come to pend at a peer's station, with this many before and
@@ -271,6 +285,11 @@ impl<D: Disk, N: Naming> Post<D, N> {
 
     /// Takes a funnel line at each station whose peer it names, and answers its number. Where it is refused, it is to
     /// be given again.
+    ///
+    /// # Errors
+    /// `CountFull` where the line's number would pass the greatest u64; `NoMemory`; then of each peer that a good line
+    /// names, in order: `CountFull` where the tally of what was taken has no room for 65,537 more; `Stranger`; the
+    /// station's.
     #[tactic(auto, using(crate::proofs::Rises::rises_same))]
     pub fn take_line<R: Wait>(
         &self,
@@ -283,6 +302,7 @@ impl<D: Disk, N: Naming> Post<D, N> {
             (λ n. IsRaised n line.now self.now.names share.old.marks share.new.marks) }
         ensures counted { share.new.taken ≡ share.old.taken
             + rises share.old.marks share.new.marks }
+        ensures kinds { IfErr result (IsLineFault (IsNamedBy line.now self.now.names)) }
     {
         let last = self.intake.lock(rt).last;
         let Some(number) = last.checked_add(1) else {
@@ -311,6 +331,7 @@ impl<D: Disk, N: Naming> Post<D, N> {
             (IsRaised number line.now self.now.names marks.old.items marks.new.items) }
         ensures counted { taken.new.amount ≡ taken.old.amount
             + rises marks.old.items marks.new.items }
+        ensures kinds { IfErr result (IsLineFault (IsNamedBy line.now self.now.names)) }
         ensures part { taken.new.parts ≡ 1 }
     {
         match read_line(self.alloc, line) {
@@ -340,6 +361,9 @@ impl<D: Disk, N: Naming> Post<D, N> {
             marks.new.items) }
         ensures counted { taken.new.amount ≡ taken.old.amount
             + rises marks.old.items marks.new.items }
+        ensures kinds { IfErr result
+            (IsLineFault (λ at. (at < length self.now.names)
+            × Contains line.now.peers.items (slice_index_or self.now.names at []))) }
         ensures part { taken.new.parts ≡ 1 }
     {
         for peer in 0..self.peers.len() {
@@ -367,6 +391,9 @@ impl<D: Disk, N: Naming> Post<D, N> {
             taken.old.amount taken.new.amount) }
         ensures unchanged { OnErr result
             ((marks.new.items ≡ marks.old.items) × (taken.new.amount ≡ taken.old.amount)) }
+        ensures named { IsErr result
+            → Contains line.now.peers.items (slice_index_or self.now.names peer []) }
+        ensures kinds { IfErr result (IsLineFault (λ at. at ≡ peer)) }
         ensures part { taken.new.parts ≡ 1 }
     {
         if !line.names(&self.peers[peer].name) {
@@ -395,27 +422,27 @@ impl<D: Disk, N: Naming> Post<D, N> {
             (taken.new.amount ≡ taken.old.amount + (if nat_lt mark.old number then 1 else 0)) }
         ensures unchanged { OnErr result
             ((mark.new ≡ mark.old) × (taken.new.amount ≡ taken.old.amount)) }
+        ensures kinds { IfErr result (IsLineFault (λ at. at ≡ peer)) }
         ensures part { taken.new.parts ≡ 1 }
     {
         let mut desk = self.peers[peer].desk.lock(rt);
         let mut tally = self.tally.lock(rt);
-        if tally.taken.is_full() {
-            return Err(PostFault::CountFull);
-        }
         let before = desk.pending();
-        let took = desk.take(&mut tally.taken, taken, mark, number, line);
+        let took = take_in(peer, &mut desk, &mut tally, number, line, taken, mark);
         self.note_half_full(peer, before, desk.pending());
-        match took {
-            Ok(()) => Ok(()),
-            Err(TakeFault::Stranger) => Err(PostFault::Stranger { peer }),
-            Err(TakeFault::Station(fault)) => Err(PostFault::Station { peer, fault }),
-        }
+        took
     }
 
     /// Puts all that pends on the disks: the stations' notes by name, and then, with the number that the last line had
-    /// before, the
-    /// intake's.
-    pub fn flush_all<P: Pace, R: Wait>(&self, rt: &R, pace: &P) -> Result<Receipt, PostFault> {
+    /// before, the intake's. Where a station's tape has no room for what pends behind what lies there, it is written
+    /// anew, with what pends.
+    ///
+    /// # Errors
+    /// A station's: `Tape(TapeFull)` where what it owes is too long to be written anew too, or where its tape has the
+    /// greatest generation. Then the intake tape's.
+    pub fn flush_all<P: Pace, R: Wait>(&self, rt: &R, pace: &P) -> Result<Receipt, PostFault>
+        ensures kinds { IfErr result (IsFlushAllFault (length self.now.names)) }
+    {
         let number = self.intake.lock(rt).last;
         for peer in 0..self.peers.len() {
             self.flush_one(rt, pace, peer)?;
@@ -432,7 +459,9 @@ impl<D: Disk, N: Naming> Post<D, N> {
     ///
     /// # Errors
     /// A station's or the intake's `Disk`, after which that tape is broken, or its `Broken`.
-    pub fn rotate_all<R: Wait>(&self, rt: &R) -> Result<(), PostFault> {
+    pub fn rotate_all<R: Wait>(&self, rt: &R) -> Result<(), PostFault>
+        ensures kinds { IfErr result (IsRotateAllFault (length self.now.names)) }
+    {
         for peer in 0..self.peers.len() {
             self.rotate_one(rt, peer)?;
         }
@@ -445,6 +474,7 @@ impl<D: Disk, N: Naming> Post<D, N> {
     // Writes one station's tape anew, where that is due.
     fn rotate_one<R: Wait>(&self, rt: &R, peer: usize) -> Result<(), PostFault>
         requires { peer < length self.now.names }
+        ensures kinds { IfErr result (IsOfStation peer IsDiskFault) }
     {
         let mut desk = self.peers[peer].desk.lock(rt);
         if !desk.rotate_due() {
@@ -458,14 +488,15 @@ impl<D: Disk, N: Naming> Post<D, N> {
         }
     }
 
-    // Flushes one station.
+    // Flushes one station, or writes its tape anew.
     fn flush_one<P: Pace, R: Wait>(&self, rt: &R, pace: &P, peer: usize) -> Result<(), PostFault>
         requires { peer < length self.now.names }
+        ensures kinds { IfErr result (IsOfStation peer IsFlushFault) }
     {
         let mut desk = self.peers[peer].desk.lock(rt);
         pace.turn(Who::Flusher, Point::InFlush);
-        match desk.flush() {
-            Ok(_) => Ok(()),
+        match desk.flush_or_rotate() {
+            Ok(()) => Ok(()),
             Err(fault) => Err(PostFault::Station { peer, fault }),
         }
     }
@@ -477,16 +508,108 @@ fn claim_at<D: Disk, N: Naming>(
     desk: &mut Desk<D, N>,
     connection: CxnId,
     now: u64,
-) -> Result<Option<Debt>, PostFault> {
+) -> Result<Option<Debt>, PostFault>
+    ensures kinds { IfErr result (IsOfStation peer IsClaimFault) }
+{
     match desk.claim(connection, now) {
         Ok(debt) => Ok(debt),
         Err(fault) => Err(PostFault::Station { peer, fault }),
     }
 }
 
+// Drops what exceeds a peer's limit at its station, and counts it.
+fn shed_in<D: Disk, N: Naming>(
+    peer: usize,
+    desk: &mut Desk<D, N>,
+    tally: &mut Tally<N>,
+    mine: &mut FeederShare<N>,
+) -> Result<Shed, PostFault>
+    ensures counted { IfOk result
+        (λ shed. (mine.new.dropped ≡ mine.old.dropped + length shed.numbers.items)
+        × (mine.new.answered ≡ mine.old.answered)) }
+    ensures count_full { IsErrOf result PostFault.CountFull ↔ IsCountFull tally.old.dropped }
+    ensures kinds { IfErr result
+        (λ e. (e ≡ PostFault.CountFull) ⊎ IsOfStation peer IsShedFault e) }
+    ensures unchanged { OnErr result
+        ((mine.new.answered ≡ mine.old.answered) × (mine.new.dropped ≡ mine.old.dropped)) }
+{
+    if tally.dropped.is_full() {
+        return Err(PostFault::CountFull);
+    }
+    match desk.shed(&mut tally.dropped, &mut mine.dropped) {
+        Ok(shed) => Ok(shed),
+        Err(fault) => Err(PostFault::Station { peer, fault }),
+    }
+}
+
+// Takes what a connection tells of a debt to its peer's station, and counts what became of it in this tally.
+fn finish_in<D: Disk, N: Naming>(
+    peer: usize,
+    desk: &mut Desk<D, N>,
+    tally: &mut Tally<N>,
+    connection: CxnId,
+    outcome: Outcome,
+    now: u64,
+    mine: &mut FeederShare<N>,
+) -> Result<Settled, (Outcome, PostFault)>
+    ensures counted { IfOk result
+        (λ settled. IsCounted outcome now settled mine.old mine.new) }
+    ensures returned { IfErr result (λ e. e.0 ≡ outcome) }
+    ensures count_full { IsErrAnd result (λ e. e.1 ≡ PostFault.CountFull)
+        ↔ (IsCountFull tally.old.answered ⊎ IsCountFull tally.old.dropped) }
+    ensures kinds { IfErr result
+        (λ e. (e.1 ≡ PostFault.CountFull) ⊎ IsOfStation peer IsEndFault e.1) }
+    ensures unchanged { OnErr result
+        ((mine.new.answered ≡ mine.old.answered) × (mine.new.dropped ≡ mine.old.dropped)) }
+{
+    if !tally.has_room() {
+        return Err((outcome, PostFault::CountFull));
+    }
+    let finished = desk.finish(tally, mine, connection, outcome, now);
+    match finished {
+        Ok(settled) => Ok(settled),
+        Err((outcome, fault)) => Err((outcome, PostFault::Station { peer, fault })),
+    }
+}
+
+// Takes a good line at a station, where its number is above the mark, and counts it in this tally.
+fn take_in<D: Disk, N: Naming>(
+    peer: usize,
+    desk: &mut Desk<D, N>,
+    tally: &mut Tally<N>,
+    number: u64,
+    line: &FunnelLine,
+    taken: &mut Share<TakenByIntake<N>>,
+    mark: &mut u64,
+) -> Result<(), PostFault>
+    requires part { taken.old.parts ≡ 1 }
+    ensures marked { OnOk result (mark.new ≡ max mark.old number) }
+    ensures counted { OnOk result
+        (taken.new.amount ≡ taken.old.amount + (if nat_lt mark.old number then 1 else 0)) }
+    ensures unchanged { OnErr result
+        ((mark.new ≡ mark.old) × (taken.new.amount ≡ taken.old.amount)) }
+    ensures count_full { IsErrOf result PostFault.CountFull ↔ IsCountFull tally.old.taken }
+    ensures stranger { IsErrOf result (PostFault.Stranger peer)
+        ↔ ((IsCountFull tally.old.taken → ⊥)
+        × ((ledger_of desk.old.station).mark ≢ mark.old)) }
+    ensures kinds { IfErr result (IsLineFault (λ at. at ≡ peer)) }
+    ensures part { taken.new.parts ≡ 1 }
+{
+    if tally.taken.is_full() {
+        return Err(PostFault::CountFull);
+    }
+    match desk.take(&mut tally.taken, taken, mark, number, line) {
+        Ok(()) => Ok(()),
+        Err(TakeFault::Stranger) => Err(PostFault::Stranger { peer }),
+        Err(TakeFault::Station(fault)) => Err(PostFault::Station { peer, fault }),
+    }
+}
+
 impl<D: Disk> Intake<D> {
     // Notes that all lines up to this number are acknowledged.
-    fn seal(&mut self, number: u64) -> Result<(), TapeFault> {
+    fn seal(&mut self, number: u64) -> Result<(), TapeFault>
+        ensures kinds { IfErr result IsSealFault }
+    {
         if number > self.tape.mark()
             && let Err((_, fault)) = self.tape.note(Note::Seen { number })
         {

@@ -1,12 +1,17 @@
 // What a station's lock keeps.
 ghost use Rattle.std.specs.Prelude.{◌≡◌, ◌+◌, ◌<◌, ◌≤◌, ◌^◌, IfOk, IfErr, OnOk, OnErr, true, false, if◌then◌else◌, max};
-ghost use Rattle.std.specs.Prelude.{length, nat_lt};
+ghost use Rattle.std.specs.Prelude.{length, nat_lt, ◌-◌, ◌≢◌, ◌↔◌, ◌⊎◌, IsErrOf};
 ghost use Rattle.peer_queue.specs.Settled.{Finishes};
 ghost use Rattle.peer_queue.specs.Words.{IsRead, IsSame, IsSameTape, ledger_of};
 ghost use Rattle.peer_queue.specs.Words.{places_of, pending_of};
 ghost use Rattle.peer_queue.specs.Place.{least_candidate, held_count};
 ghost use Rattle.flusher.specs.Counted.{IsCounted};
 ghost use Rattle.flusher.specs.Kept.{IsKept};
+ghost use Rattle.flusher.specs.Faults.{IsShedFault, IsTakeFault};
+ghost use Rattle.flusher.specs.Room.{HasNoRoom};
+ghost use Rattle.peer_queue.specs.Faults.{IsClaimFault, IsEndFault, IsFlushFault, IsRotateFault};
+ghost use Rattle.peer_queue.specs.Words.{generation_of};
+ghost use Rattle.recovery.specs.Words.{IsFull, RotatesTooLong};
 
 use crate::Naming;
 use crate::fault::TakeFault;
@@ -21,6 +26,7 @@ use disk_model::Disk;
 use funnel::FunnelLine;
 use ledger_core::Debt;
 use peer_queue::{Owed, Settled, Shed, Station, StationFault};
+use recovery::TapeFault;
 use std::sync::ledger::Share;
 
 /// A station, and its shares of what the stations have counted.
@@ -55,6 +61,9 @@ impl<D: Disk, N: Naming> Desk<D, N> {
             (mine.new.amount ≡ mine.old.amount + (if nat_lt mark.old number then 1 else 0)) }
         ensures unchanged { OnErr result
             ((mark.new ≡ mark.old) × (mine.new.amount ≡ mine.old.amount)) }
+        ensures stranger { IsErrOf result TakeFault.Stranger
+            ↔ (ledger_of self.old.station).mark ≢ mark.old }
+        ensures kinds { IfErr result IsTakeFault }
         ensures part { mine.new.parts ≡ 1 }
     {
         let Desk { station, taken, .. } = self;
@@ -87,6 +96,7 @@ impl<D: Disk, N: Naming> Desk<D, N> {
         ensures counted { IfOk result
             (λ settled. IsCounted outcome now settled mine.old mine.new) }
         ensures returned { IfErr result (λ e. e.0 ≡ outcome) }
+        ensures kinds { IfErr result (λ e. IsEndFault e.1) }
         ensures unchanged { OnErr result
             (IsSame self.old.station self.new.station × (mine.new ≡ mine.old)) }
     {
@@ -103,6 +113,7 @@ impl<D: Disk, N: Naming> Desk<D, N> {
 
     /// Claims the least candidate.
     pub fn claim(&mut self, connection: CxnId, now: u64) -> Result<Option<Debt>, StationFault>
+        ensures kinds { IfErr result IsClaimFault }
         ensures reads { IsRead self.old.station self.new.station }
     {
         self.station.claim(connection, now)
@@ -128,6 +139,7 @@ impl<D: Disk, N: Naming> Desk<D, N> {
             (λ shed. mine.new.amount ≡ mine.old.amount + length shed.numbers.items) }
         ensures unchanged { OnErr result
             (IsSame self.old.station self.new.station × (mine.new.amount ≡ mine.old.amount)) }
+        ensures kinds { IfErr result IsShedFault }
         ensures part { mine.new.parts ≡ 1 }
     {
         let Desk {
@@ -145,10 +157,49 @@ impl<D: Disk, N: Naming> Desk<D, N> {
         ensures ledger { ledger_of self.new.station ≡ ledger_of self.old.station }
         ensures places { places_of self.new.station ≡ places_of self.old.station }
         ensures none_pends { OnOk result (pending_of self.new.station ≡ 0) }
+        ensures full { IsErrOf result (StationFault.Tape TapeFault.TapeFull)
+            → IsFull self.old.station.tape × IsSame self.old.station self.new.station }
+        ensures kinds { IfErr result IsFlushFault }
     {
         let count = self.station.flush()?;
         self.flushed = noted_in(counted_at(&self.station));
         Ok(count)
+    }
+
+    /// Puts the notes that pend on the disks. Where there is no room for them behind what lies there, as behind the
+    /// notes of debts that have long ended, its tape is written anew, with what pends.
+    pub fn flush_or_rotate(&mut self) -> Result<(), StationFault>
+        ensures ledger { ledger_of self.new.station ≡ ledger_of self.old.station }
+        ensures places { places_of self.new.station ≡ places_of self.old.station }
+        ensures none_pends { OnOk result (pending_of self.new.station ≡ 0) }
+        ensures full { IsErrOf result (StationFault.Tape TapeFault.TapeFull)
+            → HasNoRoom self.old.station }
+        ensures kinds { IfErr result IsFlushFault }
+    {
+        match self.flush() {
+            Ok(_) => Ok(()),
+            Err(StationFault::Tape(TapeFault::TapeFull)) => self.rotate_full(),
+            Err(fault) => Err(fault),
+        }
+    }
+
+    // Writes its tape anew, in place of a flush for which there is no room. The faults are those of a flush.
+    fn rotate_full(&mut self) -> Result<(), StationFault>
+        ensures ledger { ledger_of self.new.station ≡ ledger_of self.old.station }
+        ensures places { places_of self.new.station ≡ places_of self.old.station }
+        ensures none_pends { OnOk result (pending_of self.new.station ≡ 0) }
+        ensures full { IsErrOf result (StationFault.Tape TapeFault.TapeFull)
+            → (generation_of self.old.station ≡ 2 ^ 64 - 1)
+            ⊎ RotatesTooLong self.old.station.tape }
+        ensures kinds { IfErr result IsFlushFault }
+    {
+        match self.rotate() {
+            Ok(_) => Ok(()),
+            Err(StationFault::Tape(TapeFault::GenerationFull)) => {
+                Err(StationFault::Tape(TapeFault::TapeFull))
+            }
+            Err(fault) => Err(fault),
+        }
     }
 
     /// Whether a rotation of its tape is due.
@@ -161,6 +212,11 @@ impl<D: Disk, N: Naming> Desk<D, N> {
         ensures ledger { ledger_of self.new.station ≡ ledger_of self.old.station }
         ensures places { places_of self.new.station ≡ places_of self.old.station }
         ensures none_pends { OnOk result (pending_of self.new.station ≡ 0) }
+        ensures generation_full { IsErrOf result (StationFault.Tape TapeFault.GenerationFull)
+            → generation_of self.old.station ≡ 2 ^ 64 - 1 }
+        ensures full { IsErrOf result (StationFault.Tape TapeFault.TapeFull)
+            → RotatesTooLong self.old.station.tape }
+        ensures kinds { IfErr result IsRotateFault }
     {
         let generation = self.station.rotate()?;
         self.flushed = noted_in(counted_at(&self.station));

@@ -1,4 +1,6 @@
 // The flusher: the worker that puts on the disks what pends.
+ghost use Rattle.std.specs.Prelude.{◌≡◌, Some};
+
 use crate::pace::Pace;
 use crate::share::FeederShare;
 use crate::signals::Signals;
@@ -30,6 +32,14 @@ impl<N: Naming> Flusher<N> {
     /// One that counts by this share.
     pub fn new(share: FeederShare<N>) -> Flusher<N> {
         Flusher { share, fault: None }
+    }
+
+    // This fault ends it.
+    fn end(&mut self, fault: PostFault)
+        ensures fault { self.new.fault ≡ Some fault }
+        ensures share { self.new.share ≡ self.old.share }
+    {
+        self.fault = Some(fault);
     }
 
     // Drops what exceeds each peer's limit.
@@ -78,7 +88,7 @@ impl<D: Disk, N: Naming> Work<D, N> for Flusher<N> {
         pace: &P,
     ) {
         if let Err(fault) = self.flush_on(rt, post, signals, pace) {
-            self.fault = Some(fault);
+            self.end(fault);
             signals.stop();
         }
     }

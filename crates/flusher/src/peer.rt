@@ -1,7 +1,13 @@
 // The peers of a post, before and after.
-ghost use Rattle.std.specs.Prelude.{◌≡◌, IfOk};
+ghost use Rattle.std.specs.Prelude.{◌≡◌, ◌↔◌, ◌≤◌, ℕ, IfOk, IfErr, MatchResult};
 ghost use Rattle.flusher.specs.Kept.{IsKept};
-ghost use Rattle.peer_queue.specs.Words.{ledger_of};
+ghost use Rattle.peer_queue.specs.Calls.{IsFresh};
+ghost use Rattle.peer_queue.specs.Words.{AreHonest, ledger_of, told_of};
+ghost use Rattle.recovery.specs.Image.{EachTape, Survives};
+ghost use Rattle.recovery.specs.Notes.{History};
+ghost use Rattle.recovery.specs.Opens.{HasCause, Opens, OpensWhatSurvives};
+ghost use Rattle.recovery.specs.Words.{IsOpenFault, refused_log};
+ghost use Rattle.recovery.specs.declared.fault.TapeFault.TheVariants.{Damaged};
 
 use disk_model::Disk;
 use funnel::PeerName;
@@ -29,7 +35,7 @@ impl<D: Disk> Peer<D> {
     /// A peer whose station is opened from these disks.
     ///
     /// # Errors
-    /// The station's.
+    /// The station's; the disks are handed back.
     pub fn open(
         alloc: Global,
         name: PeerName,
@@ -37,7 +43,25 @@ impl<D: Disk> Peer<D> {
         b: D,
         limits: Limits,
     ) -> Result<Peer<D>, RefusedTape<D>>
-        ensures { IfOk result (λ peer. peer.name ≡ name) }
+        // Whatever a stop left of a history is opened.
+        ensures recovers { (h : History) → D.honest a → D.honest b
+            → EachTape (Survives h) (D.log a, D.log b)
+            → OpensWhatSurvives (λ peer. peer.station.tape) h (D.log a, D.log b) result }
+        ensures opens { D.honest a → D.honest b
+            → Opens (λ peer. peer.station.tape) (D.log a, D.log b) result }
+        ensures causes { D.honest a → D.honest b
+            → IfErr result (HasCause (D.log a, D.log b) (D.told a, D.told b)) }
+        ensures untouched { D.honest a → D.honest b → IfErr result (λ e. (segment at : ℕ)
+            → e.fault ≡ Damaged segment at → refused_log e ≡ (D.log a, D.log b)) }
+        ensures kinds { IfErr result (λ e. IsOpenFault e.fault) }
+        ensures fresh { IfOk result
+            (λ peer. (peer.name ≡ name) × IsFresh limits peer.station) }
+        ensures honest { MatchResult result
+            (λ peer. (D.honest a × D.honest b) ↔ AreHonest peer.station)
+            (λ e. (D.honest a × D.honest b) ↔ (D.honest e.a × D.honest e.b)) }
+        ensures quiet { MatchResult result
+            (λ peer. told_of peer.station ≡ (D.told a, D.told b))
+            (λ e. (D.told a ≤ D.told e.a) × (D.told b ≤ D.told e.b)) }
     {
         let station = match Station::open(alloc, a, b, limits) {
             Ok(station) => station,

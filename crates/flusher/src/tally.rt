@@ -1,6 +1,7 @@
 // The books of the counting ledgers.
-ghost use Rattle.std.specs.Prelude.{◌≡◌, ℕ, ◌+◌, ◌-◌, ◌^◌, ◌<◌, ◌≤◌, IsTrue, ◌↔◌};
+ghost use Rattle.std.specs.Prelude.{◌≡◌, ℕ, ◌+◌, ◌-◌, ◌^◌, ◌<◌, ◌≤◌, IsTrue, ◌↔◌, ◌⊎◌};
 ghost use Rattle.flusher.specs.Counted.{Counts, answered_by, dropped_by};
+ghost use Rattle.flusher.specs.Room.{IsCountFull};
 
 use crate::Naming;
 use crate::naming::{
@@ -9,11 +10,12 @@ use crate::naming::{
 };
 use crate::share::FeederShare;
 use peer_queue::Settled;
+use recovery::MOST_PENDING;
 use std::marker::Model;
 use std::sync::ledger::{Blank, Book, Ledger, Share};
 
-// The most that one call counts.
-const MOST_AT_ONCE: u64 = 65_536;
+// The most that one call counts: a station sheds no more than may pend.
+const MOST_AT_ONCE: u64 = MOST_PENDING as u64;
 
 /// The books of one count: what the workers were told, and beside it what the stations say.
 #[derive(Drop)]
@@ -37,7 +39,7 @@ impl<W: Ledger, S: AtStations> Model for Books<W, S> {
 impl<W: Ledger, S: AtStations> Books<W, S> {
     /// Whether there is no room for what one call may count.
     pub fn is_full(&self) -> bool
-        ensures { IsTrue result ↔ (2 ^ 64 ≤ self.now + 65537) }
+        ensures { IsTrue result ↔ IsCountFull self.now }
     {
         self.count >= u64::MAX - MOST_AT_ONCE
     }
@@ -76,7 +78,7 @@ impl<N: Naming> Tally<N> {
     /// Whether there is room for whatever becomes of a debt.
     pub fn has_room(&self) -> bool
         ensures { IsTrue result
-            ↔ ((self.now.answered + 65537 < 2 ^ 64) × (self.now.dropped + 65537 < 2 ^ 64)) }
+            ↔ (IsCountFull self.now.answered ⊎ IsCountFull self.now.dropped → ⊥) }
     {
         !self.answered.is_full() && !self.dropped.is_full()
     }

@@ -1,5 +1,4 @@
 use Rattle.std.proofs.Common.{ap}
-use Rattle.recovery.specs.Words.{ledger_of as tape_ledger}
 use Rattle.peer_queue.specs.Words.{ledger_of}
 use Rattle.ledger_core.specs.Ledger.{state_of}
 use Rattle.flusher.proofs.Keeps.{keeps_read, counted_along}

@@ -7,3 +7,17 @@ invariant_of-result g c = record {
       let was = c.in-Ok.ensures.honest.1 honest in
       let k = (c.in-Ok.ensures.opens was.0 was.1).ok in (found k.state, k.stands)) ∣₁;
 }
+
+pub returns-clause-opens : goal.returns-clause-opens
+returns-clause-opens g c a b =
+    let e = c.in-Ok.ensures.opens a b in record { ok = e.ok; err = e.err }
+
+pub returns-clause-recovers : goal.returns-clause-recovers
+returns-clause-recovers g c h a b left =
+    let e = c.in-Ok.ensures.recovers h a b left in
+    record { recovers = e.recovers; survives = e.survives; undamaged = e.undamaged }
+
+pub returns-in-Err-clause-recovers : goal.returns-in-Err-clause-recovers
+returns-in-Err-clause-recovers g c h a b left =
+    let e = c.in-Err.ensures.recovers h a b left in
+    record { recovers = e.recovers; survives = e.survives; undamaged = e.undamaged }

@@ -1,6 +1,9 @@
-use Rattle.std.proofs.Common.{rules, ◌<◌, ◌≤◌, length, ap, arith}
+use Rattle.std.proofs.Common.{rules, ◌≡◌, ◌<◌, ◌≤◌, ℕ, [], length, ap, sym, subst, arith}
+use Rattle.std.specs.Prelude.{slice_index_or, Contains, IsErr}
 use Rattle.std.proofs.lemmas.List.{length-map}
 use Rattle.flusher.specs.Post.{View}
+use Rattle.flusher.specs.Faults.{IsLineFault}
+use Rattle.flusher.proofs.Refused.{line_fault_of}
 use Rattle.flusher.proofs.Taken.{done_none, done_more}
 use Rattle.flusher.proofs.post.Post.take_good.Goals as goal
 
@@ -37,3 +40,27 @@ returns-clause-raised g c =
     let all : length c.args.self.now.names ≤ l.peer =
     omega (arith, long, length-map c.self.inside.peers.items (λ q. q.name), c.len-peer-end.ensures) in
     λ peer below. l.invariant.0.2 peer (omega (arith, all, below))
+
+-- the fault names the peer that was asked, which the line names
+pub returns-in_err-take_named-clause-kinds : goal.returns-in_err-take_named-clause-kinds
+returns-in_err-take_named-clause-kinds g c =
+    let l = c.loop-peer in
+    let names = c.args.self.now.names in
+    let named = c.args.line.now.peers.items in
+    let fault = c.in_err-take_named.field-0.0 in
+    let Asked : ℕ → Type 0 = λ at. (at < length names) × Contains named (slice_index_or names at []) in
+    let long = ap (λ (v : View). length v.names) c.self.view_is in
+    let within : l.peer < length names =
+    omega (
+      arith,
+      long,
+      length-map c.self.inside.peers.items (λ q. q.name),
+      c.loop-peer-test.true,
+      c.len-peer-end.ensures,
+    ) in
+    let refused : IsErr c.take_named.result = search rules in
+    let here : Asked l.peer = (within, c.take_named.ensures.named refused) in
+    let told : IsLineFault Asked fault =
+    line_fault_of (λ at. at ≡ l.peer) Asked fault (λ at same. subst Asked (sym same) here)
+    c.in_err-take_named.ensures.kinds in
+    search (rules, told)

@@ -1,6 +1,7 @@
 use Rattle.std.proofs.Common.{rules, arith}
 use Rattle.funnel.specs.declared.line.LineFault.TheVariants.{TooLong, NoToken, BadToken, BadId}
 use Rattle.flusher.proofs.Rises.{rises_same}
+use Rattle.flusher.proofs.Refused.{line_faults_of}
 use Rattle.flusher.proofs.Lines.{raised_good, raised_bad, on_ok}
 use Rattle.flusher.proofs.post.Post.take_read.Goals as goal
 
@@ -19,6 +20,7 @@ returns-in-Err-TooLong g c =
           raised_bad c.args.number c.args.line.now TooLong c.args.self.now.names c.args.marks.now.items (λ e. cc)
           (c.read_line.ensures.too_long.0 (search rules));
       counted = omega (arith, e);
+      kinds = search rules;
       part = c.requires.part;
     }
 
@@ -31,6 +33,7 @@ returns-in-Err-NoToken g c =
           raised_bad c.args.number c.args.line.now NoToken c.args.self.now.names c.args.marks.now.items (λ e. cc)
           (c.read_line.ensures.no_token.0 (search rules));
       counted = omega (arith, e);
+      kinds = search rules;
       part = c.requires.part;
     }
 
@@ -43,6 +46,7 @@ returns-in-Err-BadToken g c =
           raised_bad c.args.number c.args.line.now BadToken c.args.self.now.names c.args.marks.now.items (λ e. cc)
           (c.read_line.ensures.bad_token.0 (search rules));
       counted = omega (arith, e);
+      kinds = search rules;
       part = c.requires.part;
     }
 
@@ -55,5 +59,12 @@ returns-in-Err-BadId g c =
           raised_bad c.args.number c.args.line.now BadId c.args.self.now.names c.args.marks.now.items (λ e. cc)
           (c.read_line.ensures.bad_id.0 (search rules));
       counted = omega (arith, e);
+      kinds = search rules;
       part = c.requires.part;
     }
+
+pub returns-in-Ok-clause-kinds : goal.returns-in-Ok-clause-kinds
+returns-in-Ok-clause-kinds g c =
+    line_faults_of _ _ c.take_good.result
+    (λ at is. record { token = _; id = _; named = _; good = c.in-Ok.ensures.good; within = is.0; names_it = is.1 })
+    c.take_good.ensures.kinds

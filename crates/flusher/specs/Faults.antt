@@ -1,0 +1,84 @@
+-- Why a post refuses its calls.
+use Rattle.std.specs.Prelude.{◌≡◌, ◌⊎◌, ◌<◌, ℕ, List, [], slice_index_or, length, Contains}
+use Rattle.funnel.specs.Line.{IsFunnelLine}
+use Rattle.peer_queue.specs.Faults.{IsFlushFault, IsOweFault}
+use Rattle.peer_queue.specs.declared.fault.StationFault.{StationFault}
+use Rattle.peer_queue.specs.declared.fault.StationFault.TheVariants.{Broken as BrokenStation, Tape}
+use Rattle.peer_queue.specs.declared.fault.StationFault.TheVariants.{NoMemory as NoStationMemory}
+use Rattle.recovery.specs.declared.fault.TapeFault.{TapeFault}
+use Rattle.recovery.specs.declared.fault.TapeFault.TheVariants.{Damaged, Disk, Broken, TapeFull}
+use Rattle.recovery.specs.declared.fault.TapeFault.TheVariants.{GenerationFull, PendingFull}
+use Rattle.recovery.specs.declared.fault.TapeFault.TheVariants.{NoMemory as NoTapeMemory, Note as RefusedNote}
+use Rattle.flusher.specs.declared.fault.PostFault.{PostFault}
+use Rattle.flusher.specs.declared.fault.PostFault.TheVariants.{Station, Intake, CountFull, Stranger, Busy, NoMemory}
+use Rattle.flusher.specs.declared.fault.TakeFault.{TakeFault}
+use Rattle.flusher.specs.declared.fault.TakeFault.TheVariants.{Stranger as OtherMark, Station as OfStation}
+
+-- the station of this peer refused, by a fault of this kind
+abbrev pub IsOfStation : ℕ → (StationFault → Type 0) → PostFault → Type 0
+IsOfStation peer Kind (Station at fault) = (at ≡ peer) × Kind fault
+IsOfStation peer Kind (Intake fault) = ⊥
+IsOfStation peer Kind CountFull = ⊥
+IsOfStation peer Kind (Stranger at) = ⊥
+IsOfStation peer Kind (Busy at) = ⊥
+IsOfStation peer Kind NoMemory = ⊥
+
+-- the faults that a station's `shed` tells
+abbrev pub IsShedFault : StationFault → Type 0
+IsShedFault fault = (fault ≡ BrokenStation) ⊎ (fault ≡ NoStationMemory)
+
+-- the faults that a station tells that takes a line
+abbrev pub IsTakeFault : TakeFault → Type 0
+IsTakeFault OtherMark = Unit {0}
+IsTakeFault (OfStation fault) = IsOweFault fault
+
+-- a good line names this peer, which is one of these
+pub record IsNamedBy (line : List ℕ) (names : List (List ℕ)) (peer : ℕ) : Type 0 where
+  pub token : List ℕ
+  pub id : List ℕ
+  pub named : List (List ℕ)
+  pub good : IsFunnelLine line token id named
+  pub within : peer < length names
+  pub names_it : Contains named (slice_index_or names peer [])
+
+-- the faults that `take_line` tells, where only stations of such peers are asked
+abbrev pub IsLineFault : (ℕ → Type 0) → PostFault → Type 0
+IsLineFault IsAsked (Station at fault) = IsAsked at × IsOweFault fault
+IsLineFault IsAsked (Intake fault) = ⊥
+IsLineFault IsAsked CountFull = Unit {0}
+IsLineFault IsAsked (Stranger at) = IsAsked at
+IsLineFault IsAsked (Busy at) = ⊥
+IsLineFault IsAsked NoMemory = Unit {0}
+
+-- the faults of the intake tape that `flush_all` tells
+abbrev pub IsSealFault : TapeFault → Type 0
+IsSealFault (Damaged segment at) = ⊥
+IsSealFault Disk = Unit {0}
+IsSealFault Broken = Unit {0}
+IsSealFault TapeFull = Unit {0}
+IsSealFault GenerationFull = ⊥
+IsSealFault PendingFull = Unit {0}
+IsSealFault NoTapeMemory = Unit {0}
+IsSealFault (RefusedNote fault) = ⊥
+
+-- the faults that `flush_all` tells of so many peers
+abbrev pub IsFlushAllFault : ℕ → PostFault → Type 0
+IsFlushAllFault peers (Station at fault) = (at < peers) × IsFlushFault fault
+IsFlushAllFault peers (Intake fault) = IsSealFault fault
+IsFlushAllFault peers CountFull = ⊥
+IsFlushAllFault peers (Stranger at) = ⊥
+IsFlushAllFault peers (Busy at) = ⊥
+IsFlushAllFault peers NoMemory = ⊥
+
+-- a disk of the station failed, now or before
+abbrev pub IsDiskFault : StationFault → Type 0
+IsDiskFault fault = (fault ≡ Tape Disk) ⊎ (fault ≡ BrokenStation)
+
+-- the faults that `rotate_all` tells of so many peers
+abbrev pub IsRotateAllFault : ℕ → PostFault → Type 0
+IsRotateAllFault peers (Station at fault) = (at < peers) × IsDiskFault fault
+IsRotateAllFault peers (Intake fault) = (fault ≡ Disk) ⊎ (fault ≡ Broken)
+IsRotateAllFault peers CountFull = ⊥
+IsRotateAllFault peers (Stranger at) = ⊥
+IsRotateAllFault peers (Busy at) = ⊥
+IsRotateAllFault peers NoMemory = ⊥
