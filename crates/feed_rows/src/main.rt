@@ -73,7 +73,11 @@ fn gone<R: AllocGlobal + Threads + Wait + Print + Sync>(rt: &R, host: HostRuntim
     let row = Row::new(rt, host, "gone")?;
     row.lines_of_gone(300)?;
     row.take(rt, "300 lines, nobody listens")?;
-    row.feed(rt, Manner::Ihave, "it knows IHAVE alone, three articles are there")?;
+    row.feed(
+        rt,
+        Manner::Ihave,
+        "it knows IHAVE alone, three articles are there",
+    )?;
     row.owed(rt, "and is owed")
 }
 

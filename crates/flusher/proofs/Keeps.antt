@@ -11,45 +11,25 @@ use Rattle.ledger_core.specs.declared.note.Cause.TheVariants.{Limit}
 use Rattle.ledger_core.specs.State.{State, step, after}
 use Rattle.recovery.specs.Notes.{History, noted, noted_all, flushed, drops}
 use Rattle.peer_queue.specs.Shed.{dropped}
-use Rattle.recovery.specs.Pairs.{placed}
+use Rattle.recovery.specs.DiskLaws.{honest-along}
 use Rattle.recovery.specs.Words.{AreHonest as AreTapeHonest, disks_of as tape_disks, ledger_of as tape_ledger}
 use Rattle.recovery.specs.Tape.{StandsFor as TapeStandsFor}
 use Rattle.recovery.specs.declared.tape.Tape.{Tape}
 use Rattle.peer_queue.specs.declared.station.Station.{Station}
-use Rattle.peer_queue.specs.Words.{AreHonest, IsRead, IsSame, IsSameTape, Notes, StandsFor, disks_of, ledger_of}
+use Rattle.peer_queue.specs.Words.{AreHonest, IsRead, IsSame, IsSameTape, Notes, StandsFor, disks_of, ledger_of, tape_of}
 use Rattle.peer_queue.specs.Settled.{Settles}
 use Rattle.peer_queue.specs.declared.settled.Settled.{Settled}
 use Rattle.peer_queue.specs.declared.settled.Settled.TheVariants.{Answered, Dropped, Later, Ready}
 use Rattle.flusher.specs.Counted.{answered_by, dropped_by}
 use Rattle.flusher.specs.Kept.{IsKept}
 
--- two disks, told by the one that lives
-module _ {D : Type 0} (g : Ghosts D) where
-  honest_there : (second : Bool) (live other : D) → g.honest live → g.honest other
-      → g.honest (placed second live other).0 × g.honest (placed second live other).1
-  honest_there true live other a b = (b, a)
-  honest_there false live other a b = (a, b)
-
-  honest_back : (second : Bool) (live other : D) → g.honest (placed second live other).0 → g.honest
-      (placed second live other).1
-      → g.honest live × g.honest other
-  honest_back true live other a b = (b, a)
-  honest_back false live other a b = (a, b)
-
 module _ {D : Type 0} {g : Ghosts D} where
-  -- tapes on the same disks are honest alike
-  honest_along : (old new : Tape D g) → tape_disks old ≡ tape_disks new → AreTapeHonest old → AreTapeHonest new
-  honest_along old new same (live, other) =
-      let there = honest_there g old.segments.second old.segments.live.disk old.segments.other live other in
-      let here = subst (λ (d : D × D). g.honest d.0 × g.honest d.1) same there in
-      honest_back g new.segments.second new.segments.live.disk new.segments.other here.0 here.1
-
   noted_kept : (old new : Station D g) (note : Note) → Notes old new note → IsKept old → IsKept new
   noted_kept old new note took kept honest = let k =
-      kept (honest_along new.tape old.tape took.disks honest) in (noted k.0 note, took.stands k.0 k.1)
+      kept (honest-along (tape_of new) (tape_of old) took.disks honest) in (noted k.0 note, took.stands k.0 k.1)
 
   same_kept : (old new : Station D g) → IsSame old new → IsKept old → IsKept new
-  same_kept old new same kept honest = let k = kept (honest_along new.tape old.tape same.disks honest) in
+  same_kept old new same kept honest = let k = kept (honest-along (tape_of new) (tape_of old) same.disks honest) in
       (k.0, same.stands k.0 k.1)
 
   tape_kept : (old new : Station D g) → IsSameTape old new → IsKept old → IsKept new
@@ -89,7 +69,7 @@ module _ {D : Type 0} {g : Ghosts D} where
   shed_kept : (old new : Station D g) (numbers : List ℕ) → disks_of new ≡ disks_of old
       → ((h : History) → StandsFor old h → StandsFor new (noted_all h (dropped numbers))) → IsKept old → IsKept new
   shed_kept old new numbers disks stands kept is = let k =
-      kept (honest_along new.tape old.tape disks is) in (noted_all k.0 (dropped numbers), stands k.0 k.1)
+      kept (honest-along (tape_of new) (tape_of old) disks is) in (noted_all k.0 (dropped numbers), stands k.0 k.1)
 
   pub keeps_shed : (old new : Station D g) (numbers : List ℕ) → disks_of new ≡ disks_of old
       → ((h : History) → StandsFor old h → StandsFor new (noted_all h (dropped numbers))) → ∥ IsKept old ∥₁

@@ -17,11 +17,7 @@ use Rattle.flusher.specs.declared.fault.TakeFault.TheVariants.{Stranger as Other
 -- the station of this peer refused, by a fault of this kind
 abbrev pub IsOfStation : ℕ → (StationFault → Type 0) → PostFault → Type 0
 IsOfStation peer Kind (Station at fault) = (at ≡ peer) × Kind fault
-IsOfStation peer Kind (Intake fault) = ⊥
-IsOfStation peer Kind CountFull = ⊥
-IsOfStation peer Kind (Stranger at) = ⊥
-IsOfStation peer Kind (Busy at) = ⊥
-IsOfStation peer Kind NoMemory = ⊥
+IsOfStation peer Kind fault = ⊥
 
 -- the faults that a station's `shed` tells
 abbrev pub IsShedFault : StationFault → Type 0
@@ -44,31 +40,25 @@ pub record IsNamedBy (line : List ℕ) (names : List (List ℕ)) (peer : ℕ) : 
 -- the faults that `take_line` tells, where only stations of such peers are asked
 abbrev pub IsLineFault : (ℕ → Type 0) → PostFault → Type 0
 IsLineFault IsAsked (Station at fault) = IsAsked at × IsOweFault fault
-IsLineFault IsAsked (Intake fault) = ⊥
 IsLineFault IsAsked CountFull = Unit {0}
 IsLineFault IsAsked (Stranger at) = IsAsked at
-IsLineFault IsAsked (Busy at) = ⊥
 IsLineFault IsAsked NoMemory = Unit {0}
+IsLineFault IsAsked fault = ⊥
 
 -- the faults of the intake tape that `flush_all` tells
 abbrev pub IsSealFault : TapeFault → Type 0
-IsSealFault (Damaged segment at) = ⊥
 IsSealFault Disk = Unit {0}
 IsSealFault Broken = Unit {0}
 IsSealFault TapeFull = Unit {0}
-IsSealFault GenerationFull = ⊥
 IsSealFault PendingFull = Unit {0}
 IsSealFault NoTapeMemory = Unit {0}
-IsSealFault (RefusedNote fault) = ⊥
+IsSealFault fault = ⊥
 
 -- the faults that `flush_all` tells of so many peers
 abbrev pub IsFlushAllFault : ℕ → PostFault → Type 0
 IsFlushAllFault peers (Station at fault) = (at < peers) × IsFlushFault fault
 IsFlushAllFault peers (Intake fault) = IsSealFault fault
-IsFlushAllFault peers CountFull = ⊥
-IsFlushAllFault peers (Stranger at) = ⊥
-IsFlushAllFault peers (Busy at) = ⊥
-IsFlushAllFault peers NoMemory = ⊥
+IsFlushAllFault peers fault = ⊥
 
 -- a disk of the station failed, now or before
 abbrev pub IsDiskFault : StationFault → Type 0
@@ -78,7 +68,4 @@ IsDiskFault fault = (fault ≡ Tape Disk) ⊎ (fault ≡ BrokenStation)
 abbrev pub IsRotateAllFault : ℕ → PostFault → Type 0
 IsRotateAllFault peers (Station at fault) = (at < peers) × IsDiskFault fault
 IsRotateAllFault peers (Intake fault) = (fault ≡ Disk) ⊎ (fault ≡ Broken)
-IsRotateAllFault peers CountFull = ⊥
-IsRotateAllFault peers (Stranger at) = ⊥
-IsRotateAllFault peers (Busy at) = ⊥
-IsRotateAllFault peers NoMemory = ⊥
+IsRotateAllFault peers fault = ⊥

@@ -2,7 +2,7 @@
 use Rattle.std.specs.Prelude.{◌≡◌, ◌⊎◌, ◌+◌, ◌-◌, ◌^◌, ◌≤◌, ℕ}
 use Rattle.disk_model.specs.declared.Disk.{Ghosts}
 use Rattle.recovery.specs.Words.{IsFull, RotatesTooLong}
-use Rattle.peer_queue.specs.Words.{IsSame, generation_of}
+use Rattle.peer_queue.specs.Words.{IsSame, generation_of, tape_of}
 use Rattle.peer_queue.specs.declared.station.Station.{Station}
 
 -- a tally has no room for what one call may count, 65,536 and one
@@ -12,8 +12,8 @@ IsCountFull count = 2 ^ 64 ≤ count + 65537
 module _ {D : Type 0} {g : Ghosts D} where
   -- There is room for what pends neither behind what lies on the station's tape, nor where the tape is written anew.
   pub record HasNoRoom (station : Station D g) : Type 0 where
-    pub full : IsFull station.tape
+    pub full : IsFull (tape_of station)
     -- the station as the refused flush leaves it: nothing has changed
     pub left : Station D g
     pub same : IsSame station left
-    pub anew : (generation_of left ≡ 2 ^ 64 - 1) ⊎ RotatesTooLong left.tape
+    pub anew : (generation_of left ≡ 2 ^ 64 - 1) ⊎ RotatesTooLong (tape_of left)

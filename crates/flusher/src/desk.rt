@@ -10,7 +10,7 @@ ghost use Rattle.flusher.specs.Kept.{IsKept};
 ghost use Rattle.flusher.specs.Faults.{IsShedFault, IsTakeFault};
 ghost use Rattle.flusher.specs.Room.{HasNoRoom};
 ghost use Rattle.peer_queue.specs.Faults.{IsClaimFault, IsEndFault, IsFlushFault, IsRotateFault};
-ghost use Rattle.peer_queue.specs.Words.{generation_of};
+ghost use Rattle.peer_queue.specs.Words.{generation_of, tape_of};
 ghost use Rattle.recovery.specs.Words.{IsFull, RotatesTooLong};
 
 use crate::Naming;
@@ -158,7 +158,7 @@ impl<D: Disk, N: Naming> Desk<D, N> {
         ensures places { places_of self.new.station ≡ places_of self.old.station }
         ensures none_pends { OnOk result (pending_of self.new.station ≡ 0) }
         ensures full { IsErrOf result (StationFault.Tape TapeFault.TapeFull)
-            → IsFull self.old.station.tape × IsSame self.old.station self.new.station }
+            → IsFull (tape_of self.old.station) × IsSame self.old.station self.new.station }
         ensures kinds { IfErr result IsFlushFault }
     {
         let count = self.station.flush()?;
@@ -190,7 +190,7 @@ impl<D: Disk, N: Naming> Desk<D, N> {
         ensures none_pends { OnOk result (pending_of self.new.station ≡ 0) }
         ensures full { IsErrOf result (StationFault.Tape TapeFault.TapeFull)
             → (generation_of self.old.station ≡ 2 ^ 64 - 1)
-            ⊎ RotatesTooLong self.old.station.tape }
+            ⊎ RotatesTooLong (tape_of self.old.station) }
         ensures kinds { IfErr result IsFlushFault }
     {
         match self.rotate() {
@@ -215,7 +215,7 @@ impl<D: Disk, N: Naming> Desk<D, N> {
         ensures generation_full { IsErrOf result (StationFault.Tape TapeFault.GenerationFull)
             → generation_of self.old.station ≡ 2 ^ 64 - 1 }
         ensures full { IsErrOf result (StationFault.Tape TapeFault.TapeFull)
-            → RotatesTooLong self.old.station.tape }
+            → RotatesTooLong (tape_of self.old.station) }
         ensures kinds { IfErr result IsRotateFault }
     {
         let generation = self.station.rotate()?;

@@ -2,7 +2,7 @@
 ghost use Rattle.std.specs.Prelude.{◌≡◌, ◌↔◌, ◌≤◌, ℕ, IfOk, IfErr, MatchResult};
 ghost use Rattle.flusher.specs.Kept.{IsKept};
 ghost use Rattle.peer_queue.specs.Calls.{IsFresh};
-ghost use Rattle.peer_queue.specs.Words.{AreHonest, ledger_of, told_of};
+ghost use Rattle.peer_queue.specs.Words.{AreHonest, ledger_of, tape_of, told_of};
 ghost use Rattle.recovery.specs.Image.{EachTape, Survives};
 ghost use Rattle.recovery.specs.Notes.{History};
 ghost use Rattle.recovery.specs.Opens.{HasCause, Opens, OpensWhatSurvives};
@@ -46,9 +46,9 @@ impl<D: Disk> Peer<D> {
         // Whatever a stop left of a history is opened.
         ensures recovers { (h : History) → D.honest a → D.honest b
             → EachTape (Survives h) (D.log a, D.log b)
-            → OpensWhatSurvives (λ peer. peer.station.tape) h (D.log a, D.log b) result }
+            → OpensWhatSurvives (λ peer. tape_of peer.station) h (D.log a, D.log b) result }
         ensures opens { D.honest a → D.honest b
-            → Opens (λ peer. peer.station.tape) (D.log a, D.log b) result }
+            → Opens (λ peer. tape_of peer.station) (D.log a, D.log b) result }
         ensures causes { D.honest a → D.honest b
             → IfErr result (HasCause (D.log a, D.log b) (D.told a, D.told b)) }
         ensures untouched { D.honest a → D.honest b → IfErr result (λ e. (segment at : ℕ)

@@ -1,6 +1,5 @@
-use Rattle.std.proofs.Common.{ap}
-use Rattle.peer_queue.specs.Words.{ledger_of}
-use Rattle.ledger_core.specs.Ledger.{state_of}
+use Rattle.recovery.specs.DiskLaws.{ledger-read}
+use Rattle.peer_queue.specs.Words.{ledger_of, tape_of}
 use Rattle.flusher.proofs.Keeps.{keeps_read, counted_along}
 use Rattle.flusher.proofs.desk.Desk.claim.Goals as goal
 
@@ -12,5 +11,5 @@ invariant_of-self g c =
       kept = keeps_read old.station c.claim.new.self read old.kept;
       one_part = old.one_part;
       counted = counted_along _ _ _ (ledger_of old.station) (ledger_of c.claim.new.self)
-          (ap state_of read.tape.ledger) old.counted;
+          (ledger-read (tape_of old.station) (tape_of c.claim.new.self) read.tape) old.counted;
     }
