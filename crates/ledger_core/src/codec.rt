@@ -82,7 +82,7 @@ pub fn one_spelling()
 ///
 /// # Errors
 /// `NoMemory` where memory was refused.
-pub(crate) fn encode_owe(
+pub fn encode_owe(
     alloc: Global,
     number: u64,
     token: &Token,

@@ -253,7 +253,7 @@ impl Ledger {
             → OnErr result (Indexes kept payloads self.new) }
     {
         match note {
-            Note::Owe { number, token, id } => self.owe(*number, token, id, at, slot),
+            Note::Owe { number, token, id } => self.owe_at(*number, token, id, at, slot),
             Note::Final { number, .. } => self.answer(*number),
             Note::Drop { number, .. } => self.discard(*number),
             Note::Seen { number } => self.see(*number),
@@ -383,7 +383,11 @@ impl Ledger {
         }
     }
 
-    fn check_owe(&self, number: u64, token: &Token, id: &MsgId) -> Result<(), LedgerFault>
+    /// Whether `owe_at` would take a debt, if memory were not refused. It takes no memory and changes nothing.
+    ///
+    /// # Errors
+    /// As `check` tells them of the note that owes it: `OldNumber` or `CountFull`.
+    pub fn check_owe(&self, number: u64, token: &Token, id: &MsgId) -> Result<(), LedgerFault>
         ensures { IsJudged result (state_of self.now) (Note.Owe number token.now id.now) }
     {
         if self.mark >= number {
@@ -423,7 +427,12 @@ impl Ledger {
         Ok(())
     }
 
-    fn owe(
+    /// Takes the note that owes a debt, whose record is at this offset, or pends in this slot, as `apply_at` does; its
+    /// texts are looked at, and not kept.
+    ///
+    /// # Errors
+    /// Those of `apply` for that note: `OldNumber`, `CountFull`, `NoMemory`.
+    pub fn owe_at(
         &mut self,
         number: u64,
         token: &Token,

@@ -16,7 +16,7 @@ mod restore;
 mod spot;
 
 pub use base::{Base, decode_base, encode_base, one_base_spelling};
-pub use codec::{decode, encode, one_spelling, spells_owe};
+pub use codec::{decode, encode, encode_owe, one_spelling, spells_owe};
 pub use laws::{after_in_parts, counts_add_up, numbers_rise, restores_itself};
 pub use ledger::{Ledger, LedgerFault, ReplayFault, Totals, offset_behind};
 pub use note::{Cause, Debt, FinalCode, Note};

@@ -7,8 +7,7 @@ use Rattle.std.proofs.lemmas.List.{map-append}
 use Rattle.std.proofs.lemmas.List.Elements.{All-head, All-push, All-tail, All-weaker}
 use Rattle.ledger_core.specs.declared.ledger.LedgerFault.{LedgerFault}
 use Rattle.ledger_core.specs.declared.ledger.LedgerFault.TheVariants.{OldNumber, NotOwed, CountFull, NoMemory as NoLedgerMemory}
-use Rattle.ledger_core.specs.declared.note.Note.{Note}
-use Rattle.ledger_core.specs.declared.note.Note.TheVariants.{Owe, Final, Drop, Seen}
+use Rattle.ledger_core.specs.declared.note.Note.TheVariants.{Owe}
 use Rattle.ledger_core.specs.State.{State, Owing, numbers, step}
 use Rattle.recovery.specs.declared.fault.TapeFault.{TapeFault}
 use Rattle.recovery.specs.declared.fault.TapeFault.TheVariants.{Damaged, Disk, Broken, TapeFull, GenerationFull, PendingFull, NoMemory, Note as RefusedNote}
@@ -19,7 +18,6 @@ use Rattle.std.specs.declared.alloc.Global.{Global}
 use Rattle.peer_queue.specs.Faults.{IsOweFault, station_fault}
 use Rattle.peer_queue.specs.declared.fault.StationFault.TheVariants.{Tape as TapeRefused}
 use Rattle.peer_queue.specs.Place.{AreBelow, IsUnheld, Place, Places, Ready, all_ready, gone, is_held, place_at, placed}
-use Rattle.peer_queue.specs.Words.{IsOweOf}
 
 -- all of these have a place where all of them are ready
 pub placed-all_ready : (ns : List ℕ) → placed (all_ready ns) ≡ ns
@@ -54,44 +52,43 @@ gone_new (e ∷ p) n below =
 
 -- ---- the ledger after the note that owes it
 
-pub placed_owed : (p : Places) (state : State) (note : Note) (n : ℕ) → IsOweOf note n → placed p ≡ numbers state → placed (p ++ (n, Ready) ∷ []) ≡ numbers (step state note)
-placed_owed p state (Owe other token id) n owes same =
+pub placed_owed : (p : Places) (state : State) (n : ℕ) (token id : List ℕ) → placed p ≡ numbers state
+    → placed (p ++ (n, Ready) ∷ []) ≡ numbers (step state (Owe n token id))
+placed_owed p state n token id same =
     map-append (λ (entry : ℕ × Place). entry.0) p ((n, Ready) ∷ [])
     ∙ (ap (λ (l : List ℕ). l ++ n ∷ []) same
-    ∙ (ap (λ (m : ℕ). numbers state ++ m ∷ []) (sym owes)
-    ∙ sym (map-append (λ (debt : Owing). debt.0) state.debts ((other, (token, id)) ∷ []))))
-placed_owed p state (Final other code) n owes same = absurd owes
-placed_owed p state (Drop other cause) n owes same = absurd owes
-placed_owed p state (Seen other) n owes same = absurd owes
+    ∙ sym (map-append (λ (debt : Owing). debt.0) state.debts ((n, (token, id)) ∷ [])))
 
-pub marked_owed : (state : State) (note : Note) (n : ℕ) → IsOweOf note n → state.mark < n → All (λ m. m ≤ state.mark) (numbers state) → All (λ m. m ≤ (step state note).mark) (numbers (step state note))
-marked_owed state (Owe other token id) n owes above marked =
-    subst (λ (l : List ℕ). All (λ m. m ≤ other) l) (sym (map-append (λ (debt : Owing). debt.0) state.debts ((other, (token, id)) ∷ [])))
-    (All-push (λ m. m ≤ other) (numbers state) other (All-weaker (λ m. m ≤ state.mark) (λ m. m ≤ other) (λ m h. omega (arith, owes)) (numbers state) marked) (omega arith))
-marked_owed state (Final other code) n owes above marked = absurd owes
-marked_owed state (Drop other cause) n owes above marked = absurd owes
-marked_owed state (Seen other) n owes above marked = absurd owes
+pub marked_owed : (state : State) (n : ℕ) (token id : List ℕ) → state.mark < n
+    → All (λ m. m ≤ state.mark) (numbers state)
+    → All (λ m. m ≤ (step state (Owe n token id)).mark) (numbers (step state (Owe n token id)))
+marked_owed state n token id above marked =
+    subst (λ (l : List ℕ). All (λ m. m ≤ n) l)
+    (sym (map-append (λ (debt : Owing). debt.0) state.debts ((n, (token, id)) ∷ [])))
+    (All-push (λ m. m ≤ n) (numbers state) n
+    (All-weaker (λ m. m ≤ state.mark) (λ m. m ≤ n) (λ m h. omega arith) (numbers state) marked) (omega arith))
 
 -- ---- why a ledger refuses it
 
-refused_owe : (state : State) (note : Note) (n : ℕ) → IsOweOf note n → state.mark < n → (fault : LedgerFault) → RefusesNote state note fault → fault ≡ CountFull
-refused_owe state (Owe other token id) n owes above OldNumber refused = absurd (omega (arith, owes, refused))
-refused_owe state (Owe other token id) n owes above NotOwed refused = absurd refused
-refused_owe state (Owe other token id) n owes above CountFull refused = refl
-refused_owe state (Owe other token id) n owes above NoLedgerMemory refused = absurd refused
-refused_owe state (Final other code) n owes above fault refused = absurd owes
-refused_owe state (Drop other cause) n owes above fault refused = absurd owes
-refused_owe state (Seen other) n owes above fault refused = absurd owes
+refused_owe : (state : State) (n : ℕ) (token id : List ℕ) → state.mark < n
+    → (fault : LedgerFault) → RefusesNote state (Owe n token id) fault → fault ≡ CountFull
+refused_owe state n token id above OldNumber refused = absurd (omega (arith, refused))
+refused_owe state n token id above NotOwed refused = absurd refused
+refused_owe state n token id above CountFull refused = refl
+refused_owe state n token id above NoLedgerMemory refused = absurd refused
 
-pub owe_fault : (state : State) (note : Note) (n : ℕ) → IsOweOf note n → state.mark < n → (fault : TapeFault) → IsNoteFault fault → ((other : LedgerFault) → fault ≡ RefusedNote other → RefusesNote state note other) → IsOweFault (station_fault fault)
-owe_fault state note n owes above (Damaged segment at) kind why = kind
-owe_fault state note n owes above Disk kind why = kind
-owe_fault state note n owes above Broken kind why = tt
-owe_fault state note n owes above TapeFull kind why = kind
-owe_fault state note n owes above GenerationFull kind why = kind
-owe_fault state note n owes above PendingFull kind why = tt
-owe_fault state note n owes above NoMemory kind why = tt
-owe_fault state note n owes above (RefusedNote other) kind why = refused_owe state note n owes above other (why other refl)
+pub owe_fault : (state : State) (n : ℕ) (token id : List ℕ) → state.mark < n → (fault : TapeFault) → IsNoteFault fault
+    → ((other : LedgerFault) → fault ≡ RefusedNote other → RefusesNote state (Owe n token id) other)
+    → IsOweFault (station_fault fault)
+owe_fault state n token id above (Damaged segment at) kind why = kind
+owe_fault state n token id above Disk kind why = kind
+owe_fault state n token id above Broken kind why = tt
+owe_fault state n token id above TapeFull kind why = kind
+owe_fault state n token id above GenerationFull kind why = kind
+owe_fault state n token id above PendingFull kind why = tt
+owe_fault state n token id above NoMemory kind why = tt
+owe_fault state n token id above (RefusedNote other) kind why =
+    refused_owe state n token id above other (why other refl)
 
 -- what a station tells as the tape's is the tape's
 pub told_fault : (fault other : TapeFault) → station_fault fault ≡ TapeRefused other → fault ≡ other

@@ -34,13 +34,6 @@ deferred_number deferral = deferral.debt.0
 abbrev pub Tells : {A B : Type 0} → Result A (B × StationFault) → StationFault → Type 0
 Tells result fault = IsErrAnd result (λ e. e.1 ≡ fault)
 
--- the note owes the article of this number
-abbrev pub IsOweOf : Note → ℕ → Type 0
-IsOweOf (Owe other token id) number = other ≡ number
-IsOweOf (Final other code) number = ⊥
-IsOweOf (Drop other cause) number = ⊥
-IsOweOf (Seen other) number = ⊥
-
 -- the note ends the debt of this number
 abbrev pub IsEnd : Note → ℕ → Type 0
 IsEnd (Owe other token id) number = ⊥

@@ -60,7 +60,7 @@ impl<D: Disk> Station<D> {
     ghost use Rattle.peer_queue.specs.Shed.{IsShedSet};
     ghost use Rattle.peer_queue.specs.Settled.{Finishes, IsEnded, Settles, number_in, settled_by};
     ghost use Rattle.peer_queue.specs.Faults.{IsClaimFault, IsEndFault, IsOweFault};
-    ghost use Rattle.peer_queue.specs.Words.{IsBroken, IsEnd, IsOweOf, IsRead, IsSame, IsSameTape, MeetsFull};
+    ghost use Rattle.peer_queue.specs.Words.{IsBroken, IsEnd, IsRead, IsSame, IsSameTape, MeetsFull};
     ghost use Rattle.peer_queue.specs.Words.{Notes, Refuses, StandsFor, Tells, code_of, deferred_number, disks_of};
     ghost use Rattle.peer_queue.specs.Words.{generation_of, told_of, AreHonest, Continues, ledger_of, limits_of};
     ghost use Rattle.peer_queue.specs.Words.{number_of, pending_of, places_of};
@@ -132,12 +132,7 @@ impl<D: Disk> Station<D> {
         if number <= self.tape.mark() {
             return Ok(Owed::Already);
         }
-        let note = Note::Owe {
-            number,
-            token: token.clone()?,
-            id: id.clone()?,
-        };
-        self.owe_new(number, note)
+        self.owe_new(number, token, id)
     }
 
     /// Claims the least number that is ready, or later until a moment at or before `now`: from now on this connection
@@ -351,27 +346,27 @@ impl<D: Disk> Station<D> {
     }
 
     // Notes what is owed anew, and makes it ready.
-    fn owe_new(&mut self, number: u64, note: Note) -> Result<Owed, StationFault>
+    fn owe_new(&mut self, number: u64, token: &Token, id: &MsgId) -> Result<Owed, StationFault>
         requires works { IsBroken self.old → ⊥ }
         requires above { (ledger_of self.old).mark < number }
-        requires owes { IsOweOf note number }
-        ensures new { OnOk result (Notes self.old self.new note) }
+        ensures new { OnOk result (Notes self.old self.new (Note.Owe number token.now id.now)) }
         ensures is_new { IfOk result (λ owed. owed ≡ Owed.New) }
         ensures places { OnOk result
             (places_of self.new ≡ places_of self.old ++ (number, Ready) ∷ []) }
         ensures broken { IsErrOf result StationFault.Broken → ⊥ }
         ensures count_full { IsErrOf result
             (StationFault.Tape (TapeFault.Note LedgerFault.CountFull))
-            → Overflows (ledger_of self.old) note }
+            → Overflows (ledger_of self.old) (Note.Owe number token.now id.now) }
         ensures pending_full { IsErrOf result (StationFault.Tape TapeFault.PendingFull)
-            → (pending_of self.old ≡ most_pending) × (Overflows (ledger_of self.old) note → ⊥) }
-        ensures never { Overflows (ledger_of self.old) note ⊎ (pending_of self.old ≡ most_pending)
-            → IsErr result }
+            → (pending_of self.old ≡ most_pending)
+            × (Overflows (ledger_of self.old) (Note.Owe number token.now id.now) → ⊥) }
+        ensures never { Overflows (ledger_of self.old) (Note.Owe number token.now id.now)
+            ⊎ (pending_of self.old ≡ most_pending) → IsErr result }
         ensures kinds { IfErr result IsOweFault }
         ensures unchanged { OnErr result (IsSame self.old self.new) }
     {
         self.index.add(number)?;
-        if let Err((_, fault)) = self.tape.note(note) {
+        if let Err(fault) = self.tape.owe(number, token, id) {
             self.index.remove(number);
             return Err(station_fault(fault));
         }

@@ -19,7 +19,8 @@ use crate::fault::{append_fault, open_fault};
 use crate::read::read_ledger;
 use crate::segments::{Segments, is_second_live};
 use disk_model::Disk;
-use ledger_core::{Cause, Ledger, LedgerFault, Note, Totals, encode, offset_behind};
+use funnel::{MsgId, Token};
+use ledger_core::{Cause, Ledger, LedgerFault, Note, Totals, encode, encode_owe, offset_behind};
 use std::alloc::{AllocError, Global};
 use tape_journal::{Journal, LONGEST_SEGMENT, records_len};
 
@@ -107,7 +108,7 @@ impl<D: Disk> Tape<D> {
     ghost use Rattle.recovery.specs.Image.{EachTape, Lives, Survives};
     ghost use Rattle.recovery.specs.Opens.{HasCause, Opens, OpensWhatSurvives};
     ghost use Rattle.recovery.specs.Rotates.{Rotates, RefusesRotation};
-    ghost use Rattle.recovery.specs.Takes.{RefusesDrops, RefusesNoting, Takes};
+    ghost use Rattle.recovery.specs.Takes.{RefusesDrops, RefusesNoting, RefusesOwing, Takes};
     ghost use Rattle.recovery.specs.Pairs.{placed};
     ghost use Rattle.recovery.specs.Words.{AreHonest, Continues, disks_of};
     ghost use Rattle.recovery.specs.Words.{generation_of, ledger_of};
@@ -246,6 +247,37 @@ impl<D: Disk> Tape<D> {
         }
     }
 
+    /// Takes the note that owes a debt, as `note` does: its texts are copied once, into the note's spelling.
+    /// Logarithmic in what is owed.
+    ///
+    /// # Errors
+    /// Nothing changes. Those of `note`, in the same order: `Broken`; `Note(OldNumber)`; `Note(CountFull)`;
+    /// `PendingFull`; `NoMemory`.
+    pub fn owe(&mut self, number: u64, token: &Token, id: &MsgId) -> Result<(), TapeFault>
+        ensures takes { (h : History) → StandsFor self.old h
+            → Takes (Note.Owe number token.now id.now ∷ []) h self.new result }
+        ensures ledger { OnOk result
+            (IsLegal (ledger_of self.old) (Note.Owe number token.now id.now)
+            × (ledger_of self.new
+            ≡ step (ledger_of self.old) (Note.Owe number token.now id.now))) }
+        ensures pends { OnOk result (pending_of self.new ≡ pending_of self.old + 1) }
+        ensures refuses { RefusesOwing (Note.Owe number token.now id.now)
+            self.old self.new result }
+        ensures disks { disks_of self.new ≡ disks_of self.old }
+        ensures works { IsBroken self.old ↔ IsBroken self.new }
+    {
+        if self.segments.live.is_broken() {
+            return Err(TapeFault::Broken);
+        }
+        if let Err(fault) = self.ledger.check_owe(number, token, id) {
+            return Err(TapeFault::Note(fault));
+        }
+        if self.room() == 0 {
+            return Err(TapeFault::PendingFull);
+        }
+        self.pend_owe(number, token, id)
+    }
+
     // Takes a note, or changes nothing.
     fn try_note(&mut self, note: &Note) -> Result<(), TapeFault>
         ensures ok { (h : History) → StandsFor self.old h
@@ -308,6 +340,37 @@ impl<D: Disk> Tape<D> {
             }
             Err(_) => {
                 self.pending.pop();
+                Err(TapeFault::NoMemory)
+            }
+        }
+    }
+
+    // Takes the note that owes a debt and is legal, where one more may pend, or changes nothing.
+    fn pend_owe(&mut self, number: u64, token: &Token, id: &MsgId) -> Result<(), TapeFault>
+        requires legal { IsLegal (ledger_of self.old) (Note.Owe number token.now id.now) }
+        requires room { pending_of self.old < most_pending }
+        ensures ok { (h : History) → StandsFor self.old h
+            → OnOk result (StandsFor self.new (noted h (Note.Owe number token.now id.now))) }
+        ensures ledger { OnOk result (ledger_of self.new
+            ≡ step (ledger_of self.old) (Note.Owe number token.now id.now)) }
+        ensures pends { OnOk result (pending_of self.new ≡ pending_of self.old + 1) }
+        ensures stays { (h : History) → StandsFor self.old h → OnErr result (StandsFor self.new h) }
+        ensures unchanged { OnErr result (IsSame self.old self.new) }
+        ensures kinds { IfErr result (λ fault. fault ≡ TapeFault.NoMemory) }
+        ensures segments { self.new.segments ≡ self.old.segments }
+    {
+        let spelling = encode_owe(self.alloc, number, token, id)?;
+        let at = self.next;
+        let count = self.pending.len();
+        let next = offset_behind(at, &spelling);
+        self.pending.push(spelling)?;
+        match self.ledger.owe_at(number, token, id, at, count as u32) {
+            Ok(()) => {
+                self.next = next;
+                Ok(())
+            }
+            Err(_) => {
+                self.pending.truncate(count);
                 Err(TapeFault::NoMemory)
             }
         }

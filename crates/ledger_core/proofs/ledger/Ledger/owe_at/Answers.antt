@@ -8,7 +8,7 @@ use Rattle.ledger_core.proofs.Applied.{owe-ok}
 use Rattle.ledger_core.proofs.Indexed.{points-new}
 use Rattle.std.proofs.lemmas.List.{length_push, map_push}
 use Rattle.std.proofs.lemmas.List.Elements.{All-push, All-weaker}
-use Rattle.ledger_core.proofs.ledger.Ledger.owe.Goals as goal
+use Rattle.ledger_core.proofs.ledger.Ledger.owe_at.Goals as goal
 
 pub invariant_of-self-2 : goal.invariant_of-self-2
 invariant_of-self-2 c =
