@@ -22,17 +22,20 @@ and-left true b e = refl
 and-left false b e = e
 
 -- what can be answered by a reply, its code belongs to
-can_answer-belongs : (mode : Mode) (reply : Given) (ask : Awaited) → can_answer mode reply ask ≡ true → is_some (meaning ask.verb reply.code) ≡ true
-can_answer-belongs InStreaming reply ask e = and-left _ _ e
-can_answer-belongs ByIhave reply ask e = e
+can_answer-belongs : (mode : Mode) (held : List Held) (reply : Given) (ask : Awaited)
+    → can_answer mode held reply ask ≡ true → is_some (meaning ask.verb reply.code) ≡ true
+can_answer-belongs InStreaming held reply ask e = and-left _ _ e
+can_answer-belongs ByIhave held reply ask e = e
 
-module _ (s : State) (mode : Mode) (reply : Given) (ask : Awaited) (found : find (can_answer mode reply) s.window ≡ Some ask) where
+module _ (s : State) (mode : Mode) (reply : Given) (ask : Awaited)
+    (found : find (can_answer mode s.held reply) s.window ≡ Some ask) where
   belongs-found : is_some (meaning ask.verb reply.code) ≡ true
-  belongs-found = can_answer-belongs mode reply ask (find-passes (can_answer mode reply) s.window ask found)
+  belongs-found = can_answer-belongs mode s.held reply ask
+      (find-passes (can_answer mode s.held reply) s.window ask found)
 
   -- the connection without the command that is answered
   abbrev answered_state : List (List ℕ) → State
-  answered_state blocks = record s { window = remove_key (can_answer mode reply) s.window; blocks = blocks }
+  answered_state blocks = record s { window = remove_key (can_answer mode s.held reply) s.window; blocks = blocks }
 
   -- by parts
   pub answered-is : (m : Option Meaning) (x : Option Held) → meaning ask.verb reply.code ≡ m → find (is_at ask.ticket) s.held ≡ x
@@ -57,7 +60,8 @@ sends-335 Takethis code blocks e b = let no : is_some (meaning Takethis 335) ≡
 sends-335 Check code blocks e b = let no : is_some (meaning Check 335) ≡ true = rw e at b in cc
 sends-335 Block code blocks e b = let no : is_some (meaning Block 335) ≡ true = rw e at b in cc
 
-module _ (s : State) (mode : Mode) (reply : Given) (ask : Awaited) (found : find (can_answer mode reply) s.window ≡ Some ask) where
+module _ (s : State) (mode : Mode) (reply : Given) (ask : Awaited)
+    (found : find (can_answer mode s.held reply) s.window ≡ Some ask) where
   -- 238 and a debt that is held
   pub wants-is : (x : Option Held) (wanted : State) → reply.code ≡ 238 → find (is_at ask.ticket) s.held ≡ x
       → told (answered_state s mode reply ask found s.blocks) (Some Wanted) ask (first_block s.blocks) x ≡ wanted → answered_with s mode reply ≡ wanted
@@ -86,7 +90,8 @@ counted_by-held : (s : State) (answers : List Bool) → (counted_by s answers).h
 counted_by-held s [] = refl
 counted_by-held s (answer ∷ answers) = refl
 
-module _ (s : State) (mode : Mode) (reply : Given) (ask : Awaited) (found : find (can_answer mode reply) s.window ≡ Some ask) where
+module _ (s : State) (mode : Mode) (reply : Given) (ask : Awaited)
+    (found : find (can_answer mode s.held reply) s.window ≡ Some ask) where
   -- any other answer
   pub settles-is : (t : State) → t ≡ counted_by (answered_state s mode reply ask found (let_go ask.verb s.blocks)) (counts reply.code)
       → (meaning ask.verb reply.code ≡ Some Wanted → ⊥) → (meaning ask.verb reply.code ≡ Some SendBlock → ⊥)

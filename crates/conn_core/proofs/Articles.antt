@@ -1,22 +1,27 @@
 -- An article handed in, a call to quit, a broken connection and octets sent keep it that the connection stands for its transcript.
-use Rattle.std.proofs.Common.{◌≡◌, ℕ, ◌≤◌, Bool, true, List, [], ◌∷◌, ◌++◌, length, refl, sym, ap, subst, ◌∙◌, arith, find, Option, Some, None, drop}
+use Rattle.std.proofs.Common.{◌≡◌, ℕ, ◌≤◌, ◌<◌, Bool, true, false, List, [], ◌∷◌, ◌++◌, length, refl, sym, ap, subst}
+use Rattle.std.proofs.Common.{◌∙◌, arith, find, Option, Some, None, drop}
 use Rattle.std.specs.Prelude.{is_some, option_map, nat_lt, ◌||◌}
 use Rattle.std.specs.Set.{remove_key}
 use Rattle.std.proofs.lemmas.List.{append-nil, drop-drop, length-drop}
 use Rattle.reply_reader.specs.declared.fault.ReplyFault.{ReplyFault}
 use Rattle.conn_core.specs.Used.{left_from, with_ticket}
 use Rattle.conn_core.specs.Commands.{Asks, Handing, Sendable, Gone, Unsendable, Held, Want, is_at, is_of, held_for, ask_with}
-use Rattle.conn_core.specs.History.{Event, Put, Handed, Faulted, Broke, Leave, Sent, accepted, put_octets, sent, is_streaming, phase, reason, story, ends, held, wanted, End, ended_tickets, ends_by_loss, first_want, held_wanting, with_puts, puts, puts_article, after}
+use Rattle.conn_core.specs.History.{Event, Put, Handed, Faulted, Broke, Leave, Sent, accepted, put_octets, sent}
+use Rattle.conn_core.specs.History.{is_streaming, phase, reason, story, ends, held, wanted, End, ended_tickets}
+use Rattle.conn_core.specs.History.{ends_by_loss, first_want, held_wanting, window, with_puts, puts, puts_article}
+use Rattle.conn_core.specs.History.{after}
 use Rattle.conn_core.specs.State.{State}
-use Rattle.conn_core.specs.Stands.{Matches}
+use Rattle.conn_core.specs.Stands.{IsOfDebt, Matches, MatchesWhileOpen, claims}
 use Rattle.conn_core.specs.Machine.{close, parted, on_fault, asked, handed, handed_for, asked_to_quit, sent_off}
 use Rattle.conn_core.specs.declared.options.Options.{Options}
 use Rattle.conn_core.specs.declared.reason.Reason.TheVariants.{Reader, Broken}
 use Rattle.conn_core.specs.declared.outcome.Outcome.{Outcome}
 use Rattle.conn_core.specs.UsedLaws.{find-left_from, left_from-used}
-use Rattle.conn_core.specs.HeldLaws.{held_from-gone}
+use Rattle.conn_core.specs.HeldLaws.{find-is_at, held_from-gone}
 use Rattle.conn_core.specs.StoryLaws.{ended_tickets-append}
 use Rattle.conn_core.proofs.Blocks.{remove-none}
+use Rattle.conn_core.proofs.Ties.{met-free, tied-ended, tied-met}
 use Rattle.conn_core.proofs.Steps.{goes_on, shut_by, put_ask, stands_quit, with_quit-close}
 
 module _ (options : Options) where
@@ -57,13 +62,20 @@ module _ (options : Options) (s : State) (h : List Event) (number : ℕ) (handin
         sent_few = o.sent_few;
         stirred_is = o.stirred_is;
         quiet_is = o.quiet_is;
+        tied = tied-met s.held (window options h) s.wanted s.accepted o.tied (is_of number);
       })
 
   -- the debt comes out
-  hands_end : (x : Held) (outcome : Outcome) → ends_by_loss handing (held_wanting h (story options h) number) ≡ record { ticket = x.ticket; outcome = outcome } ∷ []
+  hands_end : (x : Held) (outcome : Outcome) → claims (window options h) (remove_key (is_of number) s.wanted)
+      x.ticket ≡ 0
+      → ends_by_loss handing (held_wanting h (story options h) number) ≡ record {
+        ticket = x.ticket;
+        outcome =
+            outcome;
+      } ∷ []
       → Matches options (parted (record s { wanted = remove_key (is_of number) s.wanted }) x.ticket (outcome ∷ [])) (Handed number handing ∷ h)
   unfolding story
-  hands_end x outcome one =
+  hands_end x outcome free one =
       let o = st.while_open running in
       let more : List End = record { ticket = x.ticket; outcome = outcome } ∷ [] in
       let same : ends options (Handed number handing ∷ h) ≡ ends options h ++ more = rw one refl in
@@ -78,9 +90,45 @@ module _ (options : Options) (s : State) (h : List Event) (number : ℕ) (handin
         sent_few = o.sent_few;
         stirred_is = o.stirred_is;
         quiet_is = o.quiet_is;
+        tied = tied-ended s.held (window options h) (remove_key (is_of number) s.wanted) s.accepted
+            (tied-met s.held (window options h) s.wanted s.accepted o.tied (is_of number)) x.ticket free;
       })
 
 module _ (options : Options) where
+  abbrev IsFreed : State → List Event → ℕ → Held → Type 0
+  IsFreed s h number x =
+      (option_map (λ (y : Held). y.debt.1.1) (find (is_at x.ticket) s.held) ≡ Some x.debt.1.1)
+      × (claims (window options h) (remove_key (is_of number) s.wanted) x.ticket ≡ 0) × (x.ticket < s.accepted)
+
+  -- the debt for which an article is handed in has neither a command without an answer nor a want any more
+  want-free : (s : State) (h : List Event) (number : ℕ) (x : Held) (want : Option Want)
+      → find (is_of number) s.wanted ≡ want → held_for s.held want ≡ Some x
+      → MatchesWhileOpen options s h → IsFreed s h number x
+  want-free s h number x None e f o = cc
+  want-free s h number x (Some want) e f o =
+      let free = met-free s.held (window options h) s.wanted s.accepted o.tied (is_of number) want e in
+      let same = (find-is_at want.ticket s.held x f).0 in (
+        rw (same, f) refl,
+        rw same free.0,
+        rw same free.1,
+      )
+
+  handed-free : (s : State) (h : List Event) (number : ℕ) (x : Held)
+      → held_wanting h (story options h) number ≡ Some x → Matches options s h → reason options h ≡ None
+      → IsFreed s h number x
+  handed-free s h number x e st running =
+      let o = st.while_open running in
+      want-free s h number x (find (is_of number) s.wanted) refl
+      (ap (λ hs. held_for hs (find (is_of number) s.wanted)) o.held_is ∙ ap (held_for (held options h))
+      (wanted_first options s h number st running) ∙ e) o
+
+  asked-free : (s : State) (h : List Event) (number : ℕ) (x : Held) (block : List ℕ) (b : Bool) → IsFreed s h number x
+      → IsOfDebt s.held (ask_with b x block)
+      × (claims (window options h) (remove_key (is_of number) s.wanted) (ask_with b x block).ticket ≡ 0)
+      × ((ask_with b x block).ticket < s.accepted)
+  asked-free s h number x block true free = free
+  asked-free s h number x block false free = free
+
   handed_by : (s : State) (h : List Event) (number : ℕ) (handing : Handing) (x : Option Held) → held_wanting h (story options h) number ≡ x → Matches options s h → reason options h ≡ None
       → Matches options (handed_for (record s { wanted = remove_key (is_of number) s.wanted }) handing x) (with_puts (puts_article (is_streaming (phase options h)) handing x) (Handed number handing ∷ h))
   handed_by s h number (Sendable block) None e st running = hands_nothing options s h number (Sendable block) st running (rw e refl)
@@ -88,11 +136,15 @@ module _ (options : Options) where
       let o = st.while_open running in
       let next : State = record s { wanted = remove_key (is_of number) s.wanted } in
       subst (λ (b : Bool). Matches options (asked next (ask_with b x block)) (Put (Asks (ask_with (is_streaming (phase options h)) x block)) ∷ Handed number (Sendable block) ∷ h)) (sym (ap is_streaming o.phase_is))
-      (put_ask options next (Handed number (Sendable block) ∷ h) (ask_with (is_streaming (phase options h)) x block) (hands_nothing options s h number (Sendable block) st running (rw e refl)))
+      (put_ask options next (Handed number (Sendable block) ∷ h) (ask_with (is_streaming (phase options h)) x block)
+      (hands_nothing options s h number (Sendable block) st running (rw e refl))
+      (λ r w. asked-free s h number x block (is_streaming (phase options h)) (handed-free s h number x e st running)))
   handed_by s h number Gone None e st running = hands_nothing options s h number Gone st running (rw e refl)
-  handed_by s h number Gone (Some x) e st running = hands_end options s h number Gone st running x _ (rw e refl)
+  handed_by s h number Gone (Some x) e st running = hands_end options s h number Gone st running x _
+      (handed-free s h number x e st running).1 (rw e refl)
   handed_by s h number Unsendable None e st running = hands_nothing options s h number Unsendable st running (rw e refl)
-  handed_by s h number Unsendable (Some x) e st running = hands_end options s h number Unsendable st running x _ (rw e refl)
+  handed_by s h number Unsendable (Some x) e st running = hands_end options s h number Unsendable st running x _
+      (handed-free s h number x e st running).1 (rw e refl)
 
   -- an article is handed in
   pub stands_handed : (s : State) (h : List Event) (number : ℕ) (handing : Handing) → Matches options s h → reason options h ≡ None
@@ -139,6 +191,7 @@ module _ (options : Options) where
         sent_few = o.sent_few;
         stirred_is = o.stirred_is;
         quiet_is = o.quiet_is;
+        tied = o.tied;
       }))
 
   -- octets are sent
@@ -159,4 +212,5 @@ module _ (options : Options) where
         sent_few = omega (arith, length-drop (sent h) (put_octets h));
         stirred_is = ap (λ b. nat_lt 0 count || b) o.stirred_is;
         quiet_is = o.quiet_is;
+        tied = o.tied;
       })

@@ -42,6 +42,7 @@ module _ (options : Options) where
         sent_few = o.sent_few;
         stirred_is = refl;
         quiet_is = ap Some (same_quiet s h now o);
+        tied = o.tied;
       })
 
   pub stands_ticked : (s : State) (h : List Event) (now : ℕ) → Matches options s h → reason options h ≡ None → Matches options (ticked s now) (after options h (Tick now))

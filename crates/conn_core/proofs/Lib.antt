@@ -2,6 +2,7 @@ mod Rows
 mod Switch
 mod Blocks
 mod Modes
+mod Ties
 mod Steps
 mod Clock
 mod Replies
@@ -9,6 +10,7 @@ mod Articles
 mod Public
 mod Agreed
 mod Lookups
+mod Tickets
 mod TakenLately
 mod Answering
 mod Losses

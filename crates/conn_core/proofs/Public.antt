@@ -1,14 +1,17 @@
 -- From a step of what a connection holds to the transcript, as the public calls promise it.
-use Rattle.std.proofs.Common.{◌≡◌, ℕ, suc, zero, ◌+◌, ◌<◌, ◌≤◌, Bool, true, false, List, [], ◌∷◌, length, refl, sym, ap, ◌∙◌, arith, Option, Some, None, find, drop, take, add-one}
+use Rattle.std.proofs.Common.{◌≡◌, ℕ, suc, zero, ◌+◌, ◌<◌, ◌≤◌, Bool, true, false, List, [], ◌∷◌, length, refl, sym, ap}
+use Rattle.std.proofs.Common.{subst, ◌∙◌, arith, Option, Some, None, find, drop, take, add-one}
 use Rattle.std.specs.Prelude.{is_some, option_map, slice_get, if◌then◌else◌, not}
 use Rattle.std.proofs.lemmas.List.{length-drop}
 use Rattle.reply_reader.specs.Stream.{Given}
 use Rattle.reply_reader.specs.declared.fault.ReplyFault.{ReplyFault}
 use Rattle.ledger_core.specs.State.{Owing}
 use Rattle.conn_core.specs.Commands.{Handing, Want, is_of}
-use Rattle.conn_core.specs.History.{Event, Offered, Came, Faulted, Handed, Sent, Tick, Broke, Leave, Taken, accepted, taken, is_leaving, reason, checks, counted, story, outcomes, after, output, needed, need}
+use Rattle.conn_core.specs.History.{Event, Offered, Came, Faulted, Handed, Sent, Tick, Broke, Leave, Taken, accepted}
+use Rattle.conn_core.specs.History.{taken, is_leaving, reason, checks, counted, story, outcomes, after, output, needed}
+use Rattle.conn_core.specs.History.{need, window}
 use Rattle.conn_core.specs.State.{State, untold, output_of}
-use Rattle.conn_core.specs.Stands.{Arises, MatchesWhileOpen, Matches, ready_of, ready_when}
+use Rattle.conn_core.specs.Stands.{Arises, AreTied, MatchesWhileOpen, Matches, ready_of, ready_when}
 use Rattle.conn_core.specs.Machine.{fresh, offered, on_reply, on_fault, handed, ticked, close, asked_to_quit, sent_off, TakesOne, ready_at}
 use Rattle.conn_core.specs.declared.options.Options.{Options}
 use Rattle.conn_core.specs.declared.ready.Ready.TheVariants.{Yes}
@@ -45,7 +48,20 @@ fresh-stands options = record {
   off_is = refl;
   untold_is = refl;
   taken_few = omega arith;
-  while_open = λ _. record { phase_is = refl; held_is = refl; window_is = refl; blocks_is = refl; wanted_is = refl; output_is = refl; sent_few = omega arith; stirred_is = refl; quiet_is = refl };
+  while_open = λ _. record {
+    phase_is = refl;
+    held_is = refl;
+    window_is = refl;
+    blocks_is = refl;
+    wanted_is =
+        refl;
+    output_is = refl;
+    sent_few = omega arith;
+    stirred_is = refl;
+    quiet_is = refl;
+    tied =
+        record { named = tt; once = λ t. omega arith; below = λ t high. refl };
+  };
 }
   where
     nothing : (n : ℕ) → (let none : List Bool = [] in none ≡ take n none)
@@ -121,6 +137,9 @@ told-stands options old new o h g st t same_reason same_leaving same_accepted sa
             sent_few = w.sent_few;
             stirred_is = ap (λ (x : State). x.stirred) same ∙ w.stirred_is;
             quiet_is = ap (λ (x : State). x.quiet) same ∙ w.quiet_is;
+            tied = subst (λ (x : State). AreTied new.held (window options h) x.wanted x.accepted) (sym same)
+                (subst (λ hs. AreTied hs (window options h) old.wanted old.accepted)
+                (sym (t.held_open (st.closed_is ∙ r))) w.tied);
           });
     }
 
@@ -142,6 +161,7 @@ taken-stands options old new h outcome st t =
             sent_few = w.sent_few;
             stirred_is = w.stirred_is;
             quiet_is = w.quiet_is;
+            tied = w.tied;
           }),
     )
 

@@ -1,5 +1,6 @@
 -- A reply keeps it that the connection stands for its transcript.
-use Rattle.std.proofs.Common.{◌≡◌, ℕ, Bool, true, false, List, [], ◌∷◌, ◌++◌, refl, sym, ap, subst, ◌∙◌, arith, inl, inr, find, Option, Some, None, map, take}
+use Rattle.std.proofs.Common.{◌≡◌, ℕ, ◌<◌, Bool, true, false, List, [], ◌∷◌, ◌++◌, refl, sym, ap, subst, ◌∙◌, arith}
+use Rattle.std.proofs.Common.{inl, inr, find, Option, Some, None, map, take}
 use Rattle.std.specs.Prelude.{◌==◌, ◌&&◌, if◌then◌else◌, option_map, ◌⊎◌}
 use Rattle.std.specs.Set.{remove_key}
 use Rattle.std.proofs.lemmas.Bool.{eqb-true}
@@ -11,8 +12,9 @@ use Rattle.conn_core.specs.Checks.{counts, are_off}
 use Rattle.conn_core.specs.Commands.{Ask, ModeStream, Asks, octets, Held, want_of, block_of, is_at, belongs_to}
 use Rattle.conn_core.specs.History.{Event, Put, Came, accepted, asks, phase, phase_after, is_mode, answered, answered_now, answered_ask, closes, closes_in, counted, reason, story, ends, held, window, ended_tickets, backs, ends_by_meaning, ends_by_answer, wants_by_meaning, wants_by_answer, with_puts, puts, puts_greeting, puts_answer, puts_block, after}
 use Rattle.conn_core.specs.State.{State, Awaited, awaited_of, kept_blocks}
-use Rattle.conn_core.specs.Stands.{MatchesWhileOpen, Matches}
-use Rattle.conn_core.specs.Machine.{close, parted, told, counted_by, answered_by, fits_awaited, belongs_to_awaited, first_block, let_go, sends_block, on_reply, dispatch_reply}
+use Rattle.conn_core.specs.Stands.{AreTied, IsOfDebt, MatchesWhileOpen, Matches, claims}
+use Rattle.conn_core.specs.Machine.{asked, close, parted, told, counted_by, answered_by, fits_awaited}
+use Rattle.conn_core.specs.Machine.{belongs_to_awaited, first_block, let_go, sends_block, on_reply, dispatch_reply}
 use Rattle.conn_core.specs.declared.codes.Verb.{Verb}
 use Rattle.conn_core.specs.declared.codes.Meaning.{Meaning}
 use Rattle.conn_core.specs.declared.codes.Meaning.TheVariants.{Wanted, SendBlock, Later, Final}
@@ -28,6 +30,7 @@ use Rattle.conn_core.specs.StoryLaws.{handed_below, ended_tickets-append}
 use Rattle.conn_core.proofs.Switch.{counted_by-is, recent-counted, off-counted}
 use Rattle.conn_core.proofs.Blocks.{find-map, remove-map, kept-removed, kept-first, PassesFirst, sends-ihave, no_block-find, no_block-left}
 use Rattle.conn_core.proofs.Modes.{Plain}
+use Rattle.conn_core.proofs.Ties.{answered-free, answers-same, tied-answered, tied-ended, tied-wanted}
 use Rattle.conn_core.proofs.Steps.{goes_on, shut_by, put_mode, put_ask, stands_quit}
 
 -- 203 ends nothing
@@ -86,6 +89,7 @@ module _ (options : Options) where
         phase_is = moved;
         held_is = o.held_is ∙ sym (held-quiet h reply stays (rw none refl));
         window_is = rw none o.window_is;
+        tied = rw none o.tied;
         blocks_is = rw none o.blocks_is;
         wanted_is = rw (none, append-nil (story options h).wants) o.wanted_is;
         output_is = o.output_is;
@@ -148,6 +152,18 @@ module _ (options : Options) (s : State) (h : List Event) (reply : Given) (found
     | inr none ↦ absurd (no_block-find (λ ask. test (awaited_of ask)) (window options h) found.1 none finds v)
   ]
 
+  -- the commands that are left
+  abbrev left_asks : List Ask
+  left_asks = remove_key (λ ask. test (awaited_of ask)) (window options h)
+
+  tied_left : AreTied s.held left_asks s.wanted s.accepted
+  tied_left = tied-answered s.held (window options h) s.wanted s.accepted (st.while_open running).tied
+      (λ ask. test (awaited_of ask))
+
+  left_free : (claims left_asks s.wanted found.1.ticket ≡ 0) × (found.1.ticket < s.accepted) × IsOfDebt s.held found.1
+  left_free = answered-free s.held (window options h) s.wanted s.accepted (st.while_open running).tied
+      (λ ask. test (awaited_of ask)) found.1 finds
+
   -- what is left, with what was counted
   abbrev less : List Bool → Bool → State
   less recent off = record s { stirred = true; window = remove_key test s.window; blocks = let_go found.1.verb s.blocks; recent = recent; off = off }
@@ -159,9 +175,10 @@ module _ (options : Options) (s : State) (h : List Event) (reply : Given) (found
         → next.found ≡ s.found ++ map (λ x. x.outcome) (ends_by_answer (held options h) reply.code (answered_ask options h reply))
         → next.held ≡ held options (Came reply ∷ h)
         → next.wanted ≡ left_from 0 ((story options h).wants ++ wants_by_answer (held options h) reply.code (answered_ask options h reply)) (story options h).handed
+        → AreTied next.held left_asks next.wanted s.accepted
         → Matches options next (Came reply ∷ h)
     unfolding story
-    answer next same told held_same wanted_same =
+    answer next same told held_same wanted_same ties =
         let o = st.while_open running in
         goes_on options s next h (Came reply) _ st running stays (ends-on_reply options h reply stays) refl
         (ap (λ (x : State). x.options) same) (ap (λ (x : State). x.closed) same) (ap (λ (x : State). x.quitting) same ∙ st.quitting_is) (ap (λ (x : State). x.accepted) same ∙ st.accepted_is)
@@ -175,6 +192,9 @@ module _ (options : Options) (s : State) (h : List Event) (reply : Given) (found
           sent_few = o.sent_few;
           stirred_is = ap (λ (x : State). x.stirred) same;
           quiet_is = ap (λ (x : State). x.quiet) same ∙ o.quiet_is;
+          tied = subst (λ n. AreTied next.held (window options (Came reply ∷ h)) next.wanted n)
+              (sym (ap (λ (x : State). x.accepted) same))
+              (subst (λ asks. AreTied next.held asks next.wanted s.accepted) (sym window-on_reply) ties);
         })
 
     answer_nothing : ends_by_answer (held options h) reply.code (answered_ask options h reply) ≡ [] → wants_by_answer (held options h) reply.code (answered_ask options h reply) ≡ []
@@ -182,7 +202,7 @@ module _ (options : Options) (s : State) (h : List Event) (reply : Given) (found
     answer_nothing none no_wants =
         let o = st.while_open running in
         answer (less recent off) refl (rw none (sym (append-nil s.found))) (o.held_is ∙ sym (held-quiet options h reply stays none))
-        (rw (no_wants, append-nil (story options h).wants) o.wanted_is)
+        (rw (no_wants, append-nil (story options h).wants) o.wanted_is) tied_left
 
     answer_wanted : (x : Held) → meaning found.1.verb reply.code ≡ Some Wanted → find (is_at found.1.ticket) (held options h) ≡ Some x
         → Matches options (record (less recent off) { wanted = s.wanted ++ want_of x ∷ [] }) (Came reply ∷ h)
@@ -191,15 +211,22 @@ module _ (options : Options) (s : State) (h : List Event) (reply : Given) (found
         let none : ends_by_answer (held options h) reply.code (answered_ask options h reply) ≡ [] = by_is (Some Wanted) (Some x) em ex in
         answer (record (less recent off) { wanted = s.wanted ++ want_of x ∷ [] }) refl (rw none (sym (append-nil s.found))) (o.held_is ∙ sym (held-quiet options h reply stays none))
         (rw (wants_is (Some Wanted) (Some x) em ex, o.wanted_is) (sym (left_from-append (story options h).handed 0 (story options h).wants (want_of x) (λ k q. handed_below options h k (omega arith)))))
+        (tied-wanted s.held left_asks s.wanted s.accepted tied_left (want_of x)
+        (subst (λ k. claims left_asks s.wanted k ≡ 0) (sym (find-is_at found.1.ticket (held options h) x ex).0)
+        left_free.0)
+        (subst (λ k. k < s.accepted) (sym (find-is_at found.1.ticket (held options h) x ex).0) left_free.1))
 
-    answer_ends : (ticket : ℕ) (x : Held) (outcome : Outcome) → x.ticket ≡ ticket → wants_by_answer (held options h) reply.code (answered_ask options h reply) ≡ []
+    answer_ends : (ticket : ℕ) (x : Held) (outcome : Outcome) → ticket ≡ found.1.ticket → x.ticket ≡ ticket
+        → wants_by_answer (held options h) reply.code (answered_ask options h reply) ≡ []
         → ends_by_answer (held options h) reply.code (answered_ask options h reply) ≡ record { ticket = x.ticket; outcome = outcome } ∷ []
         → Matches options (parted (less recent off) ticket (outcome ∷ [])) (Came reply ∷ h)
-    answer_ends ticket x outcome same no_wants one =
+    answer_ends ticket x outcome about same no_wants one =
         let o = st.while_open running in
         answer (parted (less recent off) ticket (outcome ∷ [])) refl (rw one refl)
         (rw (← same) (ap (remove_key (is_at x.ticket)) o.held_is ∙ sym (held-ended options h reply x.ticket outcome stays one)))
         (rw (no_wants, append-nil (story options h).wants) o.wanted_is)
+        (tied-ended s.held left_asks s.wanted s.accepted tied_left ticket
+        (subst (λ k. claims left_asks s.wanted k ≡ 0) (sym about) left_free.0))
 
     -- the block of an IHAVE goes out
     answer_block : (x : Option Held) → meaning found.1.verb reply.code ≡ Some SendBlock → find (is_at found.1.ticket) (held options h) ≡ x
@@ -208,8 +235,20 @@ module _ (options : Options) (s : State) (h : List Event) (reply : Given) (found
         let o = st.while_open running in
         let own : first_block s.blocks ≡ found.1.block =
         ap first_block o.blocks_is ∙ kept-first (λ ask. test (awaited_of ask)) (window options h) found.1 finds (sends-ihave found.1.verb reply.code em) passes_first in
+        let sent : asked (less recent off) (block_of found.1) ≡ sends_block (less recent off)
+        (awaited_of found.1) found.1.block =
+        ap (λ bs. record (sends_block (less recent off) (awaited_of found.1) found.1.block) { blocks = bs })
+        (append-nil (let_go found.1.verb s.blocks)) in
         subst (λ (block : List ℕ). Matches options (sends_block (less recent off) (awaited_of found.1) block) (Put (Asks (block_of found.1)) ∷ Came reply ∷ h)) (sym own)
-        (put_ask options (less recent off) (Came reply ∷ h) (block_of found.1) (answer_nothing (by_is (Some SendBlock) x em ex ∙ block-ends x) (wants_is (Some SendBlock) x em ex)))
+        (subst (λ (next : State). Matches options next (Put (Asks (block_of found.1)) ∷ Came reply ∷ h)) sent
+        (put_ask options (less recent off) (Came reply ∷ h) (block_of found.1)
+        (answer_nothing (by_is (Some SendBlock) x em ex ∙ block-ends x) (wants_is (Some SendBlock) x em ex))
+        (λ r w. (
+          left_free.2,
+          subst (λ asks. claims asks s.wanted found.1.ticket ≡ 0)
+              (sym window-on_reply) left_free.0,
+          left_free.1,
+        ))))
       where
         block-ends : (x : Option Held) → ends_by_meaning (Some SendBlock) x ≡ []
         block-ends None = refl
@@ -224,10 +263,13 @@ module _ (options : Options) (s : State) (h : List Event) (reply : Given) (found
     answer_told (Some Wanted) None em ex = answer_nothing (by_is (Some Wanted) None em ex) (wants_is (Some Wanted) None em ex)
     answer_told (Some Wanted) (Some x) em ex = answer_wanted x em ex
     answer_told (Some Later) None em ex = answer_nothing (by_is (Some Later) None em ex) (wants_is (Some Later) None em ex)
-    answer_told (Some Later) (Some x) em ex = answer_ends found.1.ticket x _ (find-is_at found.1.ticket (held options h) x ex).0 (wants_is (Some Later) (Some x) em ex) (by_is (Some Later) (Some x) em ex)
+    answer_told (Some Later) (Some x) em ex = answer_ends found.1.ticket x _ refl
+        (find-is_at found.1.ticket (held options h) x ex).0 (wants_is (Some Later) (Some x) em ex)
+        (by_is (Some Later) (Some x) em ex)
     answer_told (Some (Final code)) None em ex = answer_nothing (by_is (Some (Final code)) None em ex) (wants_is (Some (Final code)) None em ex)
     answer_told (Some (Final code)) (Some x) em ex =
-        answer_ends found.1.ticket x _ (find-is_at found.1.ticket (held options h) x ex).0 (wants_is (Some (Final code)) (Some x) em ex) (by_is (Some (Final code)) (Some x) em ex)
+        answer_ends found.1.ticket x _ refl (find-is_at found.1.ticket (held options h) x ex).0
+        (wants_is (Some (Final code)) (Some x) em ex) (by_is (Some (Final code)) (Some x) em ex)
 
   -- with what the switch counts
   answer_counted : Matches options
@@ -294,7 +336,13 @@ module _ (options : Options) where
       (at_greeting options s h reply (is_welcome reply.code) options.streaming refl refl st running e)
   by_phase s h reply Asking e plain st running = at_asking options s h reply (reply.code == 203) (ends_all reply.code) refl refl st running e
   by_phase s h reply Streaming e plain st running =
-      awaited_answer s h reply (fits_awaited reply) (rw e refl) st running (rw e refl) (λ found f. inr (no_block-left 0 (asks h) (answered options h) plain))
+      let same = answers-same s.held reply (answered options h) (asks h) (st.while_open running).tied.named in
+      subst (λ (o : Option (ℕ × Ask)). Matches options
+      (answered_by (record s { stirred = true }) (fits_awaited s.held reply) reply.code
+      (find (fits_awaited s.held reply) s.window))
+      (with_puts (puts_answer reply.code o) (Came reply ∷ h))) same
+      (awaited_answer s h reply (fits_awaited s.held reply) (rw e (sym same)) st running (rw e refl)
+      (λ found f. inr (no_block-left 0 (asks h) (answered options h) plain)))
   by_phase s h reply OneByOne e plain st running =
       awaited_answer s h reply (belongs_to_awaited reply) (rw e refl) st running (rw e refl) (λ found f. inl (ihave-first reply (answered options h) (asks h) found f))
   by_phase s h reply Leaving e plain st running = shut_reply options s h reply Left st running (rw e refl) (rw e refl)

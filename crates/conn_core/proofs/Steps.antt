@@ -1,5 +1,6 @@
 -- Each event keeps it that the connection stands for its transcript: one that goes on, one that closes, and what is put out.
-use Rattle.std.proofs.Common.{◌≡◌, ℕ, ◌+◌, ◌≤◌, Bool, true, false, List, [], ◌∷◌, ◌++◌, length, refl, sym, ap, subst, ◌∙◌, arith, Option, Some, None, drop, take, map, length-append}
+use Rattle.std.proofs.Common.{◌≡◌, ℕ, ◌+◌, ◌≤◌, ◌<◌, Bool, true, false, List, [], ◌∷◌, ◌++◌, length, refl, sym, ap}
+use Rattle.std.proofs.Common.{subst, ◌∙◌, arith, Option, Some, None, drop, take, map, length-append}
 use Rattle.std.specs.Prelude.{◌&&◌, not, if◌then◌else◌, is_none, is_some}
 use Rattle.std.specs.List.{flat_map}
 use Rattle.std.proofs.lemmas.Bool.{false≢true}
@@ -11,16 +12,17 @@ use Rattle.conn_core.specs.Checks.{are_off}
 use Rattle.conn_core.specs.Commands.{Ask, Command, ModeStream, Asks, Quit, octets, Held, Want, check_of, want_of}
 use Rattle.conn_core.specs.History.{Event, Offered, Put, accepted, asks, put_out, put_octets, sent, taken, is_leaving, is_mode, is_streaming, phase, answered, window, counted, checks, closes, first_reason, reason, story, ends, held, outcomes, End, ended_tickets, backs, newcomer, wants_at_once, is_quit_due, with_quit, with_puts, after}
 use Rattle.conn_core.specs.State.{State, awaited_of, kept_for, kept_blocks, untold}
-use Rattle.conn_core.specs.Stands.{MatchesWhileOpen, Matches}
+use Rattle.conn_core.specs.Stands.{AreTied, IsOfDebt, MatchesWhileOpen, Matches, claims}
 use Rattle.conn_core.specs.Machine.{close, asked, quit_if_due, offered, newly}
 use Rattle.conn_core.specs.declared.phase.Phase.TheVariants.{Leaving}
 use Rattle.conn_core.specs.declared.options.Options.{Options}
 use Rattle.conn_core.specs.declared.reason.Reason.{Reason}
 use Rattle.conn_core.specs.declared.outcome.Outcome.TheVariants.{Back}
-use Rattle.conn_core.specs.UsedLaws.{left_from-append}
-use Rattle.conn_core.specs.HeldLaws.{held_from-append}
-use Rattle.conn_core.specs.StoryLaws.{answered_below, handed_below, ends_below, ends-offered}
+use Rattle.conn_core.specs.UsedLaws.{AllBelow, left_from-append}
+use Rattle.conn_core.specs.HeldLaws.{held_from-append, tickets}
+use Rattle.conn_core.specs.StoryLaws.{answered_below, handed_below, ends_below, ends-offered, tickets-below}
 use Rattle.conn_core.proofs.Blocks.{kept-more}
+use Rattle.conn_core.proofs.Ties.{accepted-own, tied-accepted, tied-asked, tied-wanted}
 
 pub first_reason-none : (r : Option Reason) → first_reason r None ≡ r
 first_reason-none None = refl
@@ -112,9 +114,11 @@ module _ (options : Options) where
       → (reason options h ≡ None → MatchesWhileOpen options s h → next.phase ≡ phase options (Put command ∷ h))
       → (reason options h ≡ None → MatchesWhileOpen options s h → next.window ≡ map awaited_of (window options (Put command ∷ h)))
       → (reason options h ≡ None → MatchesWhileOpen options s h → next.blocks ≡ kept_blocks (window options (Put command ∷ h)))
+      → (reason options h ≡ None → MatchesWhileOpen options s h
+      → AreTied s.held (window options (Put command ∷ h)) s.wanted s.accepted)
       → Matches options next (Put command ∷ h)
   unfolding story
-  puts_out s h command next st same phase_same window_same blocks_same = record {
+  puts_out s h command next st same phase_same window_same blocks_same ties_same = record {
     options_is = ap (λ (x : State). x.options) same ∙ st.options_is;
     closed_is = ap (λ (x : State). x.closed) same ∙ st.closed_is ∙ sym (first_reason-none _);
     quitting_is = ap (λ (x : State). x.quitting) same ∙ st.quitting_is;
@@ -137,6 +141,8 @@ module _ (options : Options) where
           sent_few = rw (octets-more (put_out h) command) (omega (arith, length-append (put_octets h) (octets command)));
           stirred_is = ap (λ (x : State). x.stirred) same ∙ o.stirred_is;
           quiet_is = ap (λ (x : State). x.quiet) same ∙ o.quiet_is;
+          tied = subst (λ (x : State). AreTied x.held (window options (Put command ∷ h)) x.wanted x.accepted)
+              (sym same) (ties_same r o);
         };
   }
 
@@ -144,11 +150,17 @@ module _ (options : Options) where
   window-more : (h : List Event) (ask : Ask) → window options (Put (Asks ask) ∷ h) ≡ window options h ++ ask ∷ []
   window-more h ask = left_from-append (answered options h) 0 (asks h) ask (λ k q. answered_below options h k (omega arith))
 
-  pub put_ask : (s : State) (h : List Event) (ask : Ask) → Matches options s h → Matches options (asked s ask) (Put (Asks ask) ∷ h)
-  put_ask s h ask st = puts_out s h (Asks ask) (asked s ask) st refl
+  pub put_ask : (s : State) (h : List Event) (ask : Ask) → Matches options s h
+      → (reason options h ≡ None → MatchesWhileOpen options s h → IsOfDebt s.held ask
+      × (claims (window options h) s.wanted ask.ticket ≡ 0) × (ask.ticket < s.accepted))
+      → Matches options (asked s ask) (Put (Asks ask) ∷ h)
+  put_ask s h ask st free = puts_out s h (Asks ask) (asked s ask) st refl
       (λ r o. o.phase_is)
       (λ r o. ap (λ ws. ws ++ awaited_of ask ∷ []) o.window_is ∙ sym (map-append awaited_of (window options h) (ask ∷ [])) ∙ ap (map awaited_of) (sym (window-more h ask)))
       (λ r o. ap (λ bs. bs ++ kept_for ask.verb ask.block) o.blocks_is ∙ sym (kept-more (window options h) ask) ∙ ap kept_blocks (sym (window-more h ask)))
+      (λ r o. let p = free r o in
+      subst (λ asks. AreTied s.held asks s.wanted s.accepted) (sym (window-more h ask))
+      (tied-asked s.held (window options h) s.wanted s.accepted o.tied ask p.0 p.1 p.2))
 
   -- and no other command does
   window-same : (h : List Event) (command : Command) → asks (Put command ∷ h) ≡ asks h → window options (Put command ∷ h) ≡ window options h
@@ -159,12 +171,16 @@ module _ (options : Options) where
       (λ r o. o.phase_is)
       (λ r o. o.window_is ∙ ap (map awaited_of) (sym (window-same h ModeStream (append-nil (asks h)))))
       (λ r o. o.blocks_is ∙ ap kept_blocks (sym (window-same h ModeStream (append-nil (asks h)))))
+      (λ r o. subst (λ asks. AreTied s.held asks s.wanted s.accepted)
+      (sym (window-same h ModeStream (append-nil (asks h)))) o.tied)
 
   put_quit : (s : State) (h : List Event) → Matches options s h → Matches options (record s { phase = Leaving; output = s.output ++ octets Quit }) (Put Quit ∷ h)
   put_quit s h st = puts_out s h Quit (record s { phase = Leaving; output = s.output ++ octets Quit }) st refl
       (λ r o. refl)
       (λ r o. o.window_is ∙ ap (map awaited_of) (sym (window-same h Quit (append-nil (asks h)))))
       (λ r o. o.blocks_is ∙ ap kept_blocks (sym (window-same h Quit (append-nil (asks h)))))
+      (λ r o. subst (λ asks. AreTied s.held asks s.wanted s.accepted) (sym (window-same h Quit (append-nil (asks h))))
+      o.tied)
 
   -- whether QUIT is due can be told from what is held
   same_due : (s : State) (h : List Event) → Matches options s h → (r : Option Reason) → reason options h ≡ r
@@ -211,8 +227,19 @@ module _ (options : Options) where
         sent_few = o.sent_few;
         stirred_is = o.stirred_is;
         quiet_is = o.quiet_is;
+        tied = rw e (tied-step b (subst (λ k. AreTied s.held (window options h) s.wanted k) st.accepted_is o.tied));
       })
     where
+      tied-step : (b : Bool) → AreTied s.held (window options h) s.wanted (length (accepted h))
+          → AreTied (s.held ++ newcomer h debt ∷ []) (window options h)
+          (s.wanted ++ (if b then want_of (newcomer h debt) ∷ [] else [])) (length (accepted h) + 1)
+      tied-step false tied =
+          rw (append-nil s.wanted) (tied-accepted s.held (window options h) s.wanted (length (accepted h)) tied debt)
+      tied-step true tied =
+          tied-wanted (s.held ++ newcomer h debt ∷ []) (window options h) s.wanted (length (accepted h) + 1)
+          (tied-accepted s.held (window options h) s.wanted (length (accepted h)) tied debt)
+          (want_of (newcomer h debt)) (tied.below (length (accepted h)) (omega arith)) (omega arith)
+
       wanted-step : (b : Bool) → wants_at_once options h ≡ b
           → left_from 0 (story options h).wants (story options h).handed ++ (if b then want_of (newcomer h debt) ∷ [] else [])
           ≡ left_from 0 (story options (Offered debt ∷ h)).wants (story options (Offered debt ∷ h)).handed
@@ -232,7 +259,21 @@ module _ (options : Options) where
       let same : newly s debt ≡ x = ap (λ n. record { ticket = n; debt = debt }) st.accepted_is in
       let held : Matches options next (Offered debt ∷ h) =
       subst (λ (ws : List Want). Matches options (record next { wanted = ws }) (Offered debt ∷ h)) (append-nil s.wanted) (accepts s h debt false s.accepted (ap not e) st.accepted_is st running) in
-      rw stays (subst (λ (y : Held). Matches options (asked next (check_of y)) (Put (Asks (check_of x)) ∷ Offered debt ∷ h)) (sym same) (put_ask next (Offered debt ∷ h) (check_of x) held))
+      let before = (st.while_open running).tied in
+      let own : IsOfDebt next.held (check_of x) =
+      subst (λ (y : Held). IsOfDebt (s.held ++ y ∷ []) (check_of x)) (sym same)
+      (accepted-own s.held x (subst (λ hs. AllBelow (tickets hs) (length (accepted h)))
+      (sym (st.while_open running).held_is) (tickets-below options h))) in
+      rw stays (subst
+      (λ (y : Held). Matches options (asked next (check_of y)) (Put (Asks (check_of x)) ∷ Offered debt ∷ h))
+      (sym same)
+      (put_ask next (Offered debt ∷ h) (check_of x) held
+      (λ r o. (
+        own,
+        before.below (length (accepted h)) (rw st.accepted_is (omega arith)),
+        rw st.accepted_is
+            (omega arith),
+      ))))
   offered-step s h debt false e st running stays =
       rw stays (accepts s h debt true s.accepted (ap not e) st.accepted_is st running)
 

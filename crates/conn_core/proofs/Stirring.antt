@@ -52,7 +52,8 @@ mode-stir false ends s t u = if-stir ends t u
 dispatch_reply-stir : (s : State) (reply : Given) (phase : Phase) → dispatch_reply (stir s) reply phase ≡ stir (dispatch_reply s reply phase)
 dispatch_reply-stir s reply Greeting = on_greeting-stir (is_welcome reply.code) s.options.streaming _ _ _
 dispatch_reply-stir s reply Asking = mode-stir (reply.code == 203) (ends_all reply.code) _ _ _
-dispatch_reply-stir s reply Streaming = answered_by-stir s (fits_awaited reply) reply.code (find (fits_awaited reply) s.window)
+dispatch_reply-stir s reply Streaming = answered_by-stir s (fits_awaited s.held reply) reply.code
+    (find (fits_awaited s.held reply) s.window)
 dispatch_reply-stir s reply OneByOne = answered_by-stir s (belongs_to_awaited reply) reply.code (find (belongs_to_awaited reply) s.window)
 dispatch_reply-stir s reply Leaving = refl
 

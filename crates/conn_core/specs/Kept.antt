@@ -15,15 +15,16 @@ use Rattle.conn_core.specs.declared.machine.articles.Loss.TheVariants.{Missing, 
 use Rattle.conn_core.specs.declared.mode.Mode.{Mode}
 use Rattle.conn_core.specs.declared.mode.Mode.TheVariants.{Streaming, Ihave}
 
--- whether a reply can be the answer to an awaited command: in streaming mode it names the id too (RFC 4644, sections 2.4
--- and 2.5)
-abbrev pub can_answer : Mode → Given → Awaited → Bool
-can_answer Streaming reply = fits_awaited reply
-can_answer Ihave reply = belongs_to_awaited reply
+-- whether a reply can be the answer to an awaited command: in streaming mode it names the id of its debt too (RFC 4644,
+-- sections 2.4 and 2.5)
+abbrev pub can_answer : Mode → List Held → Given → Awaited → Bool
+can_answer Streaming held reply = fits_awaited held reply
+can_answer Ihave held reply = belongs_to_awaited reply
 
 -- a reply in a mode
 abbrev pub answered_with : State → Mode → Given → State
-answered_with s mode reply = answered_by s (can_answer mode reply) reply.code (find (can_answer mode reply) s.window)
+answered_with s mode reply = answered_by s (can_answer mode s.held reply) reply.code
+    (find (can_answer mode s.held reply) s.window)
 
 -- what an answer of this meaning makes of the debt at that ticket, where it is held
 abbrev pub parted_by : State → ℕ → Meaning → Option Held → State

@@ -1,6 +1,7 @@
 pub mod Checks
 pub mod Codes
 pub mod Commands
+pub mod Debts
 pub mod History
 pub mod Kept
 pub mod Left

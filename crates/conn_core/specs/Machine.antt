@@ -6,7 +6,7 @@ use Rattle.reply_reader.specs.Stream.{Given}
 use Rattle.reply_reader.specs.declared.fault.ReplyFault.{ReplyFault}
 use Rattle.ledger_core.specs.State.{Owing}
 use Rattle.conn_core.specs.Used.{is_empty}
-use Rattle.conn_core.specs.Codes.{meaning, is_welcome, ends_all, stray, belongs, fits}
+use Rattle.conn_core.specs.Codes.{meaning, is_welcome, ends_all, stray, belongs, names}
 use Rattle.conn_core.specs.Checks.{counts, is_high, is_low}
 use Rattle.conn_core.specs.Commands.{Ask, ModeStream, Asks, Quit, octets, Handing, Sendable, Gone, Unsendable, Held, is_at, is_of, held_for, want_of, check_of, ask_with, outcome_by, loss_of}
 use Rattle.conn_core.specs.History.{is_streaming, is_mode, room, moment}
@@ -89,9 +89,14 @@ counted_by s (answer ∷ answers) = record s {
   off = are_off_with s.options s.off (take s.options.check_filter (answer ∷ s.recent));
 }
 
--- which of the awaited commands a reply fits
-abbrev pub fits_awaited : Given → Awaited → Bool
-fits_awaited reply awaited = fits reply awaited.verb awaited.id
+-- whether a reply names the message-id of this debt
+abbrev pub names_debt : (named : Option (List ℕ)) → Option Held → Bool
+names_debt named None = false
+names_debt named (Some x) = names named x.debt.1.1
+
+-- which of the awaited commands a reply fits: each is about a debt held
+abbrev pub fits_awaited : List Held → Given → Awaited → Bool
+fits_awaited held reply awaited = belongs reply awaited.verb && names_debt reply.id (find (is_at awaited.ticket) held)
 
 abbrev pub belongs_to_awaited : Given → Awaited → Bool
 belongs_to_awaited reply awaited = belongs reply awaited.verb
@@ -110,7 +115,10 @@ let_go Block blocks = blocks
 
 -- the block of an answered IHAVE goes out
 abbrev pub sends_block : State → Awaited → List ℕ → State
-sends_block s awaited block = asked s (record { verb = Block; ticket = awaited.ticket; id = awaited.id; block = block })
+sends_block s awaited block = record s {
+  window = s.window ++ record { verb = Block; ticket = awaited.ticket } ∷ [];
+  output = s.output ++ block;
+}
 
 -- what an answer makes of the debt that it is about
 abbrev pub told : State → Option Meaning → Awaited → List ℕ → Option Held → State
@@ -145,7 +153,8 @@ on_mode_answer s code =
 abbrev pub dispatch_reply : State → Given → Phase → State
 dispatch_reply s reply Greeting = on_greeting s reply.code
 dispatch_reply s reply Asking = on_mode_answer s reply.code
-dispatch_reply s reply Streaming = answered_by s (fits_awaited reply) reply.code (find (fits_awaited reply) s.window)
+dispatch_reply s reply Streaming = answered_by s (fits_awaited s.held reply) reply.code
+    (find (fits_awaited s.held reply) s.window)
 dispatch_reply s reply OneByOne = answered_by s (belongs_to_awaited reply) reply.code (find (belongs_to_awaited reply) s.window)
 dispatch_reply s reply Leaving = close Left s
 

@@ -1,8 +1,11 @@
 -- What it is that a connection stands for a transcript.
-use Rattle.std.specs.Prelude.{◌≡◌, ℕ, ◌≤◌, ◌<◌, Bool, true, false, Option, None, Some, is_some, if◌then◌else◌, List, [], ◌∷◌, length, drop, take, map, nat_lt, slice_get}
+use Rattle.std.specs.Prelude.{◌≡◌, ℕ, ◌+◌, ◌≤◌, ◌<◌, Bool, true, false, Option, None, Some, is_some, if◌then◌else◌}
+use Rattle.std.specs.Prelude.{List, [], ◌∷◌, length, drop, find, take, map, nat_lt, option_map, slice_get}
+use Rattle.std.specs.List.{AllByRecursion}
 use Rattle.reply_reader.specs.Stream.{Held as Reading, Working, IsShort}
 use Rattle.conn_core.specs.Checks.{are_off}
-use Rattle.conn_core.specs.Commands.{Want}
+use Rattle.conn_core.specs.Used.{times}
+use Rattle.conn_core.specs.Commands.{Ask, Held, Want, is_at}
 use Rattle.conn_core.specs.State.{Holding, State, awaited_of, kept_blocks, untold}
 use Rattle.conn_core.specs.History.{Event, Offered, Put, Handed, Sent, Taken, accepted, put_octets, sent, taken, is_leaving, phase, room, reason, window, counted, stirred, quiet, held, wanted, outcomes, output, needed, after, outside, noted}
 use Rattle.conn_core.specs.declared.options.Options.{Options}
@@ -60,6 +63,24 @@ pub data Arises (options : Options) : List Event → Type 0 where
   Goes_on : (h : List Event) (e : Event) → Arises options h → Allows options h e
       → Arises options (transcript_after options h e)
 
+-- whether the debt held at a command's ticket has the message-id that the command names (RFC 4644, sections 2.4 and
+-- 2.5)
+abbrev pub IsOfDebt : List Held → Ask → Type 0
+IsOfDebt held ask = option_map (λ (x : Held). x.debt.1.1) (find (is_at ask.ticket) held) ≡ Some ask.id
+
+-- how many of these commands and wants are about the debt at a ticket (profile)
+abbrev pub claims : List Ask → List Want → (ticket : ℕ) → ℕ
+claims asks wants ticket = times (map (λ (ask : Ask). ask.ticket) asks) ticket + times
+    (map (λ (want : Want). want.ticket) wants) ticket
+
+-- each command without an answer is about a debt held, and names its message-id; no debt has two commands without an
+-- answer,
+-- two wants, or one of each; and none is about a debt that is still to be accepted (profile)
+pub record AreTied (held : List Held) (asks : List Ask) (wants : List Want) (accepted : ℕ) : Type 0 where
+  pub named : AllByRecursion (IsOfDebt held) asks
+  pub once : (ticket : ℕ) → claims asks wants ticket ≤ 1
+  pub below : (ticket : ℕ) → accepted ≤ ticket → claims asks wants ticket ≡ 0
+
 -- what is held against the transcript while it is open (profile)
 pub record MatchesWhileOpen (options : Options) (s : State) (h : List Event) : Type 0 where
   pub phase_is : s.phase ≡ phase options h
@@ -71,6 +92,7 @@ pub record MatchesWhileOpen (options : Options) (s : State) (h : List Event) : T
   pub sent_few : sent h ≤ length (put_octets h)
   pub stirred_is : s.stirred ≡ stirred options h
   pub quiet_is : s.quiet ≡ quiet options h
+  pub tied : AreTied s.held (window options h) s.wanted s.accepted
 
 -- what is held against the transcript (profile)
 pub record Matches (options : Options) (s : State) (h : List Event) : Type 0 where

@@ -11,15 +11,14 @@ use Rattle.conn_core.specs.declared.reason.Reason.{Reason}
 use Rattle.conn_core.specs.declared.outcome.Outcome.{Outcome}
 use Rattle.conn_core.specs.declared.outcome.Outcome.TheVariants.{Back}
 
--- a command whose answer is awaited: of its octets only the id is kept (profile)
+-- a command whose answer is awaited, and the ticket of the debt that it is about: its octets are not kept (profile)
 pub record Awaited : Type 0 where
   pub verb : Verb
   pub ticket : ℕ
-  pub id : List ℕ
 
 -- what is kept of a command until its answer (profile)
 abbrev pub awaited_of : Ask → Awaited
-awaited_of ask = record { verb = ask.verb; ticket = ask.ticket; id = ask.id }
+awaited_of ask = record { verb = ask.verb; ticket = ask.ticket }
 
 -- the block that a command keeps for its answer: that of an IHAVE (RFC 3977, section 6.3.2)
 abbrev pub kept_for : Verb → List ℕ → List (List ℕ)

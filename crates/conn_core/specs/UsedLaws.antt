@@ -1,10 +1,12 @@
--- A list whose items are used up one by one: what is left, without the ticket of each item.
+-- A list whose items are used up one by one: what is left, without the ticket of each item, and how often a ticket is
+-- there.
 use Rattle.std.proofs.Common.{◌≡◌, ℕ, suc, zero, ◌+◌, ◌<◌, ◌≤◌, Bool, true, false, List, [], ◌∷◌, ◌++◌, length, refl}
 use Rattle.std.proofs.Common.{sym, ap, ◌∙◌, arith, find, Option, Some, None}
 use Rattle.std.specs.Prelude.{◌&&◌, not, option_map, slice_get, if◌then◌else◌}
+use Rattle.std.specs.List.{AllByRecursion}
 use Rattle.std.specs.Set.{remove_key}
 use Rattle.std.proofs.lemmas.Bool.{ne_eqb, eq-eqb, false≢true}
-use Rattle.conn_core.specs.Used.{has, first_left, left_from, with_ticket}
+use Rattle.conn_core.specs.Used.{has, first_left, left_from, times, with_ticket}
 
 -- no ticket from n on is used
 abbrev pub AllBelow : List ℕ → ℕ → Type 0
@@ -152,3 +154,19 @@ module _ {A : Type 0} where
   pub first_left-is : (test : A → Bool) (used : List ℕ) (n : ℕ) (xs : List A) (i : ℕ) (a : A) → first_left test used n xs ≡ Some (i, a) → IsFirstLeft test used n xs i a
   first_left-is test used n [] i a e = cc
   first_left-is test used n (x ∷ xs) i a e = is_first-step (has used n) (test x) test used n i x a xs _ refl refl e (first_left-is test used (n + 1) xs i a)
+
+-- what holds of each item, and of each of more
+pub All-append : {X : Type 0} (P : X → Type 0) (xs ys : List X) → AllByRecursion P xs → AllByRecursion P ys
+    → AllByRecursion P (xs ++ ys)
+All-append P [] ys p q = q
+All-append P (x ∷ xs) ys p q = (p.0, All-append P xs ys p.1 q)
+
+pub All-map : {X : Type 0} (P Q : X → Type 0) → ((x : X) → P x → Q x) → (xs : List X) → AllByRecursion P xs
+    → AllByRecursion Q xs
+All-map P Q f [] p = tt
+All-map P Q f (x ∷ xs) p = (f x p.0, All-map P Q f xs p.1)
+
+-- how often a ticket is among these and those
+pub times-append : (xs ys : List ℕ) (ticket : ℕ) → times (xs ++ ys) ticket ≡ times xs ticket + times ys ticket
+times-append [] ys ticket = omega arith
+times-append (x ∷ xs) ys ticket = omega (arith, times-append xs ys ticket)

@@ -2,7 +2,6 @@
 ghost use Rattle.std.specs.Prelude.{◌≡◌};
 
 use crate::codes::Verb;
-use funnel::MsgId;
 use ledger_core::Debt;
 use std::marker::Model;
 
@@ -48,12 +47,11 @@ impl HeldDebt {
     }
 }
 
-// A command whose answer is awaited.
+// A command whose answer is awaited, with the ticket of the debt that it is about.
 #[derive(Debug, Drop)]
 pub(crate) struct AwaitedAsk {
     verb: Verb,
     ticket: u64,
-    id: MsgId,
 }
 
 impl Model for AwaitedAsk {
@@ -61,14 +59,14 @@ impl Model for AwaitedAsk {
 
     ghost Value = { Awaited };
 
-    ghost view = { λ ask. record { verb = ask.verb; ticket = ask.ticket; id = ask.id } };
+    ghost view = { λ ask. record { verb = ask.verb; ticket = ask.ticket } };
 }
 
 impl AwaitedAsk {
-    pub(crate) fn new(verb: Verb, ticket: u64, id: MsgId) -> Self
-        ensures { result ≡ record { verb = verb; ticket = ticket; id = id } }
+    pub(crate) fn new(verb: Verb, ticket: u64) -> Self
+        ensures { result ≡ record { verb = verb; ticket = ticket } }
     {
-        AwaitedAsk { verb, ticket, id }
+        AwaitedAsk { verb, ticket }
     }
 
     pub(crate) fn verb(&self) -> Verb
@@ -81,24 +79,6 @@ impl AwaitedAsk {
         ensures { result ≡ self.now.ticket }
     {
         self.ticket
-    }
-
-    pub(crate) fn id(&self) -> &MsgId
-        ensures { result.now ≡ self.now.id }
-    {
-        &self.id
-    }
-
-    // What it becomes where its block goes out.
-    pub(crate) fn into_block(self) -> Self
-        ensures { result ≡ record { verb = Verb.Block; ticket = self.ticket; id = self.id } }
-    {
-        let AwaitedAsk {
-            verb: _,
-            ticket,
-            id,
-        } = self;
-        AwaitedAsk::new(Verb::Block, ticket, id)
     }
 }
 

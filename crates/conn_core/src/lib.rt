@@ -11,6 +11,7 @@ mod check_switch;
 mod codes;
 mod conn;
 mod deferral;
+mod held;
 mod kept;
 mod lines;
 mod lookup;

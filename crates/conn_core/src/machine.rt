@@ -13,7 +13,8 @@ ghost use Rattle.conn_core.specs.declared.reason.Reason.TheVariants.{Broken};
 
 use crate::check_switch::CheckSwitch;
 use crate::codes::Verb;
-use crate::kept::{AwaitedAsk, HeldDebt, WantedArticle};
+use crate::held::HeldDebts;
+use crate::kept::{AwaitedAsk, WantedArticle};
 use crate::lines::{LONGEST_VERB, QUIT, id_len, put_line, skip};
 use crate::lookup::is_wanted;
 use crate::mode::Mode;
@@ -38,8 +39,7 @@ mod articles;
 pub(crate) struct Machine {
     options: Options,
     phase: Phase,
-    // In the order offered.
-    held: VecDeque<HeldDebt>,
+    held: HeldDebts,
     // In the order put out.
     window: VecDeque<AwaitedAsk>,
     // The blocks that unanswered IHAVEs keep.
@@ -52,13 +52,12 @@ pub(crate) struct Machine {
     found: VecDeque<Outcome>,
     closed: Option<Reason>,
     quitting: bool,
-    accepted: u64,
     switch: CheckSwitch,
     clock: Clock,
 }
 
 impl Model for Machine {
-    ghost use Rattle.std.specs.Prelude.{◌≡◌, ◌+◌, ◌≤◌};
+    ghost use Rattle.std.specs.Prelude.{◌≡◌, ◌+◌, ◌≤◌, length};
     ghost use Rattle.std.specs.VecDeque.{deque_capacity, deque_len};
     ghost use Rattle.conn_core.specs.Room.{quit_room};
     ghost use Rattle.conn_core.specs.State.{State};
@@ -68,7 +67,7 @@ impl Model for Machine {
     ghost view = { λ m. record {
       options = m.options;
       phase = m.phase;
-      held = m.held.items;
+      held = m.held.debts;
       window = m.window.items;
       blocks = m.blocks.items;
       wanted = m.wanted.items;
@@ -76,7 +75,7 @@ impl Model for Machine {
       found = m.found.items;
       closed = m.closed;
       quitting = m.quitting;
-      accepted = m.accepted;
+      accepted = m.held.accepted;
       recent = m.switch.recent;
       off = m.switch.off;
       stirred = m.clock.stirred;
@@ -84,7 +83,7 @@ impl Model for Machine {
     } };
 
     ghost invariant = { λ m. (quit_room m.phase ≤ m.output.spare)
-        × (deque_len m.found + deque_len m.held ≤ deque_capacity m.found)
+        × (deque_len m.found + length m.held.debts ≤ deque_capacity m.found)
         × (m.switch.filter ≡ m.options.check_filter) };
 }
 
@@ -138,7 +137,7 @@ impl Machine {
         Ok(Machine {
             options,
             phase: Phase::Greeting,
-            held: VecDeque::new(alloc),
+            held: HeldDebts::new(alloc),
             window: VecDeque::new(alloc),
             blocks: VecDeque::new(alloc),
             wanted: VecDeque::new(alloc),
@@ -146,7 +145,6 @@ impl Machine {
             found: VecDeque::new(alloc),
             closed: None,
             quitting: false,
-            accepted: 0,
             switch: CheckSwitch::new(alloc, options.check_filter)?,
             clock: Clock::new(),
         })
@@ -182,9 +180,6 @@ impl Machine {
         ensures unchanged { OnErr result (self.new ≡ self.old) }
         ensures returned { IfErr result (λ back. back ≡ debt) }
     {
-        if self.accepted == u64::MAX {
-            return Err(debt);
-        }
         if is_streaming(self.phase) && self.switch.checks() {
             self.offer_asking(debt)
         } else {
@@ -194,54 +189,43 @@ impl Machine {
 
     // Takes a debt, and puts its CHECK out (RFC 4644, section 2.4).
     fn offer_asking(&mut self, debt: Debt) -> Result<(), Debt>
-        requires { self.old.accepted < u64.MAX }
         ensures ok { OnOk result
             (self.new ≡ asked (with_newly self.old debt) (check_of (newly self.old debt))) }
         ensures unchanged { OnErr result (self.new ≡ self.old) }
         ensures returned { IfErr result (λ back. back ≡ debt) }
     {
-        let Ok(id) = debt.id().clone() else {
-            return Err(debt);
-        };
-        if self.held.reserve(1).is_err()
+        let line = id_len(debt.id()) + LONGEST_VERB;
+        if self.held.reserve().is_err()
             || self.found.reserve(self.held.len() + 1).is_err()
             || self.window.reserve(1).is_err()
-            || self
-                .output
-                .reserve(id_len(&id) + LONGEST_VERB + QUIT)
-                .is_err()
+            || self.output.reserve(line + QUIT).is_err()
         {
             return Err(debt);
         }
-        put_line(&mut self.output, b"CHECK ", id.bytes());
-        let ask = AwaitedAsk::new(Verb::Check, self.accepted, id);
+        put_line(&mut self.output, b"CHECK ", debt.id().bytes());
+        let ask = AwaitedAsk::new(Verb::Check, self.held.next_ticket());
         self.window.push_back_reserved(ask);
-        let x = HeldDebt::new(self.accepted, debt);
-        self.held.push_back_reserved(x);
-        self.accepted += 1;
+        self.held.put(debt);
         Ok(())
     }
 
     // Takes a debt, and wants its article at once.
     fn offer_wanting(&mut self, debt: Debt) -> Result<(), Debt>
-        requires { self.old.accepted < u64.MAX }
         ensures ok { OnOk result
             (self.new ≡ record (with_newly self.old debt)
             { wanted = self.old.wanted ++ want_of (newly self.old debt) ∷ [] }) }
         ensures unchanged { OnErr result (self.new ≡ self.old) }
         ensures returned { IfErr result (λ back. back ≡ debt) }
     {
-        if self.held.reserve(1).is_err()
+        if self.held.reserve().is_err()
             || self.found.reserve(self.held.len() + 1).is_err()
             || self.wanted.reserve(1).is_err()
         {
             return Err(debt);
         }
-        let want = WantedArticle::new(self.accepted, debt.number());
+        let want = WantedArticle::new(self.held.next_ticket(), debt.number());
         self.wanted.push_back_reserved(want);
-        let x = HeldDebt::new(self.accepted, debt);
-        self.held.push_back_reserved(x);
-        self.accepted += 1;
+        self.held.put(debt);
         Ok(())
     }
 
@@ -376,7 +360,7 @@ impl Machine {
         if self.closed.is_none() {
             return None;
         }
-        match self.held.pop_front() {
+        match self.held.take_first() {
             Some(x) => Some(Outcome::Back(x.into_debt())),
             None => None,
         }

@@ -21,12 +21,11 @@ use Rattle.conn_core.specs.declared.codes.Meaning.{Meaning}
 use Rattle.conn_core.specs.declared.codes.Meaning.TheVariants.{Wanted, SendBlock, Later, Final}
 use Rattle.conn_core.specs.declared.options.Options.{Options}
 use Rattle.conn_core.specs.HeldLaws.{find-is_at}
-use Rattle.conn_core.specs.UsedLaws.{first_left-is}
+use Rattle.conn_core.specs.UsedLaws.{All-append, All-map, first_left-is}
 use Rattle.conn_laws.specs.Laws.{AllHaveTheirCause, IsAnswered, IsCheckOf, IsHandedFor, IsUnchecked, IsWanted}
 use Rattle.conn_laws.proofs.Arising.{IsQuiet, MayCome, of-arising}
 use Rattle.conn_laws.proofs.Behind.{greeting-none, holds-after, holds-greeted}
 use Rattle.conn_laws.proofs.Numbered.{All-get}
-use Rattle.conn_laws.proofs.Once.{All-append, All-map}
 use Rattle.conn_laws.proofs.Right.{answer-now, answer_is_first, answered-more}
 
 -- each want has its reason

@@ -16,7 +16,8 @@ use Rattle.conn_core.specs.declared.codes.Meaning.TheVariants.{Wanted, SendBlock
 use Rattle.conn_core.specs.declared.options.Options.{Options}
 use Rattle.conn_core.specs.declared.reason.Reason.{Reason}
 use Rattle.conn_core.specs.HeldLaws.{find-is_at, tickets}
-use Rattle.conn_laws.proofs.Once.{ends_by, held_or_out, neither-beyond, tickets-more, times-append}
+use Rattle.conn_core.specs.UsedLaws.{times-append}
+use Rattle.conn_laws.proofs.Once.{ends_by, held_or_out, neither-beyond, tickets-more}
 use Rattle.conn_core.specs.ClosingLaws.{first_reason-none, needed-open, ready-open, reason-after}
 use Rattle.conn_laws.proofs.Right.{answer_is_first}
 use Rattle.conn_laws.proofs.Tallies.{tally, times-tally, wanted-handed, wanted-more, wanted-none, window-came, window-none, window-put}

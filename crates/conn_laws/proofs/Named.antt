@@ -12,7 +12,8 @@ use Rattle.conn_core.specs.declared.codes.Meaning.{Meaning}
 use Rattle.conn_core.specs.declared.codes.Meaning.TheVariants.{Wanted, SendBlock, Later, Final}
 use Rattle.conn_core.specs.declared.options.Options.{Options}
 use Rattle.conn_laws.proofs.Behind.{greeting-none, holds-after, holds-greeted}
-use Rattle.conn_laws.proofs.Once.{All-append, All-map, IsOwn, find-own, held-own}
+use Rattle.conn_core.specs.UsedLaws.{All-append, All-map}
+use Rattle.conn_laws.proofs.Once.{IsOwn, find-own, held-own}
 use Rattle.conn_laws.proofs.Numbered.{All-get, get-last}
 use Rattle.conn_laws.proofs.Right.{answer_is_first}
 

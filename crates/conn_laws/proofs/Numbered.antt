@@ -10,9 +10,9 @@ use Rattle.conn_core.specs.History.{Event, Offered, Put, Came, Faulted, Handed, 
 use Rattle.conn_core.specs.declared.codes.Meaning.{Meaning}
 use Rattle.conn_core.specs.declared.codes.Meaning.TheVariants.{Wanted, SendBlock, Later, Final}
 use Rattle.conn_core.specs.declared.options.Options.{Options}
-use Rattle.conn_core.specs.UsedLaws.{first_left-is}
+use Rattle.conn_core.specs.UsedLaws.{All-append, All-map, first_left-is}
 use Rattle.conn_core.specs.HeldLaws.{find-is_at}
-use Rattle.conn_laws.proofs.Once.{All-append, All-map, IsOwn, find-own, held-own}
+use Rattle.conn_laws.proofs.Once.{IsOwn, find-own, held-own}
 
 -- the number of a debt
 abbrev number_in : Owing → ℕ

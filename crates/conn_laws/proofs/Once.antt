@@ -22,10 +22,7 @@ use Rattle.conn_core.specs.declared.codes.Meaning.TheVariants.{Wanted, SendBlock
 use Rattle.conn_core.specs.ClosingLaws.{none_held}
 use Rattle.conn_core.specs.HeldLaws.{find-is_at, in-held, tickets, ended_tickets-backs}
 use Rattle.conn_core.specs.StoryLaws.{ended_tickets-append, ends_below, tickets-below}
-
-pub times-append : (xs ys : List ℕ) (ticket : ℕ) → times (xs ++ ys) ticket ≡ times xs ticket + times ys ticket
-times-append [] ys ticket = omega arith
-times-append (x ∷ xs) ys ticket = omega (arith, times-append xs ys ticket)
+use Rattle.conn_core.specs.UsedLaws.{All-append, All-map, times-append}
 
 zero-step : (b : Bool) (n : ℕ) (more : Bool) → (b || more) ≡ false → (more ≡ false → n ≡ 0) → cond b 1 0 + n ≡ 0
 zero-step true n more e rest = cc
@@ -253,15 +250,6 @@ neither-beyond options h ticket far =
     let out = times-none (ended_tickets (ends options h)) ticket (ends_below options h ticket far) in
     let hold = times-none (tickets (held options h)) ticket (tickets-below options h ticket far) in
     omega arith
-
--- each of some items is, and each of others
-pub All-append : {X : Type 0} (P : X → Type 0) (xs ys : List X) → AllByRecursion P xs → AllByRecursion P ys → AllByRecursion P (xs ++ ys)
-All-append P [] ys p q = q
-All-append P (x ∷ xs) ys p q = (p.0, All-append P xs ys p.1 q)
-
-pub All-map : {X : Type 0} (P Q : X → Type 0) → ((x : X) → P x → Q x) → (xs : List X) → AllByRecursion P xs → AllByRecursion Q xs
-All-map P Q f [] p = tt
-All-map P Q f (x ∷ xs) p = (f x p.0, All-map P Q f xs p.1)
 
 -- a debt held is the one accepted at its ticket
 abbrev pub IsOwn : List Owing → Held → Type 0

@@ -20,7 +20,8 @@ use Rattle.conn_core.specs.declared.codes.Meaning.TheVariants.{Wanted, SendBlock
 use Rattle.conn_core.specs.ClosingLaws.{first_reason-none}
 use Rattle.conn_core.specs.HeldLaws.{tickets, ended_tickets-backs}
 use Rattle.conn_laws.specs.Laws.{ReturnsLast, is_back}
-use Rattle.conn_laws.proofs.Once.{All-append, ends_by, ends-more}
+use Rattle.conn_core.specs.UsedLaws.{All-append}
+use Rattle.conn_laws.proofs.Once.{ends_by, ends-more}
 use Rattle.conn_laws.proofs.Arising.{IsQuiet, of-arising, quiet-closes, quiet-ends}
 
 -- each ticket is above those before it, and none is below n

@@ -33,10 +33,10 @@ use Rattle.conn_core.specs.declared.outcome.Outcome.{Outcome}
 use Rattle.conn_core.specs.declared.outcome.Outcome.TheVariants.{Final as Ended_by, Deferred, Lost, Back}
 use Rattle.conn_core.specs.declared.codes.Meaning.{Meaning}
 use Rattle.conn_core.specs.declared.codes.Meaning.TheVariants.{Wanted, SendBlock, Later, Final}
-use Rattle.conn_core.specs.UsedLaws.{first_left-is}
+use Rattle.conn_core.specs.UsedLaws.{All-append, All-map, first_left-is}
 use Rattle.conn_core.specs.HeldLaws.{find-is_at, tickets}
 use Rattle.conn_laws.proofs.Arising.{of-arising, quiet-ends}
-use Rattle.conn_laws.proofs.Once.{All-append, All-map, ends-more, ends_by, held-once, times-some}
+use Rattle.conn_laws.proofs.Once.{ends-more, ends_by, held-once, times-some}
 use Rattle.conn_laws.proofs.Numbered.{number-held}
 
 pub answered-more : (options : Options) (h : List Event) (e : Event) (ticket code : ℕ) (says : Meaning)

@@ -10,9 +10,9 @@ ghost use Rattle.conn_core.specs.Machine.{on_mode_answer, on_reply};
 use super::Machine;
 use crate::codes::{Meaning, Verb, counted, ends_all, is_welcome, meaning_of, stray};
 use crate::deferral::Deferral;
-use crate::kept::WantedArticle;
+use crate::kept::{AwaitedAsk, WantedArticle};
 use crate::lines::{MODE_STREAM, QUIT};
-use crate::lookup::{debt_at, take_answered, take_at};
+use crate::lookup::take_answered;
 use crate::mode::Mode;
 use crate::outcome::Outcome;
 use crate::phase::Phase;
@@ -115,11 +115,11 @@ impl Machine {
         ensures unchanged { OnErr result (self.new ≡ self.old) }
     {
         self.wanted.reserve(1)?;
-        let Some(ask) = take_answered(&mut self.window, reply, mode) else {
+        let Some(ask) = take_answered(&mut self.window, &self.held, reply, mode) else {
             self.close(stray(reply.code));
             return Ok(());
         };
-        match debt_at(&self.held, ask.ticket()) {
+        match self.held.get(ask.ticket()) {
             Some(x) => {
                 let want = WantedArticle::new(x.ticket(), x.debt().number());
                 self.wanted.push_back_reserved(want);
@@ -138,12 +138,13 @@ impl Machine {
     {
         self.window.reserve(1)?;
         room_for_block(&mut self.output, &self.blocks)?;
-        let Some(ask) = take_answered(&mut self.window, reply, mode) else {
+        let Some(ask) = take_answered(&mut self.window, &self.held, reply, mode) else {
             self.close(stray(reply.code));
             return Ok(());
         };
         put_block(&mut self.output, &mut self.blocks);
-        self.window.push_back_reserved(ask.into_block());
+        let block = AwaitedAsk::new(Verb::Block, ask.ticket());
+        self.window.push_back_reserved(block);
         Ok(())
     }
 
@@ -153,7 +154,7 @@ impl Machine {
         requires no_block { reply.now.code ≢ 335 }
         ensures { self.new ≡ answered_with self.old mode (given_of reply.now) }
     {
-        let Some(ask) = take_answered(&mut self.window, reply, mode) else {
+        let Some(ask) = take_answered(&mut self.window, &self.held, reply, mode) else {
             self.close(stray(reply.code));
             return;
         };
@@ -201,7 +202,7 @@ impl Machine {
         ensures { self.new ≡ parted_by self.old ticket Meaning.Later
             (find (is_at ticket) self.old.held) }
     {
-        match take_at(&mut self.held, ticket) {
+        match self.held.take(ticket) {
             Some(x) => {
                 let deferral = Deferral::new(x.into_debt());
                 self.found.push_back_reserved(Outcome::Deferred(deferral));
@@ -215,7 +216,7 @@ impl Machine {
         ensures { self.new ≡ parted_by self.old ticket (Meaning.Final code)
             (find (is_at ticket) self.old.held) }
     {
-        match take_at(&mut self.held, ticket) {
+        match self.held.take(ticket) {
             Some(x) => {
                 let verdict = Verdict::new(x.into_debt(), code);
                 self.found.push_back_reserved(Outcome::Final(verdict));

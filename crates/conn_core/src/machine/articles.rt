@@ -1,24 +1,25 @@
 // Articles that are handed in.
-ghost use Rattle.std.specs.Prelude.{◌≡◌, [], ◌∷◌, find, OnOk, OnErr};
+ghost use Rattle.std.specs.Prelude.{◌≡◌, ◌≤◌, ◌++◌, [], ◌∷◌, find, OnOk, OnErr};
 ghost use Rattle.dot_codec.specs.Lines.{IsSendable};
-ghost use Rattle.conn_core.specs.Commands.{Handing, Sendable, held_for, is_at, is_of, loss_of};
+ghost use Rattle.conn_core.specs.Commands.{Handing, Sendable, held_for, is_at, is_of, loss_of, octets_of};
 ghost use Rattle.conn_core.specs.Kept.{IsTextAs, handing_of, without_want};
-ghost use Rattle.conn_core.specs.Machine.{asked, handed, handed_for, quit_if_due};
+ghost use Rattle.conn_core.specs.Machine.{handed, handed_for, quit_if_due};
 ghost use Rattle.conn_core.specs.Receipt.{IsHandedAs, IsSendableArticle};
 
 use super::Machine;
 use crate::codes::Verb;
 use crate::kept::AwaitedAsk;
 use crate::lines::{LONGEST_VERB, QUIT, id_len, put_line};
-use crate::lookup::{debt_wanting, take_at, take_wanted};
+use crate::lookup::{debt_wanting, take_wanted};
 use crate::outcome::Outcome;
 use crate::phase::Phase;
 use article_store::Found;
-use bytes::Bytes;
+use bytes::{Bytes, BytesMut};
 use dot_codec::{BlockRefusal, to_block};
 use funnel::MsgId;
 use ledger_core::{Cause, Debt};
 use std::alloc::AllocError;
+use std::collections::VecDeque;
 
 // Why an article that is handed in is not there.
 #[derive(Clone, Copy, Debug, PartialEq, Eq)]
@@ -69,7 +70,7 @@ impl Machine {
         ensures unchanged { OnErr result (self.new ≡ self.old) }
         ensures no_memory { OnErr result (IsSendable text.now) }
     {
-        match to_block(*self.held.allocator(), text) {
+        match to_block(*self.window.allocator(), text) {
             Ok(block) => self.send(number, block),
             Err(BlockRefusal::Unsendable) => {
                 self.lose(number, Loss::Unfit);
@@ -103,7 +104,7 @@ impl Machine {
         ensures { self.new ≡ handed_for self.old (handing_of loss)
             (find (is_at ticket) self.old.held) }
     {
-        match take_at(&mut self.held, ticket) {
+        match self.held.take(ticket) {
             Some(x) => self.found.push_back_reserved(lost(x.into_debt(), loss)),
             None => {}
         }
@@ -118,12 +119,21 @@ impl Machine {
             self.forget(number);
             return Ok(());
         };
-        let ticket = x.ticket();
-        let id = x.debt().id().clone()?;
-        match self.phase {
-            Phase::Streaming => self.send_takethis(number, ticket, id, block),
-            _ => self.send_ihave(number, ticket, id, block),
-        }
+        self.window.reserve(1)?;
+        let ask = match self.phase {
+            Phase::Streaming => {
+                put_takethis(&mut self.output, x.debt().id(), &block)?;
+                AwaitedAsk::new(Verb::Takethis, x.ticket())
+            }
+            _ => {
+                put_ihave(&mut self.output, &mut self.blocks, x.debt().id(), block)?;
+                AwaitedAsk::new(Verb::Ihave, x.ticket())
+            }
+        };
+        self.window.push_back_reserved(ask);
+        let _ = take_wanted(&mut self.wanted, number);
+        self.quit_if_due();
+        Ok(())
     }
 
     // The want of that number goes, and nothing comes of it.
@@ -133,54 +143,40 @@ impl Machine {
         let _ = take_wanted(&mut self.wanted, number);
         self.quit_if_due();
     }
+}
 
-    // The article goes out with its command (RFC 4644, section 2.5). An `Err` changes nothing.
-    fn send_takethis(
-        &mut self,
-        number: u64,
-        ticket: u64,
-        id: MsgId,
-        block: Bytes,
-    ) -> Result<(), AllocError>
-        ensures ok { OnOk result
-            (self.new ≡ quit_if_due (asked (without_want self.old number)
-            (record { verb = Verb.Takethis; ticket = ticket; id = id; block = block }))) }
-        ensures unchanged { OnErr result (self.new ≡ self.old) }
-    {
-        self.output
-            .reserve(id_len(&id) + block.len() + (LONGEST_VERB + QUIT))?;
-        self.window.reserve(1)?;
-        let _ = take_wanted(&mut self.wanted, number);
-        put_line(&mut self.output, b"TAKETHIS ", id.bytes());
-        self.output.extend_reserved(block.as_slice());
-        let ask = AwaitedAsk::new(Verb::Takethis, ticket, id);
-        self.window.push_back_reserved(ask);
-        self.quit_if_due();
-        Ok(())
-    }
+// Puts out the article with its command (RFC 4644, section 2.5), and leaves room for a QUIT. An `Err` puts out nothing.
+fn put_takethis(output: &mut BytesMut, id: &MsgId, block: &Bytes) -> Result<(), AllocError>
+    ensures ok { OnOk result
+        (output.new.items ≡ output.old.items ++ octets_of Verb.Takethis id.now block.now) }
+    ensures room { OnOk result (6 ≤ output.new.spare) }
+    ensures unchanged { OnErr result (output.new.items ≡ output.old.items) }
+    ensures spare { OnErr result (output.old.spare ≤ output.new.spare) }
+{
+    output.reserve(id_len(id) + block.len() + (LONGEST_VERB + QUIT))?;
+    put_line(output, b"TAKETHIS ", id.bytes());
+    output.extend_reserved(block.as_slice());
+    Ok(())
+}
 
-    // The article is offered, and its block kept (RFC 3977, section 6.3.2). An `Err` changes nothing.
-    fn send_ihave(
-        &mut self,
-        number: u64,
-        ticket: u64,
-        id: MsgId,
-        block: Bytes,
-    ) -> Result<(), AllocError>
-        ensures ok { OnOk result
-            (self.new ≡ quit_if_due (asked (without_want self.old number)
-            (record { verb = Verb.Ihave; ticket = ticket; id = id; block = block }))) }
-        ensures unchanged { OnErr result (self.new ≡ self.old) }
-    {
-        self.output.reserve(id_len(&id) + (LONGEST_VERB + QUIT))?;
-        self.blocks.reserve(1)?;
-        self.window.reserve(1)?;
-        let _ = take_wanted(&mut self.wanted, number);
-        put_line(&mut self.output, b"IHAVE ", id.bytes());
-        self.blocks.push_back_reserved(block);
-        let ask = AwaitedAsk::new(Verb::Ihave, ticket, id);
-        self.window.push_back_reserved(ask);
-        self.quit_if_due();
-        Ok(())
-    }
+// Offers the article and keeps its block (RFC 3977, section 6.3.2), and leaves room for a QUIT. An `Err` does nothing.
+fn put_ihave(
+    output: &mut BytesMut,
+    blocks: &mut VecDeque<Bytes>,
+    id: &MsgId,
+    block: Bytes,
+) -> Result<(), AllocError>
+    ensures ok { OnOk result
+        (output.new.items ≡ output.old.items ++ octets_of Verb.Ihave id.now block) }
+    ensures kept { OnOk result (blocks.new.items ≡ blocks.old.items ++ block ∷ []) }
+    ensures room { OnOk result (6 ≤ output.new.spare) }
+    ensures unchanged { OnErr result
+        ((output.new.items ≡ output.old.items) × (blocks.new.items ≡ blocks.old.items)) }
+    ensures spare { OnErr result (output.old.spare ≤ output.new.spare) }
+{
+    output.reserve(id_len(id) + (LONGEST_VERB + QUIT))?;
+    blocks.reserve(1)?;
+    put_line(output, b"IHAVE ", id.bytes());
+    blocks.push_back_reserved(block);
+    Ok(())
 }

@@ -9,8 +9,10 @@ use Rattle.conn_core.proofs.machine.Machine.settles.Goals as goal
 
 pub returns : goal.returns
 returns c =
-    let found : find (can_answer c.args.mode (given_of c.args.reply.now)) c.args.self.now.window ≡ Some c.in-Some.ask =
-    ap (λ (s : State). find (can_answer c.args.mode (given_of c.args.reply.now)) s.window) (sym c.self.view_is) ∙ sym c.in-Some.ensures.found in
+    let found : find (can_answer c.args.mode c.args.self.now.held (given_of c.args.reply.now))
+    c.args.self.now.window ≡ Some c.in-Some.ask =
+    ap (λ (s : State). find (can_answer c.args.mode s.held (given_of c.args.reply.now)) s.window) (sym c.self.view_is)
+    ∙ sym c.in-Some.ensures.found in
     let says : c.meaning_of.result ≡ meaning c.in-Some.ask.verb c.args.reply.now.code = c.meaning_of.ensures.value ∙ ap (λ v. meaning v c.args.reply.now.code) c.verb-2.ensures in
     c.tell.ensures
     ∙ ap (λ p. settled_by c.count.new.self c.meaning_of.result p (find (is_at p) c.count.new.self.held)) c.ticket.ensures

@@ -6,20 +6,25 @@ use Rattle.conn_core.specs.State.{State}
 use Rattle.conn_core.proofs.Answering.{wants-is}
 use Rattle.conn_core.proofs.machine.Machine.wants.Goals as goal
 
-pub returns-in-Some-debt_at-clause-ok : goal.returns-in-Some-debt_at-clause-ok
-returns-in-Some-debt_at-clause-ok c =
-    let found : find (can_answer c.args.mode (given_of c.args.reply.now)) c.args.self.now.window ≡ Some c.in-Some.ask =
-    ap (λ (s : State). find (can_answer c.args.mode (given_of c.args.reply.now)) s.window) (sym c.self.view_is) ∙ sym c.in-Some.ensures.found in
-    let held : find (is_at c.in-Some.ask.ticket) c.args.self.now.held ≡ Some c.in-Some-debt_at.x.now =
+pub returns-in-Some-get-clause-ok : goal.returns-in-Some-get-clause-ok
+returns-in-Some-get-clause-ok c =
+    let found : find (can_answer c.args.mode c.args.self.now.held (given_of c.args.reply.now))
+    c.args.self.now.window ≡ Some c.in-Some.ask =
+    ap (λ (s : State). find (can_answer c.args.mode s.held (given_of c.args.reply.now)) s.window) (sym c.self.view_is)
+    ∙ sym c.in-Some.ensures.found in
+    let held : find (is_at c.in-Some.ask.ticket) c.args.self.now.held ≡ Some c.in-Some-get.x.now =
     ap (λ (s : State). find (is_at c.in-Some.ask.ticket) s.held) (sym c.self.view_is)
-    ∙ ap (λ p. find (is_at p) c.self.inside.held.items) (sym c.ticket.ensures) ∙ sym c.in-Some-debt_at.ensures in
-    sym (wants-is c.args.self.now c.args.mode (given_of c.args.reply.now) c.in-Some.ask found (Some c.in-Some-debt_at.x.now) _ c.requires held (rw (← c.self.view_is) (cc)))
+    ∙ ap (λ p. find (is_at p) c.self.inside.held.debts) (sym c.ticket.ensures) ∙ sym c.in-Some-get.ensures in
+    sym (wants-is c.args.self.now c.args.mode (given_of c.args.reply.now) c.in-Some.ask found
+    (Some c.in-Some-get.x.now) _ c.requires held (rw (← c.self.view_is) (cc)))
 
-pub returns-clause-ok : goal.returns-clause-ok
-returns-clause-ok c =
-    let found : find (can_answer c.args.mode (given_of c.args.reply.now)) c.args.self.now.window ≡ Some c.in-Some.ask =
-    ap (λ (s : State). find (can_answer c.args.mode (given_of c.args.reply.now)) s.window) (sym c.self.view_is) ∙ sym c.in-Some.ensures.found in
+pub returns-in-None-clause-ok : goal.returns-in-None-clause-ok
+returns-in-None-clause-ok c =
+    let found : find (can_answer c.args.mode c.args.self.now.held (given_of c.args.reply.now))
+    c.args.self.now.window ≡ Some c.in-Some.ask =
+    ap (λ (s : State). find (can_answer c.args.mode s.held (given_of c.args.reply.now)) s.window) (sym c.self.view_is)
+    ∙ sym c.in-Some.ensures.found in
     let held : find (is_at c.in-Some.ask.ticket) c.args.self.now.held ≡ None =
     ap (λ (s : State). find (is_at c.in-Some.ask.ticket) s.held) (sym c.self.view_is)
-    ∙ ap (λ p. find (is_at p) c.self.inside.held.items) (sym c.ticket.ensures) ∙ sym c.in-None.ensures in
+    ∙ ap (λ p. find (is_at p) c.self.inside.held.debts) (sym c.ticket.ensures) ∙ sym c.in-None.ensures in
     sym (wants-is c.args.self.now c.args.mode (given_of c.args.reply.now) c.in-Some.ask found None _ c.requires held (rw (← c.self.view_is) (cc)))
