@@ -188,6 +188,7 @@ module _ (o : Options) where
                 sent_few = rw (← m.sent_is, ← m.put_out_is) was.sent_few;
                 stirred_is = was.stirred_is ∙ m.stirred_is;
                 quiet_is = was.quiet_is ∙ m.quiet_is;
+                tied = rw (← m.asks_is, ← m.answered_is) was.tied;
               };
         },
       )
