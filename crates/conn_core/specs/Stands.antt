@@ -70,12 +70,11 @@ IsOfDebt held ask = option_map (λ (x : Held). x.debt.1.1) (find (is_at ask.tick
 
 -- how many of these commands and wants are about the debt at a ticket (profile)
 abbrev pub claims : List Ask → List Want → (ticket : ℕ) → ℕ
-claims asks wants ticket = times (map (λ (ask : Ask). ask.ticket) asks) ticket + times
-    (map (λ (want : Want). want.ticket) wants) ticket
+claims asks wants ticket = times (map (λ (ask : Ask). ask.ticket) asks) ticket
+    + times (map (λ (want : Want). want.ticket) wants) ticket
 
 -- each command without an answer is about a debt held, and names its message-id; no debt has two commands without an
--- answer,
--- two wants, or one of each; and none is about a debt that is still to be accepted (profile)
+-- answer, two wants, or one of each; and none is about a debt that is still to be accepted (profile)
 pub record AreTied (held : List Held) (asks : List Ask) (wants : List Want) (accepted : ℕ) : Type 0 where
   pub named : AllByRecursion (IsOfDebt held) asks
   pub once : (ticket : ℕ) → claims asks wants ticket ≤ 1
@@ -106,8 +105,8 @@ pub record Matches (options : Options) (s : State) (h : List Event) : Type 0 whe
   pub taken_few : taken h ≤ length (outcomes options h)
   pub while_open : reason options h ≡ None → MatchesWhileOpen options s h
 
--- what is held back of a reply: nothing once closed, else what waits in the reader, with no whole line and not too much for
--- one (RFC 3977, section 3.1)
+-- what is held back of a reply: nothing once closed, else what waits in the reader, with no whole line and not too
+-- much for one (RFC 3977, section 3.1)
 abbrev pub HoldsBack : (closed : Bool) → Reading → List ℕ → Type 0
 HoldsBack true reader unread = unread ≡ []
 HoldsBack false reader unread = (reader ≡ Working unread) × IsShort unread

@@ -131,8 +131,7 @@ impl<N: Naming> Openings<N> {
 
 impl<D: Disk + Drop, N: Naming> Post<D, N> {
     /// A post of these peers, in byte order of their names, and of the intake tape; what the intake counts by, and
-    /// three shares by which
-    /// feeders do.
+    /// three shares by which feeders do.
     ///
     /// # Errors
     /// `NoMemory` where memory was refused. Nothing is handed back: the tapes are to be opened again.
@@ -288,8 +287,7 @@ impl<N: Naming> Closing<N> {
 
 impl<D: Disk + Drop, N: Naming> Post<D, N> {
     /// Closes a post whose workers have ended: gives its stations and its intake tape, and what its workers counted,
-    /// which is by how much
-    /// the stations' counts have risen since it was made.
+    /// which is by how much the stations' counts have risen since it was made.
     ///
     /// # Errors
     /// All is handed back where memory was refused.

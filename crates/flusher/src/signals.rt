@@ -101,8 +101,7 @@ impl Signals {
     }
 
     // Waits for an order beyond those that a flush has answered, for a second at most, and tells how many orders have
-    // come. None where
-    // the flusher is to end.
+    // come. None where the flusher is to end.
     pub(crate) fn next_flush<R: Wait>(&self, rt: &R, answered: u64) -> Option<u64> {
         let seen = self.changes.load(Ordering::SeqCst);
         if self.orders.load(Ordering::SeqCst) == answered && !self.is_over() {
