@@ -10,6 +10,7 @@ use Rattle.conn_core.specs.State.{Holding}
 use Rattle.conn_core.specs.declared.options.Options.{Options}
 use Rattle.event_loop.specs.Link.{moved, is_wait, Tells}
 use Rattle.event_loop.specs.Chain.{Input, Is_received, Is_refused, Moves, Sends_on, Takes_on, TakesIn, after_send}
+use Rattle.event_loop.specs.Chain.{Sends, Gets}
 use Rattle.event_loop.specs.Chain.{Step, Send, Receipt, are_turns, is_rest, left_by}
 use Rattle.event_loop.specs.declared.moved.Moved.{Moved}
 use Rattle.event_loop.specs.declared.moved.Moved.TheVariants.{Done, Later, Closed, Fault}
@@ -31,23 +32,22 @@ input_made (Err e) conn new octets received refused options unread h stands =
     let a = refused options unread h stands in ([], after options a.0 Broke, a.2, Is_refused a.0 a.1)
 
 -- a turn: a send, and a receipt
-pub turn : (options : Options) (unread : List ℕ) (h : List Event) (took gave : Option (List ℕ)) (steps : List Step)
-    (left rest : List ℕ) (mid later : List Event) (t g sent_on held given took_on : Option (List ℕ))
-    (out into : Moved) (buffer : List ℕ)
-    → Moves options unread h took gave steps left mid t g → moved out ≤ length (output options mid)
-    → Tells t (take (moved out) (output options mid)) sent_on → held ≡ g → moved into ≤ length buffer
+pub turn : {L : Type 0} (took gave : L → Option (List ℕ)) (takes : L → List ℕ → Moved → L → Type 0)
+    (gives : L → ℕ → Moved → L → Type 0) (options : Options) (room : ℕ) (unread : List ℕ) (h : List Event)
+    (link between sent new : L) (steps : List Step) (left rest : List ℕ) (mid later : List Event) (out into : Moved)
+    (buffer : List ℕ)
+    → Moves took gave takes gives options room unread h link steps left mid between
+    → Sends took takes (output options mid) between out sent → gave sent ≡ gave between
+    → gives sent room into new → moved into ≤ length buffer
+    → Tells (gave sent) (take (moved into) buffer) (gave new) → took new ≡ took sent
     → TakesIn options into (take (moved into) buffer) (left_by out left) (after_send options mid out) rest later
-    → Tells held (take (moved into) buffer) given → took_on ≡ sent_on
-    → Moves options unread h took gave (Receipt into ∷ Send out ∷ steps) rest later took_on given
-turn options unread h took gave steps left rest mid later t g sent_on held given took_on out into buffer
-    moves few told same few_in takes gives same_took =
-    let sends = Sends_on steps left mid t g sent_on out moves few told in
-    let gives_on = subst (λ x. Tells x (take (moved into) buffer) given) same gives in
-    let all = Takes_on (Send out ∷ steps) (left_by out left) rest
-    (after_send options mid out) later sent_on g given into
-    (take (moved into) buffer) sends (length-take-le (moved into) buffer few_in) takes gives_on in
-    subst (λ x. Moves options unread h took gave (Receipt into ∷ Send out ∷ steps) rest later x given)
-    (sym same_took) all
+    → Moves took gave takes gives options room unread h link (Receipt into ∷ Send out ∷ steps) rest later new
+turn took gave takes gives options room unread h link between sent new steps left rest mid later out into buffer
+    moves sends same_gave asks few told same_took comes =
+    let gets : Gets gave gives room sent into (take (moved into) buffer) new =
+    record { asks = asks; count = length-take-le (moved into) buffer few; told = told } in
+    Takes_on (Send out ∷ steps) (left_by out left) rest (after_send options mid out) later sent new into
+    (take (moved into) buffer) (Sends_on steps left mid between sent out moves sends same_gave) gets same_took comes
 
 -- a turn behind turns of which the last was no rest
 pub behind : (steps : List Step) → are_turns steps ≡ true → is_rest steps ≡ false

@@ -123,35 +123,43 @@ any-send options h mid before now Fault ahead few n_few told =
     quiet-law options [] h mid [] (outside options mid Broke) before now (reason options mid) refl stays
     (broke-received options [] mid (reason options mid) refl)
 
-took-all : (options : Options) (unread : List ℕ) (h : List Event) (before : List ℕ) (gave : Option (List ℕ))
-    (left : List ℕ) (later : List Event)
-    (now given : Option (List ℕ)) (steps : List Step) → (reason options h ≡ None → sent h ≤ length (put_octets h))
-    → Moves options unread h (Some before) gave steps left later now given → Took options h later before now
-took-all options unread h before gave left later now given steps few None_yet = record {
-  took_is = ap Some (sym (ap (λ xs. before ++ xs) (between-none (sent h) (put_octets h)) ∙ append-nil before));
+took-all : {L : Type 0} (took gave : L → Option (List ℕ)) (takes : L → List ℕ → Moved → L → Type 0)
+    (gives : L → ℕ → Moved → L → Type 0) (options : Options) (room : ℕ) (unread : List ℕ) (h : List Event)
+    (link : L) (left : List ℕ) (later : List Event) (new : L) (before : List ℕ) (steps : List Step)
+    → (reason options h ≡ None → sent h ≤ length (put_octets h))
+    → Moves took gave takes gives options room unread h link steps left later new → took link ≡ Some before
+    → Took options h later before (took new)
+took-all took gave takes gives options room unread h link left later new before steps few None_yet begins = record {
+  took_is = begins
+      ∙ ap Some (sym (ap (λ xs. before ++ xs) (between-none (sent h) (put_octets h)) ∙ append-nil before));
   ahead = omega arith;
   few = few;
 }
-took-all options unread h before gave left later now given steps few
-    (Sends_on earlier left_mid mid t g last made moves few_out tells) =
-    let r = took-all options unread h before gave left_mid mid t g earlier few moves in
-    let told = subst (λ x. Tells x (take (moved made) (output options mid)) last) r.took_is tells in
-    any-send options h mid before last made r.ahead r.few few_out told
-took-all options unread h before gave left later now given steps few
-    (Takes_on earlier left_mid rest mid last t g gives made octets moves len takes tells) =
-    let r = took-all options unread h before gave left_mid mid t g earlier few moves in
-    let rec = taken_in options made octets left_mid rest mid last len takes in
-    quiet-law options (left_mid ++ octets) h mid rest last before t (reason options mid) refl r rec
+took-all took gave takes gives options room unread h link left later new before steps few
+    (Sends_on earlier left_mid mid between last made moves sends same_gave) begins =
+    let r = took-all took gave takes gives options room unread h link
+    left_mid mid between before earlier few moves begins in
+    let told = subst (λ x. Tells x (take (moved made) (output options mid)) (took last)) r.took_is sends.told in
+    any-send options h mid before (took last) made r.ahead r.few sends.within told
+took-all took gave takes gives options room unread h link left later new before steps few
+    (Takes_on earlier left_mid rest mid last between behind made octets moves gets same_took comes) begins =
+    let r = took-all took gave takes gives options room unread h link
+    left_mid mid between before earlier few moves begins in
+    let rec = taken_in options made octets left_mid rest mid last gets.count comes in
+    subst (λ now. Took options h last before now) (sym same_took)
+    (quiet-law options (left_mid ++ octets) h mid rest last before (took between) (reason options mid) refl r rec)
 
 -- in order, none left out, none twice
-pub took_in_order : (options : Options) (conn : Holding) (unread left : List ℕ) (h later : List Event)
-    (gave now given : Option (List ℕ)) (before : List ℕ) (steps : List Step)
-    → StandsFor options conn unread h → Moves options unread h (Some before) gave steps left later now given
-    → TookInOrder h later before now
+pub took_in_order : {L : Type 0} (took gave : L → Option (List ℕ)) (takes : L → List ℕ → Moved → L → Type 0)
+    (gives : L → ℕ → Moved → L → Type 0) (options : Options) (conn : Holding) (room : ℕ) (unread : List ℕ)
+    (h : List Event) (link : L) (left : List ℕ) (later : List Event) (new : L) (before : List ℕ) (steps : List Step)
+    → StandsFor options conn unread h
+    → Moves took gave takes gives options room unread h link steps left later new → took link ≡ Some before
+    → TookInOrder h later before (took new)
 unfolding StandsFor
-took_in_order options conn unread left h later gave now given before steps stands moves =
-    (took-all options unread h before gave left later now given steps
-    (λ e. (stands.2.while_open e).sent_few) moves).took_is
+took_in_order took gave takes gives options conn room unread h link left later new before steps stands moves begins =
+    (took-all took gave takes gives options room unread h link left later new before steps
+    (λ e. (stands.2.while_open e).sent_few) moves begins).took_is
 
 zip-append : (k l : List (List ℕ)) (a b : List Given) → AllZip IsAnswer k a → AllZip IsAnswer l b
     → AllZip IsAnswer (k ++ l) (a ++ b)
@@ -239,34 +247,38 @@ receipt-more options unread h before left mid g now octets rest later (Some why)
     }
 
 -- what was given is what the octets held back before, the replies and what is held back now make up
-pub gave_replies : (options : Options) (unread : List ℕ) (h : List Event) (took : Option (List ℕ)) (before : List ℕ)
-    (steps : List Step) (left : List ℕ) (later : List Event) (now given : Option (List ℕ))
-    → Moves options unread h took (Some before) steps left later now given
-    → GaveReplies options unread h before left later given
-gave_replies options unread h took before steps left later now given None_yet = record {
+pub gave_replies : {L : Type 0} (took gave : L → Option (List ℕ)) (takes : L → List ℕ → Moved → L → Type 0)
+    (gives : L → ℕ → Moved → L → Type 0) (options : Options) (room : ℕ) (unread : List ℕ) (h : List Event)
+    (link : L) (left : List ℕ) (later : List Event) (new : L) (before : List ℕ) (steps : List Step)
+    → Moves took gave takes gives options room unread h link steps left later new → gave link ≡ Some before
+    → GaveReplies options unread h before left later (gave new)
+gave_replies took gave takes gives options room unread h link left later new before steps None_yet begins = record {
   given = [];
   replies = [];
   rest = unread;
-  gave_is = ap Some (sym (append-nil before));
+  gave_is = begins ∙ ap Some (sym (append-nil before));
   came_is = sym (append-nil (came h));
   made_up = record { lines = []; whole = append-nil unread; answers = record {} };
   rest_is = λ _. refl;
 }
-gave_replies options unread h took before steps left later now given
-    (Sends_on earlier left_mid mid t g last made moves few_out tells) =
-    let s = gave_replies options unread h took before earlier left_mid mid t g moves in
+gave_replies took gave takes gives options room unread h link left later new before steps
+    (Sends_on earlier left_mid mid between last made moves sends same_gave) begins =
+    let s = gave_replies took gave takes gives options room unread h link
+    left_mid mid between before earlier moves begins in
     record {
       given = s.given;
       replies = s.replies;
       rest = s.rest;
-      gave_is = s.gave_is;
+      gave_is = same_gave ∙ s.gave_is;
       came_is = send-came options mid made ∙ s.came_is;
       made_up = s.made_up;
       rest_is = send-rest options mid s.rest left_mid made s.rest_is;
     }
-gave_replies options unread h took before steps left later now given
-    (Takes_on earlier left_mid rest mid last t g gives made octets moves len takes tells) =
-    let s = gave_replies options unread h took before earlier left_mid mid t g moves in
-    let rec = taken_in options made octets left_mid rest mid last len takes in
-    let told = subst (λ x. Tells x octets gives) s.gave_is tells in
-    receipt-more options unread h before left_mid mid g gives octets rest last (reason options mid) refl s rec told
+gave_replies took gave takes gives options room unread h link left later new before steps
+    (Takes_on earlier left_mid rest mid last between behind made octets moves gets same_took comes) begins =
+    let s = gave_replies took gave takes gives options room unread h link
+    left_mid mid between before earlier moves begins in
+    let rec = taken_in options made octets left_mid rest mid last gets.count comes in
+    let told = subst (λ x. Tells x octets (gave behind)) s.gave_is gets.told in
+    receipt-more options unread h before left_mid mid (gave between) (gave behind) octets rest last
+    (reason options mid) refl s rec told

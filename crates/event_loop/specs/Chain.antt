@@ -66,20 +66,43 @@ receipts [] = 0
 receipts (Send out ∷ steps) = receipts steps
 receipts (Receipt into ∷ steps) = receipts steps + 1
 
--- From one transcript, with the octets held back behind it, to a later one, by sends and receipts alone; what they
--- were, newest first; and from what the link told that it took and gave to what it tells then.
-pub data Moves (options : Options) (unread : List ℕ) (h : List Event) (took gave : Option (List ℕ))
-    : List Step → List ℕ → List Event → Option (List ℕ) → Option (List ℕ) → Type 0 where
-  None_yet : Moves options unread h took gave [] unread h took gave
-  Sends_on : (steps : List Step) (left : List ℕ) (mid : List Event) (t g now : Option (List ℕ)) (made : Moved)
-      → Moves options unread h took gave steps left mid t g → moved made ≤ length (output options mid)
-      → Tells t (take (moved made) (output options mid)) now
-      → Moves options unread h took gave (Send made ∷ steps) (left_by made left) (after_send options mid made) now g
-  Takes_on : (steps : List Step) (left rest : List ℕ) (mid later : List Event) (t g now : Option (List ℕ))
+-- Whether a link is asked to take these octets: once, where there are some, and that is what came of it; and not at
+-- all where there are none.
+abbrev pub Asks : {L : Type 0} → (takes : L → List ℕ → Moved → L → Type 0) → List ℕ → L → Moved → L → Type 0
+Asks takes [] old made new = (made ≡ Later) × (new ≡ old)
+Asks takes (octet ∷ octets) old made new = takes old (octet ∷ octets) made new
+
+-- A send of these octets: what the link did, and that it took as many of the first as it says.
+pub record Sends {L : Type 0} (took : L → Option (List ℕ)) (takes : L → List ℕ → Moved → L → Type 0)
+    (octets : List ℕ) (old : L) (made : Moved) (new : L) : Type 0 where
+  pub asks : Asks takes octets old made new
+  pub within : moved made ≤ length octets
+  pub told : Tells (took old) (take (moved made) octets) (took new)
+
+-- A receipt with room for so many octets, and those that came: what the link did, and that it gave these.
+pub record Gets {L : Type 0} (gave : L → Option (List ℕ)) (gives : L → ℕ → Moved → L → Type 0)
+    (room : ℕ) (old : L) (made : Moved) (octets : List ℕ) (new : L) : Type 0 where
+  pub asks : gives old room made new
+  pub count : length octets ≡ moved made
+  pub told : Tells (gave old) octets (gave new)
+
+-- From one transcript, with the octets held back behind it, to a later one, by sends and receipts alone, each one call
+-- of the link at most; what they were, newest first; and what the link is before and behind them.
+pub data Moves {L : Type 0} (took gave : L → Option (List ℕ)) (takes : L → List ℕ → Moved → L → Type 0)
+    (gives : L → ℕ → Moved → L → Type 0) (options : Options) (room : ℕ) (unread : List ℕ) (h : List Event) (link : L)
+    : List Step → List ℕ → List Event → L → Type 0 where
+  None_yet : Moves took gave takes gives options room unread h link [] unread h link
+  Sends_on : (steps : List Step) (left : List ℕ) (mid : List Event) (between new : L) (made : Moved)
+      → Moves took gave takes gives options room unread h link steps left mid between
+      → Sends took takes (output options mid) between made new → gave new ≡ gave between
+      → Moves took gave takes gives options room unread h link
+      (Send made ∷ steps) (left_by made left) (after_send options mid made) new
+  Takes_on : (steps : List Step) (left rest : List ℕ) (mid later : List Event) (between new : L)
       (made : Moved) (octets : List ℕ)
-      → Moves options unread h took gave steps left mid t g → length octets ≡ moved made
-      → TakesIn options made octets left mid rest later → Tells g octets now
-      → Moves options unread h took gave (Receipt made ∷ steps) rest later t now
+      → Moves took gave takes gives options room unread h link steps left mid between
+      → Gets gave gives room between made octets new → took new ≡ took between
+      → TakesIn options made octets left mid rest later
+      → Moves took gave takes gives options room unread h link (Receipt made ∷ steps) rest later new
 
 -- What an answer says of the steps and of the transcript behind them, where so many turns were asked for: shut, exactly
 -- where there is a reason; else idle, exactly where the last turn was a rest, and then the link would give nothing now,

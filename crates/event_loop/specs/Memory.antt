@@ -1,6 +1,7 @@
 -- A link in memory: what it gives and takes, few octets at a time, up to where each direction ends (profile).
-use Rattle.std.specs.Prelude.{ℕ, ◌-◌, nat_le, min, List, [], ◌∷◌, ◌++◌, length, take, drop, Option, None, Some}
-use Rattle.std.specs.Prelude.{unwrap_or, if◌then◌else◌}
+use Rattle.std.specs.Prelude.{◌≡◌, ◌⊎◌, ℕ, ◌-◌, nat_le, min, List, [], ◌∷◌, ◌++◌, length, take, drop}
+use Rattle.std.specs.Prelude.{Option, None, Some, unwrap_or, if◌then◌else◌}
+use Rattle.event_loop.specs.Link.{moved}
 use Rattle.event_loop.specs.declared.memory.End.{End}
 use Rattle.event_loop.specs.declared.memory.End.TheVariants.{Never, Closes, Fails}
 use Rattle.event_loop.specs.declared.moved.Moved.{Moved}
@@ -52,3 +53,13 @@ takes_now link offered =
 -- these more were taken
 abbrev pub after_taking : Memory → List ℕ → Memory
 after_taking link octets = record link { taken = link.taken ++ octets }
+
+-- what a call with room for so many octets is: it answers exactly as above, and gives that many
+abbrev pub Gives : Memory → (room : ℕ) → Moved → Memory → Type 0
+Gives link room made new = (made ≡ gives_now link room) × (new ≡ after_giving link (moved made))
+
+-- what a call that is offered these octets is: it answers exactly as above, or that it failed, where memory was
+-- refused, and takes that many
+abbrev pub Takes : Memory → (octets : List ℕ) → Moved → Memory → Type 0
+Takes link octets made new =
+    ((made ≡ takes_now link (length octets)) ⊎ (made ≡ Fault)) × (new ≡ after_taking link (take (moved made) octets))

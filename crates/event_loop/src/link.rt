@@ -1,6 +1,7 @@
 // Two directions of octets, which move some at a time.
 ghost use Rattle.std.specs.Prelude.{◌≡◌, ◌≤◌, ℕ, List, Option, None, length, take};
 ghost use Rattle.event_loop.specs.Link.{moved, Tells};
+ghost use Rattle.event_loop.specs.declared.moved.Moved.{Moved};
 
 use crate::moved::Moved;
 
@@ -11,6 +12,13 @@ pub trait Link {
 
     /// The octets that it gave, oldest first, where it tells them.
     ghost gave: { Self → Option (List ℕ) } = { λ _. None };
+
+    /// What a call of `recv` with room for so many octets made of it, and told. A link that knows no more than the
+    /// clauses below say nothing, as the default does.
+    ghost gives: { Self → ℕ → Moved → Self → Type 0 } = { λ _ _ _ _. Unit {0} };
+
+    /// What a call of `send` with these octets made of it, and told, in the same way.
+    ghost takes: { Self → List ℕ → Moved → Self → Type 0 } = { λ _ _ _ _. Unit {0} };
 
     /// It takes nothing for now.
     ghost full: { Self → Type 0 };
@@ -23,6 +31,7 @@ pub trait Link {
         ensures within { moved result ≤ length into.new }
         ensures gave { Tells (gave self.old) (take (moved result) into.new) (gave self.new) }
         ensures took { took self.new ≡ took self.old }
+        ensures gives { gives self.old (length into.old) result self.new }
         ensures dry { result ≡ Moved.Later → dry self.new }
         ensures full { full self.old → full self.new };
 
@@ -31,5 +40,6 @@ pub trait Link {
         ensures within { moved result ≤ length from.now }
         ensures took { Tells (took self.old) (take (moved result) from.now) (took self.new) }
         ensures gave { gave self.new ≡ gave self.old }
+        ensures takes { takes self.old from.now result self.new }
         ensures full { result ≡ Moved.Later → full self.new };
 }

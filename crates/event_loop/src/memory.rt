@@ -1,7 +1,7 @@
 // A link in memory, which moves octets in pieces, and ends where it is told to.
-ghost use Rattle.std.specs.Prelude.{◌≡◌, ◌≤◌, ◌⊎◌, ◌++◌, Some, IfSome, OnOk, OnErr, length, take, []};
+ghost use Rattle.std.specs.Prelude.{◌≡◌, ◌≤◌, ◌++◌, Some, IfSome, OnOk, OnErr, length, take, []};
 ghost use Rattle.event_loop.specs.Link.{Tells, moved};
-ghost use Rattle.event_loop.specs.Memory.{after_giving, after_taking, cut, gives_now, met, takes_now};
+ghost use Rattle.event_loop.specs.Memory.{Gives, Takes, cut, met};
 
 use crate::link::Link;
 use crate::moved::Moved;
@@ -122,6 +122,10 @@ impl Link for MemLink {
 
     ghost gave = { λ link. Some link.gave };
 
+    ghost gives = { Gives };
+
+    ghost takes = { Takes };
+
     ghost full = { λ link. ⊥ };
 
     ghost dry = { λ link. link.waiting ≡ [] };
@@ -131,9 +135,8 @@ impl Link for MemLink {
         ensures gave { Tells (Some self.old.gave) (take (moved result) into.new)
             (Some self.new.gave) }
         ensures took { Some self.new.taken ≡ Some self.old.taken }
+        ensures gives { Gives self.old (length into.old) result self.new }
         ensures dry { result ≡ Moved.Later → self.new.waiting ≡ [] }
-        ensures answer { result ≡ gives_now self.old (length into.old) }
-        ensures moves { self.new ≡ after_giving self.old (moved result) }
     {
         if let Some(ending) = self.gives.met(self.given) {
             return ending;
@@ -154,9 +157,8 @@ impl Link for MemLink {
         ensures took { Tells (Some self.old.taken) (take (moved result) from.now)
             (Some self.new.taken) }
         ensures gave { Some self.new.gave ≡ Some self.old.gave }
+        ensures takes { Takes self.old from.now result self.new }
         ensures full { result ≡ Moved.Later → ⊥ }
-        ensures answer { (result ≡ takes_now self.old (length from.now)) ⊎ (result ≡ Moved.Fault) }
-        ensures moves { self.new ≡ after_taking self.old (take (moved result) from.now) }
     {
         if let Some(ending) = self.takes.met(self.sink.len()) {
             return ending;

@@ -1,7 +1,7 @@
 // Turns: a send of what a connection puts out, and a receipt of what its link gives.
 ghost use Rattle.std.specs.Prelude.{◌≡◌, ◌≤◌, ◌⊎◌, ◌&&◌, ℕ, List, length, take, [], true};
 ghost use Rattle.event_loop.specs.Link.{moved, is_wait, Tells};
-ghost use Rattle.event_loop.specs.Chain.{Moves, Step, TakesIn, IsAnswered, after_send, are_turns, left_by};
+ghost use Rattle.event_loop.specs.Chain.{Moves, Sends, Step, TakesIn, IsAnswered, after_send, are_turns, left_by};
 ghost use Rattle.conn_core.specs.History.{Event, output};
 ghost use Rattle.conn_core.specs.Stands.{StandsFor};
 ghost use Rattle.conn_core.specs.declared.options.Options.{Options};
@@ -27,8 +27,7 @@ pub fn put_out<L: Link>(conn: &mut Conn, link: &mut L) -> Moved
     ensures stands { (options : Options) (unread : List ℕ) (h : List Event)
         → StandsFor options conn.old unread h
         → StandsFor options conn.new (left_by result unread) (after_send options h result)
-        × (moved result ≤ length (output options h))
-        × Tells (L.took link.old) (take (moved result) (output options h)) (L.took link.new) }
+        × Sends L.took L.takes (output options h) link.old result link.new }
     ensures gave { L.gave link.new ≡ L.gave link.old }
     ensures full { (options : Options) (unread : List ℕ) (h : List Event)
         → StandsFor options conn.old unread h
@@ -57,6 +56,7 @@ pub fn take_in<L: Link>(conn: &mut Conn, link: &mut L, buffer: &mut [u8]) -> Mov
     ensures within { moved result ≤ length buffer.new }
     ensures gave { Tells (L.gave link.old) (take (moved result) buffer.new) (L.gave link.new) }
     ensures took { L.took link.new ≡ L.took link.old }
+    ensures gives { L.gives link.old (length buffer.old) result link.new }
     ensures dry { result ≡ Moved.Later → L.dry link.new }
     ensures full { L.full link.old → L.full link.new }
     ensures same_id { conn.new.id ≡ conn.old.id }
@@ -78,8 +78,8 @@ pub fn drive<L: Link>(conn: &mut Conn, link: &mut L, buffer: &mut [u8], turns: u
         → StandsFor options conn.old unread h
         → (left : List ℕ) × (later : List Event) × (steps : List Step)
         × StandsFor options conn.new left later
-        × Moves options unread h (L.took link.old) (L.gave link.old)
-        steps left later (L.took link.new) (L.gave link.new)
+        × Moves L.took L.gave L.takes L.gives options (length buffer.old)
+        unread h link.old steps left later link.new
         × (are_turns steps ≡ true)
         × IsAnswered options result turns (L.full link.new) (L.dry link.new) steps later }
     ensures same_id { conn.new.id ≡ conn.old.id }

@@ -2,4 +2,4 @@ use Rattle.event_loop.proofs.Orders.{took_in_order}
 use Rattle.event_loop.proofs.laws.took_in_order.Goals as goal
 
 pub returns : goal.returns
-returns c = took_in_order
+returns g c = took_in_order g.L.Link.took g.L.Link.gave g.L.Link.takes g.L.Link.gives

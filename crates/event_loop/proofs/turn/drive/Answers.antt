@@ -1,4 +1,4 @@
-use Rattle.std.proofs.Common.{ap, sym, ◌∙◌, ◌+◌, [], ◌∷◌, refl, arith}
+use Rattle.std.proofs.Common.{ap, sym, subst, ◌∙◌, ◌+◌, [], ◌∷◌, refl, arith, ℕ}
 use Rattle.std.specs.Prelude.{is_some}
 use Rattle.event_loop.specs.Chain.{None_yet, Send, Receipt}
 use Rattle.event_loop.proofs.Chains.{turn, rest, behind, none_there}
@@ -32,10 +32,13 @@ returns-then-is_some-2 g c = record {
         d.1,
         Receipt c.take_in-into.result ∷ Send c.put_out-out.result ∷ a.2,
         d.2,
-        turn options unread h _ _ a.2 a.0 d.0 a.1 d.1 _ _ _ _ _ _
+        turn g.L.Link.took g.L.Link.gave g.L.Link.takes g.L.Link.gives options _ unread h _ _ _ _ a.2 a.0 d.0 a.1 d.1
             c.put_out-out.result c.take_in-into.result c.take_in-into.new.buffer
-            a.4 b.1 b.2 c.put_out-out.ensures.gave c.take_in-into.ensures.within d.3
-            c.take_in-into.ensures.gave c.take_in-into.ensures.took,
+            a.4 b.1 c.put_out-out.ensures.gave
+            (subst (λ (room : ℕ).
+            g.L.Link.gives c.put_out-out.new.link room c.take_in-into.result c.take_in-into.new.link)
+            c.loop-turn.auto.buffer c.take_in-into.ensures.gives)
+            c.take_in-into.ensures.within c.take_in-into.ensures.gave c.take_in-into.ensures.took d.3,
         behind a.2 a.5 a.8,
         (closed ∙ c.if-is_some-2.true, omega (arith, a.7)),
       );
@@ -57,10 +60,13 @@ returns-then-neither_can_move g c = record {
         d.1,
         Receipt c.take_in-into.result ∷ Send c.put_out-out.result ∷ a.2,
         d.2,
-        turn options unread h _ _ a.2 a.0 d.0 a.1 d.1 _ _ _ _ _ _
+        turn g.L.Link.took g.L.Link.gave g.L.Link.takes g.L.Link.gives options _ unread h _ _ _ _ a.2 a.0 d.0 a.1 d.1
             c.put_out-out.result c.take_in-into.result c.take_in-into.new.buffer
-            a.4 b.1 b.2 c.put_out-out.ensures.gave c.take_in-into.ensures.within d.3
-            c.take_in-into.ensures.gave c.take_in-into.ensures.took,
+            a.4 b.1 c.put_out-out.ensures.gave
+            (subst (λ (room : ℕ).
+            g.L.Link.gives c.put_out-out.new.link room c.take_in-into.result c.take_in-into.new.link)
+            c.loop-turn.auto.buffer c.take_in-into.ensures.gives)
+            c.take_in-into.ensures.within c.take_in-into.ensures.gave c.take_in-into.ensures.took d.3,
         behind a.2 a.5 a.8,
         (none_there _ (closed ∙ c.if-is_some-2.false), omega (arith, a.7), both, moves.0, moves.1),
       );
@@ -79,10 +85,13 @@ loop-turn-preserved g c = (
         d.1,
         Receipt c.take_in-into.result ∷ Send c.put_out-out.result ∷ a.2,
         d.2,
-        turn options unread h _ _ a.2 a.0 d.0 a.1 d.1 _ _ _ _ _ _
+        turn g.L.Link.took g.L.Link.gave g.L.Link.takes g.L.Link.gives options _ unread h _ _ _ _ a.2 a.0 d.0 a.1 d.1
             c.put_out-out.result c.take_in-into.result c.take_in-into.new.buffer
-            a.4 b.1 b.2 c.put_out-out.ensures.gave c.take_in-into.ensures.within d.3
-            c.take_in-into.ensures.gave c.take_in-into.ensures.took,
+            a.4 b.1 c.put_out-out.ensures.gave
+            (subst (λ (room : ℕ).
+            g.L.Link.gives c.put_out-out.new.link room c.take_in-into.result c.take_in-into.new.link)
+            c.loop-turn.auto.buffer c.take_in-into.ensures.gives)
+            c.take_in-into.ensures.within c.take_in-into.ensures.gave c.take_in-into.ensures.took d.3,
         behind a.2 a.5 a.8,
         none_there _ (closed ∙ c.if-is_some-2.false),
         ap (λ n. n + 1) a.7,

@@ -1,4 +1,4 @@
-use Rattle.std.proofs.Common.{◌≡◌, ℕ, List, None, true, false}
+use Rattle.std.proofs.Common.{◌≡◌, ℕ, List, None, true, false, length}
 use Rattle.event_loop.specs.Chain.{Moves, Step, are_turns, is_rest, receipts}
 use Rattle.conn_core.specs.History.{Event, reason}
 use Rattle.conn_core.specs.Stands.{StandsFor}
@@ -9,8 +9,8 @@ use Rattle.event_loop.proofs.turn.drive.Given as goal
 abbrev pub invariant-loop-turn : goal.invariant-loop-turn
 invariant-loop-turn g l = ((options : Options) (unread : List ℕ) (h : List Event) → StandsFor options l.fn.conn unread h
     → (left : List ℕ) × (later : List Event) × (steps : List Step) × StandsFor options l.conn left later
-    × Moves options unread h (g.L.Link.took l.fn.link) (g.L.Link.gave l.fn.link)
-    steps left later (g.L.Link.took l.link) (g.L.Link.gave l.link)
+    × Moves g.L.Link.took g.L.Link.gave g.L.Link.takes g.L.Link.gives options (length l.fn.buffer) unread h l.fn.link
+    steps left later l.link
     × (are_turns steps ≡ true)
     × (reason options later ≡ None) × (receipts steps ≡ l._turn) × (is_rest steps ≡ false))
     × (l.conn.id ≡ l.fn.conn.id)

@@ -27,7 +27,22 @@ returns-clause-gave c =
     (link.gave ++ take c.cut-count.result
     (c.copy_from_slice.new.self ++ drop c.cut-count.result c.args.into.now))) c.self.view_is
 
-pub returns-clause-moves : goal.returns-clause-moves
-returns-clause-moves c =
-    rw (← c.self.view_is)
-    (given_more c.self.inside.source.items c.self.inside.sink.items c.self.inside.given c.cut-count.result c.self.inside.piece c.self.inside.gives c.self.inside.takes)
+pub returns-clause-gives : goal.returns-clause-gives
+returns-clause-gives c = (
+  grind (
+    arith,
+    common_steps,
+    c.cut-count.ensures.value,
+    c.min-ready.ensures,
+    c.min-room.ensures,
+    c.len.ensures,
+    c.len-2.ensures,
+    c.met.ensures.value,
+    c.in_default.is,
+    c.if-len-self.false,
+    c.self.view_is,
+  ),
+  rw (← c.self.view_is)
+      (given_more c.self.inside.source.items c.self.inside.sink.items c.self.inside.given c.cut-count.result
+      c.self.inside.piece c.self.inside.gives c.self.inside.takes),
+)
