@@ -1,3 +1,4 @@
+pub mod Asks
 pub mod Choice
 pub mod Disk
 pub mod File

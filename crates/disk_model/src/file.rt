@@ -1,5 +1,7 @@
 // A file as a disk.
-ghost use Rattle.std.specs.Prelude.{◌≡◌, ◌+◌, ◌-◌, ◌<◌, ◌≤◌, ◌↔◌, ◌^◌, length, min, take, OnOk, OnErr, slice_range};
+ghost use Rattle.std.specs.Prelude.{◌≡◌, ◌+◌, ◌-◌, ◌<◌, ◌≤◌, ◌↔◌, ◌^◌, ℕ, List, length, min, take};
+ghost use Rattle.std.specs.Prelude.{OnOk, OnErr, slice_range};
+ghost use Rattle.disk_model.specs.Asks.{ReadsIn, WritesOut, Tries, most_tries};
 ghost use Rattle.disk_model.specs.Disk.{content, Writes, Cuts, Syncs, CountsFaults, ToldFault};
 
 use crate::raw_file::{RawFault, RawFile};
@@ -63,6 +65,7 @@ impl<F: RawFile> FileDisk<F> {
 }
 
 // Reads until the slice is full.
+#[tactic(auto, using(crate::specs::Asks::Begins))]
 fn read_whole<F: RawFile>(file: &mut F, at: u64, into: &mut [u8]) -> Result<(), DiskFault>
     requires { at + length into.old < 2 ^ 64 }
     ensures honest { F.honest file.old ↔ F.honest file.new }
@@ -70,10 +73,13 @@ fn read_whole<F: RawFile>(file: &mut F, at: u64, into: &mut [u8]) -> Result<(), 
         → OnOk result (into.new ≡ slice_range (content (F.log file.old)) at
         (at + length into.old)) }
     ensures log { F.honest file.old → F.log file.new ≡ F.log file.old }
+    ensures asks { ReadsIn
+        (λ (old : F × List ℕ) done told new. F.reads old.0 at old.1 done told new.1 new.0)
+        (length into.old) (file.old, into.old) result (file.new, into.new) }
 {
     let turns = (into.len() as u64).saturating_add(MOST_INTERRUPTIONS);
     let mut done = 0;
-    for _ in 0..turns {
+    for _call in 0..turns {
         if done == into.len() {
             return Ok(());
         }
@@ -89,14 +95,17 @@ fn read_whole<F: RawFile>(file: &mut F, at: u64, into: &mut [u8]) -> Result<(), 
 }
 
 // Writes until all is out.
+#[tactic(auto, using(crate::specs::Asks::Begins))]
 fn write_whole<F: RawFile>(file: &mut F, at: u64, from: &[u8]) -> Result<(), DiskFault>
     requires { at + length from.now < 2 ^ 64 }
     ensures honest { F.honest file.old ↔ F.honest file.new }
     ensures log { F.honest file.old → Writes at from.now (F.log file.old) result (F.log file.new) }
+    ensures asks { WritesOut (λ old done told new. F.writes old at from.now done told new)
+        (length from.now) file.old result file.new }
 {
     let turns = (from.len() as u64).saturating_add(MOST_INTERRUPTIONS);
     let mut done = 0;
-    for _ in 0..turns {
+    for _call in 0..turns {
         match file.pwrite(at, from, done) {
             Ok(count) if done + count == from.len() => return Ok(()),
             // It takes no more.
@@ -113,8 +122,10 @@ fn write_whole<F: RawFile>(file: &mut F, at: u64, from: &[u8]) -> Result<(), Dis
 fn cut_once<F: RawFile>(file: &mut F, len: u64) -> Result<(), DiskFault>
     ensures honest { F.honest file.old ↔ F.honest file.new }
     ensures log { F.honest file.old → Cuts len (F.log file.old) result (F.log file.new) }
+    ensures asks { Tries (λ old told new. F.truncates old len told new) most_tries
+        file.old result file.new }
 {
-    for _ in 0..MOST_INTERRUPTIONS {
+    for _try in 0..MOST_INTERRUPTIONS {
         match file.truncate(len) {
             Ok(()) => return Ok(()),
             Err(RawFault::Failed) => return Err(DiskFault),
@@ -128,8 +139,9 @@ fn cut_once<F: RawFile>(file: &mut F, len: u64) -> Result<(), DiskFault>
 fn sync_once<F: RawFile>(file: &mut F) -> Result<(), DiskFault>
     ensures honest { F.honest file.old ↔ F.honest file.new }
     ensures log { F.honest file.old → Syncs (F.log file.old) result (F.log file.new) }
+    ensures asks { Tries F.syncs most_tries file.old result file.new }
 {
-    for _ in 0..MOST_INTERRUPTIONS {
+    for _try in 0..MOST_INTERRUPTIONS {
         match file.sync() {
             Ok(()) => return Ok(()),
             Err(RawFault::Failed) => return Err(DiskFault),
@@ -142,6 +154,7 @@ fn sync_once<F: RawFile>(file: &mut F) -> Result<(), DiskFault>
 /// Honest over an honest file. What has happened to it is what has happened to the file.
 impl<F: RawFile> Disk for FileDisk<F> {
     ghost use Rattle.disk_model.specs.File.{file_of, length_kept, faults_of, has_lost, LosesOnce};
+    ghost use Rattle.std.specs.Prelude.{false};
 
     ghost honest = { λ d. F.honest d.file };
 
@@ -165,6 +178,9 @@ impl<F: RawFile> Disk for FileDisk<F> {
             (at + length into.old)) }
         ensures log { F.honest (file_of self.old)
             → F.log (file_of self.new) ≡ F.log (file_of self.old) }
+        ensures asks { ReadsIn
+            (λ (old : F × List ℕ) done told new. F.reads old.0 at old.1 done told new.1 new.0)
+            (length into.old) (file_of self.old, into.old) result (file_of self.new, into.new) }
         ensures cause { CountsFaults (faults_of self.old) (faults_of self.new) result }
         ensures quiet { OnOk result (faults_of self.new ≡ faults_of self.old) }
         ensures lost { has_lost self.new ≡ has_lost self.old }
@@ -182,6 +198,9 @@ impl<F: RawFile> Disk for FileDisk<F> {
         ensures honest { F.honest (file_of self.old) ↔ F.honest (file_of self.new) }
         ensures log { F.honest (file_of self.old)
             → Writes at from.now (F.log (file_of self.old)) result (F.log (file_of self.new)) }
+        ensures asks { at + length from.now < 2 ^ 64
+            → WritesOut (λ old done told new. F.writes old at from.now done told new)
+            (length from.now) (file_of self.old) result (file_of self.new) }
         ensures cause { CountsFaults (faults_of self.old) (faults_of self.new) result }
         ensures quiet { OnOk result (faults_of self.new ≡ faults_of self.old) }
         ensures lost { has_lost self.new ≡ has_lost self.old }
@@ -206,6 +225,8 @@ impl<F: RawFile> Disk for FileDisk<F> {
         ensures honest { F.honest (file_of self.old) ↔ F.honest (file_of self.new) }
         ensures log { F.honest (file_of self.old)
             → Cuts len (F.log (file_of self.old)) result (F.log (file_of self.new)) }
+        ensures asks { Tries (λ old told new. F.truncates old len told new) most_tries
+            (file_of self.old) result (file_of self.new) }
         ensures cause { CountsFaults (faults_of self.old) (faults_of self.new) result }
         ensures quiet { OnOk result (faults_of self.new ≡ faults_of self.old) }
         ensures lost { has_lost self.new ≡ has_lost self.old }
@@ -226,6 +247,8 @@ impl<F: RawFile> Disk for FileDisk<F> {
         ensures honest { F.honest (file_of self.old) ↔ F.honest (file_of self.new) }
         ensures log { F.honest (file_of self.old)
             → Syncs (F.log (file_of self.old)) result (F.log (file_of self.new)) }
+        ensures asks { has_lost self.old ≡ false
+            → Tries F.syncs most_tries (file_of self.old) result (file_of self.new) }
         ensures cause { CountsFaults (faults_of self.old) (faults_of self.new) result }
         ensures quiet { OnOk result (faults_of self.new ≡ faults_of self.old) }
         ensures lost { LosesOnce self.old self.new result }

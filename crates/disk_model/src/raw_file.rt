@@ -1,7 +1,8 @@
 // A file as the system has it: one call of the system a method.
-ghost use Rattle.std.specs.Prelude.{◌≡◌, ◌+◌, ◌<◌, ◌≤◌, ◌↔◌, ◌^◌, List, ℕ, length, IfOk, OnErr, []};
+ghost use Rattle.std.specs.Prelude.{◌≡◌, ◌+◌, ◌<◌, ◌≤◌, ◌↔◌, ◌^◌, List, ℕ, Result, length, IfOk, OnErr, []};
 ghost use Rattle.disk_model.specs.Disk.{Event, content, Image};
 ghost use Rattle.disk_model.specs.RawFile.{IsRead, UnderWay, WritesOn, Truncates, Flushes};
+ghost use Rattle.disk_model.specs.declared.raw_file.RawFault.{RawFault};
 
 use std::fs::File;
 use std::io::{self, ErrorKind};
@@ -17,6 +18,13 @@ pub enum RawFault {
 }
 
 impl From<io::Error> for RawFault {
+    ghost use Rattle.std.specs.IoError.{error_kind};
+    ghost use Rattle.std.specs.declared.io.ErrorKind.TheVariants.{Interrupted as WasInterrupted};
+    ghost use Rattle.disk_model.specs.declared.raw_file.RawFault.TheVariants.{Interrupted};
+
+    ghost from_gives = { λ error fault. (fault ≡ Interrupted)
+        ↔ (error_kind error ≡ WasInterrupted) };
+
     fn from(error: io::Error) -> Self {
         match error.kind() {
             ErrorKind::Interrupted => RawFault::Interrupted,
@@ -36,6 +44,18 @@ pub trait RawFile {
     /// What has happened to it, the newest first, as to a disk.
     ghost log: { Self → List Event };
 
+    /// What a call of `pread` made of it and of the slice, and told, where more is known of it than the rules here say.
+    ghost reads: { Self → ℕ → List ℕ → ℕ → Result ℕ RawFault → List ℕ → Self → Type 0 } = { λ _ _ _ _ _ _ _. Unit {0} };
+
+    /// What a call of `pwrite` made of it, and told, in the same way.
+    ghost writes: { Self → ℕ → List ℕ → ℕ → Result ℕ RawFault → Self → Type 0 } = { λ _ _ _ _ _ _. Unit {0} };
+
+    /// What a call of `truncate` made of it, and told, in the same way.
+    ghost truncates: { Self → ℕ → Result (Unit {0}) RawFault → Self → Type 0 } = { λ _ _ _ _. Unit {0} };
+
+    /// What a call of `sync` made of it, and told, in the same way.
+    ghost syncs: { Self → Result (Unit {0}) RawFault → Self → Type 0 } = { λ _ _ _. Unit {0} };
+
     /// Its length in octets.
     fn len(&self) -> u64
         ensures { honest self.now → result ≡ length (content (log self.now)) };
@@ -49,6 +69,7 @@ pub trait RawFile {
         ensures within { IfOk result (λ n. done + n ≤ length into.new) }
         ensures read { honest self.old → IsRead (content (log self.old)) at done into.old
             → IfOk result (λ n. IsRead (content (log self.old)) at (done + n) into.new) }
+        ensures reads { reads self.old at into.old done result into.new self.new }
         ensures err { honest self.old → IsRead (content (log self.old)) at done into.old
             → OnErr result (IsRead (content (log self.old)) at done into.new) }
         ensures log { honest self.old → log self.new ≡ log self.old };
@@ -60,6 +81,7 @@ pub trait RawFile {
         requires end { at + length from.now < 2 ^ 64 }
         ensures honest { honest self.old ↔ honest self.new }
         ensures within { IfOk result (λ n. done + n ≤ length from.now) }
+        ensures writes { writes self.old at from.now done result self.new }
         ensures log { honest self.old → (before : List Event)
             → UnderWay at from.now done before (log self.old)
             → WritesOn at from.now done before (log self.old) result (log self.new) };
@@ -67,11 +89,13 @@ pub trait RawFile {
     /// Cuts it to this length (ftruncate(2)).
     fn truncate(&mut self, len: u64) -> Result<(), RawFault>
         ensures honest { honest self.old ↔ honest self.new }
+        ensures truncates { truncates self.old len result self.new }
         ensures log { honest self.old → Truncates len (log self.old) result (log self.new) };
 
     /// Makes its octets and its length durable (fdatasync(2)).
     fn sync(&mut self) -> Result<(), RawFault>
         ensures honest { honest self.old ↔ honest self.new }
+        ensures syncs { syncs self.old result self.new }
         ensures log { honest self.old → Flushes (log self.old) result (log self.new) };
 
     /// The content is one of the images.

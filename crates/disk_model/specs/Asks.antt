@@ -1,0 +1,72 @@
+-- Which calls of the system a call of a disk makes (profile). What is known of one call of the system is a relation of
+-- the file before it, what it answered, and the file behind it.
+use Rattle.std.specs.Prelude.{◌≡◌, ◌⊎◌, ◌+◌, ◌-◌, ◌^◌, ◌<◌, ℕ, min, Result, Ok, Err, MatchResult}
+use Rattle.disk_model.specs.declared.DiskFault.{DiskFault}
+use Rattle.disk_model.specs.declared.raw_file.RawFault.{RawFault}
+use Rattle.disk_model.specs.declared.raw_file.RawFault.TheVariants.{Interrupted, Failed}
+
+-- how often one call is made, where each time it is interrupted
+abbrev pub most_tries : ℕ
+most_tries = 1000
+
+-- So many calls were interrupted, one after another.
+pub data WereInterrupted {F : Type 0} (call : F → Result (Unit {0}) RawFault → F → Type 0) (old : F)
+    : ℕ → F → Type 0 where
+  None_yet : WereInterrupted call old 0 old
+  Once_more : (count : ℕ) (between new : F)
+      → WereInterrupted call old count between → call between (Err Interrupted) new
+      → WereInterrupted call old (count + 1) new
+
+-- What a call that is made again where it was interrupted, so many times at most, comes to: what the first that was not
+-- interrupted came to; or a fault, where all of them were.
+pub record Tries {F : Type 0} (call : F → Result (Unit {0}) RawFault → F → Type 0) (most : ℕ)
+    (old : F) (result : Result (Unit {0}) DiskFault) (new : F) : Type 0 where
+  pub count : ℕ
+  pub between : F
+  pub interrupted : WereInterrupted call old count between
+  pub last : MatchResult result (λ done. (count < most) × call between (Ok done) new)
+      (λ _. ((count < most) × call between (Err Failed) new) ⊎ ((count ≡ most) × (new ≡ between)))
+
+-- So many calls went on with one transfer, and so many octets are done then: each call moved some, or was interrupted.
+-- What they change is the file, and of a read what it reads into.
+pub data WentOn {S : Type 0} (call : S → (done : ℕ) → Result ℕ RawFault → S → Type 0) (old : S)
+    : (calls done : ℕ) → S → Type 0 where
+  Begins : WentOn call old 0 0 old
+  Moved_some : (calls done count : ℕ) (between new : S)
+      → WentOn call old calls done between → 0 < count → call between done (Ok count) new
+      → WentOn call old (calls + 1) (done + count) new
+  Moved_none : (calls done : ℕ) (between new : S)
+      → WentOn call old calls done between → call between done (Err Interrupted) new
+      → WentOn call old (calls + 1) done new
+
+-- how many calls one transfer of so many octets makes at most
+abbrev pub most_calls : ℕ → ℕ
+most_calls total = min (total + most_tries) (2 ^ 64 - 1)
+
+-- A transfer goes no further: its next call failed, or moved nothing; or it has made as many calls as it may.
+pub data Stops {S : Type 0} (call : S → (done : ℕ) → Result ℕ RawFault → S → Type 0) (total : ℕ)
+    : (calls done : ℕ) → S → S → Type 0 where
+  Failed_then : (calls done : ℕ) (between new : S) → call between done (Err Failed) new
+      → Stops call total calls done between new
+  Moved_nothing : (calls done : ℕ) (between new : S) → call between done (Ok 0) new
+      → Stops call total calls done between new
+  Too_many : (calls done : ℕ) (between : S) → calls ≡ most_calls total → Stops call total calls done between between
+
+-- A read of so many octets: done where all of them are in, else a fault where it goes no further.
+pub record ReadsIn {S : Type 0} (call : S → (done : ℕ) → Result ℕ RawFault → S → Type 0) (total : ℕ)
+    (old : S) (result : Result (Unit {0}) DiskFault) (new : S) : Type 0 where
+  pub calls : ℕ
+  pub done : ℕ
+  pub between : S
+  pub went : WentOn call old calls done between
+  pub last : MatchResult result (λ _. (done ≡ total) × (new ≡ between)) (λ _. Stops call total calls done between new)
+
+-- A write of so many octets: done with the call that takes the last of them, else a fault where it goes no further.
+pub record WritesOut {S : Type 0} (call : S → (done : ℕ) → Result ℕ RawFault → S → Type 0) (total : ℕ)
+    (old : S) (result : Result (Unit {0}) DiskFault) (new : S) : Type 0 where
+  pub calls : ℕ
+  pub done : ℕ
+  pub between : S
+  pub went : WentOn call old calls done between
+  pub last : MatchResult result (λ _. (count : ℕ) × (done + count ≡ total) × call between done (Ok count) new)
+      (λ _. Stops call total calls done between new)
