@@ -1,5 +1,5 @@
 -- A transfer that goes on in pieces: a read, and a write that is given up in its midst.
-use Rattle.std.proofs.Common.{◌≡◌, ℕ, ◌+◌, ◌-◌, ◌≤◌, zero, suc, List, ◌++◌, length, take}
+use Rattle.std.proofs.Common.{◌≡◌, ℕ, ◌+◌, ◌-◌, ◌≤◌, zero, suc, List, ◌++◌, length, take, Result}
 use Rattle.std.proofs.Common.{drop, slice_range, Err, refl, inl, inr, sym, ap, ◌∙◌, arith}
 use Rattle.std.proofs.Common.{length-take, length-drop}
 use Rattle.std.proofs.Math.Seq.{take-add}
@@ -8,6 +8,8 @@ use Rattle.std.proofs.lemmas.Slice.{take-put_mid}
 use borrow.Rule.Slice.PartMut.{put_mid}
 use Rattle.std.proofs.lemmas.Bool.{cases_lt}
 use Rattle.disk_model.specs.declared.DiskFault.{DiskFault}
+use Rattle.disk_model.specs.declared.raw_file.RawFault.{RawFault}
+use Rattle.disk_model.specs.Asks.{WentOn, Stops, Transfers}
 use Rattle.disk_model.specs.Disk.{Event, Torn, Writes, content, overwritten}
 use Rattle.disk_model.specs.RawFile.{IsRead, UnderWay, Advances}
 use Rattle.disk_model.specs.TornLaws.{Torn-overwritten}
@@ -78,3 +80,16 @@ read_on octets at done count k into part within same long begun filled =
     take-put_mid done k into part (done + count) (omega (arith, long, rest)) (omega arith)
     ∙ (ap (λ (l : List ℕ). l ++ part) begun
     ∙ (ap (λ (l : List ℕ). first ++ l) second ∙ sym (range_on octets at done count)))
+
+-- a transfer that goes no further is a fault
+pub goes_no_further : {S : Type 0} {call : S → (done : ℕ) → Result ℕ RawFault → S → Type 0}
+    {Ends : (done : ℕ) → S → S → Type 0} {total calls done : ℕ} {old between new : S} {fault : DiskFault}
+    → WentOn call old calls done between → Stops call total calls done between new
+    → Transfers call Ends total old (Err fault) new
+goes_no_further {calls = calls} {done = done} {between = between} went stops = record {
+  calls = calls;
+  done = done;
+  between = between;
+  went = went;
+  last = stops;
+}

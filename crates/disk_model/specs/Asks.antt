@@ -52,21 +52,23 @@ pub data Stops {S : Type 0} (call : S → (done : ℕ) → Result ℕ RawFault �
       → Stops call total calls done between new
   Too_many : (calls done : ℕ) (between : S) → calls ≡ most_calls total → Stops call total calls done between between
 
--- A read of so many octets: done where all of them are in, else a fault where it goes no further.
-pub record ReadsIn {S : Type 0} (call : S → (done : ℕ) → Result ℕ RawFault → S → Type 0) (total : ℕ)
+-- A transfer of so many octets: done where it ends so, else a fault where it goes no further.
+pub record Transfers {S : Type 0} (call : S → (done : ℕ) → Result ℕ RawFault → S → Type 0)
+    (Ends : (done : ℕ) → S → S → Type 0) (total : ℕ)
     (old : S) (result : Result (Unit {0}) DiskFault) (new : S) : Type 0 where
   pub calls : ℕ
   pub done : ℕ
   pub between : S
   pub went : WentOn call old calls done between
-  pub last : MatchResult result (λ _. (done ≡ total) × (new ≡ between)) (λ _. Stops call total calls done between new)
+  pub last : MatchResult result (λ _. Ends done between new) (λ _. Stops call total calls done between new)
 
--- A write of so many octets: done with the call that takes the last of them, else a fault where it goes no further.
-pub record WritesOut {S : Type 0} (call : S → (done : ℕ) → Result ℕ RawFault → S → Type 0) (total : ℕ)
-    (old : S) (result : Result (Unit {0}) DiskFault) (new : S) : Type 0 where
-  pub calls : ℕ
-  pub done : ℕ
-  pub between : S
-  pub went : WentOn call old calls done between
-  pub last : MatchResult result (λ _. (count : ℕ) × (done + count ≡ total) × call between done (Ok count) new)
-      (λ _. Stops call total calls done between new)
+-- A read is done where all octets are in.
+abbrev pub ReadsIn : {S : Type 0} → (S → (done : ℕ) → Result ℕ RawFault → S → Type 0) → (total : ℕ)
+    → S → Result (Unit {0}) DiskFault → S → Type 0
+ReadsIn call total = Transfers call (λ done between new. (done ≡ total) × (new ≡ between)) total
+
+-- A write is done with the call that takes the last octets.
+abbrev pub WritesOut : {S : Type 0} → (S → (done : ℕ) → Result ℕ RawFault → S → Type 0) → (total : ℕ)
+    → S → Result (Unit {0}) DiskFault → S → Type 0
+WritesOut call total =
+    Transfers call (λ done between new. (count : ℕ) × (done + count ≡ total) × call between done (Ok count) new) total

@@ -3,6 +3,7 @@ use Rattle.disk_model.specs.Disk.{Event, content}
 use Rattle.disk_model.specs.RawFile.{IsRead}
 use Rattle.std.proofs.lemmas.Grind.{common_steps}
 use Rattle.disk_model.specs.Asks.{Moved_some, Moved_none, Failed_then, Moved_nothing, Too_many}
+use Rattle.disk_model.proofs.Pieces.{goes_no_further}
 use Rattle.disk_model.proofs.file.read_whole.Goals.{in-Ok, in-Err-Interrupted}
 use Rattle.disk_model.proofs.file.read_whole.Goals as goal
 
@@ -61,30 +62,17 @@ returns-then-done-into-clause-asks g c = record {
 }
 
 pub returns-in-Ok-eq0-clause-asks : goal.returns-in-Ok-eq0-clause-asks
-returns-in-Ok-eq0-clause-asks g c = record {
-  calls = c.loop-call._call;
-  done = c.loop-call.done;
-  between = (c.loop-call.file, c.loop-call.into);
-  went = c.loop-call.invariant.went;
-  last = Moved_nothing _ _ _ _ (rw c.in-Ok-eq0.field-0-test at c.in-Ok-eq0.ensures.reads);
-}
+returns-in-Ok-eq0-clause-asks g c =
+    goes_no_further c.loop-call.invariant.went
+    (Moved_nothing _ _ _ _ (rw c.in-Ok-eq0.field-0-test at c.in-Ok-eq0.ensures.reads))
 
 pub returns-in-Err-Failed-clause-asks : goal.returns-in-Err-Failed-clause-asks
-returns-in-Err-Failed-clause-asks g c = record {
-  calls = c.loop-call._call;
-  done = c.loop-call.done;
-  between = (c.loop-call.file, c.loop-call.into);
-  went = c.loop-call.invariant.went;
-  last = Failed_then _ _ _ _ (rw c.in-Err-Failed.field-0-is at c.in-Err-Failed.ensures.reads);
-}
+returns-in-Err-Failed-clause-asks g c =
+    goes_no_further c.loop-call.invariant.went
+    (Failed_then _ _ _ _ (rw c.in-Err-Failed.field-0-is at c.in-Err-Failed.ensures.reads))
 
 pub returns-clause-asks : goal.returns-clause-asks
-returns-clause-asks g c = record {
-  calls = c.loop-call._call;
-  done = c.loop-call.done;
-  between = (c.loop-call.file, c.loop-call.into);
-  went = c.loop-call.invariant.went;
-  last =
-      let all = c.saturating_add-turns.ensures in
-      Too_many _ _ _ (grind (arith, common_steps, c.loop-call.auto._call-end, c.loop-call-test.false, all));
-}
+returns-clause-asks g c =
+    let all = c.saturating_add-turns.ensures in
+    goes_no_further c.loop-call.invariant.went
+    (Too_many _ _ _ (grind (arith, common_steps, c.loop-call.auto._call-end, c.loop-call-test.false, all)))

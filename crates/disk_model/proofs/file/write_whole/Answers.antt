@@ -4,7 +4,7 @@ use Rattle.disk_model.specs.Asks.{Moved_some, Moved_none, Failed_then, Moved_not
 use Rattle.disk_model.specs.Disk.{Event}
 use Rattle.disk_model.specs.RawFile.{UnderWay}
 use Rattle.disk_model.specs.declared.DiskFault.{DiskFault}
-use Rattle.disk_model.proofs.Pieces.{given_up, stopped}
+use Rattle.disk_model.proofs.Pieces.{given_up, goes_no_further, stopped}
 use Rattle.disk_model.proofs.file.write_whole.Goals.{in-Ok-2, in-Err-Interrupted}
 use Rattle.disk_model.proofs.file.write_whole.Goals as goal
 
@@ -67,31 +67,17 @@ loop-call-preserved g c =
     ]
 
 pub returns-clause-asks : goal.returns-clause-asks
-returns-clause-asks g c = record {
-  calls = c.loop-call._call;
-  done = c.loop-call.done;
-  between = c.loop-call.file;
-  went = c.loop-call.invariant.went;
-  last = Too_many _ _ _
-      (grind (arith, common_steps, c.loop-call.auto._call-end, c.loop-call-test.false, c.saturating_add-turns.ensures));
-}
+returns-clause-asks g c =
+    let all = c.saturating_add-turns.ensures in
+    goes_no_further c.loop-call.invariant.went
+    (Too_many _ _ _ (grind (arith, common_steps, c.loop-call.auto._call-end, c.loop-call-test.false, all)))
 
 pub returns-in-Ok-eq0-clause-asks : goal.returns-in-Ok-eq0-clause-asks
-returns-in-Ok-eq0-clause-asks g c = record {
-  calls = c.loop-call._call;
-  done = c.loop-call.done;
-  between = c.loop-call.file;
-  went = c.loop-call.invariant.went;
-  last =
-      let none : c.in-Ok.count ≡ 0 = omega (arith, c.in-Ok-eq0.field-0-test, c.in-Ok-eq0.field-0-is) in
-      Moved_nothing _ _ _ _ (rw none at c.in-Ok.ensures.writes);
-}
+returns-in-Ok-eq0-clause-asks g c =
+    let none : c.in-Ok.count ≡ 0 = omega (arith, c.in-Ok-eq0.field-0-test, c.in-Ok-eq0.field-0-is) in
+    goes_no_further c.loop-call.invariant.went (Moved_nothing _ _ _ _ (rw none at c.in-Ok.ensures.writes))
 
 pub returns-in-Err-Failed-clause-asks : goal.returns-in-Err-Failed-clause-asks
-returns-in-Err-Failed-clause-asks g c = record {
-  calls = c.loop-call._call;
-  done = c.loop-call.done;
-  between = c.loop-call.file;
-  went = c.loop-call.invariant.went;
-  last = Failed_then _ _ _ _ (rw c.in-Err-Failed.field-0-is at c.in-Err-Failed.ensures.writes);
-}
+returns-in-Err-Failed-clause-asks g c =
+    goes_no_further c.loop-call.invariant.went
+    (Failed_then _ _ _ _ (rw c.in-Err-Failed.field-0-is at c.in-Err-Failed.ensures.writes))
