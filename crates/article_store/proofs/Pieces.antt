@@ -45,7 +45,7 @@ pub read_as : (a b : Option (List ℕ)) (front : List ℕ) (found : Found) → C
 read_as None b front found p end sendable judged = tt
 read_as (Some text) b front (Article read) p end sendable judged =
     judged ∙ whole_text text front b p (end (omega (arith, sendable.short, ap length judged)))
-read_as (Some text) b front Gone p end sendable judged = tt
+read_as (Some text) b front Gone p end sendable judged = absurd judged
 read_as (Some text) b front Unsendable p end sendable judged =
     λ sent.
     let shorter : length front < 16777217 = omega (arith, sent.short, no_longer text front b p) in

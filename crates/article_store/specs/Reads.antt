@@ -9,11 +9,11 @@ use Rattle.article_store.specs.declared.store.Found.TheVariants.{Article, Gone, 
 use Rattle.article_store.specs.declared.store.StoreFault.{StoreFault}
 use Rattle.article_store.specs.declared.store.StoreFault.TheVariants.{Disk, NoMemory}
 
--- What was found, where a reader has this text left: the very text, whole, or that it has no written form. Gone says
--- nothing of the text (profile).
+-- What was found, where a reader has this text left: the very text, whole, or that it has no written form. A text that
+-- was read is never gone (profile).
 abbrev pub IsReadAs : List ℕ → Found → Type 0
 IsReadAs text (Article read) = read ≡ text
-IsReadAs text Gone = Unit {0}
+IsReadAs text Gone = ⊥
 IsReadAs text Unsendable = ¬ (IsSendable text)
 
 -- known octets lost so many at most, from the front

@@ -1,6 +1,6 @@
 // A store of articles that are files below a directory.
-ghost use Rattle.std.specs.Prelude.{ℕ, ◌≡◌, ◌≢◌, ◌∷◌, [], ◌++◌, ◌+◌, ◌≤◌, ◌<◌, length, take, drop, string_bytes};
-ghost use Rattle.std.specs.Prelude.{IfOk, IfErr, IfSome, OnOk, OnErr};
+ghost use Rattle.std.specs.Prelude.{ℕ, ◌≡◌, ◌≢◌, ◌∷◌, [], ◌++◌, ◌+◌, ◌≤◌, ◌<◌};
+ghost use Rattle.std.specs.Prelude.{length, take, drop, string_bytes, IfOk, IfSome, OnOk, OnErr};
 ghost use Rattle.std.specs.Io.KnownBytes.{Consumes, IsAtEnd, Keeps};
 ghost use Rattle.article_store.specs.Finds.{IsFound};
 ghost use Rattle.article_store.specs.Paths.{root_of};
@@ -65,8 +65,8 @@ impl<F: Files + Drop> Folder<F> {
 }
 
 impl<F: Files + Drop> Articles for Folder<F> {
-    /// What the file of the token has, as [`read_article`] tells it. `Gone` where there is no such file: nothing, or a
-    /// directory, or a part of the path that is none.
+    /// What the file of the token has, as [`read_article`] tells it. `Gone` where there is no such file: where opening
+    /// or reading it tells that there is nothing, or a directory, or a path through what is none.
     ///
     /// # Errors
     /// [`StoreFault::NoMemory`] where memory was refused; [`StoreFault::Disk`] where the file could not be opened or
@@ -75,8 +75,12 @@ impl<F: Files + Drop> Articles for Folder<F> {
         ensures sendable { IfOk result IsFound }
     {
         let path = build_path(&mut self.path, &self.root, token)?;
-        match File::open(&self.files, path) {
+        let read = match File::open(&self.files, path) {
             Ok(mut file) => read_article(self.alloc, &mut file, &mut self.buffer),
+            Err(error) => Err(error),
+        };
+        match read {
+            Ok(found) => Ok(found),
             Err(error) => missing(error.kind()),
         }
     }
@@ -85,25 +89,22 @@ impl<F: Files + Drop> Articles for Folder<F> {
 /// What a reader gives, as an article: the whole text up to the reader's end, whatever its length is said to be, so
 /// that no part of a text is an article. Of more than 16,777,216 octets the first 16,777,217 are read, and no more:
 /// it is `Unsendable`. An interrupted read is tried again. The text is read into the buffer, which grows to that
-/// length at most, and is copied from there once.
-///
-/// `Gone` where a read tells that there is nothing, or a directory, or a path through what is none.
+/// length at most, and is copied from there once. It is never `Gone`.
 ///
 /// # Errors
-/// [`StoreFault::NoMemory`] where memory was refused; [`StoreFault::Disk`] where a read failed for any other reason.
+/// The reader's, where a read failed; [`ErrorKind::OutOfMemory`] where memory was refused.
 pub fn read_article<R: Read>(
     alloc: Global,
     reader: &mut R,
     buffer: &mut Vec<u8>,
-) -> Result<Found, StoreFault>
+) -> io::Result<Found>
     ensures sendable { IfOk result IsFound }
+    ensures there { result ≢ Ok Found.Gone }
     ensures whole { IfSome (R.remaining reader.old) (λ text. IfOk result (IsReadAs text)) }
     ensures limit { ConsumesAtMost 16777217 (R.remaining reader.old) (R.remaining reader.new) }
 {
-    match read_front(reader, buffer) {
-        Ok(count) => judge(alloc, &buffer[..count]),
-        Err(error) => missing(error.kind()),
-    }
+    let count = read_front(reader, buffer)?;
+    Ok(judge(alloc, &buffer[..count])?)
 }
 
 // Builds the path of a token's file. A token is ASCII, so its octets are text.
@@ -193,11 +194,9 @@ fn make_room(buffer: &mut Vec<u8>) -> Result<(), AllocError>
 }
 
 // What a whole text is: an article where it has a written form.
-fn judge(alloc: Global, text: &[u8]) -> Result<Found, StoreFault>
+fn judge(alloc: Global, text: &[u8]) -> Result<Found, AllocError>
     ensures sendable { IfOk result IsFound }
     ensures said { IfOk result (IsReadAs text.now) }
-    ensures there { result ≢ Ok Found.Gone }
-    ensures kinds { IfErr result (λ fault. fault ≡ StoreFault.NoMemory) }
 {
     if is_sendable(text) {
         Ok(Found::Article(Bytes::copy_from_slice(alloc, text)?))

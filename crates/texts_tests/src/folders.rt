@@ -1,6 +1,6 @@
 // The articles that are read from files: the crate article_store, over readers in memory.
 use crate::octets::{Long, assert_told, long, put};
-use article_store::{Found, StoreFault, read_article};
+use article_store::{Found, read_article};
 use std::alloc::{AllocError, Global};
 use std::io::{self, ErrorKind, Read};
 use std::test::Fail;
@@ -34,15 +34,25 @@ impl Read for Pieces<'_> {
     }
 }
 
-// Puts what was read; of a long text how many octets it has.
-fn put_read(told: &mut Vec<u8>, read: Result<Found, StoreFault>) -> Result<(), AllocError> {
+// Puts what was read; of a long text how many octets it has, of a fault of which kind it is.
+fn put_read(told: &mut Vec<u8>, read: io::Result<Found>) -> Result<(), AllocError> {
     match read {
         Ok(Found::Article(text)) if text.len() < 100 => put(told, text.as_slice()),
         Ok(Found::Article(text)) => put_count(told, text.len()),
         Ok(Found::Gone) => put(told, b"gone"),
         Ok(Found::Unsendable) => put(told, b"unsendable"),
-        Err(StoreFault::Disk) => put(told, b"Disk"),
-        Err(StoreFault::NoMemory) => put(told, b"NoMemory"),
+        Err(error) => put(told, name_of(error.kind())),
+    }
+}
+
+fn name_of(kind: ErrorKind) -> &'static [u8] {
+    match kind {
+        ErrorKind::NotFound => b"NotFound",
+        ErrorKind::NotADirectory => b"NotADirectory",
+        ErrorKind::IsADirectory => b"IsADirectory",
+        ErrorKind::OutOfMemory => b"OutOfMemory",
+        ErrorKind::PermissionDenied => b"PermissionDenied",
+        _ => b"another",
     }
 }
 
@@ -105,31 +115,41 @@ fn whole_texts_are_articles(rt: HostRuntime) -> Result<(), Fail> {
         ((b"a\0b\n", 0, 0, b""), 2, None, b"unsendable|0|"),
         ((b"", 0, 0, b""), 2, None, b"unsendable|0|"),
         // Cut off behind a text, or at once.
-        ((b"a\n", 0, 0, b""), 1, Some(ErrorKind::Other), b"Disk|0|"),
+        (
+            (b"a\n", 0, 0, b""),
+            1,
+            Some(ErrorKind::Other),
+            b"another|0|",
+        ),
         (
             (b"", 0, 0, b""),
             1,
             Some(ErrorKind::PermissionDenied),
-            b"Disk|0|",
+            b"PermissionDenied|0|",
         ),
         (
             (b"", 0, 0, b""),
             1,
             Some(ErrorKind::IsADirectory),
-            b"gone|0|",
+            b"IsADirectory|0|",
         ),
         (
             (b"", 0, 0, b""),
             1,
             Some(ErrorKind::NotADirectory),
-            b"gone|0|",
+            b"NotADirectory|0|",
         ),
-        ((b"", 0, 0, b""), 1, Some(ErrorKind::NotFound), b"gone|0|"),
+        (
+            (b"", 0, 0, b""),
+            1,
+            Some(ErrorKind::NotFound),
+            b"NotFound|0|",
+        ),
         (
             (b"", 0, 0, b""),
             1,
             Some(ErrorKind::OutOfMemory),
-            b"NoMemory|0|",
+            b"OutOfMemory|0|",
         ),
     ];
     for (text, piece, end, want) in rows {
