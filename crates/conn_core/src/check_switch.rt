@@ -1,7 +1,7 @@
 // The check switch: whether a CHECK goes before a TAKETHIS (innfeed.conf(5), no-check-high, no-check-low,
 // no-check-filter).
-ghost use Rattle.std.specs.Prelude.{◌≡◌, ◌+◌, ◌*◌, ◌^◌, ◌≤◌, ◌<◌, ◌&&◌, ◌||◌, [], ◌∷◌, not, false, take, IfOk, nat_le};
-ghost use Rattle.std.specs.Prelude.{option_to_list};
+ghost use Rattle.std.specs.Prelude.{◌≡◌, ◌+◌, ◌*◌, ◌^◌, ◌≤◌, ◌<◌, ◌&&◌, ◌||◌, []};
+ghost use Rattle.std.specs.Prelude.{◌∷◌, not, false, take, IfOk, nat_le, option_to_list};
 ghost use Rattle.conn_core.specs.Checks.{taken_among};
 ghost use Rattle.conn_core.specs.Machine.{are_off_with};
 
@@ -29,7 +29,8 @@ impl Model for CheckSwitch {
 
     ghost view = { λ s. record { filter = s.recent.capacity; recent = s.recent.items; off = s.off } };
 
-    ghost invariant = { λ s. (s.taken ≡ taken_among s.recent.items) × (length s.recent.items ≤ s.recent.capacity) };
+    ghost invariant = { λ s. (s.taken ≡ taken_among s.recent.items)
+        × (length s.recent.items ≤ s.recent.capacity) };
 }
 
 impl CheckSwitch {

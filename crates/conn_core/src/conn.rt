@@ -1,6 +1,7 @@
 // One connection, as the crates above see it: what each call promises is said of the whole transcript.
-ghost use Rattle.std.specs.Prelude.{◌≡◌, ◌↔◌, ◌≤◌, ◌<◌, ◌++◌, ℕ, List, [], ◌∷◌, Option, Some, None, length, is_some};
-ghost use Rattle.std.specs.Prelude.{option_to_list, true, IfNone, IfOk, IfErr, IsOk, OnOk, OnErr};
+ghost use Rattle.std.specs.Prelude.{◌≡◌, ◌↔◌, ◌≤◌, ◌<◌, ◌++◌, ℕ, List, [], ◌∷◌};
+ghost use Rattle.std.specs.Prelude.{Option, Some, None, length, is_some, option_to_list, true, IfNone, IfOk, IfErr};
+ghost use Rattle.std.specs.Prelude.{IsOk, OnOk, OnErr};
 ghost use Rattle.conn_core.specs.Commands.{Handing};
 ghost use Rattle.conn_core.specs.Left.{IsLeftOpen, IsReading, ReadsOne, size_of};
 ghost use Rattle.conn_core.specs.History.{Event, Offered, Handed, Sent, Tick, Broke, Leave, reason, checks, need};

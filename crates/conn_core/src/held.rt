@@ -1,7 +1,7 @@
 // The debts held, in the order offered. Each is found by its ticket, its index among those accepted: the tickets rise,
 // so that a search halves what is left.
-ghost use Rattle.std.specs.Prelude.{◌≡◌, ◌+◌, ◌<◌, ◌++◌, [], ◌∷◌, find, length, position, IfNone, MatchOption};
-ghost use Rattle.std.specs.Prelude.{option_to_list, OnOk};
+ghost use Rattle.std.specs.Prelude.{◌≡◌, ◌+◌, ◌<◌, ◌++◌, [], ◌∷◌, find, length, position};
+ghost use Rattle.std.specs.Prelude.{IfNone, MatchOption, option_to_list, OnOk};
 ghost use Rattle.std.specs.Option.{option_copied};
 ghost use Rattle.std.specs.Set.{remove_key};
 ghost use Rattle.conn_core.specs.Commands.{is_at};

@@ -1,6 +1,7 @@
 // What a connection holds, and one step of it for each event.
-ghost use Rattle.std.specs.Prelude.{◌≡◌, ◌≤◌, ◌<◌, ◌&&◌, ◌++◌, [], ◌∷◌, if◌then◌else◌, Option, None, not, length};
-ghost use Rattle.std.specs.Prelude.{option_map, slice_get, is_none, is_some, find, IfOk, IfErr, OnOk, OnErr};
+ghost use Rattle.std.specs.Prelude.{◌≡◌, ◌≤◌, ◌<◌, ◌&&◌, ◌++◌, [], ◌∷◌};
+ghost use Rattle.std.specs.Prelude.{if◌then◌else◌, Option, None, not, length, option_map, slice_get, is_none};
+ghost use Rattle.std.specs.Prelude.{is_some, find, IfOk, IfErr, OnOk, OnErr};
 ghost use Rattle.conn_core.specs.Commands.{Want, check_of, is_of, want_of};
 ghost use Rattle.conn_core.specs.History.{is_mode, is_streaming, room};
 ghost use Rattle.conn_core.specs.Machine.{TakesOne, asked, asked_to_quit, fresh, is_awaiting, newly, on_fault};

@@ -11,8 +11,8 @@
 
 pub mod readings;
 
-ghost use Rattle.std.specs.Prelude.{◌≡◌, ◌↔◌, ◌+◌, ◌≤◌, ◌<◌, ◌++◌, ℕ, List, Option, Some, None, []};
-ghost use Rattle.std.specs.Prelude.{length, is_some, true};
+ghost use Rattle.std.specs.Prelude.{◌≡◌, ◌↔◌, ◌+◌, ◌≤◌, ◌<◌, ◌++◌, ℕ, List, Option};
+ghost use Rattle.std.specs.Prelude.{Some, None, [], length, is_some, true};
 ghost use Rattle.article_store.specs.declared.store.Found.{Found};
 ghost use Rattle.reply_reader.specs.Stream.{Given};
 ghost use Rattle.conn_core.specs.Codes.{stray};

@@ -1,5 +1,6 @@
 // Numbers that wait for a moment.
-ghost use Rattle.std.specs.Prelude.{◌≡◌, ℕ, ◌≤◌, ◌↔◌, [], None, Some, IsSome, IsTrue, IfNone, IfSome, OnErr, OnOk};
+ghost use Rattle.std.specs.Prelude.{◌≡◌, ℕ, ◌≤◌, ◌↔◌, [], None, Some, IsSome, IsTrue, IfNone};
+ghost use Rattle.std.specs.Prelude.{IfSome, OnErr, OnOk};
 ghost use Rattle.deferral.specs.Due.{IsDue, IsLeastDue, IsLeastDueFrom, IsRising, added, changed, due_of, removed};
 
 use crate::tree::{Entry, Tree};

@@ -1,7 +1,7 @@
 // A binary tree over the bits of the numbers, no deeper than a number has bits, in which a number is found by its value
 // and by its moment. The numbers stand in the leaves. Each fork is over the highest bit in which its numbers differ.
-ghost use Rattle.std.specs.Prelude.{◌≡◌, ℕ, [], ◌∷◌, ◌≤◌, ◌<◌, ◌↔◌, ◌++◌, ◌⊎◌, true, false, IsSome, IsTrue, IfNone};
-ghost use Rattle.std.specs.Prelude.{IfSome, OnErr, OnOk, Option};
+ghost use Rattle.std.specs.Prelude.{◌≡◌, ℕ, [], ◌∷◌, ◌≤◌, ◌<◌, ◌↔◌, ◌++◌, ◌⊎◌};
+ghost use Rattle.std.specs.Prelude.{true, false, IsSome, IsTrue, IfNone, IfSome, OnErr, OnOk, Option};
 ghost use Rattle.deferral.specs.Due.{AllNumbers, IsDue, IsLeastDueFrom, Waiting, added, changed, due_of, removed};
 ghost use Rattle.deferral.specs.Tree.{IsBy, earlier};
 

@@ -1,6 +1,6 @@
 // A file as a disk.
-ghost use Rattle.std.specs.Prelude.{◌≡◌, ◌+◌, ◌-◌, ◌<◌, ◌≤◌, ◌↔◌, ◌^◌, ℕ, List, length, min, take};
-ghost use Rattle.std.specs.Prelude.{OnOk, OnErr, slice_range};
+ghost use Rattle.std.specs.Prelude.{◌≡◌, ◌+◌, ◌-◌, ◌<◌, ◌≤◌, ◌↔◌, ◌^◌, ℕ, List};
+ghost use Rattle.std.specs.Prelude.{length, min, take, OnOk, OnErr, slice_range};
 ghost use Rattle.disk_model.specs.Asks.{ReadsIn, WritesOut, Tries, most_tries};
 ghost use Rattle.disk_model.specs.Disk.{content, Writes, Cuts, Syncs, CountsFaults, ToldFault};
 

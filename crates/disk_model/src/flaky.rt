@@ -1,5 +1,6 @@
 // A disk that fails at one call alone.
-ghost use Rattle.std.specs.Prelude.{◌≡◌, ◌+◌, ◌-◌, ◌≤◌, ◌↔◌, ◌^◌, length, min, true, false, OnOk, OnErr, slice_range};
+ghost use Rattle.std.specs.Prelude.{◌≡◌, ◌+◌, ◌-◌, ◌≤◌, ◌↔◌, ◌^◌, length, min, true};
+ghost use Rattle.std.specs.Prelude.{false, OnOk, OnErr, slice_range};
 ghost use Rattle.disk_model.specs.Disk.{content, Writes, Cuts, Syncs, CountsFaults};
 
 use crate::{Disk, DiskFault};

@@ -1,5 +1,6 @@
 // A disk that fails from some call on.
-ghost use Rattle.std.specs.Prelude.{◌≡◌, ◌+◌, ◌<◌, ◌≤◌, ◌↔◌, ◌^◌, ◌-◌, length, min, OnOk, OnErr, slice_range};
+ghost use Rattle.std.specs.Prelude.{◌≡◌, ◌+◌, ◌<◌, ◌≤◌, ◌↔◌, ◌^◌, ◌-◌, length, min};
+ghost use Rattle.std.specs.Prelude.{OnOk, OnErr, slice_range};
 ghost use Rattle.disk_model.specs.Disk.{content, Writes, Cuts, Syncs, CountsFaults};
 
 use crate::{Disk, DiskFault};

@@ -1,6 +1,6 @@
 // A disk in memory. It keeps what happened to it, and so each moment that it had.
-ghost use Rattle.std.specs.Prelude.{◌≡◌, ◌+◌, ◌-◌, ◌^◌, ◌≤◌, ℕ, List, [], ◌∷◌, ◌++◌, length, min, false, take};
-ghost use Rattle.std.specs.Prelude.{vec_capacity, vec_len, IfOk, OnOk, OnErr};
+ghost use Rattle.std.specs.Prelude.{◌≡◌, ◌+◌, ◌-◌, ◌^◌, ◌≤◌, ℕ, List, [], ◌∷◌};
+ghost use Rattle.std.specs.Prelude.{◌++◌, length, min, false, take, vec_capacity, vec_len, IfOk, OnOk, OnErr};
 ghost use Rattle.std.specs.List.{All, AllWithin};
 ghost use Rattle.disk_model.specs.Disk.{content, Image, Event};
 ghost use Rattle.disk_model.specs.Disk.Event.{Wrote, WasCut, Synced, Made};

@@ -1,5 +1,6 @@
 // A file as the system has it: one call of the system a method.
-ghost use Rattle.std.specs.Prelude.{◌≡◌, ◌+◌, ◌<◌, ◌≤◌, ◌↔◌, ◌^◌, List, ℕ, Result, length, IfOk, OnErr, []};
+ghost use Rattle.std.specs.Prelude.{◌≡◌, ◌+◌, ◌<◌, ◌≤◌, ◌↔◌, ◌^◌, List, ℕ, Result};
+ghost use Rattle.std.specs.Prelude.{length, IfOk, OnErr, []};
 ghost use Rattle.disk_model.specs.Disk.{Event, content, Image};
 ghost use Rattle.disk_model.specs.RawFile.{IsRead, UnderWay, WritesOn, Truncates, Flushes};
 ghost use Rattle.disk_model.specs.declared.raw_file.RawFault.{RawFault};
@@ -45,10 +46,12 @@ pub trait RawFile {
     ghost log: { Self → List Event };
 
     /// What a call of `pread` made of it and of the slice, and told, where more is known of it than the rules here say.
-    ghost reads: { Self → ℕ → List ℕ → ℕ → Result ℕ RawFault → List ℕ → Self → Type 0 } = { λ _ _ _ _ _ _ _. Unit {0} };
+    ghost reads: { Self → ℕ → List ℕ → ℕ → Result ℕ RawFault → List ℕ → Self
+        → Type 0 } = { λ _ _ _ _ _ _ _. Unit {0} };
 
     /// What a call of `pwrite` made of it, and told, in the same way.
-    ghost writes: { Self → ℕ → List ℕ → ℕ → Result ℕ RawFault → Self → Type 0 } = { λ _ _ _ _ _ _. Unit {0} };
+    ghost writes: { Self → ℕ → List ℕ → ℕ → Result ℕ RawFault → Self
+        → Type 0 } = { λ _ _ _ _ _ _. Unit {0} };
 
     /// What a call of `truncate` made of it, and told, in the same way.
     ghost truncates: { Self → ℕ → Result (Unit {0}) RawFault → Self → Type 0 } = { λ _ _ _ _. Unit {0} };

@@ -1,6 +1,6 @@
 // A block's lines, counted and then read.
-ghost use Rattle.std.specs.Prelude.{◌≡◌, ◌+◌, ◌<◌, ◌≤◌, ◌↔◌, ◌++◌, ◌∷◌, [], ℕ, List, length, take, IfOk, IfErr, IfSome};
-ghost use Rattle.std.specs.Prelude.{IfNone, IsErrOf, MatchOption, MatchResult};
+ghost use Rattle.std.specs.Prelude.{◌≡◌, ◌+◌, ◌<◌, ◌≤◌, ◌↔◌, ◌++◌, ◌∷◌, [], ℕ};
+ghost use Rattle.std.specs.Prelude.{List, length, take, IfOk, IfErr, IfSome, IfNone, IsErrOf, MatchOption, MatchResult};
 ghost use Rattle.dot_codec.specs.Lines.{IsLine, text_of};
 ghost use Rattle.dot_codec.specs.Block.{IsLineForm, IsReadForm, end_of_block};
 ghost use Rattle.dot_codec.specs.Fault.{HasBlockFault, IsFaultyLine};

@@ -1,5 +1,6 @@
 // The run of octets up to the next NUL, LF or CR.
-ghost use Rattle.std.specs.Prelude.{◌≡◌, ◌≤◌, ◌⊎◌, ◌++◌, ◌∷◌, [], ℕ, List, length, take, drop};
+ghost use Rattle.std.specs.Prelude.{◌≡◌, ◌≤◌, ◌⊎◌, ◌++◌, ◌∷◌, [], ℕ, List, length, take};
+ghost use Rattle.std.specs.Prelude.{drop};
 ghost use Rattle.dot_codec.specs.Lines.{IsLine};
 ghost use Rattle.dot_codec.specs.Scan.{EndsRun, IsRun, IsStop};
 

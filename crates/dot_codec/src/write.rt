@@ -1,6 +1,6 @@
 // A text's lines, written as a block.
-ghost use Rattle.std.specs.Prelude.{◌≡◌, ◌<◌, ◌≤◌, ◌↔◌, ◌++◌, ◌∷◌, [], ℕ, List, length, drop, IfOk, IsOk, IsErrOf};
-ghost use Rattle.std.specs.Prelude.{OnOk, IsTrue};
+ghost use Rattle.std.specs.Prelude.{◌≡◌, ◌<◌, ◌≤◌, ◌↔◌, ◌++◌, ◌∷◌, [], ℕ, List};
+ghost use Rattle.std.specs.Prelude.{length, drop, IfOk, IsOk, IsErrOf, OnOk, IsTrue};
 ghost use Rattle.dot_codec.specs.Lines.{HasLines, IsSendable, longest_text};
 ghost use Rattle.dot_codec.specs.Block.{begins_with_dot, stuffed, written};
 ghost use Rattle.dot_codec.specs.Scan.{begins_with_crlf};

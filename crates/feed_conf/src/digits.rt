@@ -1,5 +1,6 @@
 // Numbers that are written in digits alone.
-ghost use Rattle.std.specs.Prelude.{◌≡◌, ◌↔◌, ◌<◌, ◌≤◌, ◌^◌, ℕ, Err, MatchOption, Ok, false, true};
+ghost use Rattle.std.specs.Prelude.{◌≡◌, ◌↔◌, ◌<◌, ◌≤◌, ◌^◌, ℕ, Err, MatchOption, Ok};
+ghost use Rattle.std.specs.Prelude.{false, true};
 ghost use Rattle.std.specs.List.{list_all};
 ghost use Rattle.feed_conf.specs.Values.{decimal, is_digit, is_number};
 ghost use Rattle.feed_conf.specs.declared.digits.DigitsFault.TheVariants.{NoNumber, TooGreat};

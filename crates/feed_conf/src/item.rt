@@ -1,6 +1,6 @@
 // What the lines of settings say.
-ghost use Rattle.std.specs.Prelude.{◌≡◌, ◌∷◌, ◌==◌, ◌<◌, [], List, ℕ, ◌≤◌, IfSome, MatchOption, codes, length};
-ghost use Rattle.std.specs.Prelude.{position};
+ghost use Rattle.std.specs.Prelude.{◌≡◌, ◌∷◌, ◌==◌, ◌<◌, [], List, ℕ, ◌≤◌, IfSome};
+ghost use Rattle.std.specs.Prelude.{MatchOption, codes, length, position};
 ghost use Rattle.std.specs.Str.{bytes_eq};
 ghost use Rattle.feed_conf.specs.Items.{sort_of, split_pair, word_items, items, items_of, PeerBegun, PeerNamed};
 ghost use Rattle.feed_conf.specs.Items.{GroupBegun, GroupNamed, KeyBegun};

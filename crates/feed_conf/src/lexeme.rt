@@ -1,5 +1,6 @@
 // The lexemes of a line of settings.
-ghost use Rattle.std.specs.Prelude.{◌≡◌, ◌∷◌, ◌<◌, ◌≤◌, [], IfSome, MatchOption, length, not, position};
+ghost use Rattle.std.specs.Prelude.{◌≡◌, ◌∷◌, ◌<◌, ◌≤◌, [], IfSome, MatchOption, length, not};
+ghost use Rattle.std.specs.Prelude.{position};
 ghost use Rattle.feed_conf.specs.Lexemes.{is_blank, is_quoted_octet, is_word_octet};
 ghost use Rattle.feed_conf.specs.Scan.{BeginsWord, StopsAt, lexemes_of};
 ghost use Rattle.feed_conf.specs.View.{lexeme_of};

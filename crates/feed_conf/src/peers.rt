@@ -1,5 +1,6 @@
 // The values of peers, looked up.
-ghost use Rattle.std.specs.Prelude.{◌≡◌, ◌<◌, ◌*◌, ◌^◌, ◌++◌, ◌∷◌, [], IfErr, IfOk, List, MatchResult, map};
+ghost use Rattle.std.specs.Prelude.{◌≡◌, ◌<◌, ◌*◌, ◌^◌, ◌++◌, ◌∷◌, [], IfErr, IfOk, List};
+ghost use Rattle.std.specs.Prelude.{MatchResult, map};
 ghost use Rattle.feed_conf.specs.declared.fault.ConfFaultKind.TheVariants.{NoMemory};
 ghost use Rattle.feed_conf.specs.Reading.{Use};
 ghost use Rattle.feed_conf.specs.ReaderView.{declared_view};

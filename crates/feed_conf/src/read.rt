@@ -1,5 +1,6 @@
 // Settings, read line by line.
-ghost use Rattle.std.specs.Prelude.{◌≡◌, ◌==◌, ◌<◌, ◌≤◌, ◌+◌, ◌∷◌, ◌^◌, [], IfOk, MatchOption, length, map, position};
+ghost use Rattle.std.specs.Prelude.{◌≡◌, ◌==◌, ◌<◌, ◌≤◌, ◌+◌, ◌∷◌, ◌^◌, [], IfOk};
+ghost use Rattle.std.specs.Prelude.{MatchOption, length, map, position};
 ghost use Rattle.feed_conf.specs.Items.{items_of};
 ghost use Rattle.feed_conf.specs.Reading.{finish, lines_of, run_line, run_lines, start, then_on};
 ghost use Rattle.feed_conf.specs.ReaderView.{IsNamed, Runs, reader_view};

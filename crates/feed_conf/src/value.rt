@@ -1,6 +1,6 @@
 // The values of keys, as they are written.
-ghost use Rattle.std.specs.Prelude.{◌≡◌, ◌==◌, ◌<◌, ◌+◌, ◌*◌, ℕ, None, Some, true, MatchOption, MatchResult, Ok, Err};
-ghost use Rattle.std.specs.Prelude.{codes, length, position};
+ghost use Rattle.std.specs.Prelude.{◌≡◌, ◌==◌, ◌<◌, ◌+◌, ◌*◌, ℕ, None, Some, true, MatchOption};
+ghost use Rattle.std.specs.Prelude.{MatchResult, Ok, Err, codes, length, position};
 ghost use Rattle.std.specs.Option.{option_map};
 ghost use Rattle.feed_conf.specs.Values.{NumberOf, bounded, capped, connections, fraction_of, hundredths};
 ghost use Rattle.feed_conf.specs.Values.{hundredths_of, number_of, parts_at, spells, spells_false, spells_true};

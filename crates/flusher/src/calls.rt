@@ -1,7 +1,7 @@
 // What workers ask of a post.
-ghost use Rattle.std.specs.Prelude.{◌≡◌, ◌+◌, ◌-◌, ◌<◌, ◌≤◌, ◌^◌, [], length, slice_index_or, true, false};
-ghost use Rattle.std.specs.Prelude.{if◌then◌else◌, IfOk, IfErr, OnOk, OnErr, max, nat_lt};
-ghost use Rattle.std.specs.Prelude.{◌≢◌, ◌⊎◌, ◌↔◌, IsErr, IsErrAnd, IsErrOf, Contains};
+ghost use Rattle.std.specs.Prelude.{◌≡◌, ◌+◌, ◌-◌, ◌<◌, ◌≤◌, ◌^◌, [], length};
+ghost use Rattle.std.specs.Prelude.{slice_index_or, true, false, if◌then◌else◌, IfOk, IfErr, OnOk, OnErr, max};
+ghost use Rattle.std.specs.Prelude.{nat_lt, ◌≢◌, ◌⊎◌, ◌↔◌, IsErr, IsErrAnd, IsErrOf, Contains};
 ghost use Rattle.flusher.specs.Counted.{IsCounted};
 ghost use Rattle.flusher.specs.Faults.{IsDiskFault, IsFlushAllFault, IsLineFault, IsNamedBy, IsOfStation};
 ghost use Rattle.flusher.specs.Faults.{IsRotateAllFault, IsSealFault, IsShedFault};

@@ -1,6 +1,7 @@
 // What a station's lock keeps.
-ghost use Rattle.std.specs.Prelude.{◌≡◌, ◌+◌, ◌<◌, ◌≤◌, ◌^◌, IfOk, IfErr, OnOk, OnErr, true, false, if◌then◌else◌, max};
-ghost use Rattle.std.specs.Prelude.{length, nat_lt, ◌-◌, ◌≢◌, ◌↔◌, ◌⊎◌, IsErrOf};
+ghost use Rattle.std.specs.Prelude.{◌≡◌, ◌+◌, ◌<◌, ◌≤◌, ◌^◌, IfOk, IfErr, OnOk, OnErr, true};
+ghost use Rattle.std.specs.Prelude.{false, if◌then◌else◌, max, length, nat_lt, ◌-◌, ◌≢◌, ◌↔◌};
+ghost use Rattle.std.specs.Prelude.{◌⊎◌, IsErrOf};
 ghost use Rattle.peer_queue.specs.Settled.{Finishes};
 ghost use Rattle.peer_queue.specs.Words.{IsRead, IsSame, IsSameTape, ledger_of};
 ghost use Rattle.peer_queue.specs.Words.{places_of, pending_of};

@@ -1,6 +1,6 @@
 // Posts: the stations of all peers behind their locks.
-ghost use Rattle.std.specs.Prelude.{◌≡◌, ℕ, ◌+◌, ◌-◌, ◌<◌, ◌≤◌, ◌^◌, List, map, length, sum_by, IfOk, IfErr, OnOk};
-ghost use Rattle.std.specs.Prelude.{OnErr};
+ghost use Rattle.std.specs.Prelude.{◌≡◌, ℕ, ◌+◌, ◌-◌, ◌<◌, ◌≤◌, ◌^◌, List, map, length};
+ghost use Rattle.std.specs.Prelude.{sum_by, IfOk, IfErr, OnOk, OnErr};
 ghost use Rattle.flusher.specs.Post.{View, names_of, sums_at, sums_in, sums_of, total};
 ghost use Rattle.peer_queue.specs.Words.{ledger_of};
 ghost use Rattle.flusher.specs.Shares.{IsUnused};

@@ -1,5 +1,6 @@
 // The books of the counting ledgers.
-ghost use Rattle.std.specs.Prelude.{◌≡◌, ℕ, ◌+◌, ◌-◌, ◌^◌, ◌<◌, ◌≤◌, IsTrue, ◌↔◌, ◌⊎◌};
+ghost use Rattle.std.specs.Prelude.{◌≡◌, ℕ, ◌+◌, ◌-◌, ◌^◌, ◌<◌, ◌≤◌, IsTrue, ◌↔◌};
+ghost use Rattle.std.specs.Prelude.{◌⊎◌};
 ghost use Rattle.flusher.specs.Counted.{Counts, answered_by, dropped_by};
 ghost use Rattle.flusher.specs.Room.{IsCountFull};
 

@@ -1,6 +1,6 @@
 // Lines from pieces of any size.
-ghost use Rattle.std.specs.Prelude.{◌≡◌, ◌<◌, ℕ, List, [], ◌∷◌, ◌++◌, length, IfOk, IfSome, IfNone, MatchOption, OnOk};
-ghost use Rattle.std.specs.Prelude.{OnErr};
+ghost use Rattle.std.specs.Prelude.{◌≡◌, ◌<◌, ℕ, List, [], ◌∷◌, ◌++◌, length, IfOk, IfSome};
+ghost use Rattle.std.specs.Prelude.{IfNone, MatchOption, OnOk, OnErr};
 ghost use Rattle.funnel.specs.Stream.{BeginsWithLine, IsUnended, Splits, StandsFor, clipped};
 
 use crate::NoMemory;

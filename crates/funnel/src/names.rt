@@ -1,5 +1,6 @@
 // Message-ids, tokens and the names of peers: octets that keep their form.
-ghost use Rattle.std.specs.Prelude.{◌≡◌, ◌==◌, ◌↔◌, ℕ, Bool, List, IfOk, IfSome, IsSome, IsTrue, count_by, false};
+ghost use Rattle.std.specs.Prelude.{◌≡◌, ◌==◌, ◌↔◌, ℕ, Bool, List, IfOk, IfSome, IsSome, IsTrue};
+ghost use Rattle.std.specs.Prelude.{count_by, false};
 ghost use Rattle.std.specs.List.{list_all, list_any, slice_split};
 ghost use Rattle.funnel.specs.Names.{is_alphanumeric, is_graphic, is_msg_id, is_name_octet, is_parent, is_peer_name};
 ghost use Rattle.funnel.specs.Names.{is_token};

@@ -1,6 +1,6 @@
 // Ledgers.
-ghost use Rattle.std.specs.Prelude.{◌≡◌, ◌==◌, ◌+◌, ◌<◌, ◌≤◌, ◌^◌, ℕ, IfNone, IfOk, IfSome};
-ghost use Rattle.std.specs.Prelude.{IsErrOf, IsOk, IsSome, IsTrue, MatchResult, OnErr, OnOk, ◌↔◌};
+ghost use Rattle.std.specs.Prelude.{◌≡◌, ◌==◌, ◌+◌, ◌<◌, ◌≤◌, ◌^◌, ℕ, IfNone, IfOk};
+ghost use Rattle.std.specs.Prelude.{IfSome, IsErrOf, IsOk, IsSome, IsTrue, MatchResult, OnErr, OnOk, ◌↔◌};
 ghost use Rattle.std.specs.Prelude.{◌-◌, length, min};
 ghost use Rattle.std.specs.List.{All, Contains};
 ghost use Rattle.std.specs.List.Sorted.{IsStrictlyIncreasing};

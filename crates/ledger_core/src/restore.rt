@@ -1,6 +1,6 @@
 // The ledger of a tape that may begin with a Base.
-ghost use Rattle.std.specs.Prelude.{◌≡◌, ◌+◌, ◌<◌, ◌≤◌, ◌^◌, ◌↔◌, ℕ, IfNone, IfOk, IfSome, IsErrOf};
-ghost use Rattle.std.specs.Prelude.{IsTrue, MatchResult, OnOk, drop, length, map, vec_items};
+ghost use Rattle.std.specs.Prelude.{◌≡◌, ◌+◌, ◌<◌, ◌≤◌, ◌^◌, ◌↔◌, ℕ, IfNone, IfOk};
+ghost use Rattle.std.specs.Prelude.{IfSome, IsErrOf, IsTrue, MatchResult, OnOk, drop, length, map, vec_items};
 ghost use Rattle.ledger_core.specs.Base.{BeginsWith, HasNoBase, IsSound, LeavesBehind, Restores};
 ghost use Rattle.ledger_core.specs.Base.{RestoreStopsAt, StopsBehind};
 

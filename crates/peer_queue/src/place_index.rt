@@ -1,6 +1,6 @@
 // Where each debt is.
-ghost use Rattle.std.specs.Prelude.{◌≡◌, ◌↔◌, ◌++◌, [], ◌∷◌, ℕ, IfNone, IfOk, IfSome, IsTrue, OnErr, OnOk, ◌<◌, ◌^◌};
-ghost use Rattle.std.specs.Prelude.{nat_le, find, length};
+ghost use Rattle.std.specs.Prelude.{◌≡◌, ◌↔◌, ◌++◌, [], ◌∷◌, ℕ, IfNone, IfOk, IfSome, IsTrue};
+ghost use Rattle.std.specs.Prelude.{OnErr, OnOk, ◌<◌, ◌^◌, nat_le, find, length};
 ghost use Rattle.std.specs.List.{All};
 ghost use Rattle.std.specs.List.Sorted.{IsStrictlyIncreasing};
 ghost use Rattle.peer_queue.specs.Place.{AreBelow, AreRising, AreUnheld, Held, IsHeldBy, IsLater, IsUnheld, Ready};

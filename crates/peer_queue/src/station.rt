@@ -35,9 +35,9 @@ pub struct Station<D: Disk> {
 }
 
 impl<D: Disk> Station<D> {
-    ghost use Rattle.std.specs.Prelude.{◌⊎◌, ◌↔◌, ◌==◌, ◌++◌, [], ◌∷◌, true, nat_lt, find, MatchResult};
-    ghost use Rattle.std.specs.Prelude.{IfErr, IfNone, IfSome, OnErr, IsErr, IsErrOf, IsOk, IsSome, IsTrue, Ok, None};
-    ghost use Rattle.std.specs.Prelude.{Some};
+    ghost use Rattle.std.specs.Prelude.{◌⊎◌, ◌↔◌, ◌==◌, ◌++◌, [], ◌∷◌, true, nat_lt, find};
+    ghost use Rattle.std.specs.Prelude.{MatchResult, IfErr, IfNone, IfSome, OnErr, IsErr, IsErrOf, IsOk, IsSome};
+    ghost use Rattle.std.specs.Prelude.{IsTrue, Ok, None, Some};
     ghost use Rattle.std.specs.List.{Contains};
     ghost use Rattle.ledger_core.specs.Ledger.{totals_of};
     ghost use Rattle.ledger_core.specs.declared.ledger.LedgerFault.{LedgerFault};

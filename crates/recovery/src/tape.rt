@@ -1,5 +1,6 @@
 // Tapes.
-ghost use Rattle.std.specs.Prelude.{◌≡◌, ◌≢◌, ◌+◌, ◌-◌, ◌*◌, ◌^◌, ◌≤◌, ◌<◌, ◌↔◌, ℕ, List, length, IsTrue};
+ghost use Rattle.std.specs.Prelude.{◌≡◌, ◌≢◌, ◌+◌, ◌-◌, ◌*◌, ◌^◌, ◌≤◌, ◌<◌};
+ghost use Rattle.std.specs.Prelude.{◌↔◌, ℕ, List, length, IsTrue};
 ghost use Rattle.tape_journal.specs.Segment.{AllShort};
 ghost use Rattle.recovery.specs.Notes.{most_pending};
 ghost use Rattle.recovery.specs.ShortLaws.{AllShort-prop};

@@ -1,5 +1,6 @@
 // Reading back the notes of debts, whose texts are on the tape alone.
-ghost use Rattle.std.specs.Prelude.{◌≡◌, ◌≢◌, ◌+◌, ◌-◌, ◌^◌, ◌<◌, ◌≤◌, ◌↔◌, ℕ, IfErr, IfOk, IsErrOf, length};
+ghost use Rattle.std.specs.Prelude.{◌≡◌, ◌≢◌, ◌+◌, ◌-◌, ◌^◌, ◌<◌, ◌≤◌, ◌↔◌};
+ghost use Rattle.std.specs.Prelude.{ℕ, IfErr, IfOk, IsErrOf, length};
 ghost use Rattle.ledger_core.specs.declared.spot.Spot.{Spot};
 ghost use Rattle.ledger_core.specs.Base.{owe};
 ghost use Rattle.ledger_core.specs.Note.{IsNote};

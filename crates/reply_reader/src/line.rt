@@ -1,5 +1,6 @@
 // One reply line.
-ghost use Rattle.std.specs.Prelude.{◌≡◌, ◌↔◌, ◌⊎◌, ℕ, List, Option, IfOk, IfErr, IfSome, IfNone, IsErrOf};
+ghost use Rattle.std.specs.Prelude.{◌≡◌, ◌↔◌, ◌⊎◌, ℕ, List, Option, IfOk, IfErr, IfSome, IfNone};
+ghost use Rattle.std.specs.Prelude.{IsErrOf};
 ghost use Rattle.reply_reader.specs.Reply.{BeginsWithCode, HasId, IsNoReply, IsReplyLine, IsText};
 
 use crate::fault::ReplyFault;

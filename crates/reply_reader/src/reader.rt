@@ -1,5 +1,6 @@
 // Replies from pieces of any size.
-ghost use Rattle.std.specs.Prelude.{◌≡◌, ◌≤◌, ◌↔◌, ◌++◌, [], ℕ, List, IfOk, IfSome, IsOk, IsTrue, OnOk, OnErr};
+ghost use Rattle.std.specs.Prelude.{◌≡◌, ◌≤◌, ◌↔◌, ◌++◌, [], ℕ, List, IfOk, IfSome, IsOk};
+ghost use Rattle.std.specs.Prelude.{IsTrue, OnOk, OnErr};
 ghost use Rattle.reply_reader.specs.Stream.{AtWork, Broken, Given, IsShort, StandsFor, Working, after_feed};
 ghost use Rattle.reply_reader.specs.Stream.{longest_reply};
 ghost use Rattle.reply_reader.specs.Told.{GivesReply, NextIs, RefusesNext, given_of, told};

@@ -1,5 +1,6 @@
 // The octets that were fed and are not read yet.
-ghost use Rattle.std.specs.Prelude.{◌≡◌, ◌≤◌, ◌++◌, [], ℕ, List, length, take, drop, OnOk, OnErr, MatchOption};
+ghost use Rattle.std.specs.Prelude.{◌≡◌, ◌≤◌, ◌++◌, [], ℕ, List, length, take, drop, OnOk, OnErr};
+ghost use Rattle.std.specs.Prelude.{MatchOption};
 ghost use Rattle.funnel.specs.Stream.{IsUnended};
 ghost use Rattle.reply_reader.specs.Search.{EndsAt, IsSearched};
 

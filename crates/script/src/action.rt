@@ -1,6 +1,6 @@
 // What a step of a script does with one connection (docs/FORMATS.md).
-ghost use Rattle.std.specs.Prelude.{◌≡◌, ◌≢◌, ◌<◌, ◌∷◌, [], ℕ, List, Some, codes, length, option_map};
-ghost use Rattle.std.specs.Prelude.{IfNone, IfOk, IfSome, MatchOption};
+ghost use Rattle.std.specs.Prelude.{◌≡◌, ◌≢◌, ◌<◌, ◌∷◌, [], ℕ, List, Some, codes, length};
+ghost use Rattle.std.specs.Prelude.{option_map, IfNone, IfOk, IfSome, MatchOption};
 ghost use Rattle.script.specs.Action.{ActionView, Escapes, IsWritten, Spells, Supplies, action_view, line_of};
 ghost use Rattle.script.specs.Step.{Acts, step_view};
 ghost use Rattle.script.specs.Parts.{ActionOf};

@@ -1,6 +1,6 @@
 // Adding records to a segment at rest.
-ghost use Rattle.std.specs.Prelude.{◌≡◌, ◌+◌, ◌-◌, ◌^◌, ◌<◌, ◌≤◌, ◌↔◌, ◌++◌, ℕ, List, length, min, IfOk, OnOk, IsTrue};
-ghost use Rattle.std.specs.Prelude.{map, vec_items};
+ghost use Rattle.std.specs.Prelude.{◌≡◌, ◌+◌, ◌-◌, ◌^◌, ◌<◌, ◌≤◌, ◌↔◌, ◌++◌, ℕ};
+ghost use Rattle.std.specs.Prelude.{List, length, min, IfOk, OnOk, IsTrue, map, vec_items};
 ghost use Rattle.disk_model.specs.Disk.{content, Leaves, AfterSync, CountsFaults};
 ghost use Rattle.tape_journal.specs.Journal.{gates_opened, appending};
 ghost use Rattle.tape_journal.specs.Kept.{AtRest};

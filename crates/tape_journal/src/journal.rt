@@ -53,8 +53,8 @@ fn read_fault_of(fault: OpenFault) -> ReadFault
 }
 
 impl<D: Disk> Journal<D> {
-    ghost use Rattle.std.specs.Prelude.{◌≢◌, ◌↔◌, [], ◌∷◌, ◌++◌, length, min, MatchResult, IfOk, IfErr, OnOk};
-    ghost use Rattle.std.specs.Prelude.{OnErr, IsOk, IsErrOf, IsTrue, map, vec_items};
+    ghost use Rattle.std.specs.Prelude.{◌≢◌, ◌↔◌, [], ◌∷◌, ◌++◌, length, min, MatchResult, IfOk};
+    ghost use Rattle.std.specs.Prelude.{IfErr, OnOk, OnErr, IsOk, IsErrOf, IsTrue, map, vec_items};
     ghost use Rattle.disk_model.specs.Disk.{ToldFault};
     ghost use Rattle.tape_journal.specs.Segment.{AllShort, IsRecord, records, longest_segment};
     ghost use Rattle.tape_journal.specs.Append.{Appends, Continues, RefusesAppend};

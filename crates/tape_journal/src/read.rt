@@ -1,6 +1,6 @@
 // Reading a segment, front to back.
-ghost use Rattle.std.specs.Prelude.{◌≡◌, ◌+◌, ◌-◌, ◌^◌, ◌<◌, ◌≤◌, ◌↔◌, ℕ, List, length, min, take, drop, IfOk, OnOk};
-ghost use Rattle.std.specs.Prelude.{IsErrOf, MatchOption, IfSome, map, vec_items};
+ghost use Rattle.std.specs.Prelude.{◌≡◌, ◌+◌, ◌-◌, ◌^◌, ◌<◌, ◌≤◌, ◌↔◌, ℕ, List};
+ghost use Rattle.std.specs.Prelude.{length, min, take, drop, IfOk, OnOk, IsErrOf, MatchOption, IfSome, map, vec_items};
 ghost use Rattle.std.specs.Int.{to_be_bytes, from_be_bytes, w32};
 ghost use Rattle.disk_model.specs.Disk.{ToldFault, content};
 ghost use Rattle.tape_journal.specs.Head.{IsHead, FitsHead};

@@ -1,6 +1,6 @@
 // The words of the command line, and what they ask for (docs/MANUAL.md).
-ghost use Rattle.std.specs.Prelude.{◌≡◌, ◌≢◌, ◌≤◌, ◌↔◌, ◌⊎◌, length, Ok, Err, IfOk, IsTrue, codes, option_map};
-ghost use Rattle.std.specs.Prelude.{alloc_error};
+ghost use Rattle.std.specs.Prelude.{◌≡◌, ◌≢◌, ◌≤◌, ◌↔◌, ◌⊎◌, length, Ok, Err, IfOk};
+ghost use Rattle.std.specs.Prelude.{IsTrue, codes, option_map, alloc_error};
 ghost use Rattle.clap.specs.Words.{first_value, found_of, kind_of, one_text};
 ghost use Rattle.words.specs.Words.{Asks, AsksOf, HasMore, IsFlag, IsMistaken, IsTold};
 

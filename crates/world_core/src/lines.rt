@@ -1,5 +1,6 @@
 // What steps tell, as the lines of the script's format (docs/FORMATS.md).
-ghost use Rattle.std.specs.Prelude.{◌≡◌, [], ◌∷◌, ◌++◌, decimal as digits_of, flat_map, map, IfOk, OnOk};
+ghost use Rattle.std.specs.Prelude.{◌≡◌, [], ◌∷◌, ◌++◌, decimal as digits_of, flat_map, map, IfOk};
+ghost use Rattle.std.specs.Prelude.{OnOk};
 ghost use Rattle.world_core.specs.Lines.{handed_text, line_text, numbers_text, owed_text};
 ghost use Rattle.world_core.specs.Lines.{reason_text, settled_text, told_text};
 ghost use Rattle.world_core.specs.Told.{said_of};

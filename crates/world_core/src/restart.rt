@@ -1,6 +1,6 @@
 // The opening of all tapes again. Where one is refused all stops again.
-ghost use Rattle.std.specs.Prelude.{OnOk, false};
-ghost use Rattle.std.specs.Prelude.{◌≡◌, ◌∷◌, ◌+◌, ◌≤◌, ℕ, [], Some, IfErr, IfOk, List, map, vec_capacity, vec_len};
+ghost use Rattle.std.specs.Prelude.{OnOk, false, ◌≡◌, ◌∷◌, ◌+◌, ◌≤◌, ℕ, [], Some, IfErr, IfOk};
+ghost use Rattle.std.specs.Prelude.{List, map, vec_capacity, vec_len};
 ghost use Rattle.world_core.specs.Halting.{TapesStop};
 ghost use Rattle.world_core.specs.Opening.{AllOpen, OpensNot};
 ghost use Rattle.world_core.specs.Past.{Past};

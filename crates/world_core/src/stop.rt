@@ -1,5 +1,6 @@
 // A stop that waits for a call of a disk, and the disks that it stops.
-ghost use Rattle.std.specs.Prelude.{◌≡◌, ◌+◌, ◌-◌, ◌^◌, ◌≤◌, length, min, ◌∷◌, [], IfOk, OnOk};
+ghost use Rattle.std.specs.Prelude.{◌≡◌, ◌+◌, ◌-◌, ◌^◌, ◌≤◌, length, min, ◌∷◌, [], IfOk};
+ghost use Rattle.std.specs.Prelude.{OnOk};
 
 use disk_model::{Choice, Disk, DiskFault, MemDisk};
 use std::alloc::AllocError;

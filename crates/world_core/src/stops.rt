@@ -1,6 +1,6 @@
 // Stops of a world, at rest or met, and its restart.
-ghost use Rattle.std.specs.Prelude.{◌≡◌, ◌↔◌, ◌<◌, ℕ, [], true, false, length, List, Option, position, IfErr, IfOk};
-ghost use Rattle.std.specs.Prelude.{OnErr, OnOk};
+ghost use Rattle.std.specs.Prelude.{◌≡◌, ◌↔◌, ◌<◌, ℕ, [], true, false, length, List, Option};
+ghost use Rattle.std.specs.Prelude.{position, IfErr, IfOk, OnErr, OnOk};
 ghost use Rattle.std.specs.Str.{bytes_eq};
 ghost use Rattle.world_core.specs.Trigger.{IsMet, armed_at};
 

@@ -1,6 +1,6 @@
 // The steps on tapes: each is a list of events, and the room for what it tells is made first.
-ghost use Rattle.std.specs.Prelude.{◌≡◌, ◌≢◌, ◌⊎◌, ◌+◌, ◌<◌, ◌≤◌, ◌^◌, ℕ, [], List, length};
-ghost use Rattle.std.specs.Prelude.{IfErr, IfOk, MatchOption, OnOk, vec_capacity, vec_len};
+ghost use Rattle.std.specs.Prelude.{◌≡◌, ◌≢◌, ◌⊎◌, ◌+◌, ◌<◌, ◌≤◌, ◌^◌, ℕ, []};
+ghost use Rattle.std.specs.Prelude.{List, length, IfErr, IfOk, MatchOption, OnOk, vec_capacity, vec_len};
 ghost use Rattle.world_core.specs.declared.fault.Fault.TheVariants.{NoMemory};
 
 use crate::fault::{Fault, Halt};

@@ -1,5 +1,6 @@
 // Replies that come in.
-ghost use Rattle.std.specs.Prelude.{◌≡◌, ◌≢◌, ◌+◌, ◌≤◌, ◌++◌, drop, find, length, OnOk, OnErr};
+ghost use Rattle.std.specs.Prelude.{◌≡◌, ◌≢◌, ◌+◌, ◌≤◌, ◌++◌, drop, find, length, OnOk};
+ghost use Rattle.std.specs.Prelude.{OnErr};
 ghost use Rattle.reply_reader.specs.Told.{given_of};
 ghost use Rattle.conn_core.specs.Checks.{counts};
 ghost use Rattle.conn_core.specs.Commands.{is_at};
