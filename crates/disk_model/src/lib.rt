@@ -1,7 +1,7 @@
 //! Disks, as a journal sees them: what a read gives, and what a stop at any moment may leave.
 //!
-//! Most of it may touch nothing but memory; `raw_file` and `directory` may touch files, each method by one call of the
-//! system.
+//! Most of it may touch nothing but memory; `raw_file` and `directory` may touch files: each method of a `RawFile` is
+//! one call of the system.
 //! The crates above use the contract of [`Disk`] alone: content, images, moments, honesty, faults.
 //! The whole model is `specs/Disk.antt`; what proofs above it use is `specs/MomentLaws.antt`.
 #![tactic(auto)]

@@ -114,8 +114,10 @@ impl RawFile for File {
 
     ghost content_is_image = { λ _ no. absurd no };
 
+    // Of a file whose length the system does not tell it is the greatest: a read then fails at the file's end. One that
+    // was told as empty would be cut.
     fn len(&self) -> u64 {
-        self.metadata().map_or(0, |metadata| metadata.len())
+        self.metadata().map_or(u64::MAX, |metadata| metadata.len())
     }
 
     fn pread(&mut self, at: u64, into: &mut [u8], done: usize) -> Result<usize, RawFault> {

@@ -106,7 +106,7 @@ impl<D: Disk> Tape<D> {
         let Some(spot) = self.ledger.spot(number) else {
             return Ok(None);
         };
-        let payload = match self.note_at(number, spot) {
+        let payload = match self.payload_of(spot) {
             Ok(payload) => payload,
             Err(fault) => return Err(fault),
         };

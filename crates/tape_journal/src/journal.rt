@@ -171,7 +171,7 @@ impl<D: Disk> Journal<D> {
         if payloads.is_empty() {
             return Ok(());
         }
-        let staged = staging_of(self.alloc, payloads)?;
+        let staged = staging_of(self.alloc, payloads, added)?;
         self.window.forget();
         match add_records(&mut self.disk, self.end, &staged, payloads) {
             Ok(()) => {
