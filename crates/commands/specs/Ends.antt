@@ -1,6 +1,7 @@
 -- What each order comes to: its exit status, what is on standard output, and the line on standard error, if any
 -- (docs/MANUAL.md).
-use Rattle.std.specs.Prelude.{◌≡◌, ◌⊎◌, ℕ, List, Option, None, Some, Result, Ok, Err, OnOk, codes, string_bytes}
+use Rattle.std.specs.Prelude.{◌≡◌, ◌⊎◌, ℕ, List, Option, None, Some, Result, Ok, Err, OnOk, IfSome, codes, option_map}
+use Rattle.std.specs.Prelude.{string_bytes}
 use Rattle.std.specs.Io.KnownBytes.{Appends, Keeps}
 use Rattle.std.specs.declared.io.Error.{Error}
 use Rattle.drill.specs.Drill.{Drills}
@@ -14,6 +15,7 @@ use Rattle.feed_conf.specs.declared.fault.ConfFault.{ConfFault}
 use Rattle.commands.specs.Check.{check_text}
 use Rattle.commands.specs.Exit.{exit_of}
 use Rattle.commands.specs.Feed.{exit_of_end}
+use Rattle.commands.specs.Feeding.{Feeding}
 use Rattle.commands.specs.FeedLines.{end_text}
 use Rattle.commands.specs.Lines.{config_text, refusal_text, no_tape_text, unread_text, input_text, output_text}
 use Rattle.commands.specs.Lines.{mistake_text}
@@ -85,23 +87,27 @@ Checks says path old new exit line =
     ⊎ (MissesFile says path exit line × Keeps old new)
     ⊎ LacksMemory exit line
 
--- a feed ended, or a list of what is owed: the status and the lines tell the same end
-abbrev pub EndsFeed : Exit → Option (List ℕ) → Type 0
-EndsFeed exit line = (end : FeedEnd) × (exit ≡ exit_of_end end) × (line ≡ Some (end_text end))
+-- what feeds was asked, did this by these settings, and ended so: the status and the lines tell that end
+abbrev pub EndsFeed : (Outcome → FeedEnd → Type 0) → Outcome → Exit → Option (List ℕ) → Type 0
+EndsFeed did outcome exit line =
+    (end : FeedEnd) × did outcome end × (exit ≡ exit_of_end end) × (line ≡ Some (end_text end))
 
--- Something that is done with the settings in a file.
-abbrev pub Works : (Option (List ℕ) → Type 0) → List ℕ →
+-- Something that what feeds does with the settings in a file, which is asked for nothing where there are none.
+abbrev pub Works : (Option (List ℕ) → Type 0) → (did : Outcome → FeedEnd → Type 0) → (unasked : Type 0) → List ℕ →
     Option (List ℕ) → Option (List ℕ) → Exit → Option (List ℕ) → Type 0
-Works says path old new exit line =
-    ((text : List ℕ) × (outcome : Outcome) × says (Some text) × Means text (Ok outcome) × EndsFeed exit line)
-    ⊎ ((text : List ℕ) × says (Some text) × Refuses text exit line × Keeps old new)
-    ⊎ (MissesFile says path exit line × Keeps old new)
-    ⊎ LacksMemory exit line
+Works says did unasked path old new exit line =
+    ((text : List ℕ) × (outcome : Outcome) × says (Some text) × Means text (Ok outcome)
+    × EndsFeed did outcome exit line)
+    ⊎ ((text : List ℕ) × says (Some text) × Refuses text exit line × Keeps old new × unasked)
+    ⊎ (MissesFile says path exit line × Keeps old new × unasked)
+    ⊎ (LacksMemory exit line × Keeps old new × unasked)
 
--- A drill from standard input.
-abbrev pub DrillsInput : Option (List ℕ) → Option (List ℕ) → Exit → Option (List ℕ) → Type 0
-DrillsInput old new exit line =
-    ((text : List ℕ) × Runs text (codes "standard input") old new exit line) ⊎ LosesInput exit line
+-- A drill from standard input, which holds this where that is known.
+abbrev pub DrillsInput : Option (List ℕ) →
+    Option (List ℕ) → Option (List ℕ) → Exit → Option (List ℕ) → Type 0
+DrillsInput holds old new exit line =
+    ((text : List ℕ) × IfSome holds (λ octets. text ≡ octets) × Runs text (codes "standard input") old new exit line)
+    ⊎ ((LosesInput exit line ⊎ LacksMemory exit line) × Keeps old new)
 
 -- A drill from a file.
 abbrev pub DrillsFile : (Option (List ℕ) → Type 0) → List ℕ →
@@ -111,17 +117,21 @@ DrillsFile says path old new exit line =
     ⊎ (MissesFile says path exit line × Keeps old new)
     ⊎ LacksMemory exit line
 
--- What an order comes to, where this is said of the files, and standard output had and has these octets.
-abbrev pub Does : (List ℕ → Option (List ℕ) → Type 0) → Option (List ℕ) → Option (List ℕ) → Order →
-    Exit → Option (List ℕ) → Type 0
-Does says old new DrillFromInput exit line = DrillsInput old new exit line
-Does says old new (Drill path) exit line = DrillsFile (says path.now) path.now old new exit line
-Does says old new (Check path) exit line = Checks (says path.now) path.now old new exit line
-Does says old new (Owed path) exit line = Works (says path.now) path.now old new exit line
-Does says old new (Feed path funnel verbose) exit line = Works (says path.now) path.now old new exit line
-Does says old new (Tell text) exit line = Prints (string_bytes text) old new exit line
-Does says old new (Mistake what) exit line = (exit ≡ Usage) × (line ≡ Some (mistake_text (string_bytes what)))
-    × Keeps old new
+-- What an order comes to, where this is said of the files, and known of what feeds; where standard input holds this,
+-- and standard output had and has these octets.
+abbrev pub Does : (List ℕ → Option (List ℕ) → Type 0) → Feeding →
+    Option (List ℕ) → Option (List ℕ) → Option (List ℕ) → Order → Exit → Option (List ℕ) → Type 0
+Does says feeds holds old new DrillFromInput exit line = DrillsInput holds old new exit line
+Does says feeds holds old new (Drill path) exit line = DrillsFile (says path.now) path.now old new exit line
+Does says feeds holds old new (Check path) exit line = Checks (says path.now) path.now old new exit line
+Does says feeds holds old new (Owed path) exit line =
+    Works (says path.now) feeds.listed feeds.unasked path.now old new exit line
+Does says feeds holds old new (Feed path funnel verbose) exit line =
+    Works (says path.now) (λ conf end. feeds.fed conf (option_map (λ name. name.now) funnel) verbose end) feeds.unasked
+    path.now old new exit line
+Does says feeds holds old new (Tell text) exit line = Prints (string_bytes text) old new exit line
+Does says feeds holds old new (Mistake what) exit line =
+    (exit ≡ Usage) × (line ≡ Some (mistake_text (string_bytes what))) × Keeps old new
 
 -- What a line, a feed's lines or none makes of standard error, which had and has these octets; of one that could not be
 -- written nothing is known.

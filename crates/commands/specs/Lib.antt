@@ -1,7 +1,9 @@
 pub mod Check
 pub mod Ends
+pub mod Errand
 pub mod Exit
 pub mod Fault
 pub mod Feed
+pub mod Feeding
 pub mod FeedLines
 pub mod Lines

@@ -1,4 +1,8 @@
 // What feeds peers, and what it tells at its end.
+ghost use Rattle.std.specs.Prelude.{ℕ, List, Option, Bool, option_map};
+ghost use Rattle.feed_conf.specs.ConfView.{conf_view};
+ghost use Rattle.feed_conf.specs.Settings.{Outcome};
+ghost use Rattle.commands.specs.declared.feeds.FeedEnd.{FeedEnd};
 
 use crate::exit::Exit;
 use feed_conf::Conf;
@@ -49,7 +53,7 @@ pub struct FeedEnd {
 }
 
 impl FeedEnd {
-    ghost use Rattle.std.specs.Prelude.{◌≡◌, [], true, false};
+    ghost use Rattle.std.specs.Prelude.{◌≡◌, [], false};
     ghost use Rattle.commands.specs.Feed.{exit_of_end};
 
     /// A feed that ended well, with nothing owed.
@@ -62,17 +66,6 @@ impl FeedEnd {
             files: Vec::new(alloc),
             lacks: false,
             owing: Vec::new(alloc),
-        }
-    }
-
-    /// A feed that ended since memory, a thread or what sockets want was refused.
-    pub fn lacking(alloc: Global) -> Self
-        ensures { (result.tapes.items ≡ []) × (result.files.items ≡ []) × (result.lacks ≡ true)
-            × (result.owing.items ≡ []) }
-    {
-        FeedEnd {
-            lacks: true,
-            ..FeedEnd::well(alloc)
         }
     }
 
@@ -95,6 +88,16 @@ impl FeedEnd {
 
 /// What feeds peers, and lists what they are owed.
 pub trait Feeds {
+    /// What a feed made of it, and of what was written, by these settings, from the funnel file at this path or from
+    /// none, logging or not, where it ended so. Where no more is said of it than that it ended, as by the default, this
+    /// holds of all.
+    ghost fed: { Self → Option (List ℕ) → Outcome → Option (List ℕ) → Bool → FeedEnd → Self
+        → Option (List ℕ) → Type 0 } = { λ _ _ _ _ _ _ _ _. Unit {0} };
+
+    /// What a list of what is owed made of it, and of what was written, in the same way.
+    ghost listed: { Self → Option (List ℕ) → Outcome → FeedEnd → Self
+        → Option (List ℕ) → Type 0 } = { λ _ _ _ _ _ _. Unit {0} };
+
     /// Feeds the peers of these settings from the funnel file at this path, or with none from their backlogs alone, and
     /// writes `taken N` for each acknowledged batch of lines; where `verbose`, what becomes of connections is logged.
     fn feed<W: Write>(
@@ -104,8 +107,13 @@ pub trait Feeds {
         funnel: Option<&str>,
         verbose: bool,
         out: &mut W,
-    ) -> FeedEnd;
+    ) -> FeedEnd
+        ensures { fed self.old (W.contents out.old) (conf_view conf)
+            (option_map (λ name. name.now) funnel.entry) verbose result self.new
+            (W.contents out.new) };
 
     /// Writes a line for each debt of the peers of these settings, `NAME NUMBER TOKEN ID`, by name and rising number.
-    fn list_owed<W: Write>(&mut self, alloc: Global, conf: Conf, out: &mut W) -> FeedEnd;
+    fn list_owed<W: Write>(&mut self, alloc: Global, conf: Conf, out: &mut W) -> FeedEnd
+        ensures { listed self.old (W.contents out.old) (conf_view conf) result self.new
+            (W.contents out.new) };
 }

@@ -1,7 +1,10 @@
 // What each order of the command line does (docs/MANUAL.md).
-ghost use Rattle.std.specs.Prelude.{◌≡◌, ◌≢◌, List, ℕ, Option, OnOk};
+ghost use Rattle.std.specs.Prelude.{◌≡◌, ◌≢◌, List, ℕ, Option, OnOk, false};
 ghost use Rattle.std.specs.Io.KnownBytes.{Appends};
+ghost use Rattle.feed_conf.specs.ConfView.{conf_view};
 ghost use Rattle.commands.specs.Ends.{Checks, Does, DrillsFile, DrillsInput, Prints, Runs, Tells, Works};
+ghost use Rattle.commands.specs.Errand.{DoesErrand};
+ghost use Rattle.commands.specs.Feeding.{asks_feeds, feeding_of};
 ghost use Rattle.commands.specs.Fault.{Comes, IsLineOf};
 
 use crate::check::{checked, settings_of};
@@ -37,9 +40,12 @@ pub fn run<F: ReadFile, P: Feeds, S: Read, W: Write, E: Write>(
 ) -> Ended
     ensures does { (line : Option (List ℕ))
         × Tells (E.contents err.old) (E.contents err.new) result.told line
-        × Does (F.says files.now) (W.contents out.old) (W.contents out.new)
+        × Does (F.says files.now)
+        (feeding_of P.fed P.listed feeds.old feeds.new (W.contents out.old) (W.contents out.new))
+        (S.remaining input.old) (W.contents out.old) (W.contents out.new)
         order.entry result.exit line }
     ensures unread { order.entry ≢ Order.DrillFromInput → input.new ≡ input.old }
+    ensures unasked { asks_feeds order.entry ≡ false → feeds.new ≡ feeds.old }
 {
     match perform(alloc, order, files, feeds, input, out) {
         Ok(exit) => Ended { exit, told: Ok(()) },
@@ -79,10 +85,12 @@ fn perform<'a, F: ReadFile, P: Feeds, S: Read, W: Write>(
     input: &mut S,
     out: &mut W,
 ) -> Result<Exit, Fault<'a>>
-    ensures does { Comes (Does (F.says files.now) (W.contents out.old) (W.contents out.new)
-        order.entry)
+    ensures does { Comes (Does (F.says files.now)
+        (feeding_of P.fed P.listed feeds.old feeds.new (W.contents out.old) (W.contents out.new))
+        (S.remaining input.old) (W.contents out.old) (W.contents out.new) order.entry)
         result }
     ensures unread { order.entry ≢ Order.DrillFromInput → input.new ≡ input.old }
+    ensures unasked { asks_feeds order.entry ≡ false → feeds.new ≡ feeds.old }
 {
     match order {
         Order::DrillFromInput => drill_input(alloc, input, out),
@@ -107,7 +115,9 @@ fn drill_input<'a, S: Read, W: Write>(
     input: &mut S,
     out: &mut W,
 ) -> Result<Exit, Fault<'a>>
-    ensures { Comes (DrillsInput (W.contents out.old) (W.contents out.new)) result }
+    ensures { Comes
+        (DrillsInput (S.remaining input.old) (W.contents out.old) (W.contents out.new))
+        result }
 {
     let mut script = Vec::new(alloc);
     match input.read_to_end(&mut script) {
@@ -190,7 +200,10 @@ fn serve<'a, F: ReadFile, P: Feeds, W: Write>(
     out: &mut W,
 ) -> Result<Exit, Fault<'a>>
     ensures { Comes
-        (Works (F.says files.now path.now) path.now (W.contents out.old) (W.contents out.new))
+        (Works (F.says files.now path.now)
+        (DoesErrand P.fed P.listed feeds.old feeds.new (W.contents out.old) (W.contents out.new)
+        errand.entry)
+        (feeds.new ≡ feeds.old) path.now (W.contents out.old) (W.contents out.new))
         result }
 {
     match files.read_file(alloc, path) {
@@ -209,7 +222,10 @@ fn run_errand<P: Feeds, W: Write>(
     conf: Conf,
     errand: Errand<'_>,
     out: &mut W,
-) -> FeedEnd {
+) -> FeedEnd
+    ensures { DoesErrand P.fed P.listed feeds.old feeds.new (W.contents out.old)
+        (W.contents out.new) errand.entry (conf_view conf) result }
+{
     match errand {
         Errand::List => feeds.list_owed(alloc, conf, out),
         Errand::Feed { funnel, verbose } => feeds.feed(alloc, conf, funnel, verbose, out),

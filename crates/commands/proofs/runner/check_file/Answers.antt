@@ -1,4 +1,4 @@
-use Rattle.std.proofs.Common.{◌⊎◌, inl}
+use Rattle.std.proofs.Common.{inl}
 use Rattle.commands.specs.Ends.{Checks, Prints}
 use Rattle.commands.proofs.Telling.{comes_as}
 use Rattle.commands.proofs.runner.check_file.Goals as goal

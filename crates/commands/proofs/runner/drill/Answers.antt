@@ -1,5 +1,5 @@
 -- A line that was refused is told, and a tape.
-use Rattle.std.proofs.Common.{◌⊎◌, Some, inl, refl, subst}
+use Rattle.std.proofs.Common.{Some, inl, refl, subst}
 use Rattle.drill.specs.Drill.{Drills}
 use Rattle.drill.specs.declared.ending.Ending.{Ending}
 use Rattle.drill.specs.declared.ending.Ending.TheVariants.{NoTape, Refused}

@@ -1,4 +1,4 @@
-use Rattle.std.proofs.Common.{◌⊎◌, inl, refl}
+use Rattle.std.proofs.Common.{inl, refl}
 use Rattle.feed_conf.specs.ConfView.{conf_view}
 use Rattle.commands.proofs.runner.serve.Goals as goal
 
@@ -10,5 +10,5 @@ returns-in-Ok-settings_of g c = λ line is.
       conf_view c.in-Ok-settings_of.conf,
       c.in-Ok.ensures.read,
       means,
-      (c.run_errand.result, refl, is),
+      (c.run_errand.result, c.run_errand.ensures, refl, is),
     )
