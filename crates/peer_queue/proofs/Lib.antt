@@ -1,5 +1,6 @@
 pub mod AllLater
 pub mod Claims
+pub mod Cuts
 pub mod EndFaults
 pub mod Ends
 pub mod Fronts

@@ -21,8 +21,9 @@ use std::alloc::{AllocError, Global};
 
 /// All that one peer is owed.
 ///
-/// Each call is logarithmic in what is owed; `release` and `shed` also in what they move, `flush` linear in what pends,
-/// `open` and `list` linear.
+/// Each call is logarithmic in what is owed; `release` for each number that it moves, and `shed` for each that there is
+/// room for among the notes that pend, whatever exceeds the limit; `flush` is linear in what pends, `open` and `list`
+/// are linear.
 #[derive(Drop)]
 pub struct Station<D: Disk> {
     pub(crate) alloc: Global,
@@ -37,7 +38,7 @@ pub struct Station<D: Disk> {
 impl<D: Disk> Station<D> {
     ghost use Rattle.std.specs.Prelude.{◌⊎◌, ◌↔◌, ◌==◌, ◌++◌, [], ◌∷◌, true, nat_lt, find};
     ghost use Rattle.std.specs.Prelude.{MatchResult, IfErr, IfNone, IfSome, OnErr, IsErr, IsErrOf, IsOk, IsSome};
-    ghost use Rattle.std.specs.Prelude.{IsTrue, Ok, None, Some};
+    ghost use Rattle.std.specs.Prelude.{IsTrue, List, Ok, None, Some, take};
     ghost use Rattle.std.specs.List.{Contains};
     ghost use Rattle.ledger_core.specs.Ledger.{totals_of};
     ghost use Rattle.ledger_core.specs.declared.ledger.LedgerFault.{LedgerFault};
@@ -317,7 +318,7 @@ impl<D: Disk> Station<D> {
     }
 
     /// Drops, oldest first, what exceeds the backlog's limit, as far as there is room among the notes that pend. All of
-    /// it is dropped, or on a refusal nothing.
+    /// it is dropped, or on a refusal nothing. It gathers one number more than there is room for at most.
     ///
     /// # Errors
     /// Tried in this order: `Broken`; `NoMemory`.
@@ -334,8 +335,8 @@ impl<D: Disk> Station<D> {
         if self.tape.is_broken() {
             return Err(StationFault::Broken);
         }
-        let mut numbers = self.shed_set()?;
         let room = self.tape.room();
+        let mut numbers = self.shed_set(room)?;
         let more = numbers.len() > room;
         numbers.truncate(room);
         if let Err(fault) = self.tape.drop_all(&numbers, Cause::Limit) {
@@ -479,11 +480,11 @@ impl<D: Disk> Station<D> {
         }
     }
 
-    // The numbers to shed, oldest first.
-    fn shed_set(&self) -> Result<Vec<u64>, AllocError>
-        ensures set { IfOk result
-            (λ set. IsShedSet (limits_of self.now) (ledger_of self.now)
-            (places_of self.now) set.items) }
+    // The numbers to shed, oldest first, or the first of them: one more than there is room for at most.
+    fn shed_set(&self, room: usize) -> Result<Vec<u64>, AllocError>
+        ensures set { IfOk result (λ found. (set : List ℕ)
+            × IsShedSet (limits_of self.now) (ledger_of self.now) (places_of self.now) set
+            × (found.items ≡ take (room + 1) set)) }
         ensures rising { OnOk result (AreRising (places_of self.now)) }
     {
         let limit = self.limits.backlog_limit;
@@ -495,6 +496,7 @@ impl<D: Disk> Station<D> {
         }
         while let Some(number) = next
             && owed > limit
+            && set.len() <= room
         {
             set.push(number)?;
             owed = owed.saturating_sub(self.tape.octets(number).unwrap_or(0));

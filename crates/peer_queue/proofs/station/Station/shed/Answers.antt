@@ -1,5 +1,5 @@
-use Rattle.std.proofs.Common.{◌≡◌, ℕ, ◌≤◌, List, [], length, take, inr, sym, ap, ◌∙◌, subst, arith}
-use Rattle.std.specs.Prelude.{Err}
+use Rattle.std.proofs.Common.{◌≡◌, ℕ, ◌≤◌, List, [], length, take, inr, sym, ap, ◌∙◌, subst, arith, rules}
+use Rattle.std.specs.Prelude.{Err, nat_lt}
 use Rattle.std.proofs.lemmas.Bool.{iff_false}
 use Rattle.std.proofs.lemmas.List.{length-take}
 use Rattle.std.specs.List.{All}
@@ -9,19 +9,26 @@ use Rattle.recovery.specs.declared.fault.TapeFault.{TapeFault}
 use Rattle.recovery.specs.Words.{ledger_of as tape_ledger}
 use Rattle.peer_queue.specs.Place.{AreUnheld, all_gone, placed}
 use Rattle.peer_queue.specs.Shed.{dropped}
-use Rattle.peer_queue.specs.Words.{ledger_of, places_of}
+use Rattle.peer_queue.specs.Words.{ledger_of, pending_of, places_of}
 use Rattle.peer_queue.specs.ShedLaws.{shed_unheld}
+use Rattle.peer_queue.proofs.Cuts.{cut_again, cut_shed}
 use Rattle.peer_queue.proofs.Sheds.{drop_fault, marked_dropped, placed_dropped, shed_owed}
 use Rattle.peer_queue.proofs.station.Station.shed.Goals as goal
 
 pub returns-in-Err-clause-kinds : goal.returns-in-Err-clause-kinds
 returns-in-Err-clause-kinds g c =
     let station = c.args.self.now in
-    let set = c.in_ok-numbers.numbers.items in
+    let state = ledger_of station in
+    let places = places_of station in
+    let found = c.in_ok-numbers.ensures.set in
+    let set = found.0 in
     let room = c.room-room.result in
-    let cut : c.deref.result.now ≡ take room set = c.deref.ensures.value ∙ c.truncate.ensures.items in
-    let owed : AreOwed (ledger_of station) [] c.deref.result.now =
-    subst (λ (l : List ℕ). AreOwed (ledger_of station) [] l) (sym cut) (shed_owed station.limits (ledger_of station) (places_of station) set room c.in_ok-numbers.ensures.rising station.all_placed c.in_ok-numbers.ensures.set) in
+    let again = cut_again room c.in_ok-numbers.numbers.items set found.2 in
+    let cut : c.deref.result.now ≡ take room set = c.deref.ensures.value ∙ (c.truncate.ensures.items ∙ again) in
+    let rising = c.in_ok-numbers.ensures.rising in
+    let owed : AreOwed state [] c.deref.result.now =
+    subst (λ (l : List ℕ). AreOwed state [] l) (sym cut)
+    (shed_owed station.limits state places set room rising station.all_placed found.1) in
     let few : length c.deref.result.now ≤ room = omega (arith, ap (λ (l : List ℕ). length l) cut, length-take room set) in
     inr (c.station_fault.ensures ∙ drop_fault c.in-Err.fault c.in-Err.ensures.refuses.kinds
     (λ e. iff_false c.is_broken.ensures c.if-is_broken.false (c.in-Err.ensures.refuses.broken.0 (ap (λ (f : TapeFault). Err f) e)))
@@ -31,10 +38,14 @@ returns-in-Err-clause-kinds g c =
 pub remove_all-requires : goal.remove_all-requires
 remove_all-requires g c =
     let station = c.args.self.now in
-    let set = c.in_ok-numbers.numbers.items in
+    let places = places_of station in
+    let found = c.in_ok-numbers.ensures.set in
+    let set = found.0 in
     let room = c.room-room.result in
-    let cut : c.deref-2.result.now ≡ take room set = c.deref-2.ensures.value ∙ c.truncate.ensures.items in
-    subst (λ (l : List ℕ). AreUnheld (places_of station) l) (sym cut) (shed_unheld station.limits (ledger_of station) (places_of station) set room c.in_ok-numbers.ensures.rising c.in_ok-numbers.ensures.set)
+    let again = cut_again room c.in_ok-numbers.numbers.items set found.2 in
+    let cut : c.deref-2.result.now ≡ take room set = c.deref-2.ensures.value ∙ (c.truncate.ensures.items ∙ again) in
+    subst (λ (l : List ℕ). AreUnheld places l) (sym cut)
+    (shed_unheld station.limits (ledger_of station) places set room c.in_ok-numbers.ensures.rising found.1)
 
 pub invariant_of-self-2 : goal.invariant_of-self-2
 invariant_of-self-2 g c =
@@ -48,4 +59,20 @@ invariant_of-self-2 g c =
           ap placed (c.remove_all.ensures ∙ ap (λ (k : List ℕ). all_gone (places_of station) k) same)
           ∙ (placed_dropped (places_of station) state l station.all_placed ∙ sym (ap (λ (s : State). numbers s) ledger));
       marked = subst (λ (s : State). All (λ m. m ≤ s.mark) (numbers s)) (sym ledger) (marked_dropped state l station.marked);
+    }
+
+pub returns-clause-ok : goal.returns-clause-ok
+returns-clause-ok g c =
+    let station = c.args.self.now in
+    let room = c.room-room.result in
+    let found = c.in_ok-numbers.numbers.items in
+    let many : c.len.result ≡ length found = omega (arith, c.len.ensures) in
+    record {
+      set =
+          cut_shed station.limits (ledger_of station) (places_of station) (pending_of station) room found
+          c.room-room.ensures c.in_ok-numbers.ensures.set c.truncate.ensures.items (ap (λ (n : ℕ). nat_lt room n) many);
+      notes = search rules;
+      ledger = search rules;
+      places = search rules;
+      pends = search rules;
     }

@@ -1,14 +1,19 @@
-use Rattle.std.proofs.Common.{◌≡◌, ℕ, ◌+◌, ◌-◌, List, length, Option, sym, ap, ◌∙◌, subst, inl, inr, arith}
+use Rattle.std.proofs.Common.{◌≡◌, ℕ, ◌+◌, ◌-◌, List, [], length, Option, refl, sym, ap, ◌∙◌, subst, inl, inr, arith}
 use Rattle.std.specs.Prelude.{unwrap_or}
-use Rattle.std.proofs.lemmas.List.{length_push}
+use Rattle.std.proofs.lemmas.List.{length_push, take_all}
+use Rattle.ledger_core.specs.State.{owed_bytes}
 use Rattle.ledger_core.specs.declared.ledger.Totals.{Totals}
 use Rattle.peer_queue.specs.Place.{unheld}
 use Rattle.peer_queue.specs.Shed.{IsWithin}
 use Rattle.peer_queue.specs.Words.{ledger_of, places_of}
+use Rattle.peer_queue.proofs.Cuts.{front_cut}
 use Rattle.peer_queue.proofs.Fronts.{at_some}
-use Rattle.peer_queue.proofs.Sheds.{IsFront, front_all, front_more, front_none}
+use Rattle.peer_queue.proofs.Sheds.{IsFront, front_more, front_none}
 use Rattle.peer_queue.proofs.station.Station.shed_set.Goals as goal
-use Rattle.peer_queue.proofs.station.Station.shed_set.Goals.{in-None-1, in-Some+else-owed-limit, then-limit-eq0-via-then-limit-eq0, then-limit-eq0-via-else-limit-eq0+then-owed-self}
+use Rattle.peer_queue.proofs.station.Station.shed_set.Goals.{in-None-1, in-Some+else-owed-limit}
+use Rattle.peer_queue.proofs.station.Station.shed_set.Goals.{in-Some+then-owed-limit+else-len-room}
+use Rattle.peer_queue.proofs.station.Station.shed_set.Goals.{then-limit-eq0-via-then-limit-eq0}
+use Rattle.peer_queue.proofs.station.Station.shed_set.Goals.{then-limit-eq0-via-else-limit-eq0+then-owed-self}
 
 pub loop-next-init : goal.loop-next-init
 loop-next-init g c =
@@ -16,14 +21,21 @@ loop-next-init g c =
     let limit = station.limits.backlog_limit in
     let next = c.unheld_from-next.result in
     let owed = c.totals-owed.result.owed_bytes in
-    subst (λ (set : List ℕ). IsFront limit (ledger_of station) (places_of station) set next owed) (sym c.new-set.ensures.items)
-    (front_none limit (ledger_of station) (places_of station) next owed c.unheld_from-next.ensures.first (ap (λ (totals : Totals). totals.owed_bytes) c.totals-owed.ensures.counts))
+    let state = ledger_of station in
+    let places = places_of station in
+    let counted : owed ≡ owed_bytes state = ap (λ (totals : Totals). totals.owed_bytes) c.totals-owed.ensures.counts in
+    record {
+      front =
+          subst (λ (set : List ℕ). IsFront limit state places set next owed) (sym c.new-set.ensures.items)
+          (front_none limit state places next owed c.unheld_from-next.ensures.first counted);
+      few = omega (arith, ap (λ (l : List ℕ). length l) c.new-set.ensures.items);
+    }
 
 pub loop-next-smaller : goal.loop-next-smaller
 loop-next-smaller g c =
     let U = unheld (places_of c.args.self.now) in
     let set = c.loop-next.set.items in
-    let at = at_some U (length set) c.in-Some.number (sym c.loop-next.invariant.next ∙ c.in-Some.is) in
+    let at = at_some U (length set) c.in-Some.number (sym c.loop-next.invariant.front.next ∙ c.in-Some.is) in
     let more : length c.push.new.self.items ≡ length set + 1 = ap (λ (l : List ℕ). length l) c.in_ok-push.ensures.items ∙ length_push set c.in-Some.number in
     omega (arith, at.0, more)
 
@@ -38,10 +50,18 @@ loop-next-preserved g c =
     let owed = c.loop-next.owed in
     let next = c.next_unheld-next.result in
     let owed' = c.saturating_sub-owed.result in
-    let is = subst (λ (o : Option ℕ). IsFront limit state places set o owed) c.in-Some.is c.loop-next.invariant in
+    let more : length c.push.new.self.items ≡ length set + 1 =
+    ap (λ (l : List ℕ). length l) c.in_ok-push.ensures.items ∙ length_push set n in
+    let rising = c.unheld_from-next.ensures.rising in
+    let found = c.next_unheld-next.ensures in
+    let is = subst (λ (o : Option ℕ). IsFront limit state places set o owed) c.in-Some.is c.loop-next.invariant.front in
     let fall = c.saturating_sub-owed.ensures ∙ ap (λ (k : ℕ). owed - k) (c.unwrap_or.ensures ∙ ap (λ (o : Option ℕ). unwrap_or o 0) c.octets.ensures.octets) in
-    subst (λ (l : List ℕ). IsFront limit state places l next owed') (sym c.in_ok-push.ensures.items)
-    (front_more limit state places set n next owed owed' c.unheld_from-next.ensures.rising station.all_placed is c.if-owed-limit.true c.next_unheld-next.ensures fall)
+    record {
+      front =
+          subst (λ (l : List ℕ). IsFront limit state places l next owed') (sym c.in_ok-push.ensures.items)
+          (front_more limit state places set n next owed owed' rising station.all_placed is c.if-owed-limit.true found fall);
+      few = omega (arith, more, c.len.ensures, c.if-len-room.true);
+    }
 
 pub returns-clause-set : goal.returns-clause-set
 returns-clause-set g c =
@@ -50,8 +70,14 @@ returns-clause-set g c =
       | inl none ↦ c.if-limit-eq0.false none
       | inr low ↦ omega (arith, low, c.if-owed-self.false, ap (λ (totals : Totals). totals.owed_bytes) c.totals-owed.ensures.counts)
     ] in
-    front_all station.limits (ledger_of station) (places_of station) c.loop-next.set.items c.loop-next.next c.loop-next.owed over c.loop-next.invariant
-    (elim c.match-next.branch [ in-None-1 w ↦ inl cc | in-Some+else-owed-limit w ↦ inr w.if-owed-limit.false ])
+    let loop = c.loop-next in
+    front_cut station.limits (ledger_of station) (places_of station) loop.set.items loop.next loop.owed c.args.room over
+    loop.invariant.front loop.invariant.few
+    (elim c.match-next.branch [
+      | in-None-1 w ↦ inl (inl cc)
+      | in-Some+else-owed-limit w ↦ inl (inr w.if-owed-limit.false)
+      | in-Some+then-owed-limit+else-len-room w ↦ inr (omega (arith, w.len.ensures, w.if-len-room.false))
+    ])
 
 pub returns-then-limit-eq0-clause-set : goal.returns-then-limit-eq0-clause-set
 returns-then-limit-eq0-clause-set g c =
@@ -66,4 +92,4 @@ returns-then-limit-eq0-clause-set g c =
                 c.totals-owed.ensures.counts,
           ))
     ] in
-    inl (within, c.new-set.ensures.items)
+    ([], inl (within, refl), c.new-set.ensures.items ∙ sym (take_all (c.args.room + 1) [] (omega arith)))
