@@ -1,5 +1,5 @@
 -- What a station's lock keeps is kept by the station's calls.
-use Rattle.std.proofs.Common.{◌≡◌, Bool, true, false, ℕ, ◌+◌, List, [], ◌∷◌, length, sym, ap, subst, arith}
+use Rattle.std.proofs.Common.{◌≡◌, ℕ, ◌+◌, List, [], ◌∷◌, length, sym, ap, subst, arith}
 use Rattle.std.specs.Prelude.{Result, OnOk, OnErr, Ok, Err, ◌↔◌}
 use Rattle.std.proofs.Math.Logic.{∥∥₁_map}
 use Rattle.disk_model.specs.declared.Disk.{Ghosts}
@@ -12,7 +12,7 @@ use Rattle.ledger_core.specs.State.{State, step, after}
 use Rattle.recovery.specs.Notes.{History, noted, noted_all, flushed, drops}
 use Rattle.peer_queue.specs.Shed.{dropped}
 use Rattle.recovery.specs.DiskLaws.{honest-along}
-use Rattle.recovery.specs.Words.{AreHonest as AreTapeHonest, disks_of as tape_disks, ledger_of as tape_ledger}
+use Rattle.recovery.specs.Words.{AreHonest as AreTapeHonest, ledger_of as tape_ledger}
 use Rattle.recovery.specs.Tape.{StandsFor as TapeStandsFor}
 use Rattle.recovery.specs.declared.tape.Tape.{Tape}
 use Rattle.peer_queue.specs.declared.station.Station.{Station}

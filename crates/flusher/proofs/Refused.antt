@@ -1,5 +1,5 @@
 -- Which faults come, and of which peers.
-use Rattle.std.proofs.Common.{◌≡◌, ◌<◌, ℕ, Result, Ok, Err, IfErr, refl, arith}
+use Rattle.std.proofs.Common.{◌≡◌, ◌<◌, ℕ, refl, arith}
 use Rattle.ledger_core.specs.State.{State}
 use Rattle.ledger_core.specs.declared.ledger.LedgerFault.{LedgerFault}
 use Rattle.ledger_core.specs.declared.ledger.LedgerFault.TheVariants.{OldNumber, NotOwed, CountFull as LedgerFull}
@@ -23,11 +23,6 @@ line_fault_of P Q CountFull along is = is
 line_fault_of P Q (Stranger at) along is = along at is
 line_fault_of P Q (Busy at) along is = is
 line_fault_of P Q NoMemory along is = is
-
-pub line_faults_of : {A : Type 0} (P Q : ℕ → Type 0) (result : Result A PostFault) → ((at : ℕ) → P at → Q at)
-    → IfErr result (IsLineFault P) → IfErr result (IsLineFault Q)
-line_faults_of P Q (Ok value) along is = is
-line_faults_of P Q (Err fault) along is = line_fault_of P Q fault along is
 
 -- a ledger refuses no number above its mark that was seen
 pub seen_taken : (state : State) (number : ℕ) (fault : LedgerFault) → state.mark < number

@@ -4,8 +4,10 @@ use Rattle.std.proofs.Common.{arith, Bool}
 use Rattle.std.specs.Prelude.{nat_lt, max, if◌then◌else◌, slice_set, slice_index, slice_index_or, Contains}
 use Rattle.std.proofs.lemmas.Bool.{cases_lt}
 use Rattle.std.proofs.lemmas.Bool.Decides.{nat_tests}
-use Rattle.std.proofs.lemmas.List.{get_or-set_same, get_or-set_other, length-set}
-use Rattle.flusher.specs.Marks.{IsRaisedAt, IsTakenAt, rises}
+use Rattle.std.proofs.lemmas.List.{get_or-set_same, get_or-set_other, get_or-take, length-set, length-take}
+use Rattle.flusher.specs.declared.fault.PostFault.{PostFault}
+use Rattle.flusher.specs.Faults.{IsLineFault}
+use Rattle.flusher.specs.Marks.{IsRaisedAt, IsTakenAt, RefusesGood, rises}
 use Rattle.flusher.proofs.Rises.{rises_same, rises_set}
 
 above_max : (m n : ℕ) → nat_lt m (max m n) ≡ nat_lt m n
@@ -83,3 +85,19 @@ module _ (number : ℕ) (named names : List (List ℕ)) (was : List ℕ) where
   done_more k now next a b c within done (inr t) =
       subst (λ (m : List ℕ). Done number named names was (k + 1) m a c) (sym t.1)
       (subst (λ (m : ℕ). Done number named names was (k + 1) now a m) (sym t.2) (done_kept k now a b done t.0))
+
+  -- a station refuses the line, which those before it took
+  pub refused_at : (k : ℕ) (now : List ℕ) (a b : ℕ) (fault : PostFault) → k < length names
+      → Done number named names was k now a b → Contains named (slice_index_or names k [])
+      → IsLineFault (λ at. at ≡ k) fault → RefusesGood number named names fault was now
+  refused_at k now a b fault within done is_named kinds = record {
+    reached = k;
+    raised =
+        λ p below. let before : p < k = omega (arith, below, length-take k names) in
+        subst (λ (name : List ℕ). IsRaisedAt number named name (slice_index was p) (slice_index now p))
+        (sym (get_or-take k names p [] before)) (done.2 p before);
+    behind = done.1;
+    within = within;
+    names_it = is_named;
+    kinds = kinds;
+  }

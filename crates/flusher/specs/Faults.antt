@@ -6,11 +6,11 @@ use Rattle.peer_queue.specs.declared.fault.StationFault.{StationFault}
 use Rattle.peer_queue.specs.declared.fault.StationFault.TheVariants.{Broken as BrokenStation, Tape}
 use Rattle.peer_queue.specs.declared.fault.StationFault.TheVariants.{NoMemory as NoStationMemory}
 use Rattle.recovery.specs.declared.fault.TapeFault.{TapeFault}
-use Rattle.recovery.specs.declared.fault.TapeFault.TheVariants.{Damaged, Disk, Broken, TapeFull}
-use Rattle.recovery.specs.declared.fault.TapeFault.TheVariants.{GenerationFull, PendingFull}
-use Rattle.recovery.specs.declared.fault.TapeFault.TheVariants.{NoMemory as NoTapeMemory, Note as RefusedNote}
+use Rattle.recovery.specs.declared.fault.TapeFault.TheVariants.{Disk, Broken, TapeFull}
+use Rattle.recovery.specs.declared.fault.TapeFault.TheVariants.{PendingFull}
+use Rattle.recovery.specs.declared.fault.TapeFault.TheVariants.{NoMemory as NoTapeMemory}
 use Rattle.flusher.specs.declared.fault.PostFault.{PostFault}
-use Rattle.flusher.specs.declared.fault.PostFault.TheVariants.{Station, Intake, CountFull, Stranger, Busy, NoMemory}
+use Rattle.flusher.specs.declared.fault.PostFault.TheVariants.{Station, Intake, CountFull, Stranger, NoMemory}
 use Rattle.flusher.specs.declared.fault.TakeFault.{TakeFault}
 use Rattle.flusher.specs.declared.fault.TakeFault.TheVariants.{Stranger as OtherMark, Station as OfStation}
 

@@ -1,10 +1,12 @@
 -- What the workers' shares have counted.
 use Rattle.std.specs.Prelude.{◌≡◌, ℕ, List}
 
--- how many debts the intake counted as taken, and the mark of each station as it knows it
+-- how many debts the intake counted as taken, the mark of each station as it knows it, and the number of the last line
+-- that was taken
 pub record IntakeCount : Type 0 where
   pub taken : ℕ
   pub marks : List ℕ
+  pub last : ℕ
 
 -- how many debts a feeder counted as answered, and as dropped
 pub record FeederCount : Type 0 where

@@ -3,9 +3,9 @@ ghost use Rattle.std.specs.Prelude.{◌≡◌, ◌+◌, ◌-◌, ◌<◌, ◌≤
 ghost use Rattle.std.specs.Prelude.{slice_index_or, true, false, if◌then◌else◌, IfOk, IfErr, OnOk, OnErr, max};
 ghost use Rattle.std.specs.Prelude.{nat_lt, ◌≢◌, ◌⊎◌, ◌↔◌, IsErr, IsErrAnd, IsErrOf, Contains};
 ghost use Rattle.flusher.specs.Counted.{IsCounted};
-ghost use Rattle.flusher.specs.Faults.{IsDiskFault, IsFlushAllFault, IsLineFault, IsNamedBy, IsOfStation};
+ghost use Rattle.flusher.specs.Faults.{IsDiskFault, IsFlushAllFault, IsLineFault, IsOfStation};
 ghost use Rattle.flusher.specs.Faults.{IsRotateAllFault, IsSealFault, IsShedFault};
-ghost use Rattle.flusher.specs.Marks.{IsRaised, IsRaisedBy, IsTakenAt, rises};
+ghost use Rattle.flusher.specs.Marks.{IsRaised, IsRaisedBy, IsTakenAt, RefusesGood, RefusesLine, rises};
 ghost use Rattle.flusher.specs.Room.{IsCountFull};
 ghost use Rattle.peer_queue.specs.Faults.{IsClaimFault, IsEndFault, IsFlushFault};
 ghost use Rattle.peer_queue.specs.Words.{ledger_of};
@@ -64,6 +64,14 @@ impl<D: Disk, N: Naming> Post<D, N> {
         ensures sum { result.taken ≡ result.owed + result.answered + result.dropped }
     {
         self.peers[peer].desk.lock(rt).station.totals()
+    }
+
+    /// How many debts a peer is owed, without a wait. None where the peer's station is in use.
+    pub fn try_owed(&self, peer: usize) -> Option<u64>
+        requires { peer < length self.now.names }
+    {
+        let desk = self.free_desk(peer)?;
+        Some(desk.station.totals().owed)
     }
 
     /// Whether no debt of a peer is ready, and no connection holds one.
@@ -283,13 +291,12 @@ impl<D: Disk, N: Naming> Post<D, N> {
         }
     }
 
-    /// Takes a funnel line at each station whose peer it names, and answers its number. Where it is refused, it is to
-    /// be given again.
+    /// Takes a funnel line at each station whose peer it names, and answers its number, the one behind the last.
     ///
     /// # Errors
     /// `CountFull` where the line's number would pass the greatest u64; `NoMemory`; then of each peer that a good line
     /// names, in order: `CountFull` where the tally of what was taken has no room for 65,537 more; `Stranger`; the
-    /// station's.
+    /// station's. The peers before that one have taken the line: it is to be given again, under the same number.
     #[tactic(auto, using(crate::proofs::Rises::rises_same))]
     pub fn take_line<R: Wait>(
         &self,
@@ -298,19 +305,24 @@ impl<D: Disk, N: Naming> Post<D, N> {
         share: &mut IntakeShare<N>,
     ) -> Result<u64, PostFault>
         ensures marks { length share.new.marks ≡ length share.old.marks }
+        ensures number { IfOk result (λ n. (n ≡ share.old.last + 1) × (share.new.last ≡ n)) }
         ensures raised { IfOk result
             (λ n. IsRaised n line.now self.now.names share.old.marks share.new.marks) }
         ensures counted { share.new.taken ≡ share.old.taken
             + rises share.old.marks share.new.marks }
-        ensures kinds { IfErr result (IsLineFault (IsNamedBy line.now self.now.names)) }
+        ensures count_full { share.old.last ≡ 2 ^ 64 - 1 → result ≡ Err PostFault.CountFull }
+        ensures refuses { IfErr result (λ fault. RefusesLine (share.old.last + 1) line.now
+            self.now.names fault share.old.marks share.new.marks) }
+        ensures stays { OnErr result (share.new.last ≡ share.old.last) }
     {
-        let last = self.intake.lock(rt).last;
-        let Some(number) = last.checked_add(1) else {
+        let Some(number) = share.last.checked_add(1) else {
             return Err(PostFault::CountFull);
         };
-        let IntakeShare { taken, marks } = share;
+        let shared_last = &self.last;
+        let IntakeShare { taken, marks, last } = share;
         self.take_read(rt, number, line, taken, marks)?;
-        self.intake.lock(rt).last = number;
+        *last = number;
+        shared_last.store(number, Ordering::SeqCst);
         Ok(number)
     }
 
@@ -331,7 +343,8 @@ impl<D: Disk, N: Naming> Post<D, N> {
             (IsRaised number line.now self.now.names marks.old.items marks.new.items) }
         ensures counted { taken.new.amount ≡ taken.old.amount
             + rises marks.old.items marks.new.items }
-        ensures kinds { IfErr result (IsLineFault (IsNamedBy line.now self.now.names)) }
+        ensures refuses { IfErr result (λ fault. RefusesLine number line.now self.now.names fault
+            marks.old.items marks.new.items) }
         ensures part { taken.new.parts ≡ 1 }
     {
         match read_line(self.alloc, line) {
@@ -361,9 +374,8 @@ impl<D: Disk, N: Naming> Post<D, N> {
             marks.new.items) }
         ensures counted { taken.new.amount ≡ taken.old.amount
             + rises marks.old.items marks.new.items }
-        ensures kinds { IfErr result
-            (IsLineFault (λ at. (at < length self.now.names)
-            × Contains line.now.peers.items (slice_index_or self.now.names at []))) }
+        ensures refuses { IfErr result (λ fault. RefusesGood number line.now.peers.items
+            self.now.names fault marks.old.items marks.new.items) }
         ensures part { taken.new.parts ≡ 1 }
     {
         for peer in 0..self.peers.len() {
@@ -443,7 +455,7 @@ impl<D: Disk, N: Naming> Post<D, N> {
     pub fn flush_all<P: Pace, R: Wait>(&self, rt: &R, pace: &P) -> Result<Receipt, PostFault>
         ensures kinds { IfErr result (IsFlushAllFault (length self.now.names)) }
     {
-        let number = self.intake.lock(rt).last;
+        let number = self.last.load(Ordering::SeqCst);
         for peer in 0..self.peers.len() {
             self.flush_one(rt, pace, peer)?;
             pace.turn(Who::Flusher, Point::AfterFlush);

@@ -3,6 +3,7 @@ ghost use Rattle.std.specs.Prelude.{◌≡◌, ℕ, ◌+◌, ◌-◌, ◌<◌, �
 ghost use Rattle.std.specs.Prelude.{sum_by, IfOk, IfErr, OnOk, OnErr};
 ghost use Rattle.flusher.specs.Post.{View, names_of, sums_at, sums_in, sums_of, total};
 ghost use Rattle.peer_queue.specs.Words.{ledger_of};
+ghost use Rattle.recovery.specs.Words.{ledger_of as tape_ledger};
 ghost use Rattle.flusher.specs.Shares.{IsUnused};
 
 use crate::desk::Desk;
@@ -36,11 +37,10 @@ pub(crate) struct PeerDesk<D: Disk, N: Naming> {
     pub(crate) given_up: AtomicU64,
 }
 
-// The intake tape, and the number of the last line that every station has taken that it names.
+// The intake tape.
 #[derive(Drop)]
 pub(crate) struct Intake<D: Disk> {
     pub(crate) tape: Tape<D>,
-    pub(crate) last: u64,
 }
 
 /// The stations of all peers and the intake tape, each behind a lock of its own, and the tally behind another.
@@ -51,6 +51,9 @@ pub struct Post<D: Disk, N: Naming> {
     pub(crate) alloc: Global,
     pub(crate) peers: Vec<PeerDesk<D, N>>,
     pub(crate) intake: Mutex<Intake<D>>,
+    // The number of the last line that every station has taken that it names, as the intake's share has it: for the
+    // flusher, which reads it before the stations are flushed. The intake alone writes it.
+    pub(crate) last: AtomicU64,
     pub(crate) tally: Mutex<Tally<N>>,
 }
 
@@ -165,6 +168,7 @@ impl<D: Disk + Drop, N: Naming> Post<D, N> {
             }) }
         ensures marks { IfOk result
             (λ r. r.1.marks ≡ map (λ p. (ledger_of p.station).mark) peers.items) }
+        ensures last { IfOk result (λ r. r.1.last ≡ (tape_ledger intake).mark) }
         ensures nothing { IfOk result
             (λ r. (r.1.taken ≡ 0) × IsUnused r.2 × IsUnused r.3 × IsUnused r.4) }
     {
@@ -216,12 +220,17 @@ impl<D: Disk + Drop, N: Naming> Post<D, N> {
         let post = Post {
             alloc,
             peers: made,
-            intake: Mutex::new(Intake { tape: intake, last }),
+            intake: Mutex::new(Intake { tape: intake }),
+            last: AtomicU64::new(last),
             tally: Mutex::new(tally),
         };
         Ok((
             post,
-            IntakeShare { taken: mine, marks },
+            IntakeShare {
+                taken: mine,
+                marks,
+                last,
+            },
             first,
             second,
             third,
@@ -355,13 +364,13 @@ impl<D: Disk + Drop, N: Naming> Post<D, N> {
         dropped_at.audit(&mut all.dropped);
         let IntakeShare {
             taken: mut told,
-            marks: _,
+            ..
         } = intake;
         takers.audit(&mut told);
         let (mut told_answered, mut told_dropped) = joined(first, second, third);
         answerers.audit(&mut told_answered);
         droppers.audit(&mut told_dropped);
-        let Intake { tape, .. } = behind.into_inner();
+        let Intake { tape } = behind.into_inner();
         Ok(Closed {
             peers: closed,
             intake: tape,

@@ -4,11 +4,13 @@ use crate::naming::{AnsweredByFeeders, DroppedByFeeders, TakenByIntake};
 use std::marker::Model;
 use std::sync::ledger::Share;
 
-/// What the intake has counted, and each station's mark as it knows it, in the order of the peers.
+/// What the intake has counted, each station's mark as it knows it, in the order of the peers, and the number of the
+/// last line that every station has taken that it names.
 #[derive(Drop)]
 pub struct IntakeShare<N: Naming> {
     pub(crate) taken: Share<TakenByIntake<N>>,
     pub(crate) marks: Vec<u64>,
+    pub(crate) last: u64,
 }
 
 impl<N: Naming> Model for IntakeShare<N> {
@@ -17,7 +19,7 @@ impl<N: Naming> Model for IntakeShare<N> {
 
     ghost Value = { IntakeCount };
 
-    ghost view = { λ share. record { taken = share.taken.amount; marks = share.marks.items } };
+    ghost view = { λ share. record { taken = share.taken.amount; marks = share.marks.items; last = share.last } };
 
     ghost invariant = { λ share. (share.taken.parts ≡ 1) × (length share.marks.items ≡ N.names.peers) };
 }

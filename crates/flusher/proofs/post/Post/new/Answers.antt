@@ -124,3 +124,19 @@ invariant_of-result g c =
     let zero : length l.peer-iterator.rest.items ≡ 0 = ap length none in
     let peers : length c.args.peers.items ≡ g.N.Naming.names.peers = sym (ap (λ n. n.peers) c.requires.names) in
     (c.open-taken.ensures.parts, omega (arith, zero, peers, l.invariant.6))
+
+pub returns-clause-post : goal.returns-clause-post
+returns-clause-post g c =
+    let l = c.loop-peer in
+    let none : l.peer-iterator.rest.items ≡ [] = nothing _ (search rules) in
+    let names : map (λ q. q.name) l.made.items ≡ map (λ p. p.name) c.args.peers.items = sym (all_moved _)
+    ∙ (sym (ap (λ r. map (λ q. q.name) l.made.items ++ map (λ p. p.name) r) none) ∙ l.invariant.2) in
+    let opened : map (λ q. q.opened) l.made.items ≡ map sums_at c.args.peers.items = sym (all_moved _)
+    ∙ (sym (ap (λ r. map (λ q. q.opened) l.made.items ++ map sums_at r) none) ∙ l.invariant.3) in
+    λ i. record { names = names i; opened = opened i }
+
+pub returns-clause-marks : goal.returns-clause-marks
+returns-clause-marks g c =
+    let l = c.loop-peer in
+    let none : l.peer-iterator.rest.items ≡ [] = nothing _ (search rules) in
+    sym (all_moved _) ∙ (sym (ap (λ r. l.marks.items ++ map (λ p. (ledger_of p.station).mark) r) none) ∙ l.invariant.4)

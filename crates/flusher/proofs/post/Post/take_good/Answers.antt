@@ -1,10 +1,9 @@
-use Rattle.std.proofs.Common.{rules, ◌≡◌, ◌<◌, ◌≤◌, ℕ, [], length, ap, sym, subst, arith}
-use Rattle.std.specs.Prelude.{slice_index_or, Contains, IsErr}
+use Rattle.std.proofs.Common.{rules, ◌<◌, ◌≤◌, ℕ, List, length, ap, sym, subst, arith}
+use Rattle.std.specs.Prelude.{IsErr}
 use Rattle.std.proofs.lemmas.List.{length-map}
 use Rattle.flusher.specs.Post.{View}
-use Rattle.flusher.specs.Faults.{IsLineFault}
-use Rattle.flusher.proofs.Refused.{line_fault_of}
-use Rattle.flusher.proofs.Taken.{done_none, done_more}
+use Rattle.flusher.specs.Marks.{RefusesGood}
+use Rattle.flusher.proofs.Taken.{done_none, done_more, refused_at}
 use Rattle.flusher.proofs.post.Post.take_good.Goals as goal
 
 pub loop-peer-init : goal.loop-peer-init
@@ -42,13 +41,14 @@ returns-clause-raised g c =
     λ peer below. l.invariant.0.2 peer (omega (arith, all, below))
 
 -- the fault names the peer that was asked, which the line names
-pub returns-in_err-take_named-clause-kinds : goal.returns-in_err-take_named-clause-kinds
-returns-in_err-take_named-clause-kinds g c =
+pub returns-in_err-take_named-clause-refuses : goal.returns-in_err-take_named-clause-refuses
+returns-in_err-take_named-clause-refuses g c =
     let l = c.loop-peer in
+    let number = c.args.number in
     let names = c.args.self.now.names in
     let named = c.args.line.now.peers.items in
+    let was = c.args.marks.now.items in
     let fault = c.in_err-take_named.field-0.0 in
-    let Asked : ℕ → Type 0 = λ at. (at < length names) × Contains named (slice_index_or names at []) in
     let long = ap (λ (v : View). length v.names) c.self.view_is in
     let within : l.peer < length names =
     omega (
@@ -59,8 +59,10 @@ returns-in_err-take_named-clause-kinds g c =
       c.len-peer-end.ensures,
     ) in
     let refused : IsErr c.take_named.result = search rules in
-    let here : Asked l.peer = (within, c.take_named.ensures.named refused) in
-    let told : IsLineFault Asked fault =
-    line_fault_of (λ at. at ≡ l.peer) Asked fault (λ at same. subst Asked (sym same) here)
-    c.in_err-take_named.ensures.kinds in
+    let before : RefusesGood number named names fault was l.marks.items =
+    refused_at number named names was l.peer l.marks.items c.args.taken.now.amount l.taken.amount fault within
+    l.invariant.0 (c.take_named.ensures.named refused) c.in_err-take_named.ensures.kinds in
+    let told : RefusesGood number named names fault was c.take_named.new.marks.items =
+    subst (λ (m : List ℕ). RefusesGood number named names fault was m) (sym c.in_err-take_named.ensures.unchanged.0)
+    before in
     search (rules, told)
