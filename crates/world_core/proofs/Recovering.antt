@@ -9,11 +9,10 @@ use Rattle.ledger_core.specs.State.{Owing, State, after, step, without}
 use Rattle.ledger_core.specs.declared.note.Note.{Note}
 use Rattle.ledger_core.specs.declared.note.Note.TheVariants.{Drop, Final, Owe, Seen}
 use Rattle.peer_queue.specs.Words.{IsEnd}
-use Rattle.recovery.specs.Leaving.{EachLedger}
-use Rattle.recovery.specs.LeavingLaws.{each_may}
+use Rattle.recovery.specs.Leaving.{EachLedger, IsFront}
 use Rattle.world_core.specs.Past.{Life, PeerPast}
 use Rattle.world_core.specs.Safe.{IsSafe, KeepsNotes}
-use Rattle.world_core.specs.Laws.{AllAreRecovered, IsRecovered, OverRuns}
+use Rattle.world_core.specs.Laws.{AllAreRecovered, HasEnded, IsRecovered, OverRuns, StillOwes}
 use Rattle.world_core.specs.Keeping.{PeerStays}
 use Rattle.world_core.specs.Runs.{Runs}
 use Rattle.world_core.specs.Runs.Runs.{Start, Next}
@@ -137,11 +136,19 @@ owed_by state (note ∷ notes) (suc index) number token id here =
 
 -- ---- a peer
 
-recovered : (was now : PeerPast) → PeerStays was now → EachLedger (KeepsNotes now) now.tape.log → IsRecovered was now
-recovered was now stays safe = record {
-  front = λ state may. each_may (KeepsNotes now) now.tape.log state safe may;
-  owed = λ index number token id here below state may.
-      let front = each_may (KeepsNotes now) now.tape.log state safe may in
+-- what is owed after the first of the notes, or ended by one of those, is owed there or has ended
+at_front : (peer : PeerPast) (state : State) (front : IsFront peer.tape.history state) (number : ℕ) (token id : List ℕ)
+    → Contains (after peer.tape.history.base (take front.count peer.tape.history.notes)).debts (number, (token, id))
+    ⊎ Ends (take front.count peer.tape.history.notes) number
+    → Contains state.debts (number, (token, id)) ⊎ HasEnded peer number
+at_front peer state front number token id (inl owed) =
+    inl (subst (λ (s : State). Contains s.debts (number, (token, id))) (sym front.is) owed)
+at_front peer state front number token id (inr ends) =
+    inr (ends.0, contains_taken front.count peer.tape.history.notes ends.0 ends.1, ends.2)
+
+pub still_owes : (was now : PeerPast) → PeerStays was now → StillOwes was now
+still_owes was now stays = record {
+  owed = λ index number token id here below state front.
       let note = Owe number token id in
       let first : slice_get (take now.tape.history.kept now.tape.history.notes) index ≡ Some note =
       subst (λ (notes : List Note). slice_get notes index ≡ Some note) (sym stays.1.front)
@@ -150,11 +157,16 @@ recovered was now stays safe = record {
       let there = get_taken now.tape.history.kept now.tape.history.notes index note first in
       let among = get_below front.count now.tape.history.notes index note (omega (arith, there.0, front.enough))
       there.1 in
-      elim (owed_by now.tape.history.base (take front.count now.tape.history.notes) index number token id among) [
-        | inl owed ↦ inl (subst (λ (s : State). Contains s.debts (number, (token, id))) (sym front.is) owed)
-        | inr ends ↦ inr (ends.0, contains_taken front.count now.tape.history.notes ends.0 ends.1, ends.2)
-      ];
+      at_front now state front number token id
+      (owed_by now.tape.history.base (take front.count now.tape.history.notes) index number token id among);
+  given = λ number token id has state front.
+      at_front now state front number token id
+      (owed_on now.tape.history.base (take front.count now.tape.history.notes) number token id
+      (subst (λ (base : State). Contains base.debts (number, (token, id))) (sym stays.1.base) has));
 }
+
+recovered : (was now : PeerPast) → PeerStays was now → EachLedger (KeepsNotes now) now.tape.log → IsRecovered was now
+recovered was now stays safe = record { front = safe; owes = still_owes was now stays }
 
 all_recovered : (was now : List PeerPast) → AllZip PeerStays was now
     → AllByRecursion (λ (peer : PeerPast). EachLedger (KeepsNotes peer) peer.tape.log) now → AllZip IsRecovered was now

@@ -5,7 +5,7 @@ use Rattle.ledger_core.specs.State.{Owing, State}
 use Rattle.ledger_core.specs.declared.note.FinalCode.{FinalCode}
 use Rattle.ledger_core.specs.declared.note.Note.{Note}
 use Rattle.ledger_core.specs.declared.note.Note.TheVariants.{Final, Owe}
-use Rattle.recovery.specs.Leaving.{IsFront, MayLeave}
+use Rattle.recovery.specs.Leaving.{EachLedger, IsFront, MayLeave}
 use Rattle.conn_core.specs.History.{End, accepted, ends}
 use Rattle.conn_core.specs.Stands.{Arises}
 use Rattle.conn_core.specs.declared.outcome.Outcome.TheVariants.{Final as FinalOutcome}
@@ -127,15 +127,22 @@ AllFinalsAreRight = (begun later : Life) (steps : List Step) (lines : List (List
 abbrev pub HasEnded : PeerPast → ℕ → Type 0
 HasEnded peer number = (note : Note) × Contains peer.tape.history.notes note × IsEnd note number
 
--- Whatever a stop may leave of the peer's tape is recovered as the debts after the first of its notes, every
--- acknowledged one among them; and a debt that was acknowledged is owed there, unless the peer has a final answer or
--- a noted drop of it.
-pub record IsRecovered (was now : PeerPast) : Type 0 where
-  pub front : (state : State) → MayLeave now.tape.log state → IsFront now.tape.history state
+-- A debt that was acknowledged, or that the history began from, is owed after the first of the notes, however many of
+-- those that pend are among them, unless the peer has a final answer or a noted drop of it.
+pub record StillOwes (was now : PeerPast) : Type 0 where
   pub owed : (index number : ℕ) (token id : List ℕ)
       → slice_get was.tape.history.notes index ≡ Some (Owe number token id)
-      → index < was.tape.history.kept → (state : State) → MayLeave now.tape.log state
+      → index < was.tape.history.kept → (state : State) → IsFront now.tape.history state
       → Contains state.debts (number, (token, id)) ⊎ HasEnded now number
+  pub given : (number : ℕ) (token id : List ℕ) → Contains was.tape.history.base.debts (number, (token, id))
+      → (state : State) → IsFront now.tape.history state
+      → Contains state.debts (number, (token, id)) ⊎ HasEnded now number
+
+-- Whatever a stop may leave of the peer's tape is a tape, that of the first of its notes, every acknowledged one among
+-- them; and there each debt that was acknowledged is owed still, or has ended.
+pub record IsRecovered (was now : PeerPast) : Type 0 where
+  pub front : EachLedger (IsFront now.tape.history) now.tape.log
+  pub owes : StillOwes was now
 
 abbrev pub AllAreRecovered : Life → Life → Type 0
 AllAreRecovered begun later = AllZip IsRecovered begun.past.peers later.past.peers

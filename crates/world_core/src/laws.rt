@@ -1,10 +1,10 @@
 //! Laws of worlds, each the contract of a function that does nothing.
 ghost use Rattle.std.specs.Prelude.{List};
 ghost use Rattle.world_core.specs.Events.{AllDo, Event};
-ghost use Rattle.world_core.specs.Keeping.{PeersStay};
+ghost use Rattle.world_core.specs.Keeping.{PeerStays, PeersStay};
 ghost use Rattle.world_core.specs.Laws.{AllAreRecovered, AllFinalsAreRight, AllStayAcknowledged};
-ghost use Rattle.world_core.specs.Laws.{LinesAreAcknowledged, OverRuns};
-ghost use Rattle.world_core.specs.Past.{Past};
+ghost use Rattle.world_core.specs.Laws.{LinesAreAcknowledged, OverRuns, StillOwes};
+ghost use Rattle.world_core.specs.Past.{Past, PeerPast};
 ghost use Rattle.world_core.specs.Safe.{IsSafe};
 
 use conn_laws::{each_debt_comes_out_once, verdicts_are_right};
@@ -21,14 +21,22 @@ pub fn acknowledged_notes_stay()
         → PeersStay begun later }
 {}
 
+/// Where what was acknowledged of a peer's notes stays so, each debt that was acknowledged, or that its history began
+/// from, is owed after the first of its notes, however many of those that pend are among them, unless the peer has a
+/// final answer or a noted drop of it. So it is at each moment within a call too, where whatever a stop leaves is the
+/// tape of such notes.
+pub fn acknowledged_debts_stay_owed()
+    ensures { (was now : PeerPast) → PeerStays was now → StillOwes was now }
+{}
+
 /// Over any run of steps, stops and restarts among them, what was acknowledged of each peer's notes stays so.
 pub fn all_stay_acknowledged()
     ensures { OverRuns AllStayAcknowledged }
 {}
 
-/// Over any run of steps, stops and restarts among them: whatever a stop may leave of a peer's tape is recovered as
-/// the debts after the first of its notes, every acknowledged one among them; and a debt that was acknowledged is owed
-/// there, unless the peer has a final answer or a noted drop of it.
+/// Over any run of steps, stops and restarts among them: whatever a stop may leave of a peer's tape is a tape, that of
+/// the first of its notes, every acknowledged one among them; and each debt that was acknowledged as the run began, or
+/// that the peer's history began from, is owed there, unless the peer has a final answer or a noted drop of it.
 pub fn all_are_recovered()
     ensures { OverRuns AllAreRecovered }
 {}
