@@ -32,6 +32,7 @@ pub mod Taking
 pub mod Making
 pub mod Reopening
 pub mod Recovering
+pub mod Coming
 pub mod Finals
 pub mod Placing
 pub mod Holding

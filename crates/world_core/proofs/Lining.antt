@@ -31,7 +31,8 @@ split_at f (x ∷ xs) (z ∷ front) y back is = split_at f xs front y back (tail
     tail_of : {X : Type 0} {a b : X} {rest other : List X} → a ∷ rest ≡ b ∷ other → rest ≡ other
     tail_of same = cc
 
-take_next : {A : Type 0} (xs : List A) (k : ℕ) (x : A) → slice_get xs k ≡ Some x → take (suc k) xs ≡ take k xs ++ x ∷ []
+pub take_next : {A : Type 0} (xs : List A) (k : ℕ) (x : A) → slice_get xs k ≡ Some x
+    → take (suc k) xs ≡ take k xs ++ x ∷ []
 take_next [] k x here = absurd cc
 take_next (y ∷ xs) zero x here = let same : y ≡ x = cc in ap (λ z. z ∷ []) same
 take_next (y ∷ xs) (suc k) x here = ap (λ l. y ∷ l) (take_next xs k x here)

@@ -1,5 +1,5 @@
--- Whatever a stop leaves after a run is recovered as the debts after the first of a peer's notes, every acknowledged
--- one among them.
+-- Whatever a stop leaves behind any steps is the tape of the first of a peer's notes, every acknowledged one among
+-- them, and what was acknowledged is owed there or has ended.
 use Rattle.std.proofs.Common.{◌≡◌, ◌⊎◌, ℕ, zero, suc, ◌<◌, Bool, true, false, cond, not, Some, List, [], ◌∷◌, ◌++◌}
 use Rattle.std.proofs.Common.{take, refl, sym, ap, ◌∙◌, subst, inl, inr, arith}
 use Rattle.std.specs.Prelude.{◌==◌, Contains}
@@ -12,10 +12,9 @@ use Rattle.peer_queue.specs.Words.{IsEnd}
 use Rattle.recovery.specs.Leaving.{EachLedger, IsFront}
 use Rattle.world_core.specs.Past.{Life, PeerPast}
 use Rattle.world_core.specs.Safe.{IsSafe, KeepsNotes}
-use Rattle.world_core.specs.Laws.{AllAreRecovered, HasEnded, IsRecovered, OverRuns, StillOwes}
+use Rattle.world_core.specs.Laws.{AllAreRecovered, Comes, HasEnded, IsRecovered, OverRuns, StillOwes}
+use Rattle.world_core.specs.Laws.Comes.{No_step, Step_taken, Step_refused}
 use Rattle.world_core.specs.Keeping.{PeerStays}
-use Rattle.world_core.specs.Runs.{Runs}
-use Rattle.world_core.specs.Runs.Runs.{Start, Next}
 use Rattle.world_core.specs.Told.{Said}
 use Rattle.world_core.specs.declared.step.Step.{Step}
 use Rattle.world_core.proofs.Chains.{get_left}
@@ -175,14 +174,15 @@ all_recovered [] (b ∷ now) stay safe = absurd stay
 all_recovered (a ∷ was) [] stay safe = absurd stay
 all_recovered (a ∷ was) (b ∷ now) stay safe = (recovered a b stay.0 safe.0, all_recovered was now stay.1 safe.1)
 
--- ---- runs
+-- ---- any steps
 
-pub runs_safe : (begun : Life) (steps : List Step) (lines : List (List Said)) (later : Life)
-    → Runs begun steps lines later → IsSafe later.past
-runs_safe begun _ _ _ (Start safe) = safe
-runs_safe begun _ _ _ (Next steps step lines told life later runs takes safe) = safe
+pub comes_safe : (begun : Life) (steps : List Step) (lines : List (List Said)) (later : Life)
+    → Comes begun steps lines later → IsSafe later.past
+comes_safe begun _ _ _ (No_step safe) = safe
+comes_safe begun _ _ _ (Step_taken steps step lines told life later comes takes safe) = safe
+comes_safe begun _ _ _ (Step_refused steps step lines fault life later comes refuses safe) = safe
 
 pub recover_all : OverRuns AllAreRecovered
-recover_all = λ begun later steps lines sound runs.
-    all_recovered begun.past.peers later.past.peers (all_stay begun later steps lines sound runs).peers
-    (runs_safe begun steps lines later runs).peers
+recover_all = λ begun later steps lines comes.
+    all_recovered begun.past.peers later.past.peers (all_stay begun later steps lines comes).peers
+    (comes_safe begun steps lines later comes).peers

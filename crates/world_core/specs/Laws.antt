@@ -1,5 +1,5 @@
 -- What holds over any run of steps, in an administrator's words: the headline and its parts.
-use Rattle.std.specs.Prelude.{◌≡◌, ◌⊎◌, ◌<◌, ◌≤◌, ℕ, Some, List, ◌∷◌, ◌++◌, take, slice_get, Contains}
+use Rattle.std.specs.Prelude.{◌≡◌, ◌⊎◌, ◌<◌, ◌≤◌, ℕ, Some, List, [], ◌∷◌, ◌++◌, take, slice_get, Contains}
 use Rattle.std.specs.List.{AllZip}
 use Rattle.ledger_core.specs.State.{Owing, State}
 use Rattle.ledger_core.specs.declared.note.FinalCode.{FinalCode}
@@ -15,16 +15,29 @@ use Rattle.peer_queue.specs.Words.{IsEnd}
 use Rattle.world_core.specs.Past.{ConnPast, Life, Past, PeerPast, TapePast, conn_at, options_of}
 use Rattle.world_core.specs.Events.{IsCandidate}
 use Rattle.world_core.specs.Exchange.{IsConn}
-use Rattle.world_core.specs.Runs.{Runs}
+use Rattle.world_core.specs.Runs.{RefusesStep, Runs, Takes}
+use Rattle.world_core.specs.Safe.{IsSafe}
 use Rattle.world_core.specs.Sound.{IsSoundLife}
 use Rattle.world_core.specs.Told.{Said}
+use Rattle.world_core.specs.declared.fault.Fault.{Fault}
 use Rattle.world_core.specs.declared.step.Step.{Step}
 use Rattle.world_core.specs.declared.step.Step.TheVariants.{Hand}
 
--- what holds of any two worlds of which steps make the one of the other
+-- What comes of a world by these steps, one after another: each is taken, and tells this, or is refused, and tells
+-- nothing. A run ends at the first that is refused, and another may go on from there. Before and behind each step
+-- whatever a stop leaves is safe.
+pub data Comes (begun : Life) : List Step → List (List Said) → Life → Type 0 where
+  No_step : IsSafe begun.past → Comes begun [] [] begun
+  Step_taken : (steps : List Step) (step : Step) (lines : List (List Said)) (told : List Said) (life later : Life)
+      → Comes begun steps lines life
+      → Takes step life told later → IsSafe later.past → Comes begun (steps ++ step ∷ []) (lines ++ told ∷ []) later
+  Step_refused : (steps : List Step) (step : Step) (lines : List (List Said)) (fault : Fault) (life later : Life)
+      → Comes begun steps lines life
+      → RefusesStep step life fault later → IsSafe later.past → Comes begun (steps ++ step ∷ []) lines later
+
+-- what holds of any two worlds of which the one comes of the other by steps
 abbrev pub OverRuns : (Life → Life → Type 0) → Type 0
-OverRuns R = (begun later : Life) (steps : List Step) (lines : List (List Said)) → IsSoundLife begun
-    → Runs begun steps lines later
+OverRuns R = (begun later : Life) (steps : List Step) (lines : List (List Said)) → Comes begun steps lines later
     → R begun later
 
 -- ---- what was acknowledged stays acknowledged

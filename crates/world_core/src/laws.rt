@@ -1,12 +1,18 @@
 //! Laws of worlds, each the contract of a function that does nothing.
-ghost use Rattle.std.specs.Prelude.{List};
+ghost use Rattle.std.specs.Prelude.{◌+◌, List, [], ◌++◌, take};
 ghost use Rattle.world_core.specs.Events.{AllDo, Event};
 ghost use Rattle.world_core.specs.Keeping.{PeerStays, PeersStay};
 ghost use Rattle.world_core.specs.Laws.{AllAreRecovered, AllFinalsAreRight, AllStayAcknowledged};
-ghost use Rattle.world_core.specs.Laws.{LinesAreAcknowledged, OverRuns, StillOwes};
-ghost use Rattle.world_core.specs.Past.{Past, PeerPast};
+ghost use Rattle.world_core.specs.Laws.{Comes, LinesAreAcknowledged, OverRuns, StillOwes};
+ghost use Rattle.world_core.specs.Past.{Life, Past, PeerPast};
 ghost use Rattle.world_core.specs.Safe.{IsSafe};
+ghost use Rattle.world_core.specs.Sound.{IsSoundLife};
+ghost use Rattle.world_core.specs.Stands.{Ran, WasRefused, WorldStands};
+ghost use Rattle.world_core.specs.Told.{Said, said_by};
 
+use crate::fault::WorldFault;
+use crate::step::Step;
+use crate::world::World;
 use conn_laws::{each_debt_comes_out_once, verdicts_are_right};
 
 /// As soon as a stop may leave the intake's tape with a mark at or above a line's number, each note that the line made
@@ -29,14 +35,32 @@ pub fn acknowledged_debts_stay_owed()
     ensures { (was now : PeerPast) → PeerStays was now → StillOwes was now }
 {}
 
-/// Over any run of steps, stops and restarts among them, what was acknowledged of each peer's notes stays so.
+/// The world behind a run has come about by the run's steps, whatever came before; where one was refused, by those up
+/// to that one, and it. So the laws over any steps hold of it. It is sound, so that the next run begins from it.
+pub fn each_run_comes_about()
+    ensures begins { (life : Life) (world : World) → WorldStands world life
+        → Comes life [] [] life }
+    ensures reports { (begun life : Life) (before steps : List Step)
+        (told lines : List (List Said)) (new : World)
+        → Comes begun before told life → (ran : Ran steps life lines new)
+        → Comes begun (before ++ steps) (told ++ lines) ran.later × IsSoundLife ran.later }
+    ensures ends { (begun life : Life) (before steps : List Step)
+        (told : List (List Said)) (fault : WorldFault) (new : World)
+        → Comes begun before told life → (was : WasRefused steps life fault new)
+        → Comes begun (before ++ take (was.index + 1) steps)
+        (told ++ said_by fault.lines.items) was.later × IsSoundLife was.later }
+{}
+
+/// Over any steps, taken or refused, stops and restarts among them, what was acknowledged of each peer's notes stays
+/// so.
 pub fn all_stay_acknowledged()
     ensures { OverRuns AllStayAcknowledged }
 {}
 
-/// Over any run of steps, stops and restarts among them: whatever a stop may leave of a peer's tape is a tape, that of
-/// the first of its notes, every acknowledged one among them; and each debt that was acknowledged as the run began, or
-/// that the peer's history began from, is owed there, unless the peer has a final answer or a noted drop of it.
+/// Over any steps, taken or refused, stops and restarts among them: whatever a stop may leave of a peer's tape behind
+/// them is a tape, that of the first of its notes, every acknowledged one among them; and each debt that was
+/// acknowledged before them, or that the peer's history began from, is owed there, unless the peer has a final answer
+/// or a noted drop of it.
 pub fn all_are_recovered()
     ensures { OverRuns AllAreRecovered }
 {}

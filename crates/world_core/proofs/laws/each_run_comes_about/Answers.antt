@@ -1,0 +1,9 @@
+use Rattle.world_core.proofs.Coming.{begins_so, ran_comes, refused_comes}
+use Rattle.world_core.proofs.laws.each_run_comes_about.Goals as goal
+
+pub returns : goal.returns
+returns c = record {
+  begins = begins_so;
+  reports = λ begun life before steps told lines new. ran_comes begun before steps told lines life new;
+  ends = λ begun life before steps told fault new. refused_comes begun before steps told life fault new;
+}
