@@ -1,6 +1,6 @@
--- Each final answer among a peer's notes has a verdict, to which a connection of the run has come.
+-- Each final answer among a peer's notes has a verdict, to which a connection has come as the steps went on.
 use Rattle.std.proofs.Common.{◌≡◌, ◌⊎◌, ℕ, zero, suc, ◌+◌, ◌<◌, Bool, true, false, cond, Option, None, Some, List}
-use Rattle.std.proofs.Common.{[], ◌∷◌, ◌++◌, length, drop, map, refl, sym, ap, ◌∙◌, subst, inl, inr, arith}
+use Rattle.std.proofs.Common.{[], ◌∷◌, ◌++◌, length, take, drop, map, refl, sym, ap, ◌∙◌, subst, inl, inr, arith}
 use Rattle.std.proofs.Common.{append_assoc, append-nil}
 use Rattle.std.specs.Prelude.{◌==◌, Contains, if◌then◌else◌, option_map}
 use Rattle.std.proofs.Math.ListN.{set}
@@ -13,9 +13,11 @@ use Rattle.ledger_core.specs.State.{Owing}
 use Rattle.ledger_core.specs.declared.note.FinalCode.{FinalCode}
 use Rattle.ledger_core.specs.declared.note.Note.{Note}
 use Rattle.ledger_core.specs.declared.note.Note.TheVariants.{Drop, Final, Owe}
-use Rattle.conn_core.specs.Commands.{debt_in}
+use Rattle.article_store.specs.declared.store.Found.{Found}
+use Rattle.conn_core.specs.Commands.{Handing, debt_in}
 use Rattle.conn_core.specs.History.{Broke, End, Event as Happening, Handed, Offered, Tick as Ticked, accepted, after}
-use Rattle.conn_core.specs.History.{ends, outcomes, outside, taken}
+use Rattle.conn_core.specs.History.{ends, need, outcomes, outside, taken}
+use Rattle.conn_core.specs.Receipt.{Receives}
 use Rattle.conn_core.specs.Stands.{Arises, Goes_on, Starts, left_behind}
 use Rattle.conn_core.specs.declared.options.Options.{Options}
 use Rattle.conn_core.specs.declared.outcome.Outcome.{Outcome}
@@ -31,24 +33,29 @@ use Rattle.peer_queue.specs.declared.limits.Owed.TheVariants.{Already, New}
 use Rattle.peer_queue.specs.declared.settled.Settled.{Settled}
 use Rattle.peer_queue.specs.declared.settled.Settled.TheVariants.{Answered, Dropped, Later, Ready}
 use Rattle.recovery.specs.Notes.{History}
-use Rattle.world_core.specs.Past.{ConnPast, Life, Past, PeerPast, TapePast, conn_at, limits_of, options_of}
+use Rattle.world_core.specs.Past.{Armed, ConnPast, Life, Past, PeerPast, TapePast, conn_at, limits_of, options_of}
 use Rattle.world_core.specs.Past.{with_conn, with_past, with_peer, with_places, with_tape}
-use Rattle.world_core.specs.Events.{Acknowledges, AllDo, Claims, Does, Event, Opens, OpensIntake, Owes, Parts, Returns}
-use Rattle.world_core.specs.Events.{IsCandidate, Rotates, Sees, Settles, Sheds}
+use Rattle.world_core.specs.Events.{Acknowledges, AllDo, Claims, Does, Event, Fails, IsCandidate, Opens, OpensIntake}
+use Rattle.world_core.specs.Events.{Owes, Parts, Returns, Rotates, Sees, Settles, Sheds}
 use Rattle.world_core.specs.Events.{Refuses as RefusesEvent, claimed_peer, each_rank, opened_peer, owed_as, owing_as}
 use Rattle.world_core.specs.Events.{parted, settled, settled_as, shed_peer}
 use Rattle.world_core.specs.Events.AllDo.{Start as NoEvent, Next as OneEvent}
-use Rattle.world_core.specs.Exchange.{Follows, HandsOver, IsConn, TicksEach, sent_out, settle_events, told_out, untold}
-use Rattle.world_core.specs.Exchange.{with_transcript}
+use Rattle.world_core.specs.Exchange.{FailsToBreak, FailsToHand, FailsToRead, FailsToSupply, Follows, FollowsNot}
+use Rattle.world_core.specs.Exchange.{HandsOver, IsConn, RefusesConnect, RefusesTick, TicksEach, at_moment, sent_out}
+use Rattle.world_core.specs.Exchange.{settle_events, ticked, told_out, untold, with_taken, with_transcript}
 use Rattle.world_core.specs.Exchange.HandsOver.{None_there, Taken_over, Has_no_room, Is_shut}
 use Rattle.world_core.specs.Exchange.TicksEach.{Start as NoneTicked, Next as OneTicked}
-use Rattle.world_core.specs.Halts.{AtRest, ByChoice, CallsDisks, Manner, Strikes, TakesStop, left_peer, restart_events}
-use Rattle.world_core.specs.Laws.{AllFinalsAreRight, HasVerdict, Passes, Rules, WasAccepted, WasTaken}
-use Rattle.world_core.specs.Runs.{Does as DoesStep, Runs, Takes}
-use Rattle.world_core.specs.Runs.Runs.{Start as NoStep, Next as OneStep}
+use Rattle.world_core.specs.Halts.{AtRest, ByChoice, CallsDisks, FailsToOpen, Manner, Meets, RefusesRestart}
+use Rattle.world_core.specs.Halts.{RefusesStop, Strikes, StrikesUntold, TakesStop, halted, left, left_peer}
+use Rattle.world_core.specs.Halts.{restart_events}
+use Rattle.world_core.specs.Laws.{AllFinalsAreRight, Comes, HasVerdict, Passes, Rules, WasAccepted, WasTaken}
+use Rattle.world_core.specs.Laws.Comes.{No_step, Step_taken, Step_refused}
+use Rattle.world_core.specs.Runs.{Does as DoesStep, Refuses as RefusesAny, RefusesConn, RefusesStep, RefusesTapes}
+use Rattle.world_core.specs.Runs.{RefusesWorld, Takes}
 use Rattle.world_core.specs.Safe.{IsSafe, KeepsNotes}
 use Rattle.world_core.specs.Sound.{IsSoundConn, IsSoundLife}
-use Rattle.world_core.specs.Steps.{Good, NotGood, Reading, TakesReading, begun_at, flush_events, is_named, owes_from}
+use Rattle.world_core.specs.Steps.{Good, NotGood, Reading, RefusesFlushing, RefusesLine, RefusesPart, RefusesRotation}
+use Rattle.world_core.specs.Steps.{RefusesSeal, RefusesShed, TakesReading, begun_at, flush_events, is_named, owes_from}
 use Rattle.world_core.specs.Steps.{seal_events}
 use Rattle.world_core.specs.Told.{Said}
 use Rattle.world_core.specs.declared.fault.Fault.{Fault}
@@ -59,12 +66,15 @@ use Rattle.world_core.specs.declared.step.Step.TheVariants.{Rotate, Stop, Restar
 use Rattle.world_core.specs.declared.told.Handed.{Handed as Handover}
 use Rattle.world_core.proofs.Connecting.{at_last, map_push, numbers_below, rises_push}
 use Rattle.world_core.proofs.Growing.{Grew, accepted_offered, ends_grew, grew_by, grew_outside, grew_received}
-use Rattle.world_core.proofs.Growing.{grew_same, grew_sent, grew_then, receives, sends, wanted_there}
+use Rattle.world_core.proofs.Growing.{grew_broken, grew_same, grew_sent, grew_taken, grew_then, receives, sends}
+use Rattle.world_core.proofs.Growing.{takes_first, wanted_there}
 use Rattle.world_core.proofs.Holding.{contains_first, contains_more}
 use Rattle.world_core.proofs.Joining.{conn_there, put_other}
+use Rattle.world_core.proofs.Keeping.{take_whole}
 use Rattle.world_core.proofs.Lifting.{get_apart, get_set}
 use Rattle.world_core.proofs.Pure.{all_push, all_weaker}
-use Rattle.world_core.proofs.Recovering.{contains_taken}
+use Rattle.world_core.proofs.Receiving.{arises_broken}
+use Rattle.world_core.proofs.Recovering.{comes_safe, contains_taken}
 use Rattle.world_core.proofs.Shedding.{same_rotated}
 use Rattle.world_core.proofs.Stationed.{same_history}
 use Rattle.world_core.proofs.Steady.{both_all, first_all}
@@ -561,18 +571,88 @@ module _ (V : Says) where
   calls_right Restart life begun events (runs, is, its) =
       (same_begun life begun is, plain_at events _ its (restart_plain life.past))
 
+  -- the tapes were under way so as a stop was met
+  met_right : (step : Step) (life : Life) (stop : Armed) (under_way : Past) → Meets step life stop under_way
+      → AllRightSince life.past under_way
+  met_right step life stop under_way meets =
+      let calls = calls_right step life meets.begun meets.events meets.calls in
+      let front = plain_events meets.begun meets.mid _ meets.front (first_all Plain meets.count meets.events calls.1) in
+      all_then life.past.peers meets.begun.peers under_way.peers calls.0
+      (all_then meets.begun.peers meets.mid.peers under_way.peers front
+      (right_refused meets.event meets.mid under_way _ meets.met))
+
+  stopped_right : (manner : Manner) (life later : Life) (under_way : Past) → AllRightSince life.past under_way
+      → later ≡ halted manner under_way life → AllRightSince life.past later.past
+  stopped_right manner life later under_way right changed =
+      subst (λ (l : Life). AllRightly V life.past.peers l.past.peers) (sym changed)
+      (all_then life.past.peers under_way.peers _ right (left_right manner under_way.peers))
+
   struck_right : (step : Step) (life : Life) (told : List Said) (later : Life) → Strikes step life told later
       → AllRightSince life.past later.past
   struck_right step life told later strikes =
-      let meets = strikes.meets in
-      let calls = calls_right step life meets.begun meets.events meets.calls in
-      let front = plain_events meets.begun meets.mid _ meets.front (first_all Plain meets.count meets.events calls.1) in
-      let refused = right_refused meets.event meets.mid strikes.under_way _ meets.met in
-      let under_way = all_then life.past.peers meets.begun.peers strikes.under_way.peers calls.0
-      (all_then meets.begun.peers meets.mid.peers strikes.under_way.peers front refused) in
-      subst (λ (l : Life). AllRightly V life.past.peers l.past.peers) (sym strikes.changed)
-      (all_then life.past.peers strikes.under_way.peers _ under_way
-      (left_right (ByChoice strikes.stop.choice) strikes.under_way.peers))
+      stopped_right (ByChoice strikes.stop.choice) life later strikes.under_way
+      (met_right step life strikes.stop strikes.under_way strikes.meets) strikes.changed
+
+  untold_right : (step : Step) (life : Life) (fault : Fault) (later : Life) → StrikesUntold step life fault later
+      → AllRightSince life.past later.past
+  untold_right step life fault later strikes =
+      stopped_right AtRest life later strikes.under_way
+      (met_right step life strikes.stop strikes.under_way strikes.meets) strikes.changed
+
+  -- ---- refused steps on tapes
+
+  fails_right : (begun later : Past) (events : List Event) (fault : Fault) → AllByRecursion Plain events
+      → Fails begun events fault later → AllRightSince begun later
+  fails_right begun later events fault plain fails =
+      all_then begun.peers fails.mid.peers later.peers
+      (plain_events begun fails.mid _ fails.front (first_all Plain fails.count events plain))
+      (right_refused fails.event fails.mid later fault fails.refused)
+
+  same_past : (was now : Past) → now ≡ was → AllRightSince was now
+  same_past was now same = none_put was now (ap (λ (p : Past). p.peers) same)
+
+  line_refused : (text : List ℕ) (past : Past) (fault : Fault) (later : Past) → RefusesLine text past fault later
+      → AllRightSince past later
+  line_refused text past fault later (inl full) = same_past past later full.2
+  line_refused text past fault later (inr (inl memory)) = same_past past later memory.2
+  line_refused text past fault later (inr (inr (fits, (token, id, named, reads, fails)))) =
+      fails_right past later _ fault (owes_plain 0 token id named past.peers) fails
+
+  flush_refused : (past : Past) (fault : Fault) (later : Past) → RefusesFlushing past fault later
+      → AllRightSince past later
+  flush_refused past fault later (inl memory) = same_past past later memory.1
+  flush_refused past fault later (inr fails) =
+      all_then past.peers (begun_at past).peers later.peers (begun_right past.peers)
+      (fails_right (begun_at past) later _ fault (flush_plain past) fails)
+
+  part_refused : (name : List ℕ) (past : Past) (fault : Fault) (later : Past) → RefusesPart name past fault later
+      → AllRightSince past later
+  part_refused name past fault later (inl none) = same_past past later none.2
+  part_refused name past fault later (inr (rank, here, fails)) = fails_right past later _ fault (tt, tt) fails
+
+  seal_refused : (past : Past) (fault : Fault) (later : Past) → RefusesSeal past fault later
+      → AllRightSince past later
+  seal_refused past fault later (inl none) = same_past past later none.2
+  seal_refused past fault later (inr (number, may, inl memory)) = same_past past later memory.1
+  seal_refused past fault later (inr (number, may, inr fails)) = fails_right past later _ fault (tt, (tt, tt)) fails
+
+  shed_refused : (name : List ℕ) (past : Past) (fault : Fault) (later : Past) → RefusesShed name past fault later
+      → AllRightSince past later
+  shed_refused name past fault later (inl none) = same_past past later none.2
+  shed_refused name past fault later (inr (rank, here, inl memory)) = same_past past later memory.1
+  shed_refused name past fault later (inr (rank, here, inr fails)) = fails_right past later _ fault (tt, tt) fails
+
+  rotate_refused : (name : List ℕ) (past : Past) (fault : Fault) (later : Past)
+      → RefusesRotation name past fault later → AllRightSince past later
+  rotate_refused name past fault later (inl none) = same_past past later none.2
+  rotate_refused name past fault later (inr (rank, here, inl memory)) = same_past past later memory.1
+  rotate_refused name past fault later (inr (rank, here, inr fails)) = fails_right past later _ fault (tt, tt) fails
+
+  opens_right : (past : Past) (fault : Fault) (under_way : Past) → FailsToOpen past fault under_way
+      → AllRightSince past under_way
+  opens_right past fault under_way (inl fails) = fails_right past under_way _ fault (restart_plain past) fails
+  opens_right past fault under_way (inr (memory, (count, does))) =
+      plain_events past under_way _ does (first_all Plain count _ (restart_plain past))
 
 -- whatever is taken, no peer is lost, and its settings stay
 any_event : (event : Event) → EventRight Anyhow event
@@ -844,18 +924,66 @@ module _ (law : VerdictsAreRight) (own : EndsAreOwn) where
 
   -- ---- what follows a step on a connection
 
-  module _ (O : Owned) (id : ℕ) (was : List Happening) (conn : ConnPast) (life later : Life) (told : List Said)
-      (f : Follows id was conn life told later)
+  -- The connection had this transcript: so many of its outcomes have gone to its peer, and its transcript is that one
+  -- now, in which no further debt was accepted.
+  record WentOn (id : ℕ) (conn : ConnPast) (life later : Life) : Type 0 where
+    peer : PeerPast
+    here : slice_get life.past.peers conn.rank ≡ Some peer
+    count : ℕ
+    past : Past
+    settles : AllDo life.past
+        (take count (settle_events conn.rank id life.now (untold (options_of peer.conf) conn.transcript))) past
+    unread : List ℕ
+    transcript : List Happening
+    grew : Grew conn.transcript transcript
+    arises : Arises (options_of peer.conf) conn.transcript → Arises (options_of peer.conf) transcript
+    changed : later ≡ with_conn (with_past life past) id
+        (record { rank = conn.rank; unread = unread; transcript = transcript })
+
+  -- where what follows has come about
+  followed : (id : ℕ) (was : List Happening) (conn : ConnPast) (life later : Life) (told : List Said)
+      → Follows id was conn life told later → WentOn id conn life later
+  followed id was conn life later told f =
+      let o = options_of f.peer.conf in
+      let events = settle_events conn.rank id life.now (untold o conn.transcript) in
+      record {
+        peer = f.peer;
+        here = f.here;
+        count = length events;
+        past = f.past;
+        settles = subst (λ (es : List Event). AllDo life.past es f.past) (sym (take_whole events)) f.settles;
+        unread = left_behind o conn.unread (told_out o conn.transcript);
+        transcript = sent_out o conn.transcript;
+        grew = grew_sent o conn.transcript;
+        arises = sends o conn.transcript;
+        changed = f.changed;
+      }
+
+  -- and where it was refused
+  not_followed : (id : ℕ) (conn : ConnPast) (life : Life) (fault : Fault) (later : Life)
+      → FollowsNot id conn life fault later → WentOn id conn life later
+  not_followed id conn life fault later f =
+      let o = options_of f.peer.conf in
+      record {
+        peer = f.peer;
+        here = f.here;
+        count = f.count;
+        past = f.past;
+        settles = f.settles;
+        unread = left_behind o conn.unread conn.transcript;
+        transcript = with_taken (take f.count (untold o conn.transcript)) conn.transcript;
+        grew = grew_taken (take f.count (untold o conn.transcript)) conn.transcript;
+        arises = takes_first o f.count conn.transcript;
+        changed = f.changed;
+      }
+
+  module _ (O : Owned) (id : ℕ) (conn : ConnPast) (life later : Life) (f : WentOn id conn life later)
       (there : ConnPast) (is_there : conn_at life.conns id ≡ Some there) where
     abbrev its_options : Options
     its_options = options_of f.peer.conf
 
     abbrev next : ConnPast
-    next = record {
-      rank = conn.rank;
-      unread = left_behind its_options conn.unread (told_out its_options conn.transcript);
-      transcript = sent_out its_options conn.transcript;
-    }
+    next = record { rank = conn.rank; unread = f.unread; transcript = f.transcript }
 
     abbrev behind : Life
     behind = with_conn (with_past life f.past) id next
@@ -864,37 +992,39 @@ module _ (law : VerdictsAreRight) (own : EndsAreOwn) where
     next_there = put_here life.conns id next there is_there
 
     same_owned : (fits : Fits O life.past.peers id conn) (ticket : ℕ) (debt : Owing)
-        → slice_get (accepted (sent_out its_options conn.transcript)) ticket ≡ Some debt → O conn.rank id debt
+        → slice_get (accepted f.transcript) ticket ≡ Some debt → O conn.rank id debt
     same_owned fits ticket debt is = fits.owned ticket debt
-        (sym (ap (λ (l : List Owing). slice_get l ticket) (grew_sent its_options conn.transcript).same) ∙ is)
+        (sym (ap (λ (l : List Owing). slice_get l ticket) f.grew.same) ∙ is)
 
     follows_right : Fits O life.past.peers id conn → AllFit O life.past.peers life.conns life.connected
         → Rights O life later
     follows_right fits fit =
         let h = conn.transcript in
-        let sent = sends its_options h (fits.arises f.peer f.here) in
+        let arises = f.arises (fits.arises f.peer f.here) in
         let kept = (none_lost life.past f.past _ f.settles).fore conn.rank f.peer f.here in
         let outcome : (x : End) → Contains (ends its_options h) x → IsRight (IsRuled O behind) conn.rank x.outcome =
         λ x among verdict final. record {
           id = id;
           verdict = verdict;
           rules = rules_by behind conn.rank id next kept.0 (record { conn_is = next_there; peer_is = kept.1 }) refl
-              (subst (λ (conf : PeerConf). Arises (options_of conf) next.transcript) (sym kept.2) sent) x
+              (subst (λ (conf : PeerConf). Arises (options_of conf) next.transcript) (sym kept.2) arises) x
               (subst (λ (conf : PeerConf). Contains (ends (options_of conf) next.transcript) x) (sym kept.2)
-              (ends_grew its_options h next.transcript (grew_sent its_options h) x among)) verdict final;
+              (ends_grew its_options h next.transcript f.grew x among)) verdict final;
           of_number = refl;
           of_code = refl;
           owned = fits.owned x.ticket verdict.debt
               (all_contained (λ (y : End). slice_get (accepted h) y.ticket ≡ Some (debt_in y.outcome))
               (ends its_options h) x (own its_options h) among ∙ ap (λ (o : Outcome). Some (debt_in o)) final);
         } in
+        let events = settle_events conn.rank id life.now (untold its_options h) in
         let right = right_events (IsRuled O behind) life.past f.past _ f.settles
+        (first_all (EventRight (IsRuled O behind)) f.count events
         (right_settles (IsRuled O behind) conn.rank id life.now (untold its_options h)
-        (untold_all (IsRight (IsRuled O behind) conn.rank) its_options h outcome)) in
+        (untold_all (IsRight (IsRuled O behind) conn.rank) its_options h outcome))) in
         let before : Fits O life.past.peers id next = record {
           arises = λ peer here.
               let same = once f.peer peer (sym f.here ∙ here) in
-              subst (λ (p : PeerPast). Arises (options_of p.conf) next.transcript) same sent;
+              subst (λ (p : PeerPast). Arises (options_of p.conf) next.transcript) same arises;
           owned = same_owned fits;
         } in
         subst (Rights O life) (sym f.changed) (record {
@@ -913,7 +1043,7 @@ module _ (law : VerdictsAreRight) (own : EndsAreOwn) where
             rank ∙ ap (λ (c : ConnPast). c.rank) (sym own),
             subst (λ (c : ConnPast). Grew c.transcript next.transcript) (sym own)
                 (grew_then there.transcript conn.transcript next.transcript grew
-                (grew_sent its_options conn.transcript)),
+                f.grew),
           )
       | inr apart ↦ (found, put_other life.conns id at next apart ∙ here, refl, grew_same found.transcript)
     ])
@@ -932,22 +1062,21 @@ module _ (law : VerdictsAreRight) (own : EndsAreOwn) where
         (fits.owned ticket debt (sym (ap (λ (l : List Owing). slice_get l ticket) grew.same) ∙ is));
   }
 
-  ticks_right : (O : Owned) (begun : Life) (count : ℕ) (told : List Said) (later : Life)
-      → TicksEach begun count told later
-      → AllFit O begun.past.peers begun.conns begun.connected → Rights O begun later
-  ticks_right O begun _ _ _ NoneTicked fit =
-      record { right = all_same (IsRuled O begun) begun.past.peers; fit = fit }
-  ticks_right O begun _ _ _ (OneTicked count told more mid later id conn peer ticks here at follows) fit =
-      let before = ticks_right O begun count told mid ticks fit in
+  -- a connection was told the moment, and went on
+  tick_right : (O : Owned) (begun mid later : Life) (count id : ℕ) (conn : ConnPast) (peer : PeerPast)
+      → Rights O begun mid → slice_get mid.conns count ≡ Some (id, conn)
+      → slice_get mid.past.peers conn.rank ≡ Some peer
+      → WentOn id (ticked (options_of peer.conf) mid.now conn) mid later → Rights O begun later
+  tick_right O begun mid later count id conn peer before here at went =
       let is = conn_there mid.conns before.fit.numbered.rising count id conn here in
       let options = options_of peer.conf in
-      let ticked = with_transcript conn (outside options conn.transcript (Ticked mid.now)) in
+      let new = ticked options mid.now conn in
       let one = before.fit.each id conn is in
       let grew = grew_outside options conn.transcript (Ticked mid.now) refl in
-      let fits = grown_fits O mid.past.peers id conn ticked peer one refl at
+      let fits = grown_fits O mid.past.peers id conn new peer one refl at
       (Goes_on conn.transcript (Ticked mid.now) (one.arises peer at) tt) grew in
-      let now = follows_right O id conn.transcript ticked mid later more follows conn is fits before.fit in
-      let carries = follows_carries O id conn.transcript ticked mid later more follows conn is refl grew in
+      let now = follows_right O id new mid later went conn is fits before.fit in
+      let carries = follows_carries O id new mid later went conn is refl grew in
       record {
         right = all_then (IsRuled O later) begun.past.peers mid.past.peers later.past.peers
             (right_weaker (IsRuled O mid) (IsRuled O later)
@@ -955,6 +1084,15 @@ module _ (law : VerdictsAreRight) (own : EndsAreOwn) where
             begun.past.peers mid.past.peers before.right) now.right;
         fit = now.fit;
       }
+
+  ticks_right : (O : Owned) (begun : Life) (count : ℕ) (told : List Said) (later : Life)
+      → TicksEach begun count told later
+      → AllFit O begun.past.peers begun.conns begun.connected → Rights O begun later
+  ticks_right O begun _ _ _ NoneTicked fit =
+      record { right = all_same (IsRuled O begun) begun.past.peers; fit = fit }
+  ticks_right O begun _ _ _ (OneTicked count told more mid later id conn peer ticks here at follows) fit =
+      tick_right O begun mid later count id conn peer (ticks_right O begun count told mid ticks fit) here at
+      (followed id conn.transcript _ mid later more follows)
 
   -- ---- steps
 
@@ -1025,6 +1163,72 @@ module _ (law : VerdictsAreRight) (own : EndsAreOwn) where
         same_right later (ap (λ (l : Life). l.past) changed)
         (subst (λ (l : Life). AllFit O life.past.peers l.conns l.connected) (sym changed) fit)
 
+    -- ---- steps on connections, taken or refused
+
+    hand_right : (id : ℕ) (conn : ConnPast) (peer : PeerPast) (handed : Handover) (h : List Happening) (past : Past)
+        (later : Life)
+        → taken_step ≡ Hand id → IsConn id life conn peer
+        → HandsOver id life.now conn peer life.past handed h past
+        → WentOn id (with_transcript conn h) (with_past life past) later
+        → AllFit O life.past.peers life.conns life.connected → Rights O life later
+    hand_right id conn peer handed h past later same is hands went fit =
+        let fits = fit.each id conn is.conn_is in
+        let right = handing_right (IsRuled O later) id life.now conn peer life.past handed h past hands is.peer_is in
+        let one = handed_fits id conn peer handed h past same hands is fits in
+        let follows = follows_right O id (with_transcript conn h) (with_past life past) later went conn is.conn_is
+        (still O (IsRuled O later) life.past.peers past.peers right id (with_transcript conn h) one)
+        (all_still O (IsRuled O later) life.past.peers past.peers right life.conns life.connected fit) in
+        record {
+          right = all_then (IsRuled O later) life.past.peers past.peers later.past.peers right follows.right;
+          fit = follows.fit;
+        }
+
+    -- the transcript has grown by what came in
+    grown_right : (id : ℕ) (conn : ConnPast) (peer : PeerPast) (unread : List ℕ) (h : List Happening) (later : Life)
+        → IsConn id life conn peer
+        → (Arises (options_of peer.conf) conn.transcript → Arises (options_of peer.conf) h) → Grew conn.transcript h
+        → WentOn id (record { rank = conn.rank; unread = unread; transcript = h }) life later
+        → AllFit O life.past.peers life.conns life.connected → Rights O life later
+    grown_right id conn peer unread h later is arises grew went fit =
+        let fits = fit.each id conn is.conn_is in
+        follows_right O id (record { rank = conn.rank; unread = unread; transcript = h }) life later went conn
+        is.conn_is
+        (grown_fits O life.past.peers id conn _ peer fits refl is.peer_is (arises (fits.arises peer is.peer_is)) grew)
+        fit
+
+    bytes_right : (id : ℕ) (octets left : List ℕ) (conn : ConnPast) (peer : PeerPast) (h : List Happening)
+        (later : Life)
+        → IsConn id life conn peer → Receives (options_of peer.conf) (conn.unread ++ octets) conn.transcript h left
+        → WentOn id (record { rank = conn.rank; unread = left; transcript = h }) life later
+        → AllFit O life.past.peers life.conns life.connected → Rights O life later
+    bytes_right id octets left conn peer h later is came went fit =
+        let o = options_of peer.conf in
+        grown_right id conn peer left h later is
+        (λ arises. receives o _ left conn.transcript h arises came)
+        (grew_received o _ left conn.transcript h came) went fit
+
+    article_right : (id number : ℕ) (handing : Handing) (conn : ConnPast) (peer : PeerPast) (later : Life)
+        → IsConn id life conn peer → need (options_of peer.conf) conn.transcript ≡ Some number
+        → WentOn id (with_transcript conn (after (options_of peer.conf) conn.transcript (Handed number handing))) life
+        later
+        → AllFit O life.past.peers life.conns life.connected → Rights O life later
+    article_right id number handing conn peer later is wanted went fit =
+        let o = options_of peer.conf in
+        grown_right id conn peer conn.unread (after o conn.transcript (Handed number handing)) later is
+        (λ arises. Goes_on conn.transcript (Handed number handing) arises
+        (wanted_there o conn.transcript number wanted))
+        (grew_by o conn.transcript (Handed number handing) refl) went fit
+
+    break_right : (id : ℕ) (conn : ConnPast) (peer : PeerPast) (later : Life) → IsConn id life conn peer
+        → WentOn id (with_transcript conn (outside (options_of peer.conf) conn.transcript Broke)) life later
+        → AllFit O life.past.peers life.conns life.connected → Rights O life later
+    break_right id conn peer later is went fit =
+        let o = options_of peer.conf in
+        grown_right id conn peer conn.unread (outside o conn.transcript Broke) later is
+        (λ arises. Goes_on conn.transcript Broke arises tt) (grew_outside o conn.transcript Broke refl) went fit
+
+    -- ---- steps that are taken
+
     step_right : (step : Step) → taken_step ≡ step → (told : List Said) (later : Life) → DoesStep step life told later
         → AllFit O life.past.peers life.conns life.connected
         → Rights O life later
@@ -1048,40 +1252,16 @@ module _ (law : VerdictsAreRight) (own : EndsAreOwn) where
         (subst (λ (l : Life). AllFit O life.past.peers l.conns l.connected) (sym t.changed)
         (push_fits O life.past.peers life.conns life.connected t.rank fit))
     step_right (Hand id) same told later (runs, t) fit =
-        let fits = fit.each id t.conn t.is.conn_is in
-        let hands = handing_right (IsRuled O later) id life.now t.conn t.peer life.past t.handed t.transcript t.past
-        t.hands t.is.peer_is in
-        let next = with_transcript t.conn t.transcript in
-        let one = handed_fits id t.conn t.peer t.handed t.transcript t.past same t.hands t.is fits in
-        let follows = follows_right O id t.conn.transcript next (with_past life t.past) later t.behind t.follows t.conn
-        t.is.conn_is (still O (IsRuled O later) life.past.peers t.past.peers hands id next one)
-        (all_still O (IsRuled O later) life.past.peers t.past.peers hands life.conns life.connected fit) in
-        record {
-          right = all_then (IsRuled O later) life.past.peers t.past.peers later.past.peers hands follows.right;
-          fit = follows.fit;
-        }
+        hand_right id t.conn t.peer t.handed t.transcript t.past later same t.is t.hands
+        (followed id t.conn.transcript _ (with_past life t.past) later t.behind t.follows) fit
     step_right (Bytes id octets) same told later (runs, t) fit =
-        let fits = fit.each id t.conn t.is.conn_is in
-        let o = options_of t.peer.conf in
-        follows_right O id t.conn.transcript _ life later told t.follows t.conn t.is.conn_is
-        (grown_fits O life.past.peers id t.conn _ t.peer fits refl t.is.peer_is
-        (receives o _ t.left t.conn.transcript t.transcript (fits.arises t.peer t.is.peer_is) t.receives)
-        (grew_received o _ t.left t.conn.transcript t.transcript t.receives)) fit
+        bytes_right id octets.items t.left t.conn t.peer t.transcript later t.is t.receives
+        (followed id t.conn.transcript _ life later told t.follows) fit
     step_right (Article id found) same told later (runs, t) fit =
-        let fits = fit.each id t.conn t.is.conn_is in
-        let o = options_of t.peer.conf in
-        follows_right O id t.conn.transcript _ life later told t.follows t.conn t.is.conn_is
-        (grown_fits O life.past.peers id t.conn _ t.peer fits refl t.is.peer_is
-        (Goes_on t.conn.transcript (Handed t.number t.handing) (fits.arises t.peer t.is.peer_is)
-        (wanted_there o t.conn.transcript t.number t.wanted))
-        (grew_by o t.conn.transcript (Handed t.number t.handing) refl)) fit
+        article_right id t.number t.handing t.conn t.peer later t.is t.wanted
+        (followed id t.conn.transcript _ life later told t.follows) fit
     step_right (Break id) same told later (runs, t) fit =
-        let fits = fit.each id t.conn t.is.conn_is in
-        let o = options_of t.peer.conf in
-        follows_right O id t.conn.transcript _ life later told t.follows t.conn t.is.conn_is
-        (grown_fits O life.past.peers id t.conn _ t.peer fits refl t.is.peer_is
-        (Goes_on t.conn.transcript Broke (fits.arises t.peer t.is.peer_is) tt)
-        (grew_outside o t.conn.transcript Broke refl)) fit
+        break_right id t.conn t.peer later t.is (followed id t.conn.transcript _ life later told t.follows) fit
     step_right (Tick now) same told later (runs, t) fit =
         let ticks = ticks_right O _ _ told later t fit in
         record { right = ticks.right; fit = ticks.fit }
@@ -1107,38 +1287,199 @@ module _ (law : VerdictsAreRight) (own : EndsAreOwn) where
         halted_right later (struck_right (IsRuled O later) step life told later strikes)
         (ap (λ (l : Life). l.conns) strikes.changed)
 
-  -- ---- runs
+    -- ---- steps that are refused
+
+    -- nothing has changed
+    same_life : (later : Life) → later ≡ life → AllFit O life.past.peers life.conns life.connected
+        → Rights O life later
+    same_life later same fit =
+        subst (Rights O life) (sym same) (record { right = all_same (IsRuled O life) life.past.peers; fit = fit })
+
+    tapes_refused : (R : Past → Fault → Past → Type 0) (fault : Fault) (later : Life)
+        → ((past : Past) → R life.past fault past → AllRightSince (IsRuled O later) life.past past)
+        → RefusesTapes R life fault later → AllFit O life.past.peers life.conns life.connected → Rights O life later
+    tapes_refused R fault later right (inl stopped) fit = same_life later stopped.2 fit
+    tapes_refused R fault later right (inr (runs, (past, refuses, changed))) fit =
+        on_tapes later past (right past refuses) changed fit
+
+    hand_refused : (id : ℕ) (conn : ConnPast) (peer : PeerPast) (fault : Fault) (later : Life) → taken_step ≡ Hand id
+        → IsConn id life conn peer → FailsToHand id life conn peer fault later
+        → AllFit O life.past.peers life.conns life.connected → Rights O life later
+    hand_refused id conn peer fault later same is (inl memory) fit = same_life later memory.1 fit
+    hand_refused id conn peer fault later same is (inr (inl (past, fails, changed))) fit =
+        on_tapes later past (fails_right (IsRuled O later) life.past past _ fault (tt, tt) fails) changed fit
+    hand_refused id conn peer fault later same is (inr (inr (inl (memory, ready, (debt, past, least, does, changed))))) fit =
+        on_tapes later past (plain_events (IsRuled O later) life.past past _ does (tt, (tt, tt))) changed fit
+    hand_refused id conn peer fault later same is (inr (inr (inr (handed, h, past, hands, follows)))) fit =
+        hand_right id conn peer handed h past later same is hands
+        (not_followed id _ (with_past life past) fault later follows) fit
+
+    bytes_refused : (id : ℕ) (octets : List ℕ) (conn : ConnPast) (peer : PeerPast) (fault : Fault) (later : Life)
+        → IsConn id life conn peer → FailsToRead id octets life conn peer fault later
+        → AllFit O life.past.peers life.conns life.connected → Rights O life later
+    bytes_refused id octets conn peer fault later is (inl (memory, (mid, some, changed))) fit =
+        let o = options_of peer.conf in
+        follows_right O id conn life later (record {
+          peer = peer;
+          here = is.peer_is;
+          count = 0;
+          past = life.past;
+          settles = NoEvent;
+          unread = [];
+          transcript = after o mid Broke;
+          grew = grew_broken o (conn.unread ++ octets) conn.transcript mid some;
+          arises = λ arises. arises_broken o (conn.unread ++ octets) conn.transcript mid arises some;
+          changed = changed;
+        }) conn is.conn_is (fit.each id conn is.conn_is) fit
+    bytes_refused id octets conn peer fault later is (inr (h, left, came, follows)) fit =
+        bytes_right id octets left conn peer h later is came (not_followed id _ life fault later follows) fit
+
+    article_refused : (id : ℕ) (found : Found) (conn : ConnPast) (peer : PeerPast) (fault : Fault) (later : Life)
+        → IsConn id life conn peer → FailsToSupply id found life conn peer fault later
+        → AllFit O life.past.peers life.conns life.connected → Rights O life later
+    article_refused id found conn peer fault later is (inl none) fit = same_life later none.2 fit
+    article_refused id found conn peer fault later is (inr (number, wanted, inl memory)) fit =
+        same_life later memory.1 fit
+    article_refused id found conn peer fault later is (inr (number, wanted, inr (handing, handed, follows))) fit =
+        article_right id number handing conn peer later is wanted (not_followed id _ life fault later follows) fit
+
+    conn_refused : (id : ℕ) (R : Life → ConnPast → PeerPast → Fault → Life → Type 0) (fault : Fault) (later : Life)
+        → ((conn : ConnPast) (peer : PeerPast) → IsConn id life conn peer → R life conn peer fault later
+        → AllFit O life.past.peers life.conns life.connected → Rights O life later)
+        → RefusesConn id R life fault later
+        → AllFit O life.past.peers life.conns life.connected → Rights O life later
+    conn_refused id R fault later right (inl stopped) fit = same_life later stopped.2 fit
+    conn_refused id R fault later right (inr (runs, inl none)) fit = same_life later none.2 fit
+    conn_refused id R fault later right (inr (runs, inr (conn, peer, is, fails))) fit = right conn peer is fails fit
+
+    -- a step on neither tapes nor a connection
+    world_refused : (R : Life → Fault → Life → Type 0) (fault : Fault) (later : Life)
+        → (R life fault later → AllFit O life.past.peers life.conns life.connected → Rights O life later)
+        → RefusesWorld R life fault later
+        → AllFit O life.past.peers life.conns life.connected → Rights O life later
+    world_refused R fault later right (inl stopped) fit = same_life later stopped.2 fit
+    world_refused R fault later right (inr (runs, refuses)) fit = right refuses fit
+
+    tick_refused : (now : ℕ) (fault : Fault) (later : Life) → RefusesTick now life fault later
+        → AllFit O life.past.peers life.conns life.connected → Rights O life later
+    tick_refused now fault later r fit =
+        let rights = tick_right O (at_moment now life) r.mid later r.count r.id r.conn r.peer
+        (ticks_right O (at_moment now life) r.count r.told r.mid r.front fit) r.next r.here
+        (not_followed r.id _ r.mid fault later r.follows) in
+        record { right = rights.right; fit = rights.fit }
+
+    stop_refused : (peer : Option (List ℕ)) (call : ℕ) (fault : Fault) (later : Life)
+        → RefusesStop peer call life fault later
+        → AllFit O life.past.peers life.conns life.connected → Rights O life later
+    stop_refused peer zero fault later (why, same) fit = same_life later same fit
+    stop_refused peer (suc calls) fault later (none, is, same) fit = same_life later same fit
+
+    restart_refused : (fault : Fault) (later : Life) → RefusesRestart life fault later
+        → AllFit O life.past.peers life.conns life.connected → Rights O life later
+    restart_refused fault later (inl runs) fit = same_life later runs.2 fit
+    restart_refused fault later (inr (stopped, (under_way, fails, changed))) fit =
+        on_tapes later (left AtRest under_way)
+        (all_then (IsRuled O later) life.past.peers under_way.peers (left AtRest under_way).peers
+        (opens_right (IsRuled O later) life.past fault under_way fails)
+        (left_right (IsRuled O later) AtRest under_way.peers)) changed fit
+
+    step_refused : (step : Step) → taken_step ≡ step → (fault : Fault) (later : Life)
+        → RefusesAny step life fault later
+        → AllFit O life.past.peers life.conns life.connected → Rights O life later
+    step_refused (Line text) same fault later refuses fit =
+        tapes_refused (RefusesLine text.items) fault later
+        (λ past. line_refused (IsRuled O later) text.items life.past fault past) refuses fit
+    step_refused Flush same fault later refuses fit =
+        tapes_refused RefusesFlushing fault later (λ past. flush_refused (IsRuled O later) life.past fault past) refuses
+        fit
+    step_refused Begin same fault later refuses fit =
+        world_refused (λ (l : Life) (f : Fault) (m : Life). ⊥) fault later (λ never. absurd never) refuses fit
+    step_refused (Part name) same fault later refuses fit =
+        tapes_refused (RefusesPart name) fault later
+        (λ past. part_refused (IsRuled O later) name life.past fault past) refuses fit
+    step_refused Seal same fault later refuses fit =
+        tapes_refused RefusesSeal fault later (λ past. seal_refused (IsRuled O later) life.past fault past) refuses fit
+    step_refused (Connect name) same fault later refuses fit =
+        world_refused (RefusesConnect name) fault later (λ is. same_life later is.1) refuses fit
+    step_refused (Hand id) same fault later refuses fit =
+        conn_refused id (FailsToHand id) fault later (λ conn peer. hand_refused id conn peer fault later same) refuses
+        fit
+    step_refused (Bytes id octets) same fault later refuses fit =
+        conn_refused id (FailsToRead id octets.items) fault later
+        (λ conn peer. bytes_refused id octets.items conn peer fault later) refuses fit
+    step_refused (Article id found) same fault later refuses fit =
+        conn_refused id (FailsToSupply id found) fault later
+        (λ conn peer. article_refused id found conn peer fault later) refuses fit
+    step_refused (Break id) same fault later refuses fit =
+        conn_refused id (FailsToBreak id) fault later
+        (λ conn peer is fails. break_right id conn peer later is (not_followed id _ life fault later fails)) refuses fit
+    step_refused (Tick now) same fault later refuses fit =
+        world_refused (RefusesTick now) fault later (tick_refused now fault later) refuses fit
+    step_refused (Shed name) same fault later refuses fit =
+        tapes_refused (RefusesShed name) fault later
+        (λ past. shed_refused (IsRuled O later) name life.past fault past) refuses fit
+    step_refused (Rotate name) same fault later refuses fit =
+        tapes_refused (RefusesRotation name) fault later
+        (λ past. rotate_refused (IsRuled O later) name life.past fault past) refuses fit
+    step_refused (Stop peer call choice) same fault later refuses fit = stop_refused peer call fault later refuses fit
+    step_refused Restart same fault later refuses fit = restart_refused fault later refuses fit
+
+    refuses_right : (step : Step) → taken_step ≡ step → (fault : Fault) (later : Life)
+        → RefusesStep step life fault later
+        → AllFit O life.past.peers life.conns life.connected → Rights O life later
+    refuses_right step same fault later (inl refuses) fit = step_refused step same fault later refuses fit
+    refuses_right step same fault later (inr strikes) fit =
+        halted_right later (untold_right (IsRuled O later) step life fault later strikes)
+        (ap (λ (l : Life). l.conns) strikes.changed)
+
+  -- ---- any steps
+
+  -- the step was taken, and told this, or refused, and told nothing
+  abbrev IsNext : Step → Life → List (List Said) → Life → Type 0
+  IsNext step life more later =
+      ((told : List Said) × (more ≡ told ∷ []) × Takes step life told later)
+      ⊎ ((fault : Fault) × (more ≡ []) × RefusesStep step life fault later)
+
+  comes_next : (begun : Life) (steps : List Step) (step : Step) (lines more : List (List Said)) (mid later : Life)
+      → Comes begun steps lines mid → IsNext step mid more later → IsSafe later.past
+      → Comes begun (steps ++ step ∷ []) (lines ++ more) later
+  comes_next begun steps step lines more mid later comes (inl (told, is, takes)) safe =
+      subst (λ (l : List (List Said)). Comes begun (steps ++ step ∷ []) (lines ++ l) later) (sym is)
+      (Step_taken steps step lines told mid later comes takes safe)
+  comes_next begun steps step lines more mid later comes (inr (fault, is, refuses)) safe =
+      subst (λ (l : List (List Said)). Comes begun (steps ++ step ∷ []) (lines ++ l) later) (sym is)
+      (subst (λ (l : List (List Said)). Comes begun (steps ++ step ∷ []) l later) (sym (append-nil lines))
+      (Step_refused steps step lines fault mid later comes refuses safe))
 
   abbrev passes_last : (begun : Life) (steps : List Step) (lines : List (List Said)) (later : Life)
-      → Runs begun steps lines later → IsSafe later.past → Passes begun steps lines later later
-  passes_last begun steps lines later runs safe = record {
+      → Comes begun steps lines later → IsSafe later.past → Passes begun steps lines later later
+  passes_last begun steps lines later comes safe = record {
     first = steps;
     others = [];
     first_lines = lines;
     other_lines = [];
     steps_are = sym (append-nil steps);
     lines_are = sym (append-nil lines);
-    made = runs;
-    went_on = NoStep safe;
+    made = comes;
+    went_on = No_step safe;
   }
 
   abbrev passes_on : (begun : Life) (steps : List Step) (lines : List (List Said)) (mid : Life) (step : Step)
-      (told : List Said) (later life : Life)
-      → Takes step mid told later → IsSafe later.past → Passes begun steps lines mid life
-      → Passes begun (steps ++ step ∷ []) (lines ++ told ∷ []) later life
-  passes_on begun steps lines mid step told later life takes safe p = record {
+      (more : List (List Said)) (later life : Life)
+      → IsNext step mid more later → IsSafe later.past → Passes begun steps lines mid life
+      → Passes begun (steps ++ step ∷ []) (lines ++ more) later life
+  passes_on begun steps lines mid step more later life next safe p = record {
     first = p.first;
     others = p.others ++ step ∷ [];
     first_lines = p.first_lines;
-    other_lines = p.other_lines ++ told ∷ [];
+    other_lines = p.other_lines ++ more;
     steps_are = ap (λ (l : List Step). l ++ step ∷ []) p.steps_are ∙ append_assoc p.first p.others (step ∷ []);
-    lines_are = ap (λ (l : List (List Said)). l ++ told ∷ []) p.lines_are
-        ∙ append_assoc p.first_lines p.other_lines (told ∷ []);
+    lines_are = ap (λ (l : List (List Said)). l ++ more) p.lines_are ∙ append_assoc p.first_lines p.other_lines more;
     made = p.made;
-    went_on = OneStep p.others step p.other_lines told mid later p.went_on takes safe;
+    went_on = comes_next life p.others step p.other_lines more mid later p.went_on next safe;
   }
 
-  -- which debts connections of a run may have accepted
+  -- which debts connections may have accepted
   abbrev RunOwned : Life → List Step → List (List Said) → Life → Owned
   RunOwned begun steps lines later rank id debt =
       WasTaken begun steps lines later rank id debt ⊎ WasAccepted begun rank id debt
@@ -1147,22 +1488,16 @@ module _ (law : VerdictsAreRight) (own : EndsAreOwn) where
     right : AllRightly (HasVerdict begun steps lines later) begun.past.peers later.past.peers
     fit : AllFit (RunOwned begun steps lines later) later.past.peers later.conns later.connected
 
-  is_safe : (begun : Life) (steps : List Step) (lines : List (List Said)) (later : Life)
-      → Runs begun steps lines later → IsSafe later.past
-  is_safe begun _ _ _ (NoStep safe) = safe
-  is_safe begun _ _ _ (OneStep steps step lines told life later runs takes safe) = safe
-
-  module _ (begun : Life) (steps : List Step) (step : Step) (lines : List (List Said)) (told : List Said)
-      (life later : Life)
-      (runs : Runs begun steps lines life) (takes : Takes step life told later) (safe : IsSafe later.past) where
+  module _ (begun : Life) (steps : List Step) (step : Step) (lines more : List (List Said)) (life later : Life)
+      (comes : Comes begun steps lines life) (one : IsNext step life more later) (safe : IsSafe later.past) where
     abbrev all_steps : List Step
     all_steps = steps ++ step ∷ []
 
     abbrev all_lines : List (List Said)
-    all_lines = lines ++ told ∷ []
+    all_lines = lines ++ more
 
     abbrev passes_here : (at : Life) → Passes begun steps lines life at → Passes begun all_steps all_lines later at
-    passes_here at p = passes_on begun steps lines life step told later at takes safe p
+    passes_here at p = passes_on begun steps lines life step more later at one safe p
 
     owned_on : (rank id : ℕ) (debt : Owing) → RunOwned begun steps lines life rank id debt
         → RunOwned begun all_steps all_lines later rank id debt
@@ -1198,7 +1533,7 @@ module _ (law : VerdictsAreRight) (own : EndsAreOwn) where
     verdict_now rank number code ruled = record {
       life = later;
       passes = passes_last begun all_steps all_lines later
-          (OneStep steps step lines told life later runs takes safe) safe;
+          (comes_next begun steps step lines more life later comes one safe) safe;
       id = ruled.id;
       verdict = ruled.verdict;
       rules = ruled.rules;
@@ -1207,40 +1542,56 @@ module _ (law : VerdictsAreRight) (own : EndsAreOwn) where
       owed = ruled.owned;
     }
 
+    abbrev OwnedNow : Owned
+    OwnedNow = RunOwned begun all_steps all_lines later
+
+    -- where the step hands a debt over, the peer owed it
+    owes_now : (rank id : ℕ) (debt : Owing) (conn : ConnPast) (peer : PeerPast) → step ≡ Hand id
+        → IsConn id life conn peer → conn.rank ≡ rank → IsCandidate life.now peer debt → OwnedNow rank id debt
+    owes_now rank id debt conn peer hand is its candidate = inl (record {
+      life = life;
+      passes = passes_here life (passes_last begun steps lines life comes (comes_safe begun steps lines life comes));
+      behind = [];
+      hand = ap (λ (s : Step). s ∷ []) hand;
+      conn = conn;
+      peer = peer;
+      is = is;
+      its = its;
+      candidate = candidate;
+    })
+
+    next_right : IsNext step life more later → AllFit OwnedNow life.past.peers life.conns life.connected
+        → Rights OwnedNow life later
+    next_right (inl (told, is, takes)) fit = takes_right OwnedNow life step owes_now step refl told later takes fit
+    next_right (inr (fault, is, refuses)) fit =
+        refuses_right OwnedNow life step owes_now step refl fault later refuses fit
+
     goes_right : RunRight begun steps lines life → RunRight begun all_steps all_lines later
     goes_right before =
         let V = HasVerdict begun all_steps all_lines later in
-        let O = RunOwned begun all_steps all_lines later in
-        let now = takes_right O life step
-        (λ rank id debt conn peer hand is its candidate. inl (record {
-          life = life;
-          passes = passes_here life (passes_last begun steps lines life runs (is_safe begun steps lines life runs));
-          behind = [];
-          hand = ap (λ (s : Step). s ∷ []) hand;
-          conn = conn;
-          peer = peer;
-          is = is;
-          its = its;
-          candidate = candidate;
-        }))
-        step refl told later takes
-        (fits_owned (RunOwned begun steps lines life) O owned_on life.past.peers life.conns life.connected before.fit) in
+        let now = next_right one (fits_owned (RunOwned begun steps lines life) OwnedNow owned_on life.past.peers
+        life.conns life.connected before.fit) in
         record {
           right = all_then V begun.past.peers life.past.peers later.past.peers
               (right_weaker (HasVerdict begun steps lines life) V verdict_on begun.past.peers life.past.peers
               before.right)
-              (right_weaker (IsRuled O later) V verdict_now life.past.peers later.past.peers now.right);
+              (right_weaker (IsRuled OwnedNow later) V verdict_now life.past.peers later.past.peers now.right);
           fit = now.fit;
         }
 
-  runs_right : (begun : Life) (steps : List Step) (lines : List (List Said)) (later : Life)
-      → Runs begun steps lines later
+  comes_right : (begun : Life) (steps : List Step) (lines : List (List Said)) (later : Life)
+      → Comes begun steps lines later
       → AllFit (RunOwned begun [] [] begun) begun.past.peers begun.conns begun.connected
       → RunRight begun steps lines later
-  runs_right begun _ _ _ (NoStep safe) fit =
+  comes_right begun _ _ _ (No_step safe) fit =
       record { right = all_same (HasVerdict begun [] [] begun) begun.past.peers; fit = fit }
-  runs_right begun _ _ _ (OneStep steps step lines told life later runs takes safe) fit =
-      goes_right begun steps step lines told life later runs takes safe (runs_right begun steps lines life runs fit)
+  comes_right begun _ _ _ (Step_taken steps step lines told life later comes takes safe) fit =
+      goes_right begun steps step lines (told ∷ []) life later comes (inl (told, refl, takes)) safe
+      (comes_right begun steps lines life comes fit)
+  comes_right begun _ _ _ (Step_refused steps step lines fault life later comes refuses safe) fit =
+      subst (λ (l : List (List Said)). RunRight begun (steps ++ step ∷ []) l later) (append-nil lines)
+      (goes_right begun steps step lines [] life later comes (inr (fault, refl, refuses)) safe
+      (comes_right begun steps lines life comes fit))
 
   sound_at : (peers : List PeerPast) (conns : List Entry) (id : ℕ) (conn : ConnPast)
       → AllByRecursion (λ (entry : Entry). IsSoundConn peers entry.1) conns
@@ -1274,8 +1625,8 @@ module _ (law : VerdictsAreRight) (own : EndsAreOwn) where
   }
 
   pub finals_right : AllFinalsAreRight
-  finals_right = λ begun later steps lines sound runs rank number code has.
-      let all = (runs_right begun steps lines later runs (begun_fit begun sound)).right in
+  finals_right = λ begun later steps lines sound comes rank number code has.
+      let all = (comes_right begun steps lines later comes (begun_fit begun sound)).right in
       let at = all.back rank has.0 has.1 in
       elim (at.right.1 number code has.2) [
         | inl before ↦ inl (at.before, at.here, before)

@@ -1,6 +1,7 @@
 -- Transcripts that grow: what came out of one stays, and a debt is accepted only where it is offered.
 use Rattle.std.proofs.Common.{◌≡◌, ◌⊎◌, ℕ, zero, suc, ◌+◌, ◌<◌, Bool, true, false, Option, None, Some, List, [], ◌∷◌}
-use Rattle.std.proofs.Common.{◌++◌, length, drop, refl, sym, ap, ◌∙◌, subst, inl, inr, arith, append_assoc}
+use Rattle.std.proofs.Common.{◌++◌, length, take, drop, refl, sym, ap, ◌∙◌, subst, inl, inr, arith, append_assoc}
+use Rattle.std.proofs.Common.{append-nil, take-append-drop}
 use Rattle.std.specs.Prelude.{Contains, if◌then◌else◌, is_some}
 use Rattle.std.specs.List.{slice_get}
 use Rattle.ledger_core.specs.State.{Owing}
@@ -11,7 +12,7 @@ use Rattle.conn_core.specs.History.{output, outside, puts, reason, story, taken,
 use Rattle.conn_core.specs.History.{Broke, Came, End, Event as Happening, Faulted, Handed, Leave, Offered, Put, Sent}
 use Rattle.conn_core.specs.History.{Taken, Tick}
 use Rattle.conn_core.specs.Receipt.Receives.{Is_closed, Waits, Reads, Fails as FailsToRead}
-use Rattle.conn_core.specs.Receipt.{Receives}
+use Rattle.conn_core.specs.Receipt.{Reads_on, Receives, ReceivesSome, Stops}
 use Rattle.conn_core.specs.Stands.{Arises, Goes_on}
 use Rattle.conn_core.specs.StoryLaws.{ends-offered}
 use Rattle.conn_core.specs.declared.options.Options.{Options}
@@ -62,7 +63,7 @@ grew_puts (command ∷ commands) h =
     grew_then h (Put command ∷ h) (with_puts commands (Put command ∷ h)) (grew_one h (Put command) refl)
     (grew_puts commands (Put command ∷ h))
 
-grew_taken : (os : List Outcome) (h : List Happening) → Grew h (with_taken os h)
+pub grew_taken : (os : List Outcome) (h : List Happening) → Grew h (with_taken os h)
 grew_taken [] h = grew_same h
 grew_taken (o ∷ os) h = grew_then h (Taken ∷ h) (with_taken os (Taken ∷ h)) (grew_one h Taken refl)
     (grew_taken os (Taken ∷ h))
@@ -100,6 +101,18 @@ module _ (options : Options) where
       grew_then h (after options h (Came reply)) later (grew_by h (Came reply) refl)
       (grew_received rest left (after options h (Came reply)) later more)
   grew_received _ _ h _ (FailsToRead waiting _ fault alive begins) = grew_by h (Faulted fault) refl
+
+  grew_some : (waiting : List ℕ) (h later : List Happening) → ReceivesSome options waiting h later → Grew h later
+  grew_some _ h _ (Stops waiting _ alive) = grew_same h
+  grew_some _ h later (Reads_on waiting rest _ _ reply alive begins more) =
+      grew_then h (after options h (Came reply)) later (grew_by h (Came reply) refl)
+      (grew_some rest (after options h (Came reply)) later more)
+
+  -- some of the whole replies were taken, and then it broke
+  pub grew_broken : (waiting : List ℕ) (h mid : List Happening) → ReceivesSome options waiting h mid
+      → Grew h (after options mid Broke)
+  grew_broken waiting h mid some =
+      grew_then h mid (after options mid Broke) (grew_some waiting h mid some) (grew_by mid Broke refl)
 
   -- where a debt is offered, that one is accepted
   pub accepted_offered : (h : List Happening) (debt : Owing) (ticket : ℕ) (one : Owing)
@@ -157,21 +170,28 @@ some_there None never = absurd (never refl)
 some_there (Some x) never = refl
 
 module _ (options : Options) where
-  takes : (os : List Outcome) (h : List Happening) → os ≡ untold options h → Arises options h
+  takes : (os rest : List Outcome) (h : List Happening) → os ++ rest ≡ untold options h → Arises options h
       → Arises options (with_taken os h)
-  takes [] h is arises = arises
-  takes (o ∷ os) h is arises =
-      let so = drop_some (taken h) (outcomes options h) o os is in
+  takes [] rest h is arises = arises
+  takes (o ∷ os) rest h is arises =
+      let so = drop_some (taken h) (outcomes options h) o (os ++ rest) is in
       let more : suc (taken h) ≡ taken h + 1 = omega arith in
-      takes os (Taken ∷ h)
+      takes os rest (Taken ∷ h)
       (so.1 ∙ ap (λ (n : ℕ). drop n (outcomes options h)) more
       ∙ ap (λ (l : List Outcome). drop (taken h + 1) l) (sym (outcomes_taken options h)))
       (Goes_on h Taken arises so.0)
 
+  -- so many of the outcomes are taken
+  pub takes_first : (count : ℕ) (h : List Happening) → Arises options h
+      → Arises options (with_taken (take count (untold options h)) h)
+  takes_first count h arises =
+      takes (take count (untold options h)) (drop count (untold options h)) h
+      (take-append-drop count (untold options h)) arises
+
   pub sends : (h : List Happening) → Arises options h → Arises options (sent_out options h)
   sends h arises =
       Goes_on (told_out options h) (Sent (length (output options (told_out options h))))
-      (takes (untold options h) h refl arises) (omega arith)
+      (takes (untold options h) [] h (append-nil (untold options h)) arises) (omega arith)
 
   alive_outside : (h : List Happening) (e : Happening) → reason options h ≡ None
       → outside options h e ≡ after options h e

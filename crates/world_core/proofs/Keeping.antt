@@ -37,7 +37,7 @@ take_less (suc k) [] ys = ap (λ (n : ℕ). take n ys) (whole_less (suc k))
 take_less (suc k) (x ∷ xs) ys =
     ap (λ l. x ∷ l) (take_less k xs ys ∙ ap (λ (n : ℕ). take k xs ++ take n ys) (both_less k (length xs)))
 
-take_whole : {A : Type 0} (xs : List A) → take (length xs) xs ≡ xs
+pub take_whole : {A : Type 0} (xs : List A) → take (length xs) xs ≡ xs
 take_whole [] = refl
 take_whole (x ∷ xs) = ap (λ l. x ∷ l) (take_whole xs)
 

@@ -100,7 +100,7 @@ module _ (o : Options) where
   goes_broken waiting h mid some =
       goes_then o h mid (after o mid Broke) (goes_some waiting h mid some) (goes_after o mid Broke tt)
 
-  arises_broken : (waiting : List ℕ) (h mid : List Happening) → Arises o h → ReceivesSome o waiting h mid
+  pub arises_broken : (waiting : List ℕ) (h mid : List Happening) → Arises o h → ReceivesSome o waiting h mid
       → Arises o (after o mid Broke)
   arises_broken waiting h mid arises some =
       subst (Arises o) (alive_outside mid Broke (alive_some waiting h mid some))

@@ -1,4 +1,4 @@
--- What holds over any run of steps, in an administrator's words: the headline and its parts.
+-- What holds over any steps, taken or refused, in an administrator's words: the headline and its parts.
 use Rattle.std.specs.Prelude.{◌≡◌, ◌⊎◌, ◌<◌, ◌≤◌, ℕ, Some, List, [], ◌∷◌, ◌++◌, take, slice_get, Contains}
 use Rattle.std.specs.List.{AllZip}
 use Rattle.ledger_core.specs.State.{Owing, State}
@@ -15,7 +15,7 @@ use Rattle.peer_queue.specs.Words.{IsEnd}
 use Rattle.world_core.specs.Past.{ConnPast, Life, Past, PeerPast, TapePast, conn_at, options_of}
 use Rattle.world_core.specs.Events.{IsCandidate}
 use Rattle.world_core.specs.Exchange.{IsConn}
-use Rattle.world_core.specs.Runs.{RefusesStep, Runs, Takes}
+use Rattle.world_core.specs.Runs.{RefusesStep, Takes}
 use Rattle.world_core.specs.Safe.{IsSafe}
 use Rattle.world_core.specs.Sound.{IsSoundLife}
 use Rattle.world_core.specs.Told.{Said}
@@ -54,7 +54,7 @@ pub record AllStayAcknowledged (begun later : Life) : Type 0 where
 
 -- ---- each final answer is right
 
--- A world that a run passes: the first of its steps made this world, and the others went on from it.
+-- A world that steps pass: the first of them made this world, and the others went on from it.
 pub record Passes (begun : Life) (steps : List Step) (lines : List (List Said)) (later life : Life) : Type 0 where
   pub first : List Step
   pub others : List Step
@@ -62,14 +62,14 @@ pub record Passes (begun : Life) (steps : List Step) (lines : List (List Said)) 
   pub other_lines : List (List Said)
   pub steps_are : steps ≡ first ++ others
   pub lines_are : lines ≡ first_lines ++ other_lines
-  pub made : Runs begun first first_lines life
-  pub went_on : Runs life others other_lines later
+  pub made : Comes begun first first_lines life
+  pub went_on : Comes life others other_lines later
 
 -- In this world the connection of this number, which is to the peer at this rank, has come to this verdict, and it is
 -- right: of the replies that came one is the final answer to a command about that very debt (RFC 3977, section 3.2;
 -- RFC 4644, section 2).
 pub record Rules (life : Life) (rank id : ℕ) (verdict : Verdict) : Type 0 where
-  -- the connection, with the transcript that the run has made of it, and its peer
+  -- the connection, with the transcript that has been made of it, and its peer
   pub conn : ConnPast
   pub peer : PeerPast
   pub is : IsConn id life conn peer
@@ -85,8 +85,8 @@ pub record Rules (life : Life) (rank id : ℕ) (verdict : Verdict) : Type 0 wher
   -- and it says what was answered of it
   pub right : IsRightAt (options_of peer.conf) conn.transcript end.ticket end.outcome
 
--- A step `hand` of the run handed the debt to the connection of this number: in the world before it, the peer at this
--- rank owed it, under this number, token and id, as the least that might be claimed.
+-- One of the steps, a `hand`, handed the debt to the connection of this number: in the world before it, the peer at
+-- this rank owed it, under this number, token and id, as the least that might be claimed.
 pub record WasTaken (begun : Life) (steps : List Step) (lines : List (List Said)) (later : Life) (rank id : ℕ)
     (debt : Owing) : Type 0 where
   pub life : Life
@@ -99,7 +99,7 @@ pub record WasTaken (begun : Life) (steps : List Step) (lines : List (List Said)
   pub its : conn.rank ≡ rank
   pub candidate : IsCandidate life.now peer debt
 
--- or that connection had accepted it before the run began
+-- or that connection had accepted it before them
 pub record WasAccepted (begun : Life) (rank id : ℕ) (debt : Owing) : Type 0 where
   pub conn : ConnPast
   pub is : conn_at begun.conns id ≡ Some conn
@@ -107,10 +107,10 @@ pub record WasAccepted (begun : Life) (rank id : ℕ) (debt : Owing) : Type 0 wh
   pub ticket : ℕ
   pub accepts : slice_get (accepted conn.transcript) ticket ≡ Some debt
 
--- A verdict of this code on the peer's debt of this number, to which a connection of the run has come.
+-- A verdict of this code on the peer's debt of this number, to which a connection has come.
 pub record HasVerdict (begun : Life) (steps : List Step) (lines : List (List Said)) (later : Life)
     (rank number : ℕ) (code : FinalCode) : Type 0 where
-  -- a world that the run passes, and in it the connection, by its number, that has come to the verdict
+  -- a world that the steps pass, and in it the connection, by its number, that has come to the verdict
   pub life : Life
   pub passes : Passes begun steps lines later life
   pub id : ℕ
@@ -127,10 +127,10 @@ abbrev pub HasFinal : Life → ℕ → ℕ → FinalCode → Type 0
 HasFinal life rank number code = (peer : PeerPast) × (slice_get life.past.peers rank ≡ Some peer)
     × Contains peer.tape.history.notes (Final number code)
 
--- a final answer among a peer's notes was there as the run began, or has its verdict
+-- a final answer among a peer's notes was there before the steps, or has its verdict
 abbrev pub AllFinalsAreRight : Type 0
 AllFinalsAreRight = (begun later : Life) (steps : List Step) (lines : List (List Said)) → IsSoundLife begun
-    → Runs begun steps lines later
+    → Comes begun steps lines later
     → (rank number : ℕ) (code : FinalCode) → HasFinal later rank number code
     → HasFinal begun rank number code ⊎ HasVerdict begun steps lines later rank number code
 

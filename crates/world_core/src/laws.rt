@@ -65,11 +65,11 @@ pub fn all_are_recovered()
     ensures { OverRuns AllAreRecovered }
 {}
 
-/// Over any run of steps, each final answer among a peer's notes that was not there as the run began has its verdict:
-/// in a world that the run passes, a connection to that peer has come to it, of this number and code; it is right by
-/// the transcript that the run has made of that connection, where of the replies that came one is the final answer to
-/// a command about that very debt; and that connection took its debt over, by number, token and id, at a step `hand`
-/// of the run, where that peer owed it, or before the run began.
+/// Over any steps, taken or refused, each final answer among a peer's notes that was not there before them has its
+/// verdict: in a world that they pass, a connection to that peer has come to it, of this number and code; it is right
+/// by the transcript that has been made of that connection, where of the replies that came one is the final answer to
+/// a command about that very debt; and that connection took its debt over, by number, token and id, at one of them, a
+/// step `hand`, where that peer owed it, or before them.
 pub fn all_finals_are_right()
     ensures { AllFinalsAreRight }
 {
