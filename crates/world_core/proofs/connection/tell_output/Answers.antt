@@ -1,5 +1,5 @@
-use Rattle.std.proofs.Common.{◌≡◌, ◌++◌, map, sym, ap, ◌∙◌, append-nil}
-use Rattle.world_core.specs.Told.{Output, lines_in, said_of}
+use Rattle.std.proofs.Common.{◌++◌, map, sym, ap, ◌∙◌, append-nil}
+use Rattle.world_core.specs.Told.{Output, said_of}
 use Rattle.world_core.proofs.Outputs.{no_line, tells_line}
 use Rattle.world_core.proofs.connection.tell_output.Goals as goal
 
