@@ -1,12 +1,14 @@
 // Making connections.
-use crate::Feeder;
 use crate::connection::Connection;
+use crate::desk::Desk;
 use crate::hosts::look_up;
 use crate::telling::{name_of, tell_unmade};
+use crate::{Feeder, Slot};
 use article_store::Articles;
 use conn_core::{Conn, CxnId};
+use disk_model::Disk;
 use event_loop::SocketLink;
-use flusher::Naming;
+use flusher::{Naming, Pace};
 use log::Log;
 use mio::Token;
 use mio::net::TcpStream;
@@ -14,21 +16,49 @@ use std::io::{self, ErrorKind};
 use std::net::Net;
 
 impl<S: Articles + Drop, C: Net + Drop, N: Naming> Feeder<S, C, N> {
-    /// Begins to connect each slot that is due.
-    pub(crate) fn connect_due<R: Log>(&mut self, rt: &R, now: u64, last_phase: bool) {
+    /// Where slots are to be looked at, begins to connect each that is due and whose peer is owed something. Where that
+    /// is not known, since a station is in use, they are to be looked at once more.
+    pub(crate) fn connect_due<D: Disk, R: Log, P: Pace>(
+        &mut self,
+        rt: &R,
+        desk: &Desk<'_, D, N, P>,
+        last_phase: bool,
+    ) {
+        if !self.looks {
+            return;
+        }
+        self.looks = false;
         for at in 0..self.slots.len() {
-            self.connect_if_due(rt, at, now, last_phase);
+            self.connect_if_due(rt, desk, at, last_phase);
         }
     }
 
-    // Begins to connect a slot, where it is due; where it waited, its peer's host is looked up again before.
-    fn connect_if_due<R: Log>(&mut self, rt: &R, at: usize, now: u64, last_phase: bool) {
+    // Begins to connect a slot, where it is due and its peer is owed something.
+    fn connect_if_due<D: Disk, R: Log, P: Pace>(
+        &mut self,
+        rt: &R,
+        desk: &Desk<'_, D, N, P>,
+        at: usize,
+        last_phase: bool,
+    ) {
         let Some(slot) = self.slots.get(at).copied() else {
             return;
         };
-        if !slot.is_due(now, last_phase) {
+        if !slot.is_due(desk.now, last_phase) {
             return;
         }
+        let Some(plan) = self.plans.get(slot.plan()) else {
+            return;
+        };
+        match desk.owes(plan.peer) {
+            Some(true) => self.begin(rt, at, slot, desk.now),
+            Some(false) => {}
+            None => self.looks = true,
+        }
+    }
+
+    // Begins to connect a slot; where it waited, its peer's host is looked up again before.
+    fn begin<R: Log>(&mut self, rt: &R, at: usize, slot: Slot, now: u64) {
         if slot.is_waiting() {
             self.look_up_again(rt, slot.plan(), now);
         }

@@ -33,6 +33,8 @@ pub(crate) struct Connection {
     // The socket was not yet reported ready.
     is_connecting: bool,
     is_greeted: bool,
+    // It was left before its peer had agreed to a mode.
+    is_left_early: bool,
     // Something happened on it, or may have.
     is_touched: bool,
     // The station was in use when it was asked.
@@ -64,6 +66,7 @@ impl Connection {
             slot,
             is_connecting: true,
             is_greeted: false,
+            is_left_early: false,
             is_touched: false,
             is_held_up: false,
             held: BTreeMap::new(alloc),
@@ -213,8 +216,14 @@ impl Connection {
         if self.is_greeted {
             self.conn.quit();
         } else {
+            self.is_left_early = self.conn.closed().is_none();
             self.conn.broken();
         }
+    }
+
+    /// Whether it closed since it was left before its peer had agreed to a mode.
+    pub fn is_left_early(&self) -> bool {
+        self.is_left_early
     }
 
     /// It broke.

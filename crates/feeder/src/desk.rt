@@ -91,6 +91,15 @@ impl<D: Disk, N: Naming, P: Pace> Desk<'_, D, N, P> {
         self.post.try_release(peer, connection).is_some()
     }
 
+    /// Whether the peer is owed anything, held or not. None where its station is in use.
+    pub fn owes(&self, peer: usize) -> Option<bool> {
+        if peer >= self.post.peers() {
+            return Some(false);
+        }
+        let owed = self.post.try_owed(peer)?;
+        Some(owed > 0)
+    }
+
     /// Whether no debt of the peer is ready, and no connection holds one, as far as that can be told now.
     ///
     /// # Errors

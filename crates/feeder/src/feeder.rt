@@ -47,6 +47,8 @@ pub struct Feeder<S: Articles + Drop, C: Net + Drop, N: Naming> {
     pub(crate) number: u64,
     // The last second that passed for the connections.
     pub(crate) ticked: Option<u64>,
+    // Slots are to be looked at, whether one of them is to be given a connection.
+    pub(crate) looks: bool,
     // The second in which it first saw the last phase.
     pub(crate) last_phase_since: Option<u64>,
 }
@@ -87,11 +89,13 @@ impl<S: Articles + Drop, C: Net + Drop, N: Naming> Feeder<S, C, N> {
             buffer,
             number: u64::from(which),
             ticked: None,
+            looks: true,
             last_phase_since: None,
         })
     }
 
-    /// What wakes it, from any thread: it then looks at all its connections. It is of no use once the feeder is gone.
+    /// What wakes it, from any thread: it then looks at all its connections and slots. It is of no use once the feeder
+    /// is gone.
     ///
     /// # Errors
     /// What the system says where none can be made.

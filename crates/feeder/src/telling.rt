@@ -39,8 +39,12 @@ pub(crate) fn tell_unmade<R: Log>(rt: &R, name: &str, error: &io::Error) {
     info!(rt; "{}: cannot connect: {}", name, error);
 }
 
-/// A connection is over, or could not be made.
+/// A connection is over, or could not be made. Nothing is told of one that was left before its peer had agreed to a
+/// mode.
 pub(crate) fn tell_over<R: Log>(rt: &R, name: &str, connection: &Connection) {
+    if connection.is_left_early() {
+        return;
+    }
     match (connection.failure(), connection.closed()) {
         (Some(error), _) => {
             info!(rt; "{}: cannot connect to {}: {}", name, connection.address(), error)

@@ -55,7 +55,8 @@ impl<S: Articles + Drop, C: Net + Drop, N: Naming> Feeder<S, C, N> {
             let desk = self.desk(post, pace, now.seconds, false);
             self.catch_up(now.seconds)?;
             self.visit_all(rt, &desk)?;
-            self.pass_second(rt, now.seconds, last_phase);
+            self.pass_second(rt, now.seconds);
+            self.connect_due(rt, &desk, last_phase);
             if last_phase && self.is_done(&desk)? {
                 self.tell_given_up(rt, &desk);
                 return Ok(());
@@ -96,16 +97,16 @@ impl<S: Articles + Drop, C: Net + Drop, N: Naming> Feeder<S, C, N> {
         }
     }
 
-    // Where a second has passed, tells each connection, and connects the slots that are due.
-    fn pass_second<R: Log>(&mut self, rt: &R, now: u64, last_phase: bool) {
+    // Where a second has passed, tells each connection; slots are to be looked at then.
+    fn pass_second<R: Log>(&mut self, rt: &R, now: u64) {
         if self.ticked == Some(now) {
             return;
         }
         self.ticked = Some(now);
+        self.looks = true;
         for key in 0..self.connections.capacity() {
             self.tick_one(rt, key, now);
         }
-        self.connect_due(rt, now, last_phase);
     }
 
     // Tells a connection that a second has passed, and of what was deferred in it.
@@ -256,7 +257,7 @@ impl<S: Articles + Drop, C: Net + Drop, N: Naming> Feeder<S, C, N> {
     fn haste(&self, last_phase: bool) -> Haste {
         if self.connections.iter().any(|(_, one)| one.is_unfinished()) {
             Haste::Now
-        } else if self.connections.iter().any(|(_, one)| one.is_held_up()) {
+        } else if self.looks || self.connections.iter().any(|(_, one)| one.is_held_up()) {
             Haste::Station
         } else if self.is_waiting() {
             Haste::Flush
@@ -272,7 +273,8 @@ impl<S: Articles + Drop, C: Net + Drop, N: Naming> Feeder<S, C, N> {
         self.connections.iter().any(|(_, one)| one.is_waiting())
     }
 
-    /// Sleeps for so many milliseconds at most, until something happens, and notes what.
+    /// Sleeps for so many milliseconds at most, until something happens, and notes what. Behind a wake each connection
+    /// is to be looked at, and each slot.
     ///
     /// # Errors
     /// `System`.
@@ -289,6 +291,7 @@ impl<S: Articles + Drop, C: Net + Drop, N: Naming> Feeder<S, C, N> {
             }
         }
         if is_woken {
+            self.looks = true;
             self.touch_all();
         }
         Ok(())
