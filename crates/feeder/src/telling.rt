@@ -87,9 +87,11 @@ pub(crate) fn tell_given_up<R: Log>(rt: &R, name: &str) {
     info!(rt; "{}: given up for this run: its connections failed", name);
 }
 
-/// A peer wants so many articles to be offered again later.
+/// A peer wants so many articles to be offered again later. Where it is none, nothing is told.
 pub(crate) fn tell_deferred<R: Log>(rt: &R, name: &str, count: u64) {
-    info!(rt; "{}: defers {} articles", name, count);
+    if count > 0 {
+        info!(rt; "{}: defers {} articles", name, count);
+    }
 }
 
 /// Why the article under a token is not sent.

@@ -116,9 +116,7 @@ impl<S: Articles + Drop, C: Net + Drop, N: Naming> Feeder<S, C, N> {
         };
         connection.tick(now);
         let deferred = connection.take_deferred();
-        if deferred > 0
-            && let Some(slot) = self.slots.get(connection.slot())
-        {
+        if let Some(slot) = self.slots.get(connection.slot()) {
             tell_deferred(rt, name_of(&self.plans, slot.plan()), deferred);
         }
     }
@@ -184,12 +182,14 @@ impl<S: Articles + Drop, C: Net + Drop, N: Naming> Feeder<S, C, N> {
             connection.hold_up();
             return;
         }
-        let Some(connection) = self.connections.try_remove(key) else {
+        let Some(mut connection) = self.connections.try_remove(key) else {
             return;
         };
         self.note_over(&connection, desk.now);
         if let Some(slot) = self.slots.get(connection.slot()) {
-            tell_over(rt, name_of(&self.plans, slot.plan()), &connection);
+            let name = name_of(&self.plans, slot.plan());
+            tell_deferred(rt, name, connection.take_deferred());
+            tell_over(rt, name, &connection);
         }
     }
 
