@@ -15,7 +15,7 @@ use article_store::Articles;
 use commands::{FeedEnd, Owing};
 use disk_model::{Disk, FileDisk};
 use feed_conf::{Conf, PeerConf};
-use feeder::{Feeder, FeederFault, PeerPlan};
+use feeder::{Feeder, FeederFault, PeerPlan, Spool};
 use flusher::{
     Blanks, Flusher, Free, Naming, NoThread, Peer, Post, PostFault, Signals, run_threads,
 };
@@ -48,7 +48,7 @@ pub(crate) struct Means<'a, R, F, H, C> {
 struct Prepared<S> {
     names: Vec<PeerName>,
     plans: (Vec<PeerPlan>, Vec<PeerPlan>),
-    stores: (S, S),
+    spools: (Spool<S>, Spool<S>),
     funnel: Option<Funnel>,
     status: Vec<u8>,
     start: Instant,
@@ -116,13 +116,25 @@ fn prepare<R: Clock + Log, F: AllocGlobal, S: Drop, H: Spools<Store = S>, C: Net
             plans_of(alloc, peers, &addresses)?,
             plans_of(alloc, peers, &addresses)?,
         ),
-        stores: (
-            means.spools.open(alloc, path)?,
-            means.spools.open(alloc, path)?,
+        spools: (
+            open_spool(means, path)?,
+            open_spool(means, path)?,
         ),
         funnel,
         status,
         start,
+    })
+}
+
+// The spool below the directory at this path.
+fn open_spool<R, F: AllocGlobal, S: Drop, H: Spools<Store = S>, C>(
+    means: &Means<'_, R, F, H, C>,
+    path: &str,
+) -> Result<Spool<S>, AllocError> {
+    let alloc = means.files.alloc();
+    Ok(Spool {
+        store: means.spools.open(alloc, path)?,
+        path: String::from_str(alloc, path)?,
     })
 }
 
@@ -159,13 +171,13 @@ fn work<
     let Prepared {
         names,
         plans,
-        stores,
+        spools,
         funnel,
         status,
         start,
     } = prepared;
-    let first = Feeder::new(alloc, means.net, stores.0, 0, plans.0, start, one).map_err(lacking)?;
-    let second = Feeder::new(alloc, means.net, stores.1, 1, plans.1, start, other).map_err(
+    let first = Feeder::new(alloc, means.net, spools.0, 0, plans.0, start, one).map_err(lacking)?;
+    let second = Feeder::new(alloc, means.net, spools.1, 1, plans.1, start, other).map_err(
         lacking,
     )?;
     let left = Left::new(2);

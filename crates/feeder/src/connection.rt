@@ -1,6 +1,7 @@
 // One connection: a connection's value, its socket, and what it holds.
-use crate::telling::tell_unsent;
-use article_store::{Articles, Found};
+use crate::Spool;
+use crate::telling::{tell_unread, tell_unsent};
+use article_store::{Articles, Found, StoreFault};
 use conn_core::{Conn, CxnId, Mode, Outcome, Ready, Reason};
 use event_loop::{Moved, SocketLink, put_out, take_in};
 use funnel::Token;
@@ -303,7 +304,7 @@ impl Connection {
     }
 
     /// Hands in the articles that are wanted, until enough is put out. It breaks where one can't be read.
-    pub fn hand_in<R: Log, S: Articles>(&mut self, rt: &R, store: &mut S) {
+    pub fn hand_in<R: Log, S: Articles>(&mut self, rt: &R, spool: &mut Spool<S>) {
         for _ in 0..u64::MAX {
             if self.conn.output().len() >= ENOUGH {
                 return;
@@ -311,19 +312,19 @@ impl Connection {
             let Some(number) = self.conn.need() else {
                 return;
             };
-            if !self.hand(rt, number, store) {
+            if !self.hand(rt, number, spool) {
                 self.conn.broken();
                 return;
             }
         }
     }
 
-    // Hands in the article of this number, and tells whether it was taken.
-    fn hand<R: Log, S: Articles>(&mut self, rt: &R, number: u64, store: &mut S) -> bool {
+    // Hands in the article of this number, and answers whether it was taken. Where memory was refused nothing is told.
+    fn hand<R: Log, S: Articles>(&mut self, rt: &R, number: u64, spool: &mut Spool<S>) -> bool {
         let Some(token) = self.held.get(&number) else {
             return false;
         };
-        match store.fetch(token) {
+        match spool.store.fetch(token) {
             Ok(found) => {
                 match &found {
                     Found::Article(_) => {}
@@ -332,10 +333,11 @@ impl Connection {
                 }
                 self.conn.article(number, found).is_ok()
             }
-            Err(_) => {
-                tell_unsent(rt, token, "cannot be read");
+            Err(StoreFault::Disk) => {
+                tell_unread(rt, &spool.path, token);
                 false
             }
+            Err(StoreFault::NoMemory) => false,
         }
     }
 }

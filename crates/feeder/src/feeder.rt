@@ -2,7 +2,7 @@
 ghost use Rattle.std.specs.Prelude.{◌≡◌, ◌+◌, ◌-◌, ◌/◌, ◌%◌};
 
 use crate::connection::Connection;
-use crate::{FeederFault, PeerPlan, Slot};
+use crate::{FeederFault, PeerPlan, Slot, Spool};
 use article_store::Articles;
 use flusher::{FeederShare, Naming};
 use mio::{Events, Poll, Token, Waker};
@@ -31,7 +31,7 @@ pub struct Feeder<S: Articles + Drop, C: Net + Drop, N: Naming> {
     pub fault: Option<FeederFault>,
     pub(crate) alloc: Global,
     pub(crate) net: C,
-    pub(crate) store: S,
+    pub(crate) spool: Spool<S>,
     pub(crate) start: Instant,
     pub(crate) which: u8,
     pub(crate) plans: Vec<PeerPlan>,
@@ -55,14 +55,14 @@ pub struct Feeder<S: Articles + Drop, C: Net + Drop, N: Naming> {
 
 impl<S: Articles + Drop, C: Net + Drop, N: Naming> Feeder<S, C, N> {
     /// A feeder, the first (0) or the second (1): connection k of each peer is its where k mod 2 is `which`. Articles
-    /// come from `store`; `start` is the moment 0 of all threads, and `net` the leave to open sockets.
+    /// come from `spool`; `start` is the moment 0 of all threads, and `net` the leave to open sockets.
     ///
     /// # Errors
     /// What the system says where no poll can be made; want of memory.
     pub fn new(
         alloc: Global,
         net: C,
-        store: S,
+        spool: Spool<S>,
         which: u8,
         plans: Vec<PeerPlan>,
         start: Instant,
@@ -77,7 +77,7 @@ impl<S: Articles + Drop, C: Net + Drop, N: Naming> Feeder<S, C, N> {
             fault: None,
             alloc,
             net,
-            store,
+            spool,
             start,
             which,
             plans,

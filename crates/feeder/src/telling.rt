@@ -96,5 +96,15 @@ pub(crate) fn tell_deferred<R: Log>(rt: &R, name: &str, count: u64) {
 
 /// Why the article under a token is not sent.
 pub(crate) fn tell_unsent<R: Log>(rt: &R, token: &Token, why: &str) {
-    info!(rt; "article {} {}", str::from_utf8(token.bytes()).unwrap_or(""), why);
+    info!(rt; "article {} {}", token_text(token), why);
+}
+
+/// The article under a token can't be read from its file below the directory at this path.
+pub(crate) fn tell_unread<R: Log>(rt: &R, spool: &str, token: &Token) {
+    info!(rt; "article {}/{} cannot be read", spool, token_text(token));
+}
+
+// A token, which is ASCII.
+fn token_text(token: &Token) -> &str {
+    str::from_utf8(token.bytes()).unwrap_or("")
 }

@@ -150,7 +150,7 @@ impl<S: Articles + Drop, C: Net + Drop, N: Naming> Feeder<S, C, N> {
             connection,
             rt,
             desk,
-            &mut self.store,
+            &mut self.spool,
             &mut self.buffer,
             &mut self.share,
         )?;

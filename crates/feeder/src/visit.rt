@@ -1,7 +1,7 @@
 // A visit of one connection: what came is taken in, what became of debts goes to the station, and more goes out.
-use crate::FeederFault;
 use crate::connection::Connection;
 use crate::desk::{Desk, is_busy, is_full};
+use crate::{FeederFault, Spool};
 use article_store::Articles;
 use disk_model::Disk;
 use flusher::{FeederShare, Naming, Pace};
@@ -20,7 +20,7 @@ pub(crate) fn visit<D: Disk, N: Naming, S: Articles, R: Wait + Log, P: Pace>(
     connection: &mut Connection,
     rt: &R,
     desk: &Desk<'_, D, N, P>,
-    store: &mut S,
+    spool: &mut Spool<S>,
     buffer: &mut [u8],
     share: &mut FeederShare<N>,
 ) -> Result<(), FeederFault> {
@@ -30,7 +30,7 @@ pub(crate) fn visit<D: Disk, N: Naming, S: Articles, R: Wait + Log, P: Pace>(
     if connection.is_keeping() {
         connection.send();
     } else {
-        work(connection, rt, desk, store)?;
+        work(connection, rt, desk, spool)?;
         settle(connection, rt, desk, share)?;
     }
     Ok(())
@@ -79,11 +79,11 @@ fn work<D: Disk, N: Naming, S: Articles, R: Wait + Log, P: Pace>(
     connection: &mut Connection,
     rt: &R,
     desk: &Desk<'_, D, N, P>,
-    store: &mut S,
+    spool: &mut Spool<S>,
 ) -> Result<(), FeederFault> {
     for _ in 0..ROUNDS {
         offer(connection, rt, desk)?;
-        connection.hand_in(rt, store);
+        connection.hand_in(rt, spool);
         connection.send();
         if !connection.can_go_on() {
             return Ok(());
