@@ -11,8 +11,8 @@ use Rattle.feeder.specs.declared.slot.Standing.TheVariants.{Vacant, Taken, Waiti
 pub data Event : Type 0 where
   -- a connection begins to be made
   Tried : Event
-  -- the peer greeted it well
-  Greeted : Event
+  -- the peer agreed to a mode over it
+  Agreed : Event
   -- it could not be made to one of the peer's addresses, and the next one is tried at once
   Missed : Event
   -- at this moment no address was left to which it could be made, or it closed, but not as one that was left in good
@@ -21,20 +21,20 @@ pub data Event : Type 0 where
   -- it was left in good order
   Left : Event
 
--- how often it was lost in a row since the peer greeted it, newest event first
+-- how often it was lost in a row since the peer agreed to a mode, newest event first
 abbrev pub losses : List Event → ℕ
 losses [] = 0
 losses (Tried ∷ h) = losses h
-losses (Greeted ∷ h) = 0
+losses (Agreed ∷ h) = 0
 losses (Missed ∷ h) = losses h
 losses (Lost now ∷ h) = losses h + 1
 losses (Left ∷ h) = losses h
 
--- to how many addresses in a row it could not be made, since it was lost, greeted or left
+-- to how many addresses in a row it could not be made, since it was lost or left, or the peer agreed to a mode
 abbrev pub misses : List Event → ℕ
 misses [] = 0
 misses (Tried ∷ h) = misses h
-misses (Greeted ∷ h) = 0
+misses (Agreed ∷ h) = 0
 misses (Missed ∷ h) = misses h + 1
 misses (Lost now ∷ h) = 0
 misses (Left ∷ h) = 0
@@ -47,7 +47,7 @@ unmade now addresses h = (if nat_lt (misses h + 1) addresses then Missed else Lo
 abbrev pub standing : (first most : ℕ) → List Event → Standing
 standing first most [] = Vacant
 standing first most (Tried ∷ h) = Taken
-standing first most (Greeted ∷ h) = standing first most h
+standing first most (Agreed ∷ h) = standing first most h
 standing first most (Missed ∷ h) = Vacant
 standing first most (Lost now ∷ h) = Waiting (min (now + wait_after first most (losses h + 1)) (2 ^ 64 - 1))
 standing first most (Left ∷ h) = Vacant

@@ -8,6 +8,7 @@ use funnel::Token;
 use ledger_core::Debt;
 use log::Log;
 use mio::event::Event;
+use peer_queue::number_in;
 use std::alloc::{AllocError, Global};
 use std::collections::BTreeMap;
 use std::io;
@@ -33,7 +34,7 @@ pub(crate) struct Connection {
     slot: usize,
     // The socket was not yet reported ready.
     is_connecting: bool,
-    is_greeted: bool,
+    is_agreed: bool,
     // It was left before its peer had agreed to a mode.
     is_left_early: bool,
     // Something happened on it, or may have.
@@ -66,7 +67,7 @@ impl Connection {
             peer,
             slot,
             is_connecting: true,
-            is_greeted: false,
+            is_agreed: false,
             is_left_early: false,
             is_touched: false,
             is_held_up: false,
@@ -193,11 +194,11 @@ impl Connection {
     }
 
     /// Whether its peer has agreed to a mode since it was asked last.
-    pub fn is_newly_greeted(&mut self) -> bool {
-        if self.is_greeted || self.conn.mode().is_none() {
+    pub fn take_agreed(&mut self) -> bool {
+        if self.is_agreed || self.conn.mode().is_none() {
             return false;
         }
-        self.is_greeted = true;
+        self.is_agreed = true;
         true
     }
 
@@ -214,7 +215,7 @@ impl Connection {
     /// Asks the peer to end it in good order; one whose peer has not agreed to a mode breaks.
     pub fn leave(&mut self) {
         self.is_touched = true;
-        if self.is_greeted {
+        if self.is_agreed {
             self.conn.quit();
         } else {
             self.is_left_early = self.conn.closed().is_none();
@@ -274,7 +275,7 @@ impl Connection {
             Outcome::Lost(_, _) => self.is_touched = true,
             Outcome::Final(_) | Outcome::Back(_) => {}
         }
-        let _ = self.held.remove(&number_of(&outcome));
+        let _ = self.held.remove(&number_in(&outcome));
         Some(outcome)
     }
 
@@ -339,14 +340,5 @@ impl Connection {
             }
             Err(StoreFault::NoMemory) => false,
         }
-    }
-}
-
-// The number of the debt that an outcome is about.
-fn number_of(outcome: &Outcome) -> u64 {
-    match outcome {
-        Outcome::Final(verdict) => verdict.debt().number(),
-        Outcome::Deferred(deferral) => deferral.debt().number(),
-        Outcome::Lost(debt, _) | Outcome::Back(debt) => debt.number(),
     }
 }

@@ -43,10 +43,7 @@ impl<D: Disk, N: Naming, P: Pace> Desk<'_, D, N, P> {
         } else {
             self.post.try_claim(peer, connection, self.due)
         };
-        match claimed {
-            Ok(debt) => Ok(debt),
-            Err(fault) => Err(FeederFault::Post(fault)),
-        }
+        Ok(claimed?)
     }
 
     /// Takes to the station what became of a debt that this connection held.
@@ -75,7 +72,7 @@ impl<D: Disk, N: Naming, P: Pace> Desk<'_, D, N, P> {
         self.pace.turn(self.who, flusher::Point::AfterSettle);
         match ended {
             Ok(_) => Ok(()),
-            Err((outcome, fault)) => Err((outcome, FeederFault::Post(fault))),
+            Err((outcome, fault)) => Err((outcome, FeederFault::from(fault))),
         }
     }
 

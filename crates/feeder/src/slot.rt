@@ -11,7 +11,8 @@ use deferral::Backoff;
 pub struct Slot {
     plan: usize,
     tries: u64,
-    // At how many of its peer's addresses in a row no connection could be made, since it was lost, greeted or left.
+    // At how many of its peer's addresses in a row no connection could be made, since it was lost or left, or its peer
+    // agreed to a mode.
     missed: u64,
     standing: Standing,
     backoff: Backoff,
@@ -29,7 +30,7 @@ enum Standing {
 }
 
 impl Slot {
-    ghost use Rattle.feeder.specs.Slots.{Event, Tried, Greeted, Lost, Left};
+    ghost use Rattle.feeder.specs.Slots.{Event, Tried, Agreed, Lost, Left};
     ghost use Rattle.feeder.specs.Slots.{IsSameSlot, StandsFor, is_due, is_waiting, stands_at, unmade};
 
     /// A slot that was never tried, of the peer of this plan, with its first wait and the most that it waits, in
@@ -103,10 +104,10 @@ impl Slot {
         self.standing = Standing::Taken;
     }
 
-    /// The peer greeted its connection well: the next loss is a first one.
-    pub fn greeted(&mut self)
+    /// The peer agreed to a mode over its connection: the next loss is a first one.
+    pub fn agreed(&mut self)
         ensures stands { (h : List Event) → StandsFor self.old h
-            → StandsFor self.new (Greeted ∷ h) }
+            → StandsFor self.new (Agreed ∷ h) }
         ensures keeps_slot { IsSameSlot self.old self.new }
     {
         self.missed = 0;

@@ -154,10 +154,10 @@ impl<S: Articles + Drop, C: Net + Drop, N: Naming> Feeder<S, C, N> {
             &mut self.buffer,
             &mut self.share,
         )?;
-        if connection.is_newly_greeted()
+        if connection.take_agreed()
             && let Some(slot) = self.slots.get_mut(connection.slot())
         {
-            slot.greeted();
+            slot.agreed();
             let name = name_of(&self.plans, slot.plan());
             tell_connected(rt, name, connection.address(), connection.mode());
         }
