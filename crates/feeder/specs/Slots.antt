@@ -21,6 +21,15 @@ pub data Event : Type 0 where
   -- it was left in good order
   Left : Event
 
+-- how many tries there were
+abbrev pub tries : List Event → ℕ
+tries [] = 0
+tries (Tried ∷ h) = tries h + 1
+tries (Agreed ∷ h) = tries h
+tries (Missed ∷ h) = tries h
+tries (Lost now ∷ h) = tries h
+tries (Left ∷ h) = tries h
+
 -- how often it was lost in a row since the peer agreed to a mode, newest event first
 abbrev pub losses : List Event → ℕ
 losses [] = 0
@@ -70,7 +79,8 @@ stands_at slot h = standing (first_wait_of slot.backoff) (most_wait_of slot.back
 
 -- the slot stands for these events
 abbrev pub StandsFor : Slot → List Event → Type 0
-StandsFor slot h = (slot.standing ≡ stands_at slot h) × (slot.missed ≡ misses h) × Failed slot.backoff (losses h)
+StandsFor slot h = (slot.standing ≡ stands_at slot h) × (slot.tries ≡ min (tries h) (2 ^ 64 - 1))
+    × (slot.missed ≡ misses h) × Failed slot.backoff (losses h)
 
 -- the two have the same plan and the same waits
 abbrev pub IsSameSlot : Slot → Slot → Type 0

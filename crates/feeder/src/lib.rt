@@ -2,8 +2,9 @@
 //!
 //! May touch sockets, the clock, a store of articles and the stations behind a post, and wait for their locks.
 //! The crates above make a [`Feeder`] for each thread and run it as a [`flusher::Work`]; connection k of each peer is
-//! feeder k mod 2's. What is decided apart from sockets, when a slot is tried again ([`Slot`]) and how long a feeder
-//! sleeps, has contracts; connections and links have theirs in `conn_core` and `event_loop`.
+//! feeder k mod 2's. What is decided apart from sockets, when a slot is tried again ([`Slot`]), at which address
+//! ([`PeerPlan`]) and how long a feeder sleeps, has contracts; connections and links have theirs in `conn_core` and
+//! `event_loop`.
 #![tactic(auto)]
 
 mod connecting;

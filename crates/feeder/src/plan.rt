@@ -1,4 +1,6 @@
 // What a feeder has to know of a peer.
+ghost use Rattle.std.specs.Prelude.{◌≡◌, ◌↔◌, ◌%◌, IsNone, length, slice_get};
+
 use conn_core::Options;
 use funnel::PeerName;
 use std::net::SocketAddr;
@@ -34,8 +36,13 @@ impl PeerPlan {
         self.connections.min(2)
     }
 
-    /// The address for a try, by how many tries there were before: none where the peer has no address.
-    pub fn address(&self, tries: u64) -> Option<SocketAddr> {
+    /// The address for a try, by how many tries there were before: they go through the addresses in turn. None where
+    /// the peer has no address.
+    pub fn address(&self, tries: u64) -> Option<SocketAddr>
+        ensures none { IsNone result ↔ length self.now.addresses.items ≡ 0 }
+        ensures in_turn { result
+            ≡ slice_get self.now.addresses.items (tries % length self.now.addresses.items) }
+    {
         let count = self.addresses.len() as u64;
         if count == 0 {
             return None;

@@ -1,5 +1,5 @@
 // The slots of connections, and when each is tried again.
-ghost use Rattle.std.specs.Prelude.{◌≡◌, ◌&&◌, List, [], ◌∷◌};
+ghost use Rattle.std.specs.Prelude.{◌≡◌, ◌-◌, ◌^◌, ◌&&◌, List, [], ◌∷◌, min};
 ghost use Rattle.deferral.specs.Failed.{first_wait_of, most_wait_of};
 
 use deferral::Backoff;
@@ -31,7 +31,7 @@ enum Standing {
 
 impl Slot {
     ghost use Rattle.feeder.specs.Slots.{Event, Tried, Agreed, Lost, Left};
-    ghost use Rattle.feeder.specs.Slots.{IsSameSlot, StandsFor, is_due, is_waiting, stands_at, unmade};
+    ghost use Rattle.feeder.specs.Slots.{IsSameSlot, StandsFor, is_due, is_waiting, stands_at, tries, unmade};
 
     /// A slot that was never tried, of the peer of this plan, with its first wait and the most that it waits, in
     /// seconds.
@@ -57,8 +57,11 @@ impl Slot {
         self.plan
     }
 
-    /// How many tries there were.
-    pub fn tries(&self) -> u64 {
+    /// How many tries there were, at most the greatest u64.
+    pub fn tries(&self) -> u64
+        ensures { (h : List Event) → StandsFor self.now h
+            → result ≡ min (tries h) (2 ^ 64 - 1) }
+    {
         self.tries
     }
 
