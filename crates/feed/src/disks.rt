@@ -3,6 +3,7 @@ use crate::trouble::{INTAKE, Trouble};
 use commands::TapeTrouble;
 use disk_model::{DirectoryFault, FileDisk, TapeDirectory};
 use feed_conf::PeerConf;
+use recovery::TapeFault;
 use std::alloc::Global;
 use std::fs::File;
 use std::io::{self, ErrorKind};
@@ -14,6 +15,8 @@ use std::str;
 #[derive(Drop)]
 pub(crate) struct Disks {
     pub directory: TapeDirectory,
+    /// The directory's path.
+    pub path: String,
     /// The first file of each tape and the second.
     pub files: Vec<(FileDisk<File>, FileDisk<File>)>,
     /// Why the next ones could not be opened.
@@ -32,9 +35,13 @@ pub(crate) fn open_disks<F: AllocGlobal + Files<File = File>>(
 ) -> Result<Disks, Trouble> {
     let alloc = files.alloc();
     let first = first_name(peers);
-    let directory = lock(files, path, first)?;
+    let Ok(path) = str::from_utf8(path) else {
+        let invalid = io::Error::from(ErrorKind::InvalidInput);
+        return Err(Trouble::unopened(alloc, first, path, invalid));
+    };
     let mut disks = Disks {
-        directory,
+        directory: lock(files, path, first)?,
+        path: String::from_str(alloc, path)?,
         files: Vec::new(alloc),
         missed: None,
     };
@@ -44,7 +51,7 @@ pub(crate) fn open_disks<F: AllocGlobal + Files<File = File>>(
     open_next(files, &mut disks, INTAKE);
     match disks.directory.sync() {
         Ok(()) => Ok(disks),
-        Err(error) => Err(Trouble::tape_file(alloc, first, &error)),
+        Err(error) => Err(Trouble::unopened(alloc, first, path.as_bytes(), error)),
     }
 }
 
@@ -58,19 +65,18 @@ fn first_name(peers: &[PeerConf]) -> &[u8] {
 
 fn lock<F: AllocGlobal + Files<File = File>>(
     files: &F,
-    path: &[u8],
+    path: &str,
     first: &[u8],
 ) -> Result<TapeDirectory, Trouble> {
     let alloc = files.alloc();
-    let Ok(text) = str::from_utf8(path) else {
-        return Err(Trouble::tape_file(alloc, first, &io::Error::from(ErrorKind::InvalidInput)));
-    };
-    match TapeDirectory::lock(files, text) {
+    match TapeDirectory::lock(files, path) {
         Ok(directory) => Ok(directory),
         Err(DirectoryFault::Taken) => {
-            Err(Trouble::Tape(TapeTrouble::Taken(String::from_str(alloc, text)?)))
+            Err(Trouble::Tape(TapeTrouble::Taken(String::from_str(alloc, path)?)))
         }
-        Err(DirectoryFault::Failed(error)) => Err(Trouble::tape_file(alloc, first, &error)),
+        Err(DirectoryFault::Failed(error)) => {
+            Err(Trouble::unopened(alloc, first, path.as_bytes(), error))
+        }
     }
 }
 
@@ -103,17 +109,20 @@ fn open_file<F: AllocGlobal + Files<File = File>>(
     ending: &str,
 ) -> Result<FileDisk<File>, Trouble> {
     let alloc = files.alloc();
-    let path = file_name(alloc, name, ending)?;
-    match disks.directory.open(files, path.as_str()) {
+    let file = file_name(alloc, name, ending)?;
+    match disks.directory.open(files, file.as_str()) {
         Ok(disk) => Ok(disk),
-        Err(error) => Err(Trouble::tape_file(alloc, name, &error)),
+        Err(error) => {
+            let path = format!(in alloc; "{}/{}", disks.path, file)?;
+            Err(Trouble::unopened(alloc, name, path.as_bytes(), error))
+        }
     }
 }
 
 // `NAME~a` or `NAME~b`.
 fn file_name(alloc: Global, name: &[u8], ending: &str) -> Result<String, Trouble> {
     let Ok(text) = str::from_utf8(name) else {
-        return Err(Trouble::tape_file(alloc, name, &io::Error::from(ErrorKind::InvalidInput)));
+        return Err(Trouble::tape(alloc, name, TapeFault::Disk));
     };
     let mut path = String::from_str(alloc, text)?;
     path.push_str(ending)?;

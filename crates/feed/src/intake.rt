@@ -89,7 +89,7 @@ impl<F: AllocGlobal + Files<File = File>, W: Write, N: Naming> Intake<'_, F, W, 
     }
 
     // Takes a batch of lines: fewer than it may have where the funnel is at its end, or cannot be read on.
-    fn take_batch<D: Disk, R: Wait>(
+    fn take_batch<D: Disk, R: Wait + Log>(
         &mut self,
         rt: &R,
         post: &Post<D, N>,
@@ -102,7 +102,7 @@ impl<F: AllocGlobal + Files<File = File>, W: Write, N: Naming> Intake<'_, F, W, 
                 Ok(Some(line)) => line,
                 Ok(None) => return Ok(batch),
                 Err(error) => {
-                    Trouble::unread(self.alloc, &funnel.path, &error).add_to(&mut self.end);
+                    Trouble::unread(rt, self.alloc, &funnel.path, &error).add_to(&mut self.end);
                     return Ok(batch);
                 }
             };

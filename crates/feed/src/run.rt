@@ -84,7 +84,7 @@ pub(crate) fn feed<
         peers: stations,
         intake,
     } = open_tapes(means.files, &directory, &peers)?;
-    let funnel = open_funnel(means.files, funnel, intake.mark())?;
+    let funnel = open_funnel(means.rt, means.files, funnel, intake.mark())?;
     let prepared = prepare(means, &peers, &spool, funnel, status)?;
     let blanks = Blanks::new(stations.len() as u64);
     work::<Brand, R, F, S, H, C, W>(means, prepared, stations, intake, blanks, out, end)
@@ -100,15 +100,17 @@ fn prepare<R: Clock + Log, F: AllocGlobal, S: Drop, H: Spools<Store = S>, C: Net
 ) -> Result<Prepared<S>, Trouble> {
     let alloc = means.files.alloc();
     let Ok(path) = str::from_utf8(spool) else {
-        return Err(Trouble::unread(alloc, spool, &io::Error::from(ErrorKind::InvalidInput)));
+        let invalid = io::Error::from(ErrorKind::InvalidInput);
+        return Err(Trouble::unread(means.rt, alloc, spool, &invalid));
     };
     let addresses = look_up(means.rt, alloc, &means.net, peers)?;
     let mut names = Vec::new(alloc);
     for peer in peers {
         names.push(peer.name.clone()?)?;
     }
-    let Ok(start) = Instant::now(means.rt) else {
-        return Err(Trouble::Lack);
+    let start = match Instant::now(means.rt) {
+        Ok(start) => start,
+        Err(error) => return Err(Trouble::refused(means.rt, "tell the time", &error)),
     };
     Ok(Prepared {
         names,
@@ -116,10 +118,7 @@ fn prepare<R: Clock + Log, F: AllocGlobal, S: Drop, H: Spools<Store = S>, C: Net
             plans_of(alloc, peers, &addresses)?,
             plans_of(alloc, peers, &addresses)?,
         ),
-        spools: (
-            open_spool(means, path)?,
-            open_spool(means, path)?,
-        ),
+        spools: (open_spool(means, path)?, open_spool(means, path)?),
         funnel,
         status,
         start,
@@ -176,9 +175,11 @@ fn work<
         status,
         start,
     } = prepared;
-    let first = Feeder::new(alloc, means.net, spools.0, 0, plans.0, start, one).map_err(lacking)?;
+    let first = Feeder::new(alloc, means.net, spools.0, 0, plans.0, start, one).map_err(
+        |error| lacking(means.rt, &error),
+    )?;
     let second = Feeder::new(alloc, means.net, spools.1, 1, plans.1, start, other).map_err(
-        lacking,
+        |error| lacking(means.rt, &error),
     )?;
     let left = Left::new(2);
     let mut intake = Intake {
@@ -187,8 +188,8 @@ fn work<
         funnel,
         out,
         wakers: (
-            first.waker().map_err(lacking)?,
-            second.waker().map_err(lacking)?,
+            first.waker().map_err(|error| lacking(means.rt, &error))?,
+            second.waker().map_err(|error| lacking(means.rt, &error))?,
         ),
         names: &names,
         status: StatusFile::new(means.files, status, start),
@@ -231,9 +232,9 @@ fn work<
     Ok(())
 }
 
-// The system refused what a feeder needs.
-fn lacking(_error: io::Error) -> Trouble {
-    Trouble::Lack
+// The system refused, for this reason, what a feeder waits with.
+fn lacking<R: Log>(rt: &R, error: &io::Error) -> Trouble {
+    Trouble::refused(rt, "wait for sockets", error)
 }
 
 // Adds what went wrong at work: the flusher's fault first, since what it meets the others meet after it.
@@ -257,7 +258,7 @@ fn add_faults(
 }
 
 // Flushes what still pends, writes the status file, and adds what is still owed.
-fn close<D: Disk, N: Naming, R: Wait + Clock, F: AllocGlobal + Files<File = File>>(
+fn close<D: Disk, N: Naming, R: Wait + Clock + Log, F: AllocGlobal + Files<File = File>>(
     rt: &R,
     post: &Post<D, N>,
     names: &[PeerName],
@@ -289,7 +290,8 @@ fn add_owing(name: &PeerName, owed: u64, end: &mut FeedEnd) -> Result<(), AllocE
 }
 
 // Opens the funnel, behind the lines that are acknowledged. One that has not all of them is another, and is not read.
-fn open_funnel<F: AllocGlobal + Files<File = File>>(
+fn open_funnel<R: Log, F: AllocGlobal + Files<File = File>>(
+    rt: &R,
     files: &F,
     path: Option<&str>,
     acknowledged: u64,
@@ -303,7 +305,7 @@ fn open_funnel<F: AllocGlobal + Files<File = File>>(
             path: Vec::from_slice(alloc, path.as_bytes())?,
             file,
         })),
-        Err(error) => Err(Trouble::unread(alloc, path.as_bytes(), &error)),
+        Err(error) => Err(Trouble::unread(rt, alloc, path.as_bytes(), &error)),
     }
 }
 

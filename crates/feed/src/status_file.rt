@@ -3,6 +3,7 @@ use crate::trouble::Trouble;
 use disk_model::Disk;
 use flusher::{Naming, Post};
 use funnel::PeerName;
+use log::Log;
 use status::{PeerStatus, report};
 use std::alloc::{AllocError, Global};
 use std::fs::{self, File};
@@ -45,7 +46,7 @@ impl<'a, F: AllocGlobal + Files<File = File>> StatusFile<'a, F> {
     ///
     /// # Errors
     /// Memory; that it cannot be written.
-    pub fn write<D: Disk, N: Naming, R: Wait + Clock>(
+    pub fn write<D: Disk, N: Naming, R: Wait + Clock + Log>(
         &mut self,
         rt: &R,
         post: &Post<D, N>,
@@ -58,7 +59,7 @@ impl<'a, F: AllocGlobal + Files<File = File>> StatusFile<'a, F> {
         let text = text_of(alloc, rt, post, names)?;
         match self.put(&text) {
             Ok(()) => Ok(()),
-            Err(error) => Err(Trouble::unwritten(alloc, &self.path, &error)),
+            Err(error) => Err(Trouble::unwritten(rt, alloc, &self.path, &error)),
         }
     }
 

@@ -83,6 +83,7 @@ impl<R: Threads + Wait + Sync, F: AllocGlobal + Files<File = File>> Feeds
         };
         let mut end = FeedEnd::well(alloc);
         if let Err(trouble) = feed(&means, conf, funnel, out, &mut end) {
+            trouble.tell(&rt);
             trouble.add_to(&mut end);
         }
         end

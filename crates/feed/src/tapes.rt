@@ -62,6 +62,7 @@ pub(crate) fn open_tapes<T: Opened + Drop, F: AllocGlobal + Files<File = File>>(
         directory,
         files: disks,
         missed,
+        ..
     } = open_disks(files, path, peers)?;
     let mut disks = disks.into_iter();
     let mut opened = Vec::new(alloc);

@@ -7,10 +7,12 @@ use feeder::FeederFault;
 use flusher::PostFault;
 use funnel::PeerName;
 use ledger_core::LedgerFault;
+use log::{Log, info};
 use peer_queue::StationFault;
 use recovery::TapeFault;
 use std::alloc::{AllocError, AllocFailed, Global};
 use std::io::{self, ErrorKind};
+use std::str;
 
 /// The name of the intake tape.
 pub(crate) const INTAKE: &[u8] = b"~intake";
@@ -22,6 +24,12 @@ pub(crate) enum Trouble {
     Lack,
     /// Something is wrong with a tape.
     Tape(TapeTrouble),
+    /// A file of the tape of this name could not be opened at this path, for the system's reason.
+    Unopened {
+        name: Vec<u8>,
+        path: Vec<u8>,
+        reason: io::Error,
+    },
     /// Something is wrong with another file.
     File(FileTrouble),
 }
@@ -54,28 +62,39 @@ impl Trouble {
         }
     }
 
-    /// The file of this tape failed so.
-    pub fn tape_file(alloc: Global, name: &[u8], error: &io::Error) -> Self {
-        match error.kind() {
-            ErrorKind::OutOfMemory => Trouble::Lack,
-            _ => Trouble::tape(alloc, name, TapeFault::Disk),
+    /// The file of this tape at this path was not opened for this error.
+    pub fn unopened(alloc: Global, name: &[u8], path: &[u8], reason: io::Error) -> Self {
+        if reason.kind() == ErrorKind::OutOfMemory {
+            return Trouble::Lack;
+        }
+        match (Vec::from_slice(alloc, name), Vec::from_slice(alloc, path)) {
+            (Ok(name), Ok(path)) => Trouble::Unopened { name, path, reason },
+            _ => Trouble::Lack,
         }
     }
 
-    /// The file at this path was not read for this error.
-    pub fn unread(alloc: Global, path: &[u8], error: &io::Error) -> Self {
+    /// The file at this path was not read for this error, which is logged.
+    pub fn unread<R: Log>(rt: &R, alloc: Global, path: &[u8], error: &io::Error) -> Self {
+        info!(rt; "cannot read {}: {}", text_of(path), error);
         match (error.kind(), Vec::from_slice(alloc, path)) {
             (ErrorKind::OutOfMemory, _) | (_, Err(_)) => Trouble::Lack,
             (_, Ok(path)) => Trouble::File(FileTrouble::Unread(path)),
         }
     }
 
-    /// The file at this path was not written for this error.
-    pub fn unwritten(alloc: Global, path: &[u8], error: &io::Error) -> Self {
+    /// The file at this path was not written for this error, which is logged.
+    pub fn unwritten<R: Log>(rt: &R, alloc: Global, path: &[u8], error: &io::Error) -> Self {
+        info!(rt; "cannot write {}: {}", text_of(path), error);
         match (error.kind(), Vec::from_slice(alloc, path)) {
             (ErrorKind::OutOfMemory, _) | (_, Err(_)) => Trouble::Lack,
             (_, Ok(path)) => Trouble::File(FileTrouble::Unwritten(path)),
         }
+    }
+
+    /// The system refused, for this reason, which is logged, what a run can't do without.
+    pub fn refused<R: Log>(rt: &R, what: &str, reason: &io::Error) -> Self {
+        info!(rt; "cannot {}: {}", what, reason);
+        Trouble::Lack
     }
 
     /// Standard output was not written for this error.
@@ -113,15 +132,21 @@ impl Trouble {
         }
     }
 
+    /// Logs why a tape's file could not be opened, where it is that.
+    pub fn tell<R: Log>(&self, rt: &R) {
+        if let Trouble::Unopened { path, reason, .. } = self {
+            info!(rt; "cannot open {}: {}", text_of(path), reason);
+        }
+    }
+
     /// Adds it to how a run ended. Of what is wrong with tapes the first is told alone: others follow from it.
     pub fn add_to(self, end: &mut FeedEnd) {
         match self {
             Trouble::Lack => end.lacks = true,
-            Trouble::Tape(trouble) => {
-                if end.tapes.is_empty() {
-                    let added = end.tapes.push(trouble);
-                    end.lacks |= added.is_err();
-                }
+            Trouble::Tape(trouble) => add_tape(trouble, end),
+            Trouble::Unopened { name, .. } => {
+                let fault = TapeFault::Disk;
+                add_tape(TapeTrouble::Failed { name, fault }, end);
             }
             Trouble::File(trouble) => {
                 let added = end.files.push(trouble);
@@ -129,6 +154,18 @@ impl Trouble {
             }
         }
     }
+}
+
+fn add_tape(trouble: TapeTrouble, end: &mut FeedEnd) {
+    if end.tapes.is_empty() {
+        let added = end.tapes.push(trouble);
+        end.lacks |= added.is_err();
+    }
+}
+
+// A path, as text.
+fn text_of(path: &[u8]) -> &str {
+    str::from_utf8(path).unwrap_or("")
 }
 
 /// Adds all that one part of a run tells to how the run ended.

@@ -58,7 +58,7 @@ impl<S: Articles + Drop, C: Net + Drop, N: Naming> Feeder<S, C, N> {
             if self.is_waiting() {
                 signals.order();
             }
-            self.wait(STEP)?;
+            self.wait(rt, STEP)?;
         }
         unreachable!()
     }

@@ -2,6 +2,8 @@
 ghost use Rattle.std.specs.Prelude.{◌≡◌, ◌≢◌, ◌<◌, ◌≤◌};
 
 use crate::FeederFault;
+use crate::telling::tell_refused;
+use log::Log;
 use std::time::{Clock, Duration, Instant};
 
 /// A moment, since the program's start.
@@ -14,17 +16,20 @@ pub(crate) struct Moment {
 }
 
 impl Moment {
-    /// The moment now.
+    /// The moment now. Where the clock can't be read, it is told why.
     ///
     /// # Errors
     /// `System` where the clock can't be read.
-    pub fn now<R: Clock>(rt: &R, start: Instant) -> Result<Moment, FeederFault> {
+    pub fn now<R: Clock + Log>(rt: &R, start: Instant) -> Result<Moment, FeederFault> {
         match start.elapsed(rt) {
             Ok(since) => Ok(Moment {
                 seconds: since.as_secs(),
                 millis: since.subsec_millis(),
             }),
-            Err(_) => Err(FeederFault::System),
+            Err(error) => {
+                tell_refused(rt, "tell the time", &error);
+                Err(FeederFault::System)
+            }
         }
     }
 

@@ -34,6 +34,11 @@ pub(crate) fn tell_connected<R: Log>(rt: &R, name: &str, address: SocketAddr, mo
     }
 }
 
+/// The system refused what a feeder can't do without.
+pub(crate) fn tell_refused<R: Log>(rt: &R, what: &str, error: &io::Error) {
+    info!(rt; "cannot {}: {}", what, error);
+}
+
 /// A connection could not be begun.
 pub(crate) fn tell_unmade<R: Log>(rt: &R, name: &str, error: &io::Error) {
     info!(rt; "{}: cannot connect: {}", name, error);

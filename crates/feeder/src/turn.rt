@@ -3,7 +3,9 @@ use crate::connection::Connection;
 use crate::desk::Desk;
 use crate::feeder::WAKER;
 use crate::moment::{Haste, Moment, millis};
-use crate::telling::{name_of, tell_connected, tell_deferred, tell_given_up, tell_over};
+use crate::telling::{
+    name_of, tell_connected, tell_deferred, tell_given_up, tell_over, tell_refused,
+};
 use crate::visit::visit;
 use crate::{Feeder, FeederFault};
 use article_store::Articles;
@@ -53,7 +55,7 @@ impl<S: Articles + Drop, C: Net + Drop, N: Naming> Feeder<S, C, N> {
                 self.last_phase_since = self.last_phase_since.or(Some(now.seconds));
             }
             let desk = self.desk(post, pace, now.seconds, false);
-            self.catch_up(now.seconds)?;
+            self.catch_up(rt, now.seconds)?;
             self.visit_all(rt, &desk)?;
             self.pass_second(rt, now.seconds);
             self.connect_due(rt, &desk, last_phase);
@@ -64,7 +66,7 @@ impl<S: Articles + Drop, C: Net + Drop, N: Naming> Feeder<S, C, N> {
             if self.is_waiting() || self.is_newly_half_full(&desk) {
                 signals.order();
             }
-            self.wait(self.haste(last_phase).sleep(now.millis))?;
+            self.wait(rt, self.haste(last_phase).sleep(now.millis))?;
         }
         unreachable!()
     }
@@ -89,11 +91,11 @@ impl<S: Articles + Drop, C: Net + Drop, N: Naming> Feeder<S, C, N> {
 
     // Where a second has passed, notes once more what has come: what came before it is not late, also where this thread
     // stood still.
-    fn catch_up(&mut self, now: u64) -> Result<(), FeederFault> {
+    fn catch_up<R: Log>(&mut self, rt: &R, now: u64) -> Result<(), FeederFault> {
         if self.ticked == Some(now) {
             Ok(())
         } else {
-            self.wait(0)
+            self.wait(rt, 0)
         }
     }
 
@@ -277,9 +279,10 @@ impl<S: Articles + Drop, C: Net + Drop, N: Naming> Feeder<S, C, N> {
     /// is to be looked at, and each slot.
     ///
     /// # Errors
-    /// `System`.
-    pub(crate) fn wait(&mut self, at_most: u64) -> Result<(), FeederFault> {
-        if self.poll.poll(&mut self.events, millis(at_most)).is_err() {
+    /// `System`; it is told why.
+    pub(crate) fn wait<R: Log>(&mut self, rt: &R, at_most: u64) -> Result<(), FeederFault> {
+        if let Err(error) = self.poll.poll(&mut self.events, millis(at_most)) {
+            tell_refused(rt, "wait for sockets", &error);
             return Err(FeederFault::System);
         }
         let mut is_woken = false;
