@@ -6,7 +6,7 @@ use funnel::PeerName;
 use log::Log;
 use status::{PeerStatus, report};
 use std::alloc::{AllocError, Global};
-use std::fs::{self, File};
+use std::fs::{self, File, OpenOptions};
 use std::io::{self, ErrorKind, Write};
 use std::rt::{Clock, Files};
 use std::str;
@@ -42,7 +42,8 @@ impl<'a, F: AllocGlobal + Files<File = File>> StatusFile<'a, F> {
         }
     }
 
-    /// Writes what the peers of these names have: a file beside it first, which takes its place once it is whole.
+    /// Writes what the peers of these names have: a file beside it first, which takes its place once it is whole. What
+    /// is there and is no regular file, a device or a FIFO, is written into.
     ///
     /// # Errors
     /// Memory; that it cannot be written.
@@ -67,6 +68,20 @@ impl<'a, F: AllocGlobal + Files<File = File>> StatusFile<'a, F> {
         let Ok(path) = str::from_utf8(&self.path) else {
             return Err(io::Error::from(ErrorKind::InvalidInput));
         };
+        match fs::metadata(self.files, path) {
+            Ok(there) if !there.is_file() => self.write_into(path, text),
+            _ => self.replace(path, text),
+        }
+    }
+
+    // Writes into what is there.
+    fn write_into(&self, path: &str, text: &[u8]) -> io::Result<()> {
+        let mut there = OpenOptions::new().write(true).open(self.files, path)?;
+        there.write_all(text)
+    }
+
+    // Writes a file beside the one at this path, and gives it its place.
+    fn replace(&self, path: &str, text: &[u8]) -> io::Result<()> {
         let mut beside = String::from_str(self.files.alloc(), path)?;
         beside.push_str(".new")?;
         let mut file = File::create(self.files, beside.as_str())?;
