@@ -1,5 +1,7 @@
 // The funnel file, line by line.
-use funnel::LineCutter;
+ghost use Rattle.std.specs.Prelude.{◌≤◌, IfOk, length};
+
+use funnel::{LineCutter, first_line};
 use std::fs::File;
 use std::io::{self, ErrorKind, Read};
 use std::rt::Files;
@@ -16,18 +18,23 @@ pub(crate) struct FunnelFile {
 }
 
 impl FunnelFile {
-    /// Opens the file at this path, and reads its first piece, so that a path that cannot be read is known at once.
+    /// Opens the file at this path, behind so many lines. Its first piece is read, so that a path that cannot be read
+    /// is known at once.
     ///
     /// # Errors
-    /// The system's.
-    pub fn open<F: AllocGlobal + Files<File = File>>(files: &F, path: &str) -> io::Result<Self> {
+    /// The system's; `UnexpectedEof` where it has not so many lines.
+    pub fn open<F: AllocGlobal + Files<File = File>>(
+        files: &F,
+        path: &str,
+        lines: u64,
+    ) -> io::Result<Self> {
         let alloc = files.alloc();
         let mut funnel = FunnelFile {
             file: File::open(files, path)?,
             cutter: LineCutter::new(alloc),
             piece: vec![in alloc; 0u8; PIECE]?,
         };
-        funnel.read_piece()?;
+        funnel.skip(lines)?;
         Ok(funnel)
     }
 
@@ -47,32 +54,50 @@ impl FunnelFile {
         Ok(None)
     }
 
-    /// Passes over so many lines, and tells whether all of them were there.
-    ///
-    /// # Errors
-    /// The system's.
-    pub fn skip(&mut self, lines: u64) -> io::Result<bool> {
-        for _ in 0..lines {
-            if self.next_line()?.is_none() {
-                return Ok(false);
+    // Passes over the file's first lines, and takes in what stands behind them in the piece that has the last of them.
+    fn skip(&mut self, lines: u64) -> io::Result<()> {
+        let mut left = lines;
+        for _ in 0..u64::MAX {
+            let count = self.read()?;
+            match behind(&self.piece[..count], left) {
+                Ok(rest) => return Ok(self.cutter.feed(rest)?),
+                Err(missing) if count > 0 => left = missing,
+                Err(_) => return Err(io::Error::from(ErrorKind::UnexpectedEof)),
             }
         }
-        Ok(true)
+        Err(io::Error::from(ErrorKind::UnexpectedEof))
     }
 
-    // Reads a piece, and tells whether there was one.
+    // Reads a piece and takes it in, and tells whether there was one.
     fn read_piece(&mut self) -> io::Result<bool> {
+        let count = self.read()?;
+        self.cutter.feed(&self.piece[..count])?;
+        Ok(count > 0)
+    }
+
+    // Reads a piece, and gives its length: 0 at the end.
+    fn read(&mut self) -> io::Result<usize>
+        ensures within { IfOk result (λ count. count ≤ length self.new.piece.items) }
+    {
         for _ in 0..u64::MAX {
             match self.file.read(&mut self.piece) {
-                Ok(0) => return Ok(false),
-                Ok(count) => {
-                    self.cutter.feed(&self.piece[..count])?;
-                    return Ok(true);
-                }
+                Ok(count) => return Ok(count),
                 Err(error) if error.kind() == ErrorKind::Interrupted => {}
                 Err(error) => return Err(error),
             }
         }
-        Ok(false)
+        Ok(0)
     }
+}
+
+// What stands behind the first lines of a piece; where it has not so many, how many are missing.
+fn behind(piece: &[u8], lines: u64) -> Result<&[u8], u64> {
+    let mut rest = piece;
+    for passed in 0..lines {
+        match first_line(rest) {
+            Some((_, next)) => rest = next,
+            None => return Err(lines - passed),
+        }
+    }
+    Ok(rest)
 }

@@ -300,23 +300,11 @@ fn open_funnel<R: Log, F: AllocGlobal + Files<File = File>>(
     let Some(path) = path else {
         return Ok(None);
     };
-    match open_behind(files, path, acknowledged) {
+    match FunnelFile::open(files, path, acknowledged) {
         Ok(file) => Ok(Some(Funnel {
             path: Vec::from_slice(alloc, path.as_bytes())?,
             file,
         })),
         Err(error) => Err(Trouble::unread(rt, alloc, path.as_bytes(), &error)),
     }
-}
-
-fn open_behind<F: AllocGlobal + Files<File = File>>(
-    files: &F,
-    path: &str,
-    acknowledged: u64,
-) -> io::Result<FunnelFile> {
-    let mut file = FunnelFile::open(files, path)?;
-    if !file.skip(acknowledged)? {
-        return Err(io::Error::from(ErrorKind::UnexpectedEof));
-    }
-    Ok(file)
 }
