@@ -3,6 +3,7 @@
 // `run COUNT` owes so many debts over a disk in memory, and has a peer that wants none of them: each is claimed and
 // settled. `defer COUNT` owes as many, and has a peer that puts off each: all are claimed, deferred, and claimed again
 // once the moment has passed. The time is that of the calls of the station; the connection that answers is not in it.
+// `shed COUNT` owes as many at a station whose backlog may have none of them, and sheds all.
 use crate::peer::{CONNECTION, IN_FLIGHT, answers_of, drain, ids_of, offer, streaming, token_of};
 use crate::time::{number, tell};
 use anyhow::{Context, Result, bail};
@@ -56,14 +57,22 @@ impl Told {
 }
 
 pub fn run<R: AllocGlobal + Print + Clock>(rt: &R, words: &[String]) -> Result<()> {
-    let (work, count) = match words {
+    let (time, count) = match words {
         [] => return small(rt),
-        [work, count] if work.as_str() == "run" => (Work::Settle, number(count)?),
-        [work, count] if work.as_str() == "defer" => (Work::Defer, number(count)?),
-        _ => bail!("peer_queue [run COUNT | defer COUNT]"),
+        [work, count] => (time_of(rt, work.as_str(), number(count)?)?, number(count)?),
+        _ => bail!("peer_queue [run COUNT | defer COUNT | shed COUNT]"),
     };
-    let told = worked_off(rt, work, count)?;
-    tell(rt, count, "debts", told.time)
+    tell(rt, count, "debts", time)
+}
+
+// How long this takes with so many debts.
+fn time_of<R: AllocGlobal + Clock>(rt: &R, work: &str, count: u64) -> Result<Duration> {
+    match work {
+        "run" => Ok(worked_off(rt, Work::Settle, count)?.time),
+        "defer" => Ok(worked_off(rt, Work::Defer, count)?.time),
+        "shed" => Ok(shed_off(rt, count)?.time),
+        _ => bail!("peer_queue: no work {work}"),
+    }
 }
 
 fn small<R: AllocGlobal + Print + Clock>(rt: &R) -> Result<()> {
@@ -74,6 +83,8 @@ fn small<R: AllocGlobal + Print + Clock>(rt: &R) -> Result<()> {
         "peer_queue: {} debts deferred, {} claimed again",
         told.answered, told.claimed_again
     )?;
+    let told = shed_off(rt, 2000)?;
+    println!(rt; "peer_queue: {} debts shed", told.answered)?;
     Ok(())
 }
 
@@ -101,6 +112,43 @@ fn worked_off_with<R: AllocGlobal + Clock>(
     work_off(rt, &mut station, peer, count, &mut told)?;
     end_all(rt, &mut station, work, count, &mut told)?;
     Ok(told)
+}
+
+// Owes so many debts at a station whose backlog may have none of them, and sheds all, with a flush behind each call.
+// What was shed counts as answered.
+fn shed_off<R: AllocGlobal + Clock>(rt: &R, count: u64) -> Result<Told> {
+    let peer = peer_of(rt.alloc(), Work::Settle)?;
+    let mut station = limited(rt.alloc(), 1)?;
+    owe_all(&mut station, &peer, count)?;
+    let start = Instant::now(rt)?;
+    let answered = all_shed(&mut station, count)?;
+    Ok(Told {
+        answered,
+        claimed_again: 0,
+        time: start.elapsed(rt)?,
+    })
+}
+
+// Sheds until no more is to be shed, and counts what was, with so many calls at most.
+fn all_shed(station: &mut Station<MemDisk>, most: u64) -> Result<u64> {
+    let mut count = 0u64;
+    for _ in 0..most {
+        let (some, more) = shed(station)?;
+        count = count.saturating_add(some);
+        if !more {
+            break;
+        }
+    }
+    Ok(count)
+}
+
+// Sheds what there is room for, and flushes. Answers how many that were, and whether there are more.
+//
+// proof: as `flush`.
+fn shed(station: &mut Station<MemDisk>) -> Result<(u64, bool)> {
+    let shed = station.shed()?;
+    station.flush()?;
+    Ok((shed.numbers.len() as u64, shed.more))
 }
 
 // Claims so many debts in batches, and tells the station what the peer answers.
@@ -195,21 +243,31 @@ fn outcomes_of(alloc: Global, peer: &mut Peer, debts: Vec<Debt>) -> Result<Vec<O
 // A station over a disk in memory that owes so many debts, in whole batches, none of which pends.
 fn owing(alloc: Global, peer: &Peer, count: u64) -> Result<Station<MemDisk>> {
     let mut station = opened(alloc)?;
+    owe_all(&mut station, peer, count)?;
+    Ok(station)
+}
+
+// Owes so many debts, in whole batches, and flushes.
+fn owe_all(station: &mut Station<MemDisk>, peer: &Peer, count: u64) -> Result<()> {
     for round in 0..count / IN_FLIGHT {
-        owe_batch(&mut station, peer, round)?;
+        owe_batch(station, peer, round)?;
         if round % BATCHES == 0 {
-            flush(&mut station)?;
+            flush(station)?;
         }
     }
-    flush(&mut station)?;
-    Ok(station)
+    flush(station)
 }
 
 /// A station over empty disks in memory, without limits.
 pub fn opened(alloc: Global) -> Result<Station<MemDisk>> {
+    limited(alloc, 0)
+}
+
+// A station over empty disks in memory, whose backlog may have so many octets, or any number of them at 0.
+fn limited(alloc: Global, octets: u64) -> Result<Station<MemDisk>> {
     let limits = Limits {
-        backlog_limit: 0,
-        backlog_high: 0,
+        backlog_limit: octets,
+        backlog_high: octets,
         drop_deferred: false,
     };
     match Station::open(alloc, MemDisk::new(alloc), MemDisk::new(alloc), limits) {
