@@ -119,8 +119,8 @@ impl Connection {
         self.conn.closed()
     }
 
-    /// Whether it is to be looked at now.
-    pub fn is_touched(&self) -> bool {
+    /// Whether it is to be looked at now: it was touched, its station was in use, or an outcome of it was not taken.
+    pub fn wants_visit(&self) -> bool {
         self.is_touched || self.is_held_up || self.kept.is_some()
     }
 

@@ -114,8 +114,8 @@ impl<D: Disk, N: Naming, P: Pace> Desk<'_, D, N, P> {
     }
 
     /// Whether half of the notes that may pend have come to pend at the peer's station, since anyone asked last.
-    pub fn is_newly_half_full(&self, peer: usize) -> bool {
-        peer < self.post.peers() && self.post.is_newly_half_full(peer)
+    pub fn take_half_full(&self, peer: usize) -> bool {
+        peer < self.post.peers() && self.post.take_half_full(peer)
     }
 
     /// The peer is given up by one more of so many feeders. True for the last of them.

@@ -63,7 +63,7 @@ impl<S: Articles + Drop, C: Net + Drop, N: Naming> Feeder<S, C, N> {
                 self.tell_given_up(rt, &desk);
                 return Ok(());
             }
-            if self.is_waiting() || self.is_newly_half_full(&desk) {
+            if self.is_waiting() || self.take_half_full(&desk) {
                 signals.order();
             }
             self.wait(rt, self.haste(last_phase).sleep(now.millis))?;
@@ -123,7 +123,7 @@ impl<S: Articles + Drop, C: Net + Drop, N: Naming> Feeder<S, C, N> {
         }
     }
 
-    // Visits each connection that is touched.
+    // Visits each connection that is to be looked at.
     pub(crate) fn visit_all<D: Disk, R: Wait + Log, P: Pace>(
         &mut self,
         rt: &R,
@@ -135,7 +135,7 @@ impl<S: Articles + Drop, C: Net + Drop, N: Naming> Feeder<S, C, N> {
         Ok(())
     }
 
-    // Visits a connection, where it is touched, and drops it, where it is over.
+    // Visits a connection, where it is to be looked at, and drops it, where it is over.
     fn visit_one<D: Disk, R: Wait + Log, P: Pace>(
         &mut self,
         rt: &R,
@@ -145,7 +145,7 @@ impl<S: Articles + Drop, C: Net + Drop, N: Naming> Feeder<S, C, N> {
         let Some(connection) = self.connections.get_mut(key) else {
             return Ok(());
         };
-        if !connection.is_touched() {
+        if !connection.wants_visit() {
             return Ok(());
         }
         visit(
@@ -247,10 +247,10 @@ impl<S: Articles + Drop, C: Net + Drop, N: Naming> Feeder<S, C, N> {
     }
 
     // Whether half of the notes that may pend have come to pend at a station of its peers, since anyone asked last.
-    fn is_newly_half_full<D: Disk, P: Pace>(&self, desk: &Desk<'_, D, N, P>) -> bool {
+    fn take_half_full<D: Disk, P: Pace>(&self, desk: &Desk<'_, D, N, P>) -> bool {
         let mut found = false;
         for plan in &self.plans {
-            found |= desk.is_newly_half_full(plan.peer);
+            found |= desk.take_half_full(plan.peer);
         }
         found
     }

@@ -89,9 +89,9 @@ impl<D: Disk, N: Naming> Post<D, N> {
         Some(desk.station.all_later())
     }
 
-    /// Whether at a peer's station half of the notes that may pend have come to pend, since this was asked last. Who is
-    /// told so is to order a flush.
-    pub fn is_newly_half_full(&self, peer: usize) -> bool
+    /// Whether at a peer's station half of the notes that may pend have come to pend, since this was asked last: one
+    /// caller is told so, and is to order a flush.
+    pub fn take_half_full(&self, peer: usize) -> bool
         requires { peer < length self.now.names }
     {
         let half_full = &self.peers[peer].half_full;

@@ -18,15 +18,20 @@ use std::alloc::Global;
 /// How many debts were taken, answered and dropped.
 #[derive(Clone, Copy, Debug, PartialEq, Eq)]
 pub struct Sums {
+    /// That a line owed.
     pub taken: u64,
+    /// That the peer answered for good.
     pub answered: u64,
+    /// That ended by a cause of ours.
     pub dropped: u64,
 }
 
 /// A peer's name, and its station.
 #[derive(Drop)]
 pub struct Peer<D: Disk> {
+    /// Its name.
     pub name: PeerName,
+    /// All that it is owed.
     pub station: Station<D>,
     ghost kept: { ∥ IsKept station ∥₁ },
 }

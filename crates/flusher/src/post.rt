@@ -73,16 +73,22 @@ impl<D: Disk, N: Naming> Model for Post<D, N> {
 /// A station that was taken from a post, and what it had counted when the post was made.
 #[derive(Drop)]
 pub struct ClosedPeer<D: Disk> {
+    /// Its name.
     pub name: PeerName,
+    /// All that it is owed.
     pub station: Station<D>,
+    /// What its station had counted when the post was made.
     pub opened: Sums,
 }
 
 /// What a post was made of, and what its workers counted.
 #[derive(Drop)]
 pub struct Closed<D: Disk> {
+    /// The peers, in the post's order.
     pub peers: Vec<ClosedPeer<D>>,
+    /// The intake tape.
     pub intake: Tape<D>,
+    /// What all workers counted.
     pub sums: Sums,
 }
 
@@ -241,10 +247,15 @@ impl<D: Disk + Drop, N: Naming> Post<D, N> {
 /// A post that was not closed, and the shares.
 #[derive(Drop)]
 pub struct Unclosed<D: Disk, N: Naming> {
+    /// The post.
     pub post: Post<D, N>,
+    /// The intake's share.
     pub intake: IntakeShare<N>,
+    /// The first feeder's share.
     pub first: FeederShare<N>,
+    /// The second feeder's share.
     pub second: FeederShare<N>,
+    /// The flusher's share.
     pub third: FeederShare<N>,
 }
 

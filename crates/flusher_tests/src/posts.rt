@@ -198,13 +198,13 @@ fn fill<D: Disk + Drop, N: Naming, R: Wait>(
     for number in 1..=MOST {
         take(rt, &post, b"a/1 <x@y> q", &mut lines)?;
         if number == HALF - 1 {
-            half.0 = post.is_newly_half_full(1);
+            half.0 = post.take_half_full(1);
         }
         if number == HALF {
-            half.1 = post.is_newly_half_full(1);
+            half.1 = post.take_half_full(1);
         }
     }
-    half.2 = post.is_newly_half_full(1);
+    half.2 = post.take_half_full(1);
     let Err(refused) = take(rt, &post, b"a/1 <x@y> p q", &mut lines) else {
         return Err(Fail::from("a refusal"));
     };
