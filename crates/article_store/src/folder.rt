@@ -6,12 +6,12 @@ ghost use Rattle.article_store.specs.Finds.{IsFound};
 ghost use Rattle.article_store.specs.Paths.{root_of};
 ghost use Rattle.article_store.specs.Reads.{ConsumesAtMost, IsReadAs, answer_to};
 
-use crate::store::{Articles, Found, StoreFault};
+use crate::store::{Articles, Found, SpoolDirectory, StoreFault};
 use bytes::Bytes;
 use dot_codec::is_sendable;
 use funnel::Token;
 use std::alloc::{AllocError, Global};
-use std::fs::File;
+use std::fs::{self, File};
 use std::io::{self, ErrorKind, Read};
 use std::rt::Files;
 use std::str;
@@ -23,8 +23,8 @@ const MOST: usize = 16_777_217;
 const FIRST_ROOM: usize = 65_536;
 
 /// Articles that are files below a directory: the text of a token is the file at the directory's path, `/`, the token.
-/// Each fetch opens, reads and closes one file, and copies its text once. The path and the text are built in two
-/// buffers that are kept: of the longest path, and of at most 16,777,217 octets.
+/// Each fetch looks at, opens, reads and closes one file, and copies its text once. The path and the text are built in
+/// two buffers that are kept: of the longest path, and of at most 16,777,217 octets.
 #[derive(Drop)]
 pub struct Folder<F: Files + Drop> {
     files: F,
@@ -32,6 +32,8 @@ pub struct Folder<F: Files + Drop> {
     root: String,
     path: String,
     buffer: Vec<u8>,
+    // Why the last fetch failed that did.
+    reason: Option<io::Error>,
 }
 
 impl<F: Files + Drop> Folder<F> {
@@ -50,6 +52,7 @@ impl<F: Files + Drop> Folder<F> {
             root,
             path: String::new(alloc),
             buffer: Vec::new(alloc),
+            reason: None,
         })
     }
 
@@ -65,24 +68,43 @@ impl<F: Files + Drop> Folder<F> {
 }
 
 impl<F: Files + Drop> Articles for Folder<F> {
-    /// What the file of the token has, as [`read_article`] tells it. `Gone` where there is no such file: where opening
-    /// or reading it tells that there is nothing, or a directory, or a path through what is none.
+    /// What the file of the token has, as [`read_article`] tells it. `Gone` if there is no such file: if the system
+    /// tells that there is nothing, or a directory, or a path through what is none.
     ///
     /// # Errors
-    /// [`StoreFault::NoMemory`] where memory was refused; [`StoreFault::Disk`] where the file could not be opened or
-    /// read for any other reason.
+    /// [`StoreFault::NoMemory`] if memory was refused; [`StoreFault::Disk`] if the file could not be looked at, opened
+    /// or read for any other reason, or is neither a regular file nor a directory: opening a FIFO might never end.
     fn fetch(&mut self, token: &Token) -> Result<Found, StoreFault>
         ensures sendable { IfOk result IsFound }
     {
         let path = build_path(&mut self.path, &self.root, token)?;
-        let read = match File::open(&self.files, path) {
-            Ok(mut file) => read_article(self.alloc, &mut file, &mut self.buffer),
+        let read = match fs::metadata(&self.files, path) {
+            Ok(there) if there.is_file() => match File::open(&self.files, path) {
+                Ok(mut file) => read_article(self.alloc, &mut file, &mut self.buffer),
+                Err(error) => Err(error),
+            },
+            Ok(there) if there.is_dir() => return Ok(Found::Gone),
+            Ok(_) => Err(io::Error::from(ErrorKind::InvalidInput)),
             Err(error) => Err(error),
         };
         match read {
             Ok(found) => Ok(found),
-            Err(error) => missing(error.kind()),
+            Err(error) => {
+                let answer = missing(error.kind());
+                self.reason = Some(error);
+                answer
+            }
         }
+    }
+}
+
+impl<F: Files + Drop> SpoolDirectory for Folder<F> {
+    fn is_there(&self) -> bool {
+        fs::metadata(&self.files, self.root.as_str()).is_ok_and(|there| there.is_dir())
+    }
+
+    fn take_reason(&mut self) -> Option<io::Error> {
+        self.reason.take()
     }
 }
 
@@ -205,7 +227,7 @@ fn judge(alloc: Global, text: &[u8]) -> Result<Found, AllocError>
     }
 }
 
-// What it means that a file could not be opened or read. A directory opens, and then its read fails.
+// What it means that a file could not be looked at, opened or read.
 fn missing(kind: ErrorKind) -> Result<Found, StoreFault>
     ensures { result ≡ answer_to kind }
 {

@@ -14,4 +14,4 @@ mod store;
 pub use folder::{Folder, read_article};
 pub use mem::MemArticles;
 pub use std::alloc::AllocError as NoMemory;
-pub use store::{Articles, Found, StoreFault};
+pub use store::{Articles, Found, SpoolDirectory, StoreFault};

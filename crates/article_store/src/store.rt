@@ -5,6 +5,7 @@ ghost use Rattle.article_store.specs.Finds.{IsFound, IsSaidBy};
 use bytes::Bytes;
 use funnel::Token;
 use std::alloc::AllocError;
+use std::io;
 use thiserror::Error;
 
 /// What a store has under a token.
@@ -56,4 +57,13 @@ pub trait Articles {
         ensures said { IfOk result (IsSaidBy (says self.old token.now)) }
         ensures unchanged { (other : List ℕ) (text : Option (List ℕ)) → says self.old other text
             ↔ says self.new other text };
+}
+
+/// A store whose articles lie below a directory, which may be missing itself, as a file system that is not mounted.
+pub trait SpoolDirectory: Articles {
+    /// Whether that directory is there. If it is not, `Gone` of an article says nothing about the article.
+    fn is_there(&self) -> bool;
+
+    /// Why the last fetch that answered `Disk` did so, for a log: it is told once.
+    fn take_reason(&mut self) -> Option<io::Error>;
 }

@@ -8,7 +8,7 @@
 use crate::openings::{open, owe};
 use crate::time::{number, tell};
 use anyhow::{Context, Result, bail};
-use disk_model::{FileDisk, TapeDirectory};
+use disk_model::{FileDisk, TapeDirectory, TapeFile};
 use recovery::Tape;
 use std::fs::{self, File};
 use std::rt::Files;
@@ -61,7 +61,7 @@ fn small<R: AllocGlobal + Print + Clock + Files<File = File>>(rt: &R) -> Result<
 fn tape_in<R: AllocGlobal + Files<File = File>>(
     rt: &R,
     path: &str,
-) -> Result<Tape<FileDisk<File>>> {
+) -> Result<Tape<FileDisk<TapeFile>>> {
     let (first, second) = disks_in(rt, path)?;
     open(rt.alloc(), first, second)
 }
@@ -70,7 +70,7 @@ fn tape_in<R: AllocGlobal + Files<File = File>>(
 fn emptied<R: AllocGlobal + Files<File = File>>(
     rt: &R,
     path: &str,
-) -> Result<Tape<FileDisk<File>>> {
+) -> Result<Tape<FileDisk<TapeFile>>> {
     remove(rt, path)?;
     tape_in(rt, path)
 }
@@ -79,7 +79,7 @@ fn emptied<R: AllocGlobal + Files<File = File>>(
 pub fn disks_in<R: AllocGlobal + Files<File = File>>(
     rt: &R,
     path: &str,
-) -> Result<(FileDisk<File>, FileDisk<File>)> {
+) -> Result<(FileDisk<TapeFile>, FileDisk<TapeFile>)> {
     let directory = TapeDirectory::lock(rt, path)?;
     let first = directory.open(rt, FIRST)?;
     let second = directory.open(rt, SECOND)?;
@@ -98,7 +98,7 @@ pub fn remove<R: AllocGlobal + Files<File = File>>(rt: &R, path: &str) -> Result
 // Flushes so many batches, and gives the time that the flushes took.
 fn flushed<R: AllocGlobal + Clock>(
     rt: &R,
-    tape: &mut Tape<FileDisk<File>>,
+    tape: &mut Tape<FileDisk<TapeFile>>,
     count: u64,
 ) -> Result<Duration> {
     let mut time = Duration::ZERO;
@@ -114,7 +114,7 @@ fn flushed<R: AllocGlobal + Clock>(
 // Rotates a tape so many times, and gives the time that it took.
 fn rotated<R: AllocGlobal + Clock>(
     rt: &R,
-    tape: &mut Tape<FileDisk<File>>,
+    tape: &mut Tape<FileDisk<TapeFile>>,
     count: u64,
 ) -> Result<Duration> {
     let start = Instant::now(rt)?;
@@ -125,7 +125,7 @@ fn rotated<R: AllocGlobal + Clock>(
 }
 
 // Owes so many batches, with a flush now and then.
-fn fill<R: AllocGlobal>(rt: &R, tape: &mut Tape<FileDisk<File>>, count: u64) -> Result<()> {
+fn fill<R: AllocGlobal>(rt: &R, tape: &mut Tape<FileDisk<TapeFile>>, count: u64) -> Result<()> {
     for batch in 0..count {
         note_batch(rt, tape)?;
         if batch % 200 == 0 {
@@ -135,7 +135,7 @@ fn fill<R: AllocGlobal>(rt: &R, tape: &mut Tape<FileDisk<File>>, count: u64) -> 
     flush(tape)
 }
 
-fn note_batch<R: AllocGlobal>(rt: &R, tape: &mut Tape<FileDisk<File>>) -> Result<()> {
+fn note_batch<R: AllocGlobal>(rt: &R, tape: &mut Tape<FileDisk<TapeFile>>) -> Result<()> {
     for _ in 0..BATCH {
         note(rt, tape)?;
     }
@@ -143,14 +143,14 @@ fn note_batch<R: AllocGlobal>(rt: &R, tape: &mut Tape<FileDisk<File>>) -> Result
 }
 
 // One debt more.
-fn note<R: AllocGlobal>(rt: &R, tape: &mut Tape<FileDisk<File>>) -> Result<()> {
+fn note<R: AllocGlobal>(rt: &R, tape: &mut Tape<FileDisk<TapeFile>>) -> Result<()> {
     match tape.note(owe(rt.alloc(), tape.mark().saturating_add(1))?) {
         Ok(()) => Ok(()),
         Err((_, fault)) => Err(fault.into()),
     }
 }
 
-fn flush(tape: &mut Tape<FileDisk<File>>) -> Result<()> {
+fn flush(tape: &mut Tape<FileDisk<TapeFile>>) -> Result<()> {
     tape.flush()?;
     Ok(())
 }
@@ -163,7 +163,7 @@ fn measured<R: AllocGlobal + Print + Clock + Files<File = File>>(rt: &R, path: &
 
 fn tell_memory<R: AllocGlobal + Print + Files<File = File>>(
     rt: &R,
-    tape: &Tape<FileDisk<File>>,
+    tape: &Tape<FileDisk<TapeFile>>,
 ) -> Result<()> {
     let status = fs::read_to_string(rt, "/proc/self/status")?;
     let most = status

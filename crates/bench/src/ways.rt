@@ -13,7 +13,7 @@ use anyhow::{Context, Result, bail};
 use article_store::Found;
 use bytes::Bytes;
 use conn_core::{Conn, Outcome};
-use disk_model::FileDisk;
+use disk_model::{FileDisk, TapeFile};
 use funnel::{MsgId, read_line};
 use ledger_core::{Debt, Totals};
 use peer_queue::{Limits, Settled, Station};
@@ -140,7 +140,7 @@ fn rounds_of(alloc: Global, ids: &[MsgId]) -> Result<Vec<Round>> {
 fn station_in<R: AllocGlobal + Files<File = File>>(
     rt: &R,
     path: &str,
-) -> Result<Station<FileDisk<File>>> {
+) -> Result<Station<FileDisk<TapeFile>>> {
     remove(rt, path)?;
     let (first, second) = disks_in(rt, path)?;
     let limits = Limits {
@@ -169,7 +169,7 @@ fn gone<R: AllocGlobal + Files<File = File>>(
 // proof: the connection in a frame of its own, so that no way out drops both it and the station.
 fn send_batches(
     alloc: Global,
-    station: &mut Station<FileDisk<File>>,
+    station: &mut Station<FileDisk<TapeFile>>,
     feed: &Feed,
     batches: u64,
 ) -> Result<()> {
@@ -201,7 +201,7 @@ fn left<R: AllocGlobal + Files<File = File>>(
 // Reads a batch of lines, owes each, and flushes them.
 fn owe_batch(
     alloc: Global,
-    station: &mut Station<FileDisk<File>>,
+    station: &mut Station<FileDisk<TapeFile>>,
     lines: &[String],
     batch: u64,
 ) -> Result<()> {
@@ -216,7 +216,7 @@ fn owe_batch(
 // proof: what the calls of the station ensure is left behind in each of these, so that its callers carry none of it.
 fn owe(
     alloc: Global,
-    station: &mut Station<FileDisk<File>>,
+    station: &mut Station<FileDisk<TapeFile>>,
     number: u64,
     line: &[u8],
 ) -> Result<()> {
@@ -226,7 +226,7 @@ fn owe(
 }
 
 // Flushes a station, and writes its tape anew where that is due.
-fn flush(station: &mut Station<FileDisk<File>>) -> Result<()> {
+fn flush(station: &mut Station<FileDisk<TapeFile>>) -> Result<()> {
     station.flush()?;
     if station.rotate_due() {
         station.rotate()?;
@@ -234,13 +234,13 @@ fn flush(station: &mut Station<FileDisk<File>>) -> Result<()> {
     Ok(())
 }
 
-fn claim(station: &mut Station<FileDisk<File>>) -> Result<Debt> {
+fn claim(station: &mut Station<FileDisk<TapeFile>>) -> Result<Debt> {
     station.claim(CONNECTION, 0)?.context("a debt")
 }
 
 // Sends the articles of as many debts as are under way, and finishes each debt.
 fn send_round(
-    station: &mut Station<FileDisk<File>>,
+    station: &mut Station<FileDisk<TapeFile>>,
     conn: &mut Conn,
     round: &Round,
     text: &Bytes,
@@ -270,7 +270,7 @@ fn hand_in(conn: &mut Conn, text: Bytes) -> Result<()> {
     Ok(())
 }
 
-fn finish(station: &mut Station<FileDisk<File>>, outcome: Outcome) -> Result<()> {
+fn finish(station: &mut Station<FileDisk<TapeFile>>, outcome: Outcome) -> Result<()> {
     match station.finish(CONNECTION, outcome, 0) {
         Ok(Settled::Answered(_)) => Ok(()),
         Ok(_) => bail!("a debt was not answered"),

@@ -22,14 +22,14 @@ const ROWS: [(&str, &str); 46] = [
     ("innfeed -v -c x.conf a/funnel", "log feed x.conf a/funnel"),
     ("innfeed -c x.conf -vx", "log backlog x.conf"),
     ("innfeed -c x.conf -C -v", "check x.conf"),
-    ("innfeed -c x.conf -v", "mistake FUNNEL or '-x' is needed"),
+    ("innfeed -c x.conf -v", "mistake FUNNEL or '-x' is required"),
     ("innfeed -v --drill x.drill", DRILL_ALONE),
     ("innfeed --drill x.drill", "drill x.drill"),
     ("innfeed --drill=x.drill", "drill x.drill"),
     ("innfeed --version", "tell innfeed 0.1.0\n"),
     ("innfeed -V", "tell innfeed 0.1.0\n"),
     ("innfeed -C", NEEDS_FILE),
-    ("innfeed -c x.conf", "mistake FUNNEL or '-x' is needed"),
+    ("innfeed -c x.conf", "mistake FUNNEL or '-x' is required"),
     (
         "innfeed -c",
         "mistake a value is required for '-c <FILE>' but none was supplied",
@@ -79,9 +79,9 @@ const ROWS: [(&str, &str); 46] = [
     ),
 ];
 
-const NEEDS_FILE: &str = "mistake '-c FILE' or '--drill FILE' is needed";
+const NEEDS_FILE: &str = "mistake '-c FILE' or '--drill FILE' is required";
 
-const DRILL_ALONE: &str = "mistake no other argument may stand beside '--drill FILE'";
+const DRILL_ALONE: &str = "mistake '--drill FILE' takes no other argument";
 
 // The words of a line.
 fn split_words(alloc: Global, line: &str) -> Result<Vec<String>, AllocError> {

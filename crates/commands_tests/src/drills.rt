@@ -25,7 +25,7 @@ const ROWS: [(Asked, OneFile, &[u8], &[u8]); 20] = [
         Asked::Input,
         OneFile("x", Ok(b"")),
         b"\nwhat\n",
-        b"1\nscript 2\n--\nstandard input: line 2: no step is written so\n",
+        b"1\nscript 2\n--\nstandard input: line 2: unknown or malformed step\n",
     ),
     (
         Asked::Input,
@@ -38,14 +38,14 @@ const ROWS: [(Asked, OneFile, &[u8], &[u8]); 20] = [
         Asked::Drill("x"),
         OneFile("x", Ok(b"peer p")),
         b"",
-        b"1\nscript 1\n--\nx: line 1: the last line has no end\n",
+        b"1\nscript 1\n--\nx: line 1: no newline at end of file\n",
     ),
     (
         Asked::Drill("x"),
         OneFile("x", Ok(b"peer p\n\n# empty\nflush\nhand 7\n")),
         b"",
         b"1\ntaken 0\nstep 2: NoConnection\n--\n\
-            x: line 5: there is no connection of this number, or a stop ended it\n",
+            x: line 5: no connection has this number, or a stop ended it\n",
     ),
     // Of two refused tapes the first by name is told; a broken line goes before any.
     (
@@ -64,31 +64,31 @@ const ROWS: [(Asked, OneFile, &[u8], &[u8]); 20] = [
         Asked::Input,
         OneFile("x", Ok(b"")),
         b"peer p\ntape p a500\nflush \n",
-        b"1\nscript 3\n--\nstandard input: line 3: no step is written so\n",
+        b"1\nscript 3\n--\nstandard input: line 3: unknown or malformed step\n",
     ),
     (
         Asked::Input,
         OneFile("x", Ok(b"")),
         b"peer p\ntape p a\n",
-        b"1\nscript 2\n--\nstandard input: line 2: no tape is written so\n",
+        b"1\nscript 2\n--\nstandard input: line 2: malformed tape line\n",
     ),
     (
         Asked::Input,
         OneFile("x", Ok(b"")),
         b"peer p\nflush\ntape p a5\n",
-        b"1\nscript 3\n--\nstandard input: line 3: a tape stands behind a step\n",
+        b"1\nscript 3\n--\nstandard input: line 3: a tape line after the first step\n",
     ),
     (
         Asked::Input,
         OneFile("x", Ok(b"")),
         b"tape p a5\npeer p\n",
-        b"1\nscript 1\n--\nstandard input: line 1: the peer of the tape is not declared before it\n",
+        b"1\nscript 1\n--\nstandard input: line 1: no earlier line declares the peer of this tape\n",
     ),
     (
         Asked::Input,
         OneFile("x", Ok(b"")),
         b"peer p\ntape p a5\ntape p a5\n",
-        b"1\nscript 3\n--\nstandard input: line 3: the tape of the peer is given already\n",
+        b"1\nscript 3\n--\nstandard input: line 3: tape given twice\n",
     ),
     (
         Asked::Drill("y"),

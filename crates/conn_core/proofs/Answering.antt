@@ -35,7 +35,11 @@ module _ (s : State) (mode : Mode) (reply : Given) (ask : Awaited)
 
   -- the connection without the command that is answered
   abbrev answered_state : List (List ℕ) → State
-  answered_state blocks = record s { window = remove_key (can_answer mode s.held reply) s.window; blocks = blocks }
+  answered_state blocks = record s {
+    window = remove_key (can_answer mode s.held reply) s.window;
+    blocks = blocks;
+    has_answered = true;
+  }
 
   -- by parts
   pub answered-is : (m : Option Meaning) (x : Option Held) → meaning ask.verb reply.code ≡ m → find (is_at ask.ticket) s.held ≡ x

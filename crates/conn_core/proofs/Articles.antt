@@ -52,7 +52,8 @@ module _ (options : Options) (s : State) (h : List Event) (number : ℕ) (handin
       let o = st.while_open running in
       let same : ends options (Handed number handing ∷ h) ≡ ends options h ++ [] = rw none refl in
       goes_on options s (record s { wanted = remove_key (is_of number) s.wanted }) h (Handed number handing) [] st running refl same refl
-      refl refl st.quitting_is st.accepted_is st.recent_is st.off_is (sym (append-nil s.found)) (record {
+      refl refl st.quitting_is st.accepted_is st.recent_is st.off_is st.answered_is refl
+      (sym (append-nil s.found)) (record {
         phase_is = o.phase_is;
         held_is = rw (same, append-nil (ends options h)) o.held_is;
         window_is = o.window_is;
@@ -80,7 +81,7 @@ module _ (options : Options) (s : State) (h : List Event) (number : ℕ) (handin
       let more : List End = record { ticket = x.ticket; outcome = outcome } ∷ [] in
       let same : ends options (Handed number handing ∷ h) ≡ ends options h ++ more = rw one refl in
       goes_on options s (parted (record s { wanted = remove_key (is_of number) s.wanted }) x.ticket (outcome ∷ [])) h (Handed number handing) more st running refl same refl
-      refl refl st.quitting_is st.accepted_is st.recent_is st.off_is refl (record {
+      refl refl st.quitting_is st.accepted_is st.recent_is st.off_is st.answered_is refl refl (record {
         phase_is = o.phase_is;
         held_is = ap (remove_key (is_at x.ticket)) o.held_is ∙ sym (rw (same, ended_tickets-append (ends options h) more) (held_from-gone x.ticket (ended_tickets (ends options h)) 0 (accepted h)));
         window_is = o.window_is;
@@ -165,7 +166,8 @@ module _ (options : Options) where
   stands_faulted s h fault st running =
       let closed : is_some (reason options (Faulted fault ∷ h)) ≡ true = rw running refl in
       rw (with_quit-close options (Faulted fault ∷ h) closed)
-      (shut_by options s h (Faulted fault) (Reader fault) s.stirred s.quiet st running refl refl refl refl refl refl)
+      (shut_by options s h (Faulted fault) (Reader fault) s.stirred s.quiet st running
+      refl refl refl refl refl refl refl)
 
   -- the connection broke
   pub stands_broke : (s : State) (h : List Event) → Matches options s h → reason options h ≡ None → Matches options (close Broken s) (after options h Broke)
@@ -173,7 +175,7 @@ module _ (options : Options) where
   stands_broke s h st running =
       let closed : is_some (reason options (Broke ∷ h)) ≡ true = rw running refl in
       rw (with_quit-close options (Broke ∷ h) closed)
-      (shut_by options s h Broke Broken s.stirred s.quiet st running refl refl refl refl refl refl)
+      (shut_by options s h Broke Broken s.stirred s.quiet st running refl refl refl refl refl refl refl)
 
   -- it is to quit
   pub stands_leave : (s : State) (h : List Event) → Matches options s h → reason options h ≡ None → Matches options (asked_to_quit s) (after options h Leave)
@@ -181,7 +183,7 @@ module _ (options : Options) where
   stands_leave s h st running =
       let o = st.while_open running in
       stands_quit options (record s { quitting = true }) (Leave ∷ h) (goes_on options s (record s { quitting = true }) h Leave [] st running refl (sym (append-nil (ends options h))) refl
-      refl refl refl st.accepted_is st.recent_is st.off_is (sym (append-nil s.found)) (record {
+      refl refl refl st.accepted_is st.recent_is st.off_is st.answered_is refl (sym (append-nil s.found)) (record {
         phase_is = o.phase_is;
         held_is = o.held_is;
         window_is = o.window_is;
@@ -202,7 +204,8 @@ module _ (options : Options) where
       let f = o.sent_few in
       let g : count ≤ length (drop (sent h) (put_octets h)) = rw (← o.output_is) few in
       goes_on options s (sent_off s count) h (Sent count) [] st running refl (sym (append-nil (ends options h))) refl
-      refl refl st.quitting_is st.accepted_is st.recent_is st.off_is (sym (append-nil s.found)) (record {
+      refl refl st.quitting_is st.accepted_is st.recent_is st.off_is st.answered_is refl
+      (sym (append-nil s.found)) (record {
         phase_is = o.phase_is;
         held_is = o.held_is;
         window_is = o.window_is;

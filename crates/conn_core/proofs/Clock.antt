@@ -27,12 +27,14 @@ module _ (options : Options) where
   unfolding story
   tick-step s h now true late st running =
       let e : ends options (Tick now ∷ h) ≡ ends options h ++ backs (held options h) = rw late refl in
-      shut_by options s h (Tick now) Timeout false (Some (quiet_at s now)) st running (rw late refl) e refl refl refl refl
+      shut_by options s h (Tick now) Timeout false (Some (quiet_at s now)) st running (rw late refl) e
+      refl refl refl refl refl
   tick-step s h now false late st running =
       let o = st.while_open running in
       let none : ends options (Tick now ∷ h) ≡ ends options h ++ [] = rw late refl in
       goes_on options s (record s { stirred = false; quiet = Some (quiet_at s now) }) h (Tick now) [] st running (rw late refl) none refl
-      refl refl st.quitting_is st.accepted_is st.recent_is st.off_is (sym (append-nil s.found)) (record {
+      refl refl st.quitting_is st.accepted_is st.recent_is st.off_is st.answered_is refl
+      (sym (append-nil s.found)) (record {
         phase_is = o.phase_is;
         held_is = rw (none, append-nil (ends options h)) o.held_is;
         window_is = o.window_is;

@@ -2,16 +2,17 @@
 use Rattle.std.proofs.Common.{◌≡◌, ℕ, suc, zero, ◌+◌, ◌<◌, ◌≤◌, Bool, true, false, List, [], ◌∷◌, length, refl, sym, ap}
 use Rattle.std.proofs.Common.{subst, ◌∙◌, arith, Option, Some, None, find, drop, take, add-one}
 use Rattle.std.specs.Prelude.{is_some, option_map, slice_get, if◌then◌else◌, not}
+use Rattle.std.specs.List.{AllByRecursion}
 use Rattle.std.proofs.lemmas.List.{length-drop}
 use Rattle.reply_reader.specs.Stream.{Given}
 use Rattle.reply_reader.specs.declared.fault.ReplyFault.{ReplyFault}
 use Rattle.ledger_core.specs.State.{Owing}
-use Rattle.conn_core.specs.Commands.{Handing, Want, is_of}
+use Rattle.conn_core.specs.Commands.{Handing, Held, Want, held_for, is_at, is_of}
 use Rattle.conn_core.specs.History.{Event, Offered, Came, Faulted, Handed, Sent, Tick, Broke, Leave, Taken, accepted}
 use Rattle.conn_core.specs.History.{taken, is_leaving, reason, checks, counted, story, outcomes, after, output, needed}
-use Rattle.conn_core.specs.History.{need, window}
+use Rattle.conn_core.specs.History.{need, window, has_answered, first_unanswered, first_wanted}
 use Rattle.conn_core.specs.State.{State, untold, output_of}
-use Rattle.conn_core.specs.Stands.{Arises, AreTied, MatchesWhileOpen, Matches, ready_of, ready_when}
+use Rattle.conn_core.specs.Stands.{Arises, AreTied, IsWantOfDebt, MatchesWhileOpen, Matches, ready_of, ready_when}
 use Rattle.conn_core.specs.Machine.{fresh, offered, on_reply, on_fault, handed, ticked, close, asked_to_quit, sent_off, TakesOne, ready_at}
 use Rattle.conn_core.specs.declared.options.Options.{Options}
 use Rattle.conn_core.specs.declared.ready.Ready.TheVariants.{Yes}
@@ -19,7 +20,7 @@ use Rattle.conn_core.specs.declared.reason.Reason.{Reason}
 use Rattle.conn_core.specs.declared.reason.Reason.TheVariants.{Broken}
 use Rattle.conn_core.specs.declared.outcome.Outcome.{Outcome}
 use Rattle.conn_core.proofs.Modes.{arises-plain}
-use Rattle.conn_core.proofs.Steps.{first_reason-none, stands_offered}
+use Rattle.conn_core.proofs.Steps.{first_reason-none, stands_offered, unanswered-same}
 use Rattle.conn_core.proofs.Clock.{stands_ticked}
 use Rattle.conn_core.proofs.Replies.{stands_came}
 use Rattle.conn_core.proofs.Articles.{stands_handed, stands_faulted, stands_broke, stands_leave, stands_sent, wanted_first}
@@ -42,10 +43,12 @@ unfolding story
 fresh-stands options = record {
   options_is = refl;
   closed_is = refl;
+  unanswered_is = refl;
   quitting_is = refl;
   accepted_is = refl;
   recent_is = nothing options.check_filter;
   off_is = refl;
+  answered_is = refl;
   untold_is = refl;
   taken_few = omega arith;
   while_open = λ _. record {
@@ -60,7 +63,7 @@ fresh-stands options = record {
     stirred_is = refl;
     quiet_is = refl;
     tied =
-        record { named = tt; once = λ t. omega arith; below = λ t high. refl };
+        record { named = tt; numbered = tt; once = λ t. omega arith; below = λ t high. refl };
   };
 }
   where
@@ -111,17 +114,21 @@ sent-stands options s h count st running few = stands_sent options s h count st 
 -- only what is still to be told has changed
 told-stands : (options : Options) (old new : State) (o : Option Outcome) (h g : List Event) → Matches options old h → TakesOne old o new
     → reason options g ≡ reason options h → is_leaving g ≡ is_leaving h → accepted g ≡ accepted h → counted options g ≡ counted options h
+    → has_answered options g ≡ has_answered options h → first_unanswered options g ≡ first_unanswered options h
     → untold new ≡ drop (taken g) (outcomes options g) → taken g ≤ length (outcomes options g) → (MatchesWhileOpen options new h → MatchesWhileOpen options new g)
     → Matches options new g
-told-stands options old new o h g st t same_reason same_leaving same_accepted same_counted told few open_same =
+told-stands options old new o h g st t same_reason same_leaving same_accepted same_counted same_answered same_unanswered
+    told few open_same =
     let same = t.others in
     record {
       options_is = ap (λ (x : State). x.options) same ∙ st.options_is;
       closed_is = ap (λ (x : State). x.closed) same ∙ st.closed_is ∙ sym same_reason;
+      unanswered_is = ap (λ (x : State). x.unanswered) same ∙ st.unanswered_is ∙ sym same_unanswered;
       quitting_is = ap (λ (x : State). x.quitting) same ∙ st.quitting_is ∙ sym same_leaving;
       accepted_is = ap (λ (x : State). x.accepted) same ∙ st.accepted_is ∙ ap length (sym same_accepted);
       recent_is = rw same_counted (ap (λ (x : State). x.recent) same ∙ st.recent_is);
       off_is = rw same_counted (ap (λ (x : State). x.off) same ∙ st.off_is);
+      answered_is = ap (λ (x : State). x.has_answered) same ∙ st.answered_is ∙ sym same_answered;
       untold_is = told;
       taken_few = few;
       while_open = λ e.
@@ -150,7 +157,8 @@ unfolding story
 taken-stands options old new h outcome st t =
     let front = drop-front (taken h) (outcomes options h) outcome (untold new) (sym st.untold_is ∙ t.first) in (
       front.0,
-      told-stands options old new (Some outcome) h (Taken ∷ h) st t (first_reason-none _) refl refl refl (sym front.1) (omega arith)
+      told-stands options old new (Some outcome) h (Taken ∷ h) st t (first_reason-none _) refl refl refl refl
+          (unanswered-same options h Taken refl) (sym front.1) (omega arith)
           (λ w. record {
             phase_is = w.phase_is;
             held_is = w.held_is;
@@ -173,7 +181,7 @@ none_taken-stands options old new h st t =
     let nothing : drop (taken h) (outcomes options h) ≡ [] = sym told ∙ t.none_left refl in
     let few = st.taken_few in (
       omega (arith, length-drop (taken h) (outcomes options h), ap length nothing),
-      told-stands options old new None h h st t refl refl refl refl told few (λ w. w),
+      told-stands options old new None h h st t refl refl refl refl refl refl told few (λ w. w),
     )
 
 -- what it holds tells what the transcript says
@@ -196,6 +204,54 @@ output-is options s h st = output-step options s h (reason options h) refl st
 
 pub checks-is : (options : Options) (s : State) (h : List Event) → Matches options s h → not s.off ≡ checks options h
 checks-is options s h st = ap not st.off_is
+
+pub unanswered-is : (options : Options) (s : State) (h : List Event) → Matches options s h
+    → s.unanswered ≡ first_unanswered options h
+unanswered-is options s h st = st.unanswered_is
+
+pub answered-is : (options : Options) (s : State) (h : List Event) → Matches options s h
+    → s.has_answered ≡ has_answered options h
+answered-is options s h st = st.answered_is
+
+-- the debt that the first want is about
+abbrev first_held : State → Option Owing
+first_held s =
+    if is_some s.closed then None
+    else option_map (λ (x : Held). x.debt) (held_for s.held (slice_get s.wanted 0))
+
+first_wanted-step : (options : Options) (s : State) (h : List Event) (r : Option Reason) → reason options h ≡ r
+    → Matches options s h → first_held s ≡ first_wanted options h
+first_wanted-step options s h None e st = let o = st.while_open e in rw (st.closed_is, e, o.held_is, o.wanted_is) refl
+first_wanted-step options s h (Some why) e st = rw (st.closed_is, e) refl
+
+pub first_wanted-is : (options : Options) (s : State) (h : List Event) → Matches options s h
+    → first_held s ≡ first_wanted options h
+first_wanted-is options s h st = first_wanted-step options s h (reason options h) refl st
+
+number-step : (held : List Held) (wants : List Want) → AllByRecursion (IsWantOfDebt held) wants
+    → option_map (λ (debt : Owing). debt.0) (option_map (λ (x : Held). x.debt) (held_for held (slice_get wants 0)))
+    ≡ option_map (λ (want : Want). want.number) (slice_get wants 0)
+number-step held [] all = refl
+number-step held (want ∷ wants) all = twice (find (is_at want.ticket) held) all.0
+  where
+    twice : (x : Option Held) → option_map (λ (y : Held). y.debt.0) x ≡ Some want.number
+        → option_map (λ (debt : Owing). debt.0) (option_map (λ (y : Held). y.debt) x) ≡ Some want.number
+    twice None e = cc
+    twice (Some x) e = e
+
+wanted_number-step : (options : Options) (s : State) (h : List Event) (r : Option Reason) → reason options h ≡ r
+    → Matches options s h
+    → option_map (λ (debt : Owing). debt.0) (first_wanted options h) ≡ need options h
+wanted_number-step options s h None e st =
+    let o = st.while_open e in
+    let tied = o.tied.numbered in
+    rw (e, ← o.held_is, ← o.wanted_is) (number-step s.held s.wanted tied)
+wanted_number-step options s h (Some why) e st = rw e refl
+
+-- the debt whose article came to be wanted first has the number that is needed
+pub wanted_number-is : (options : Options) (s : State) (h : List Event) → Matches options s h
+    → option_map (λ (debt : Owing). debt.0) (first_wanted options h) ≡ need options h
+wanted_number-is options s h st = wanted_number-step options s h (reason options h) refl st
 
 need-step : (options : Options) (s : State) (h : List Event) (r : Option Reason) → reason options h ≡ r → Matches options s h
     → (if is_some s.closed then None else option_map (λ (want : Want). want.number) (slice_get s.wanted 0)) ≡ need options h

@@ -71,7 +71,8 @@ module _ (options : Options) where
   unfolding story
   shut_reply s h reply why st running none closing =
       let e : ends options (Came reply ∷ h) ≡ ends options h ++ backs (held options h) = rw (closing, none, append-nil (ends options h)) refl in
-      shut_by options s h (Came reply) why true s.quiet st running closing e refl refl refl (rw none refl)
+      shut_by options s h (Came reply) why true s.quiet st running closing e refl refl refl
+      (rw none refl) (rw none refl)
 
   -- no debt comes out
   held-quiet : (h : List Event) (reply : Given) → closes options h (Came reply) ≡ None → ends_by_answer (held options h) reply.code (answered_ask options h reply) ≡ []
@@ -85,7 +86,8 @@ module _ (options : Options) where
   phase_moves s h reply p st running stays none moved =
       let o = st.while_open running in
       goes_on options s (record s { stirred = true; phase = p }) h (Came reply) [] st running stays (rw (stays, none) (append-nil (ends options h ++ []))) refl
-      refl refl st.quitting_is st.accepted_is (rw none st.recent_is) (rw none st.off_is) (sym (append-nil s.found)) (record {
+      refl refl st.quitting_is st.accepted_is (rw none st.recent_is) (rw none st.off_is) (rw none st.answered_is) refl
+      (sym (append-nil s.found)) (record {
         phase_is = moved;
         held_is = o.held_is ∙ sym (held-quiet h reply stays (rw none refl));
         window_is = rw none o.window_is;
@@ -164,9 +166,18 @@ module _ (options : Options) (s : State) (h : List Event) (reply : Given) (found
   left_free = answered-free s.held (window options h) s.wanted s.accepted (st.while_open running).tied
       (λ ask. test (awaited_of ask)) found.1 finds
 
-  -- what is left, with what was counted
+  -- what is left
+  abbrev left_state : State
+  left_state = record s {
+    stirred = true;
+    window = remove_key test s.window;
+    blocks = let_go found.1.verb s.blocks;
+    has_answered = true;
+  }
+
+  -- with what was counted
   abbrev less : List Bool → Bool → State
-  less recent off = record s { stirred = true; window = remove_key test s.window; blocks = let_go found.1.verb s.blocks; recent = recent; off = off }
+  less recent off = record left_state { recent = recent; off = off }
 
   module _ (recent : List Bool) (off : Bool) (recent_same : recent ≡ take options.check_filter (counted options (Came reply ∷ h)))
       (off_same : off ≡ are_off options (counted options (Came reply ∷ h))) where
@@ -182,7 +193,8 @@ module _ (options : Options) (s : State) (h : List Event) (reply : Given) (found
         let o = st.while_open running in
         goes_on options s next h (Came reply) _ st running stays (ends-on_reply options h reply stays) refl
         (ap (λ (x : State). x.options) same) (ap (λ (x : State). x.closed) same) (ap (λ (x : State). x.quitting) same ∙ st.quitting_is) (ap (λ (x : State). x.accepted) same ∙ st.accepted_is)
-        (ap (λ (x : State). x.recent) same ∙ recent_same) (ap (λ (x : State). x.off) same ∙ off_same) told (record {
+        (ap (λ (x : State). x.recent) same ∙ recent_same) (ap (λ (x : State). x.off) same ∙ off_same)
+        (rw now (ap (λ (x : State). x.has_answered) same)) (ap (λ (x : State). x.unanswered) same) told (record {
           phase_is = ap (λ (x : State). x.phase) same ∙ o.phase_is ∙ sym (mode-stays options.streaming (phase options h) reply.code mode);
           held_is = held_same;
           window_is = ap (λ (x : State). x.window) same ∙ ap (remove_key test) o.window_is ∙ remove-map awaited_of test (window options h) ∙ ap (map awaited_of) (sym window-on_reply);
@@ -209,9 +221,13 @@ module _ (options : Options) (s : State) (h : List Event) (reply : Given) (found
     answer_wanted x em ex =
         let o = st.while_open running in
         let none : ends_by_answer (held options h) reply.code (answered_ask options h reply) ≡ [] = by_is (Some Wanted) (Some x) em ex in
+        let own : find (is_at x.ticket) s.held ≡ Some x =
+        ap (find (is_at x.ticket)) o.held_is
+        ∙ ap (λ k. find (is_at k) (held options h)) (find-is_at found.1.ticket (held options h) x ex).0 ∙ ex in
         answer (record (less recent off) { wanted = s.wanted ++ want_of x ∷ [] }) refl (rw none (sym (append-nil s.found))) (o.held_is ∙ sym (held-quiet options h reply stays none))
         (rw (wants_is (Some Wanted) (Some x) em ex, o.wanted_is) (sym (left_from-append (story options h).handed 0 (story options h).wants (want_of x) (λ k q. handed_below options h k (omega arith)))))
         (tied-wanted s.held left_asks s.wanted s.accepted tied_left (want_of x)
+        (ap (option_map (λ (y : Held). y.debt.0)) own)
         (subst (λ k. claims left_asks s.wanted k ≡ 0) (sym (find-is_at found.1.ticket (held options h) x ex).0)
         left_free.0)
         (subst (λ k. k < s.accepted) (sym (find-is_at found.1.ticket (held options h) x ex).0) left_free.1))
@@ -273,12 +289,12 @@ module _ (options : Options) (s : State) (h : List Event) (reply : Given) (found
 
   -- with what the switch counts
   answer_counted : Matches options
-      (told (counted_by (record s { stirred = true; window = remove_key test s.window; blocks = let_go found.1.verb s.blocks }) (counts reply.code))
+      (told (counted_by left_state (counts reply.code))
       (meaning found.1.verb reply.code) (awaited_of found.1) (first_block s.blocks) (find (is_at found.1.ticket) s.held))
       (with_puts (puts_block (meaning found.1.verb reply.code) found.1) (Came reply ∷ h))
   answer_counted =
       let o = st.while_open running in
-      let before : State = record s { stirred = true; window = remove_key test s.window; blocks = let_go found.1.verb s.blocks } in
+      let before : State = left_state in
       let recount : State = counted_by before (counts reply.code) in
       subst (λ (next : State). Matches options (told next (meaning found.1.verb reply.code) (awaited_of found.1) (first_block s.blocks) (find (is_at found.1.ticket) s.held))
       (with_puts (puts_block (meaning found.1.verb reply.code) found.1) (Came reply ∷ h))) (sym (counted_by-is before (counts reply.code)))

@@ -1,7 +1,7 @@
 -- Each event keeps it that the connection stands for its transcript: one that goes on, one that closes, and what is put out.
 use Rattle.std.proofs.Common.{◌≡◌, ℕ, ◌+◌, ◌≤◌, ◌<◌, Bool, true, false, List, [], ◌∷◌, ◌++◌, length, refl, sym, ap}
 use Rattle.std.proofs.Common.{subst, ◌∙◌, arith, Option, Some, None, drop, take, map, length-append}
-use Rattle.std.specs.Prelude.{◌&&◌, not, if◌then◌else◌, is_none, is_some}
+use Rattle.std.specs.Prelude.{◌&&◌, not, if◌then◌else◌, is_none, is_some, slice_get}
 use Rattle.std.specs.List.{flat_map}
 use Rattle.std.proofs.lemmas.Bool.{false≢true}
 use Rattle.std.proofs.lemmas.List.{drop-append-le, append-nil, map-append}
@@ -11,9 +11,10 @@ use Rattle.conn_core.specs.Used.{is_empty, left_from}
 use Rattle.conn_core.specs.Checks.{are_off}
 use Rattle.conn_core.specs.Commands.{Ask, Command, ModeStream, Asks, Quit, octets, Held, Want, check_of, want_of}
 use Rattle.conn_core.specs.History.{Event, Offered, Put, accepted, asks, put_out, put_octets, sent, taken, is_leaving, is_mode, is_streaming, phase, answered, window, counted, checks, closes, first_reason, reason, story, ends, held, outcomes, End, ended_tickets, backs, newcomer, wants_at_once, is_quit_due, with_quit, with_puts, after}
-use Rattle.conn_core.specs.State.{State, awaited_of, kept_for, kept_blocks, untold}
+use Rattle.conn_core.specs.History.{has_answered, first_unanswered, unanswered_at_close, number_asked}
+use Rattle.conn_core.specs.State.{State, Awaited, awaited_of, kept_for, kept_blocks, untold}
 use Rattle.conn_core.specs.Stands.{AreTied, IsOfDebt, MatchesWhileOpen, Matches, claims}
-use Rattle.conn_core.specs.Machine.{close, asked, quit_if_due, offered, newly}
+use Rattle.conn_core.specs.Machine.{close, number_awaited, asked, quit_if_due, offered, newly}
 use Rattle.conn_core.specs.declared.phase.Phase.TheVariants.{Leaving}
 use Rattle.conn_core.specs.declared.options.Options.{Options}
 use Rattle.conn_core.specs.declared.reason.Reason.{Reason}
@@ -22,7 +23,7 @@ use Rattle.conn_core.specs.UsedLaws.{AllBelow, left_from-append}
 use Rattle.conn_core.specs.HeldLaws.{held_from-append, tickets}
 use Rattle.conn_core.specs.StoryLaws.{answered_below, handed_below, ends_below, ends-offered, tickets-below}
 use Rattle.conn_core.proofs.Blocks.{kept-more}
-use Rattle.conn_core.proofs.Ties.{accepted-own, tied-accepted, tied-asked, tied-wanted}
+use Rattle.conn_core.proofs.Ties.{accepted-own, accepted-want, tied-accepted, tied-asked, tied-wanted}
 
 pub first_reason-none : (r : Option Reason) → first_reason r None ≡ r
 first_reason-none None = refl
@@ -59,7 +60,43 @@ due-off : (a b c : Bool) (r : Option Reason) → is_some r ≡ true → (a && (b
 due-off a b c None e = cc
 due-off a b c (Some r) e = false-last a b c
 
+-- the first command that is awaited is the first without an answer
+number-first : (held : List Held) (commands : List Ask)
+    → number_awaited held (slice_get (map awaited_of commands) 0) ≡ number_asked held (slice_get commands 0)
+number-first held [] = refl
+number-first held (ask ∷ commands) = refl
+
+open-step : (r now : Option Reason) (before : Option ℕ) (held : List Held) (commands : List Ask)
+    → first_reason r now ≡ None
+    → (if is_some r then before else unanswered_at_close now held commands) ≡ None
+open-step None None before held commands e = refl
+open-step None (Some why) before held commands e = cc
+open-step (Some why) now before held commands e = cc
+
 module _ (options : Options) where
+  -- while it is open, none counts as unanswered
+  unanswered-open : (h : List Event) → reason options h ≡ None → first_unanswered options h ≡ None
+  unanswered-open [] e = refl
+  unanswered-open (x ∷ h) e = open-step (reason options h) (closes options h x) _ _ _ e
+
+  unanswered-step : (h : List Event) (e : Event) (r : Option Reason) → reason options h ≡ r → closes options h e ≡ None
+      → first_unanswered options (e ∷ h) ≡ first_unanswered options h
+  unanswered-step h e None running still = rw (running, still) (sym (unanswered-open h running))
+  unanswered-step h e (Some why) closed still = rw closed refl
+
+  -- an event that does not close changes nothing of it
+  pub unanswered-same : (h : List Event) (e : Event) → closes options h e ≡ None
+      → first_unanswered options (e ∷ h) ≡ first_unanswered options h
+  unanswered-same h e still = unanswered-step h e (reason options h) refl still
+
+  -- the number that is kept at a close
+  number-same : (s : State) (h : List Event) → MatchesWhileOpen options s h
+      → number_awaited s.held (slice_get s.window 0) ≡ number_asked (held options h) (slice_get (window options h) 0)
+  number-same s h o =
+      ap (λ hs. number_awaited hs (slice_get s.window 0)) o.held_is
+      ∙ ap (λ (ws : List Awaited). number_awaited (held options h) (slice_get ws 0)) o.window_is
+      ∙ number-first (held options h) (window options h)
+
   -- outcomes that come behind those that there are
   outcomes-more : (s : State) (h : List Event) (more : List End) → Matches options s h → reason options h ≡ None
       → s.found ++ map (λ x. x.outcome) more ≡ drop (taken h) (map (λ x. x.outcome) (ends options h ++ more))
@@ -76,33 +113,41 @@ module _ (options : Options) where
       → ends options (e ∷ h) ≡ ends options h ++ more → taken (e ∷ h) ≡ taken h
       → next.options ≡ s.options → next.closed ≡ s.closed → next.quitting ≡ is_leaving (e ∷ h) → next.accepted ≡ length (accepted (e ∷ h))
       → next.recent ≡ take options.check_filter (counted options (e ∷ h)) → next.off ≡ are_off options (counted options (e ∷ h))
+      → next.has_answered ≡ has_answered options (e ∷ h) → next.unanswered ≡ s.unanswered
       → next.found ≡ s.found ++ map (λ x. x.outcome) more → MatchesWhileOpen options next (e ∷ h) → Matches options next (e ∷ h)
-  goes_on s next h e more st running stays ends_same taken_same same_options same_closed quitting accepts recent off told o = record {
-    options_is = same_options ∙ st.options_is;
-    closed_is = rw (running, stays) (same_closed ∙ st.closed_is ∙ running);
-    quitting_is = quitting;
-    accepted_is = accepts;
-    recent_is = recent;
-    off_is = off;
-    untold_is = untold_open next (same_closed ∙ st.closed_is ∙ running) ∙ told ∙ rw (taken_same, ends_same) (outcomes-more s h more st running);
-    taken_few = rw (taken_same, ends_same) (few-more (taken h) h more st.taken_few);
-    while_open = λ _. o;
-  }
+  goes_on s next h e more st running stays ends_same taken_same same_options same_closed quitting accepts recent off
+      answered_same same_unanswered told o = record {
+        options_is = same_options ∙ st.options_is;
+        closed_is = rw (running, stays) (same_closed ∙ st.closed_is ∙ running);
+        unanswered_is = same_unanswered ∙ st.unanswered_is ∙ sym (unanswered-same h e stays);
+        quitting_is = quitting;
+        accepted_is = accepts;
+        recent_is = recent;
+        off_is = off;
+        answered_is = answered_same;
+        untold_is = untold_open next (same_closed ∙ st.closed_is ∙ running) ∙ told ∙ rw (taken_same, ends_same) (outcomes-more s h more st running);
+        taken_few = rw (taken_same, ends_same) (few-more (taken h) h more st.taken_few);
+        while_open = λ _. o;
+      }
 
   -- an event that closes, by which all that is held comes out
   pub shut_by : (s : State) (h : List Event) (e : Event) (why : Reason) (stirs : Bool) (moment : Option ℕ) → Matches options s h → reason options h ≡ None → closes options h e ≡ Some why
       → ends options (e ∷ h) ≡ ends options h ++ backs (held options h) → taken (e ∷ h) ≡ taken h
       → is_leaving (e ∷ h) ≡ is_leaving h → accepted (e ∷ h) ≡ accepted h → counted options (e ∷ h) ≡ counted options h
+      → has_answered options (e ∷ h) ≡ has_answered options h
       → Matches options (close why (record s { stirred = stirs; quiet = moment })) (e ∷ h)
-  shut_by s h e why stirs moment st running closing ends_same taken_same leaving_same accepted_same counted_same =
+  shut_by s h e why stirs moment st running closing ends_same taken_same leaving_same accepted_same counted_same
+      answered_same =
       let o = st.while_open running in
       record {
         options_is = st.options_is;
         closed_is = rw (running, closing) refl;
+        unanswered_is = rw (running, closing) (number-same s h o);
         quitting_is = rw leaving_same st.quitting_is;
         accepted_is = rw accepted_same st.accepted_is;
         recent_is = rw counted_same st.recent_is;
         off_is = rw counted_same st.off_is;
+        answered_is = rw answered_same st.answered_is;
         untold_is = rw (taken_same, ends_same, o.held_is, ← outcome-backs (held options h)) (outcomes-more s h (backs (held options h)) st running);
         taken_few = rw (taken_same, ends_same) (few-more (taken h) h (backs (held options h)) st.taken_few);
         while_open = λ c. let f : Some why ≡ None = rw (running, closing) at c in cc;
@@ -121,10 +166,13 @@ module _ (options : Options) where
   puts_out s h command next st same phase_same window_same blocks_same ties_same = record {
     options_is = ap (λ (x : State). x.options) same ∙ st.options_is;
     closed_is = ap (λ (x : State). x.closed) same ∙ st.closed_is ∙ sym (first_reason-none _);
+    unanswered_is = ap (λ (x : State). x.unanswered) same ∙ st.unanswered_is
+        ∙ sym (unanswered-same h (Put command) refl);
     quitting_is = ap (λ (x : State). x.quitting) same ∙ st.quitting_is;
     accepted_is = ap (λ (x : State). x.accepted) same ∙ st.accepted_is;
     recent_is = ap (λ (x : State). x.recent) same ∙ st.recent_is;
     off_is = ap (λ (x : State). x.off) same ∙ st.off_is;
+    answered_is = ap (λ (x : State). x.has_answered) same ∙ st.answered_is;
     untold_is = ap untold same ∙ st.untold_is;
     taken_few = st.taken_few;
     while_open = λ c.
@@ -217,7 +265,8 @@ module _ (options : Options) where
         accepted = n + 1;
         wanted = s.wanted ++ (if b then want_of (record { ticket = n; debt = debt }) ∷ [] else []);
       }) h (Offered debt) [] st running refl (ends-offered options h debt ∙ sym (append-nil (ends options h))) refl refl refl st.quitting_is
-      (rw e (omega (arith, length-append (accepted h) (debt ∷ [])))) st.recent_is st.off_is (sym (append-nil s.found)) (record {
+      (rw e (omega (arith, length-append (accepted h) (debt ∷ [])))) st.recent_is st.off_is st.answered_is refl
+      (sym (append-nil s.found)) (record {
         phase_is = o.phase_is;
         held_is = rw (o.held_is, e, ends-offered options h debt) (sym (held_from-append (ended_tickets (ends options h)) 0 (accepted h) debt (length (accepted h)) (omega arith) (ends_below options h)));
         window_is = o.window_is;
@@ -238,7 +287,9 @@ module _ (options : Options) where
       tied-step true tied =
           tied-wanted (s.held ++ newcomer h debt ∷ []) (window options h) s.wanted (length (accepted h) + 1)
           (tied-accepted s.held (window options h) s.wanted (length (accepted h)) tied debt)
-          (want_of (newcomer h debt)) (tied.below (length (accepted h)) (omega arith)) (omega arith)
+          (want_of (newcomer h debt))
+          (accepted-want s.held (newcomer h debt) (rw (st.while_open running).held_is (tickets-below options h)))
+          (tied.below (length (accepted h)) (omega arith)) (omega arith)
 
       wanted-step : (b : Bool) → wants_at_once options h ≡ b
           → left_from 0 (story options h).wants (story options h).handed ++ (if b then want_of (newcomer h debt) ∷ [] else [])

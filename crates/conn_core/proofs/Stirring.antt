@@ -33,7 +33,11 @@ counted_by-stir s (answer ∷ answers) = refl
 answered_by-stir : (s : State) (test : Awaited → Bool) (code : ℕ) (ask : Option Awaited) → answered_by (stir s) test code ask ≡ stir (answered_by s test code ask)
 answered_by-stir s test code None = refl
 answered_by-stir s test code (Some ask) =
-    let left : State = record s { window = remove_key test s.window; blocks = let_go ask.verb s.blocks } in
+    let left : State = record s {
+      window = remove_key test s.window;
+      blocks = let_go ask.verb s.blocks;
+      has_answered = true;
+    } in
     ap (λ v. told v (meaning ask.verb code) ask (first_block s.blocks) (find (is_at ask.ticket) s.held)) (counted_by-stir left (counts code))
     ∙ told-stir (counted_by left (counts code)) (meaning ask.verb code) ask (first_block s.blocks) (find (is_at ask.ticket) s.held)
 

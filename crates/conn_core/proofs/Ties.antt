@@ -11,10 +11,10 @@ use Rattle.std.proofs.lemmas.List.{map-append}
 use Rattle.reply_reader.specs.Stream.{Given}
 use Rattle.ledger_core.specs.State.{Owing}
 use Rattle.conn_core.specs.Codes.{belongs, names}
-use Rattle.conn_core.specs.Commands.{Ask, Held, Want, fits_ask, is_at}
+use Rattle.conn_core.specs.Commands.{Ask, Held, Want, fits_ask, is_at, want_of}
 use Rattle.conn_core.specs.Machine.{fits_awaited, names_debt}
 use Rattle.conn_core.specs.State.{awaited_of}
-use Rattle.conn_core.specs.Stands.{AreTied, IsOfDebt, claims}
+use Rattle.conn_core.specs.Stands.{AreTied, IsOfDebt, IsWantOfDebt, claims}
 use Rattle.conn_core.specs.Used.{first_left, has, left_from, times}
 use Rattle.conn_core.specs.HeldLaws.{tickets}
 use Rattle.conn_core.specs.UsedLaws.{AllBelow, All-append, All-map, times-append}
@@ -98,18 +98,22 @@ times-one x t =
 abbrev id_of : Held → List ℕ
 id_of x = x.debt.1.1
 
-more-step : (b : Bool) (x : Held) (first more : Option Held) (id : List ℕ)
-    → option_map id_of (cond b (Some x) first) ≡ Some id
-    → (option_map id_of first ≡ Some id → option_map id_of more ≡ Some id)
-    → option_map id_of (cond b (Some x) more) ≡ Some id
-more-step true x first more id e rest = e
-more-step false x first more id e rest = rest e
+abbrev number_of : Held → ℕ
+number_of x = x.debt.0
 
--- a debt that is held still is with one more
-find-more : (k : ℕ) (held later : List Held) (id : List ℕ) → option_map id_of (find (is_at k) held) ≡ Some id
-    → option_map id_of (find (is_at k) (held ++ later)) ≡ Some id
-find-more k [] later id e = cc
-find-more k (x ∷ held) later id e = more-step (x.ticket == k) x _ _ id e (find-more k held later id)
+module _ {A : Type 0} (part : Held → A) where
+  more-step : (b : Bool) (x : Held) (first more : Option Held) (a : A)
+      → option_map part (cond b (Some x) first) ≡ Some a
+      → (option_map part first ≡ Some a → option_map part more ≡ Some a)
+      → option_map part (cond b (Some x) more) ≡ Some a
+  more-step true x first more a e rest = e
+  more-step false x first more a e rest = rest e
+
+  -- a debt that is held still is with one more
+  find-more : (k : ℕ) (held later : List Held) (a : A) → option_map part (find (is_at k) held) ≡ Some a
+      → option_map part (find (is_at k) (held ++ later)) ≡ Some a
+  find-more k [] later a e = cc
+  find-more k (x ∷ held) later a e = more-step (x.ticket == k) x _ _ a e (find-more k held later a)
 
 last-step : (b more : Bool) → (b || more) ≡ false → (b ≡ false) × (more ≡ false)
 last-step true more e = cc
@@ -155,6 +159,18 @@ named-gone t held (ask ∷ asks) all none =
       named-gone t held asks all.1 (omega arith),
     )
 
+-- wants of other debts than this
+numbered-gone : (t : ℕ) (held : List Held) (wants : List Want) → AllByRecursion (IsWantOfDebt held) wants
+    → times (map (λ (want : Want). want.ticket) wants) t ≡ 0
+    → AllByRecursion (IsWantOfDebt (remove_key (is_at t) held)) wants
+numbered-gone t held [] all none = tt
+numbered-gone t held (want ∷ wants) all none =
+    let apart : want.ticket ≡ t → ⊥ = none-step want.ticket t (times (map (λ (want : Want). want.ticket) wants) t)
+    (omega arith) in (
+      ap (option_map number_of) (find-other want.ticket t held apart) ∙ all.0,
+      numbered-gone t held wants all.1 (omega arith),
+    )
+
 abbrev ask_ticket : Ask → ℕ
 ask_ticket ask = ask.ticket
 
@@ -171,7 +187,9 @@ module _ (held : List Held) (asks : List Ask) (wants : List Want) (n : ℕ) (tie
   pub tied-accepted : (debt : Owing) → AreTied (held ++ record { ticket = n; debt = debt } ∷ []) asks wants (n + 1)
   tied-accepted debt = record {
     named = All-map (IsOfDebt held) (IsOfDebt (held ++ record { ticket = n; debt = debt } ∷ []))
-        (λ ask e. find-more ask.ticket held _ ask.id e) asks tied.named;
+        (λ ask e. find-more id_of ask.ticket held _ ask.id e) asks tied.named;
+    numbered = All-map (IsWantOfDebt held) (IsWantOfDebt (held ++ record { ticket = n; debt = debt } ∷ []))
+        (λ want e. find-more number_of want.ticket held _ want.number e) wants tied.numbered;
     once = tied.once;
     below = λ t high. tied.below t (omega arith);
   }
@@ -181,6 +199,7 @@ module _ (held : List Held) (asks : List Ask) (wants : List Want) (n : ℕ) (tie
       → AreTied held (asks ++ ask ∷ []) wants n
   tied-asked ask own free low = record {
     named = All-append (IsOfDebt held) asks (ask ∷ []) tied.named (own, tt);
+    numbered = tied.numbered;
     once = λ t.
         let more = times-more ask_ticket asks ask t in
         elim (eqb_tells ask.ticket t) as (λ _. claims (asks ++ ask ∷ []) wants t ≤ 1) [
@@ -196,10 +215,11 @@ module _ (held : List Held) (asks : List Ask) (wants : List Want) (n : ℕ) (tie
   }
 
   -- the article of such a debt is wanted
-  pub tied-wanted : (want : Want) → claims asks wants want.ticket ≡ 0 → want.ticket < n
+  pub tied-wanted : (want : Want) → IsWantOfDebt held want → claims asks wants want.ticket ≡ 0 → want.ticket < n
       → AreTied held asks (wants ++ want ∷ []) n
-  tied-wanted want free low = record {
+  tied-wanted want own free low = record {
     named = tied.named;
+    numbered = All-append (IsWantOfDebt held) wants (want ∷ []) tied.numbered (own, tt);
     once = λ t.
         let more = times-more want_ticket wants want t in
         elim (eqb_tells want.ticket t) as (λ _. claims asks (wants ++ want ∷ []) t ≤ 1) [
@@ -218,6 +238,7 @@ module _ (held : List Held) (asks : List Ask) (wants : List Want) (n : ℕ) (tie
   pub tied-ended : (t : ℕ) → claims asks wants t ≡ 0 → AreTied (remove_key (is_at t) held) asks wants n
   tied-ended t free = record {
     named = named-gone t held asks tied.named (omega arith);
+    numbered = numbered-gone t held wants tied.numbered (omega arith);
     once = tied.once;
     below =
         tied.below;
@@ -227,6 +248,7 @@ module _ (held : List Held) (asks : List Ask) (wants : List Want) (n : ℕ) (tie
   pub tied-met : (test : Want → Bool) → AreTied held asks (remove_key test wants) n
   tied-met test = record {
     named = tied.named;
+    numbered = All-removed (IsWantOfDebt held) test wants tied.numbered;
     once = λ t. let few = times-fewer want_ticket test wants t in let once = tied.once t in omega arith;
     below = λ t high. let few = times-fewer want_ticket test wants t in let none = tied.below t high in omega arith;
   }
@@ -244,6 +266,7 @@ module _ (held : List Held) (asks : List Ask) (wants : List Want) (n : ℕ) (tie
   pub tied-answered : (test : Ask → Bool) → AreTied held (remove_key test asks) wants n
   tied-answered test = record {
     named = All-removed (IsOfDebt held) test asks tied.named;
+    numbered = tied.numbered;
     once = λ t. let few = times-fewer ask_ticket test asks t in let once = tied.once t in omega arith;
     below = λ t high. let few = times-fewer ask_ticket test asks t in let none = tied.below t high in omega arith;
   }
@@ -300,3 +323,8 @@ answers-same held reply used asks all =
 pub accepted-own : (held : List Held) (x : Held) → AllBelow (tickets held) x.ticket
     → option_map id_of (find (is_at x.ticket) (held ++ x ∷ [])) ≡ Some x.debt.1.1
 accepted-own held x below = ap (option_map id_of) (find-last x.ticket held x refl (below x.ticket (omega arith)))
+
+-- and it is the one that its own want is about
+pub accepted-want : (held : List Held) (x : Held) → AllBelow (tickets held) x.ticket
+    → IsWantOfDebt (held ++ x ∷ []) (want_of x)
+accepted-want held x below = ap (option_map number_of) (find-last x.ticket held x refl (below x.ticket (omega arith)))

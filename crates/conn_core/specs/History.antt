@@ -174,6 +174,13 @@ module _ (options : Options) where
   abbrev pub window : List Event → List Ask
   window h = left_from 0 (asks h) (answered h)
 
+  -- whether a reply has answered a command about a debt as it should: neither the greeting nor the answer to MODE STREAM
+  -- is such an answer, nor is a reply behind QUIT (RFC 4644, sections 2.3 to 2.5; RFC 3977, section 6.3.2)
+  abbrev pub has_answered : List Event → Bool
+  has_answered [] = false
+  has_answered (Came reply ∷ h) = is_some (answered_ask h reply) || has_answered h
+  has_answered (e ∷ h) = has_answered h
+
   -- the counted answers, newest first: whether the article was taken (profile)
   abbrev pub counted : List Event → List Bool
   counted [] = []
@@ -266,6 +273,16 @@ backs held = map (λ x. record { ticket = x.ticket; outcome = Back x.debt }) hel
 abbrev pub ends_at_close : Option Reason → List Held → List End
 ends_at_close None held = []
 ends_at_close (Some reason) held = backs held
+
+-- the number of the debt held that this command is about (profile)
+abbrev pub number_asked : List Held → Option Ask → Option ℕ
+number_asked held None = None
+number_asked held (Some ask) = option_map (λ (x : Held). x.debt.0) (find (is_at ask.ticket) held)
+
+-- and that is the first without an answer, where there is a reason to close (profile)
+abbrev pub unanswered_at_close : Option Reason → List Held → List Ask → Option ℕ
+unanswered_at_close None held asks = None
+unanswered_at_close (Some reason) held asks = number_asked held (slice_get asks 0)
 
 -- what an answer of this meaning makes wanted: the article, after 238 (RFC 4644, section 2.4)
 abbrev pub wants_by_meaning : Option Meaning → Option Held → List Want
@@ -388,6 +405,14 @@ module _ (options : Options) where
   abbrev pub wanted : List Event → List Want
   wanted h = left_from 0 (story h).wants (story h).handed
 
+  -- the number of the debt whose command was the first without an answer when it closed: none while it is open, and if
+  -- each command had its answer (profile)
+  abbrev pub first_unanswered : List Event → Option ℕ
+  first_unanswered [] = None
+  first_unanswered (e ∷ h) =
+      if is_some (reason options h) then first_unanswered h
+      else unanswered_at_close (closes options h e) (held h) (window options h)
+
   -- what an event puts out at once, but for QUIT (RFC 4644, section 2; RFC 3977, section 6.3.2)
   abbrev pub puts : List Event → Event → List Command
   puts h (Offered debt) = if wants_at_once h then [] else Asks (check_of (newcomer h debt)) ∷ []
@@ -426,3 +451,9 @@ module _ (options : Options) where
   -- the number whose article came to be wanted first: none, once closed (profile)
   abbrev pub need : List Event → Option ℕ
   need h = if is_some (reason options h) then None else option_map (λ (want : Want). want.number) (slice_get (wanted h) 0)
+
+  -- the debt whose article came to be wanted first: none, once closed (profile)
+  abbrev pub first_wanted : List Event → Option Owing
+  first_wanted h =
+      if is_some (reason options h) then None
+      else option_map (λ (x : Held). x.debt) (held_for (held h) (slice_get (wanted h) 0))

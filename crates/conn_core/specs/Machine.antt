@@ -1,6 +1,7 @@
 -- One step of what a connection holds, for each event. Only the private code cites these steps; what they mean over a whole
 -- transcript is said in History.
 use Rattle.std.specs.Prelude.{◌≡◌, ℕ, ◌+◌, ◌-◌, Bool, true, false, ◌==◌, ◌&&◌, ◌||◌, not, nat_lt, nat_le, Option, Some, None, is_some, is_none, if◌then◌else◌, List, [], ◌∷◌, ◌++◌, length, find, drop, take, option_to_list}
+use Rattle.std.specs.Prelude.{option_map, slice_get}
 use Rattle.std.specs.Set.{remove_key}
 use Rattle.reply_reader.specs.Stream.{Given}
 use Rattle.reply_reader.specs.declared.fault.ReplyFault.{ReplyFault}
@@ -36,17 +37,28 @@ fresh options = record {
   output = [];
   found = [];
   closed = None;
+  unanswered = None;
   quitting = false;
   accepted = 0;
   recent = [];
   off = false;
+  has_answered = false;
   stirred = false;
   quiet = None;
 }
 
+-- the number of the debt held that this command is about
+abbrev pub number_awaited : List Held → Option Awaited → Option ℕ
+number_awaited held None = None
+number_awaited held (Some awaited) = option_map (λ (x : Held). x.debt.0) (find (is_at awaited.ticket) held)
+
 -- closed for this reason
 abbrev pub close : Reason → State → State
-close reason s = record s { closed = Some reason; output = [] }
+close reason s = record s {
+  closed = Some reason;
+  unanswered = number_awaited s.held (slice_get s.window 0);
+  output = [];
+}
 
 -- a command about a debt goes out, and its answer is awaited
 abbrev pub asked : State → Ask → State
@@ -135,7 +147,11 @@ told s (Some (Final code)) awaited block (Some x) = parted s awaited.ticket (out
 abbrev pub answered_by : State → (Awaited → Bool) → ℕ → Option Awaited → State
 answered_by s test code None = close (stray code) s
 answered_by s test code (Some awaited) =
-    told (counted_by (record s { window = remove_key test s.window; blocks = let_go awaited.verb s.blocks }) (counts code))
+    told (counted_by (record s {
+      window = remove_key test s.window;
+      blocks = let_go awaited.verb s.blocks;
+      has_answered = true;
+    }) (counts code))
     (meaning awaited.verb code) awaited (first_block s.blocks) (find (is_at awaited.ticket) s.held)
 
 -- a reply at the greeting

@@ -8,6 +8,7 @@ use Rattle.conn_core.specs.Used.{times}
 use Rattle.conn_core.specs.Commands.{Ask, Held, Want, is_at}
 use Rattle.conn_core.specs.State.{Holding, State, awaited_of, kept_blocks, untold}
 use Rattle.conn_core.specs.History.{Event, Offered, Put, Handed, Sent, Taken, accepted, put_octets, sent, taken, is_leaving, phase, room, reason, window, counted, stirred, quiet, held, wanted, outcomes, output, needed, after, outside, noted}
+use Rattle.conn_core.specs.History.{has_answered, first_unanswered}
 use Rattle.conn_core.specs.declared.options.Options.{Options}
 use Rattle.conn_core.specs.declared.outcome.Outcome.{Outcome}
 use Rattle.conn_core.specs.declared.ready.Ready.{Ready}
@@ -68,15 +69,21 @@ pub data Arises (options : Options) : List Event → Type 0 where
 abbrev pub IsOfDebt : List Held → Ask → Type 0
 IsOfDebt held ask = option_map (λ (x : Held). x.debt.1.1) (find (is_at ask.ticket) held) ≡ Some ask.id
 
+-- whether the debt held at a want's ticket has the number of the want (profile)
+abbrev pub IsWantOfDebt : List Held → Want → Type 0
+IsWantOfDebt held want = option_map (λ (x : Held). x.debt.0) (find (is_at want.ticket) held) ≡ Some want.number
+
 -- how many of these commands and wants are about the debt at a ticket (profile)
 abbrev pub claims : List Ask → List Want → (ticket : ℕ) → ℕ
 claims asks wants ticket = times (map (λ (ask : Ask). ask.ticket) asks) ticket
     + times (map (λ (want : Want). want.ticket) wants) ticket
 
--- each command without an answer is about a debt held, and names its message-id; no debt has two commands without an
--- answer, two wants, or one of each; and none is about a debt that is still to be accepted (profile)
+-- each command without an answer is about a debt held, and names its message-id; each want is about a debt held, and
+-- has its number; no debt has two commands without an answer, two wants, or one of each; and none is about a debt that
+-- is still to be accepted (profile)
 pub record AreTied (held : List Held) (asks : List Ask) (wants : List Want) (accepted : ℕ) : Type 0 where
   pub named : AllByRecursion (IsOfDebt held) asks
+  pub numbered : AllByRecursion (IsWantOfDebt held) wants
   pub once : (ticket : ℕ) → claims asks wants ticket ≤ 1
   pub below : (ticket : ℕ) → accepted ≤ ticket → claims asks wants ticket ≡ 0
 
@@ -97,10 +104,12 @@ pub record MatchesWhileOpen (options : Options) (s : State) (h : List Event) : T
 pub record Matches (options : Options) (s : State) (h : List Event) : Type 0 where
   pub options_is : s.options ≡ options
   pub closed_is : s.closed ≡ reason options h
+  pub unanswered_is : s.unanswered ≡ first_unanswered options h
   pub quitting_is : s.quitting ≡ is_leaving h
   pub accepted_is : s.accepted ≡ length (accepted h)
   pub recent_is : s.recent ≡ take options.check_filter (counted options h)
   pub off_is : s.off ≡ are_off options (counted options h)
+  pub answered_is : s.has_answered ≡ has_answered options h
   pub untold_is : untold s ≡ drop (taken h) (outcomes options h)
   pub taken_few : taken h ≤ length (outcomes options h)
   pub while_open : reason options h ≡ None → MatchesWhileOpen options s h

@@ -43,10 +43,12 @@ pub record State : Type 0 where
   pub output : List ℕ
   pub found : List Outcome  -- what came out and was not taken
   pub closed : Option Reason
+  pub unanswered : Option ℕ  -- the number of the debt whose command was the first without an answer at the close
   pub quitting : Bool
   pub accepted : ℕ
   pub recent : List Bool  -- the last of the counted answers, newest first
   pub off : Bool  -- whether checks are off
+  pub has_answered : Bool  -- whether a reply answered a command about a debt
   pub stirred : Bool
   pub quiet : Option ℕ
 

@@ -2,9 +2,13 @@
 ghost use Rattle.std.specs.Prelude.{◌≡◌, ◌↔◌, ◌≤◌, ◌<◌, ◌++◌, ℕ, List, [], ◌∷◌};
 ghost use Rattle.std.specs.Prelude.{Option, Some, None, length, is_some, option_to_list, true, IfNone, IfOk, IfErr};
 ghost use Rattle.std.specs.Prelude.{IsOk, OnOk, OnErr};
+ghost use Rattle.std.specs.Prelude.{option_map};
+ghost use Rattle.std.specs.Option.{option_copied};
+ghost use Rattle.ledger_core.specs.State.{Owing};
 ghost use Rattle.conn_core.specs.Commands.{Handing};
 ghost use Rattle.conn_core.specs.Left.{IsLeftOpen, IsReading, ReadsOne, size_of};
 ghost use Rattle.conn_core.specs.History.{Event, Offered, Handed, Sent, Tick, Broke, Leave, reason, checks, need};
+ghost use Rattle.conn_core.specs.History.{first_unanswered, first_wanted, has_answered};
 ghost use Rattle.conn_core.specs.History.{needed, output, after, outside, noted};
 ghost use Rattle.conn_core.specs.Mode.{mode};
 ghost use Rattle.conn_core.specs.Receipt.{IsHandedAs, IsSendableArticle, Receives, ReceivesSome};
@@ -22,7 +26,7 @@ use crate::ready::Ready;
 use crate::reason::Reason;
 use article_store::Found;
 use ledger_core::Debt;
-use reply_reader::{ReplyFault, ReplyReader};
+use reply_reader::{Reply, ReplyFault, ReplyReader};
 use std::alloc::{AllocError, Global};
 use std::marker::Model;
 
@@ -32,6 +36,8 @@ pub struct Conn {
     id: CxnId,
     reader: ReplyReader,
     machine: Machine,
+    // The reply that closed it, if one did for another reason than QUIT. Contracts do not see it.
+    refused: Option<Reply>,
 }
 
 impl Model for Conn {
@@ -40,6 +46,14 @@ impl Model for Conn {
     ghost Value = { Holding };
 
     ghost view = { λ conn. record { id = conn.id; reader = conn.reader; state = conn.machine } };
+}
+
+// The reply, if it closed the connection for one of the reasons that a log is to tell it for.
+fn refusal(closed: Option<Reason>, reply: Reply) -> Option<Reply> {
+    match closed {
+        Some(Reason::Greeting(_) | Reason::Ended(_) | Reason::Unmatched) => Some(reply),
+        _ => None,
+    }
 }
 
 impl Conn {
@@ -55,6 +69,7 @@ impl Conn {
             id,
             reader: ReplyReader::new(alloc),
             machine: Machine::new(alloc, options)?,
+            refused: None,
         })
     }
 
@@ -130,6 +145,19 @@ impl Conn {
             → StandsFor options self.now unread h → result ≡ need options h }
     {
         self.machine.need()
+    }
+
+    /// The debt whose article came to be wanted first. None if none is wanted, and once closed. Its number is that of
+    /// [`Conn::need`].
+    pub fn wanted(&self) -> Option<&Debt>
+        ensures value { (options : Options) (unread : List ℕ) (h : List Event)
+            → StandsFor options self.now unread h
+            → option_copied result ≡ first_wanted options h }
+        ensures number { (options : Options) (unread : List ℕ) (h : List Event)
+            → StandsFor options self.now unread h
+            → option_map (λ (debt : Owing). debt.0) (option_copied result) ≡ need options h }
+    {
+        self.machine.wanted()
     }
 
     /// Takes the article for the first want of that number: it goes out, by TAKETHIS or IHAVE, or the debt is lost.
@@ -235,7 +263,9 @@ impl Conn {
         match self.reader.next() {
             Ok(Some(reply)) => {
                 self.machine.on_reply(&reply)?;
-                Ok(self.machine.closed().is_none())
+                let closed = self.machine.closed();
+                self.refused = refusal(closed, reply);
+                Ok(closed.is_none())
             }
             Ok(None) => Ok(false),
             Err(fault) => match fault {
@@ -325,5 +355,29 @@ impl Conn {
             → StandsFor options self.now unread h → result ≡ reason options h }
     {
         self.machine.closed()
+    }
+
+    /// The reply that closed it, if it closed for [`Reason::Greeting`], [`Reason::Ended`] or [`Reason::Unmatched`]:
+    /// for a log. `None` while it is open, and if it closed for another reason.
+    pub fn refused(&self) -> Option<&Reply> {
+        self.refused.as_ref()
+    }
+
+    /// The number of the debt whose command was the first without an answer when it closed. `None` while it is open,
+    /// and if each command had its answer. Outcomes that are taken change nothing of it.
+    pub fn first_unanswered(&self) -> Option<u64>
+        ensures { (options : Options) (unread : List ℕ) (h : List Event)
+            → StandsFor options self.now unread h → result ≡ first_unanswered options h }
+    {
+        self.machine.unanswered()
+    }
+
+    /// Whether the peer has answered a command about a debt as it should (238, 335, 431 and so on), also once closed.
+    /// The greeting and the answer to MODE STREAM are no such answers, nor is a reply that closed it.
+    pub fn has_answered(&self) -> bool
+        ensures { (options : Options) (unread : List ℕ) (h : List Event)
+            → StandsFor options self.now unread h → result ≡ has_answered options h }
+    {
+        self.machine.has_answered()
     }
 }

@@ -1,10 +1,10 @@
 // The debts held, in the order offered. Each is found by its ticket, its index among those accepted: the tickets rise,
 // so that a search halves what is left.
 ghost use Rattle.std.specs.Prelude.{◌≡◌, ◌+◌, ◌<◌, ◌++◌, [], ◌∷◌, find, length, position};
-ghost use Rattle.std.specs.Prelude.{IfNone, MatchOption, option_to_list, OnOk};
+ghost use Rattle.std.specs.Prelude.{IfNone, MatchOption, option_map, option_to_list, OnOk};
 ghost use Rattle.std.specs.Option.{option_copied};
 ghost use Rattle.std.specs.Set.{remove_key};
-ghost use Rattle.conn_core.specs.Commands.{is_at};
+ghost use Rattle.conn_core.specs.Commands.{Held, is_at};
 ghost use Rattle.conn_core.specs.Used.{is_empty};
 
 use crate::kept::HeldDebt;
@@ -112,6 +112,28 @@ impl HeldDebts {
     {
         match self.index_of(ticket) {
             Some(i) => self.debts.get(i),
+            None => None,
+        }
+    }
+
+    // The debt at that ticket, without its ticket.
+    pub(crate) fn debt_at(&self, ticket: u64) -> Option<&Debt>
+        ensures { option_copied result
+            ≡ option_map (λ (x : Held). x.debt) (find (is_at ticket) self.now.debts) }
+    {
+        match self.get(ticket) {
+            Some(x) => Some(x.debt()),
+            None => None,
+        }
+    }
+
+    // The number of the debt at that ticket.
+    pub(crate) fn number_at(&self, ticket: u64) -> Option<u64>
+        ensures { result
+            ≡ option_map (λ (x : Held). x.debt.0) (find (is_at ticket) self.now.debts) }
+    {
+        match self.get(ticket) {
+            Some(x) => Some(x.debt().number()),
             None => None,
         }
     }

@@ -1,5 +1,5 @@
 // Command lines, put out where there is room for them.
-ghost use Rattle.std.specs.Prelude.{◌≡◌, ◌+◌, ◌++◌, ◌≤◌, drop, length};
+ghost use Rattle.std.specs.Prelude.{◌≡◌, ◌+◌, ◌++◌, ◌≤◌, ◌⊎◌, [], drop, length};
 ghost use Rattle.conn_core.specs.Commands.{line_end};
 
 use bytes::BytesMut;
@@ -36,14 +36,31 @@ pub(crate) fn id_len(id: &MsgId) -> usize
     id.bytes().len()
 }
 
-// Lets go of so many octets at the front. Once all are gone the room is free again, with nothing copied.
+// How many octets of room an empty output keeps: that of a longer article is given back.
+const MOST_KEPT: usize = 262_144;
+
+// Lets go of all octets, with nothing copied. Their room is free again; if it is more than an output keeps, it is given
+// back but for that of a QUIT, and stays if memory is refused for that.
+pub(crate) fn empty(output: &mut BytesMut)
+    ensures items { output.new.items ≡ [] }
+    ensures spare { (6 ≤ output.new.spare) ⊎ (output.old.spare ≤ output.new.spare) }
+{
+    output.clear();
+    if output.capacity() > MOST_KEPT {
+        if let Ok(small) = BytesMut::with_capacity(*output.allocator(), QUIT) {
+            *output = small;
+        }
+    }
+}
+
+// Lets go of so many octets at the front. Once all are gone the room is free again, or given back.
 pub(crate) fn skip(output: &mut BytesMut, count: usize)
     requires { count ≤ length output.old.items }
     ensures items { output.new.items ≡ drop count output.old.items }
-    ensures spare { output.old.spare ≤ output.new.spare }
+    ensures spare { (6 ≤ output.new.spare) ⊎ (output.old.spare ≤ output.new.spare) }
 {
     output.advance(count);
     if output.is_empty() {
-        output.clear();
+        empty(output);
     }
 }

@@ -2,10 +2,11 @@
 ghost use Rattle.std.specs.Prelude.{◌≡◌, ◌≤◌, ◌<◌, ◌&&◌, ◌++◌, [], ◌∷◌};
 ghost use Rattle.std.specs.Prelude.{if◌then◌else◌, Option, None, not, length, option_map, slice_get, is_none};
 ghost use Rattle.std.specs.Prelude.{is_some, find, IfOk, IfErr, OnOk, OnErr};
-ghost use Rattle.conn_core.specs.Commands.{Want, check_of, is_of, want_of};
+ghost use Rattle.std.specs.Option.{option_copied};
+ghost use Rattle.conn_core.specs.Commands.{Held, Want, check_of, held_for, is_of, want_of};
 ghost use Rattle.conn_core.specs.History.{is_mode, is_streaming, room};
 ghost use Rattle.conn_core.specs.Machine.{TakesOne, asked, asked_to_quit, fresh, is_awaiting, newly, on_fault};
-ghost use Rattle.conn_core.specs.Machine.{quit_if_due};
+ghost use Rattle.conn_core.specs.Machine.{number_awaited, quit_if_due};
 ghost use Rattle.conn_core.specs.Machine.{offered, ready_at, sent_off, close, ticked};
 ghost use Rattle.conn_core.specs.Kept.{with_newly};
 ghost use Rattle.conn_core.specs.Mode.{mode_at, mode_in};
@@ -16,7 +17,7 @@ use crate::check_switch::CheckSwitch;
 use crate::codes::Verb;
 use crate::held::HeldDebts;
 use crate::kept::{AwaitedAsk, WantedArticle};
-use crate::lines::{LONGEST_VERB, QUIT, id_len, put_line, skip};
+use crate::lines::{LONGEST_VERB, QUIT, empty, id_len, put_line, skip};
 use crate::lookup::is_wanted;
 use crate::mode::Mode;
 use crate::options::Options;
@@ -52,8 +53,12 @@ pub(crate) struct Machine {
     // There is room for an outcome of each debt held.
     found: VecDeque<Outcome>,
     closed: Option<Reason>,
+    // The number of the debt whose command was the first without an answer when it closed.
+    unanswered: Option<u64>,
     quitting: bool,
     switch: CheckSwitch,
+    // Whether a reply answered a command about a debt.
+    has_answered: bool,
     clock: Clock,
 }
 
@@ -75,10 +80,12 @@ impl Model for Machine {
       output = m.output.items;
       found = m.found.items;
       closed = m.closed;
+      unanswered = m.unanswered;
       quitting = m.quitting;
       accepted = m.held.accepted;
       recent = m.switch.recent;
       off = m.switch.off;
+      has_answered = m.has_answered;
       stirred = m.clock.stirred;
       quiet = m.clock.quiet;
     } };
@@ -145,8 +152,10 @@ impl Machine {
             output: BytesMut::with_capacity(alloc, QUIT)?,
             found: VecDeque::new(alloc),
             closed: None,
+            unanswered: None,
             quitting: false,
             switch: CheckSwitch::new(alloc, options.check_filter)?,
+            has_answered: false,
             clock: Clock::new(),
         })
     }
@@ -245,6 +254,21 @@ impl Machine {
         }
     }
 
+    // The debt that the first want is about: none, once closed.
+    pub(crate) fn wanted(&self) -> Option<&Debt>
+        ensures { option_copied result
+            ≡ (if is_some self.now.closed then None else option_map (λ (x : Held). x.debt)
+            (held_for self.now.held (slice_get self.now.wanted 0))) }
+    {
+        if self.closed.is_some() {
+            return None;
+        }
+        match self.wanted.front() {
+            Some(want) => self.held.debt_at(want.ticket()),
+            None => None,
+        }
+    }
+
     // Whether it is open and an article of this number is wanted.
     pub(crate) fn needs(&self, number: u64) -> bool
         ensures { result ≡ (is_none self.now.closed
@@ -267,8 +291,26 @@ impl Machine {
     fn close(&mut self, reason: Reason)
         ensures { self.new ≡ close reason self.old }
     {
+        self.unanswered = self.first_awaited();
         self.closed = Some(reason);
-        self.output.clear();
+        empty(&mut self.output);
+    }
+
+    // The number of the debt whose command is the first without an answer.
+    fn first_awaited(&self) -> Option<u64>
+        ensures { result ≡ number_awaited self.now.held (slice_get self.now.window 0) }
+    {
+        match self.window.front() {
+            Some(ask) => self.held.number_at(ask.ticket()),
+            None => None,
+        }
+    }
+
+    // The number of the debt whose command was the first without an answer when it closed.
+    pub(crate) fn unanswered(&self) -> Option<u64>
+        ensures { result ≡ self.now.unanswered }
+    {
+        self.unanswered
     }
 
     // A fault of the reader, while it is open.
@@ -326,6 +368,13 @@ impl Machine {
         ensures { result ≡ not self.now.off }
     {
         self.switch.checks()
+    }
+
+    // Whether a reply answered a command about a debt.
+    pub(crate) fn has_answered(&self) -> bool
+        ensures { result ≡ self.now.has_answered }
+    {
+        self.has_answered
     }
 
     // The octets to be sent: none, once closed.

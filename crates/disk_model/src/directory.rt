@@ -1,11 +1,15 @@
 // The directory in which tapes lie as files.
 use crate::file::FileDisk;
+use crate::tape_file::{FileFault, FirstFault, TapeFile};
 use std::alloc::Global;
 use std::fs::{File, OpenOptions, TryLockError};
 use std::io::{self, ErrorKind};
 use std::os::fd::AsRawFd;
 use std::rt::Files;
 use thiserror::Error;
+
+// The greatest descriptor of a standard stream.
+const LAST_STREAM: i32 = 2;
 
 /// Why a directory is not to be had.
 #[derive(Debug, Drop, Error)]
@@ -25,6 +29,7 @@ pub struct TapeDirectory {
     alloc: Global,
     path: String,
     file: File,
+    first_fault: FirstFault,
 }
 
 impl TapeDirectory {
@@ -46,7 +51,15 @@ impl TapeDirectory {
         let path = String::from_str(alloc, path).map_err(|refused| DirectoryFault::Failed(
             refused.into(),
         ))?;
-        Ok(TapeDirectory { alloc, path, file })
+        let first_fault = FirstFault::new(alloc).map_err(|refused| DirectoryFault::Failed(
+            refused.into(),
+        ))?;
+        Ok(TapeDirectory {
+            alloc,
+            path,
+            file,
+            first_fault,
+        })
     }
 
     /// Opens the file of this name in it as a disk, and makes it where it is missing.
@@ -55,14 +68,22 @@ impl TapeDirectory {
     /// device has: a sync that failed in an earlier process may have left the two different (fsync(2), NOTES).
     ///
     /// # Errors
-    /// The system's; `InvalidInput` where it is no regular file.
-    pub fn open<R: Files<File = File>>(&self, rt: &R, name: &str) -> io::Result<FileDisk<File>> {
+    /// The system's; `InvalidInput` if it is no regular file; `EBADF` if its descriptor would be that of a standard
+    /// stream, which was closed: what is printed would be written into the tape.
+    pub fn open<R: Files<File = File>>(
+        &self,
+        rt: &R,
+        name: &str,
+    ) -> io::Result<FileDisk<TapeFile>> {
         let path = format!(in self.alloc; "{}/{}", self.path, name)?;
         let file = OpenOptions::new()
             .read(true)
             .write(true)
             .create(true)
             .open(rt, path.as_str())?;
+        if file.as_raw_fd() <= LAST_STREAM {
+            return Err(io::Error::from_raw_os_error(libc::EBADF));
+        }
         if !file.metadata()?.is_file() {
             return Err(ErrorKind::InvalidInput.into());
         }
@@ -71,7 +92,13 @@ impl TapeDirectory {
         if advised != 0 {
             return Err(io::Error::from_raw_os_error(advised));
         }
+        let file = TapeFile::among(self.alloc, file, name, self.first_fault.share()?)?;
         Ok(FileDisk::new(file))
+    }
+
+    /// The first fault of the files that were opened in it, if one met a fault since: for a log.
+    pub fn first_fault(&self) -> Option<&FileFault> {
+        self.first_fault.get()
     }
 
     /// Makes the names of all files opened so far durable. It has to succeed before the first of them is written.

@@ -1,6 +1,6 @@
 //! Disks, as a journal sees them: what a read gives, and what a stop at any moment may leave.
 //!
-//! Most of it may touch nothing but memory; `raw_file` and `directory` may touch files: each method of a `RawFile` is
+//! Most of it may touch nothing but memory; `tape_file` and `directory` may touch files: each method of a `RawFile` is
 //! one call of the system.
 //! The crates above use the contract of [`Disk`] alone: content, images, moments, honesty, faults.
 //! The whole model is `specs/Disk.antt`; what proofs above it use is `specs/MomentLaws.antt`.
@@ -21,6 +21,7 @@ mod memory;
 mod moment;
 mod octets;
 mod raw_file;
+mod tape_file;
 
 pub use choice::Choice;
 pub use directory::{DirectoryFault, TapeDirectory};
@@ -32,6 +33,7 @@ pub use memory::MemDisk;
 pub use raw_file::{RawFault, RawFile};
 /// Memory was refused.
 pub use std::alloc::AllocError as NoMemory;
+pub use tape_file::{FileFault, TapeFile};
 
 /// A disk refused a call. What a write or a cut that failed has left is told by [`Disk`].
 #[derive(Clone, Copy, Debug, PartialEq, Eq, Error)]

@@ -5,9 +5,7 @@ ghost use Rattle.disk_model.specs.Disk.{Event, content, Image};
 ghost use Rattle.disk_model.specs.RawFile.{IsRead, UnderWay, WritesOn, Truncates, Flushes};
 ghost use Rattle.disk_model.specs.declared.raw_file.RawFault.{RawFault};
 
-use std::fs::File;
 use std::io::{self, ErrorKind};
-use std::os::unix::fs::FileExt;
 
 /// Why a call of the system did not do what it was asked for.
 #[derive(Clone, Copy, Debug, PartialEq, Eq)]
@@ -103,36 +101,4 @@ pub trait RawFile {
 
     /// The content is one of the images.
     ghost content_is_image: { (file : Self) → honest file → Image (log file) (content (log file)) };
-}
-
-/// That a file of the system is honest is a premise, of which nothing can be proved: these bodies are to be read by
-/// eye.
-impl RawFile for File {
-    ghost honest = { λ _. ⊥ };
-
-    ghost log = { λ _. [] };
-
-    ghost content_is_image = { λ _ no. absurd no };
-
-    // Of a file whose length the system does not tell it is the greatest: a read then fails at the file's end. One that
-    // was told as empty would be cut.
-    fn len(&self) -> u64 {
-        self.metadata().map_or(u64::MAX, |metadata| metadata.len())
-    }
-
-    fn pread(&mut self, at: u64, into: &mut [u8], done: usize) -> Result<usize, RawFault> {
-        Ok(self.read_at(&mut into[done..], at + done as u64)?)
-    }
-
-    fn pwrite(&mut self, at: u64, from: &[u8], done: usize) -> Result<usize, RawFault> {
-        Ok(self.write_at(&from[done..], at + done as u64)?)
-    }
-
-    fn truncate(&mut self, len: u64) -> Result<(), RawFault> {
-        Ok(self.set_len(len)?)
-    }
-
-    fn sync(&mut self) -> Result<(), RawFault> {
-        Ok(self.sync_data()?)
-    }
 }

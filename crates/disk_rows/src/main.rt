@@ -7,12 +7,12 @@
 #![tactic(auto)]
 
 use anyhow::{Context, Result, bail};
-use disk_model::{FileDisk, TapeDirectory};
+use disk_model::{FileDisk, RawFile, TapeDirectory, TapeFile};
 use funnel::{MsgId, Token};
 use ledger_core::{FinalCode, Note};
 use recovery::{RefusedTape, Tape, TapeFault};
 use std::alloc::Global;
-use std::fs::{self, File, Permissions};
+use std::fs::{self, File, OpenOptions, Permissions};
 use std::os::unix::fs::{PermissionsExt, symlink};
 use std::rt::Files;
 
@@ -28,6 +28,8 @@ fn main(rt: HostRuntime) -> Result<()> {
     tell_rotated(rt, &directory)?;
     tell_no_file(rt, &directory)?;
     tell_directory_in_a_file(rt)?;
+    tell_synced(rt)?;
+    tell_stream(rt, &directory)?;
     drop(directory);
     tell_directory(rt, "tapes")?;
     fs::remove_dir_all(rt, "tapes")?;
@@ -75,7 +77,7 @@ fn opened<R: AllocGlobal + Files<File = File>>(
     rt: &R,
     directory: &TapeDirectory,
     name: &str,
-) -> Result<Result<Tape<FileDisk<File>>, TapeFault>> {
+) -> Result<Result<Tape<FileDisk<TapeFile>>, TapeFault>> {
     let first = format!(in rt.alloc(); "{name}~a")?;
     let second = format!(in rt.alloc(); "{name}~b")?;
     let a = directory.open(rt, first.as_str())?;
@@ -90,7 +92,7 @@ fn open_tape<R: AllocGlobal + Files<File = File>>(
     rt: &R,
     directory: &TapeDirectory,
     name: &str,
-) -> Result<Tape<FileDisk<File>>> {
+) -> Result<Tape<FileDisk<TapeFile>>> {
     Ok(opened(rt, directory, name)??)
 }
 
@@ -238,4 +240,23 @@ fn tell_file<R: Files<File = File> + Print>(
 fn tell_directory_in_a_file<R: AllocGlobal + Files<File = File> + Print>(rt: &R) -> Result<()> {
     let file = TapeDirectory::lock(rt, "tapes/peer~a")?;
     tell_file(rt, &file, "peer~a")
+}
+
+// What is synced is asked of the system, which refuses it of a device that keeps nothing (fdatasync(2)).
+fn tell_synced<R: AllocGlobal + Files<File = File> + Print>(rt: &R) -> Result<()> {
+    let device = OpenOptions::new().write(true).open(rt, "/dev/full")?;
+    let mut file = TapeFile::new(rt.alloc(), device, "full")?;
+    println!(rt; "a device: synced {:?}", RawFile::sync(&mut file))?;
+    Ok(())
+}
+
+// A file does not get the descriptor of a standard stream: what is printed would be written into it.
+fn tell_stream<R: AllocGlobal + Files<File = File> + Print>(
+    rt: &R,
+    directory: &TapeDirectory,
+) -> Result<()> {
+    if libc::close(0) != 0 {
+        bail!("standard input was closed");
+    }
+    tell_file(rt, directory, "stream~a")
 }

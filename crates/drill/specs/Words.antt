@@ -16,24 +16,24 @@ use Rattle.drill.specs.declared.ending.Why.TheVariants.{Script, Step}
 abbrev pub tape_words : TapeFault → List ℕ
 tape_words (Damaged segment at) = codes "a tape is damaged"
 tape_words Disk = codes "a disk failed"
-tape_words Broken = codes "a tape broke before"
-tape_words TapeFull = codes "a tape would be too long"
-tape_words GenerationFull = codes "a tape has the greatest generation that there is"
-tape_words PendingFull = codes "too many notes pend: a flush before this step is the cure"
-tape_words NoTapeMemory = codes "memory was refused"
-tape_words (Note fault) = codes "a ledger refused what was to be noted"
+tape_words Broken = codes "a tape broke earlier"
+tape_words TapeFull = codes "a tape would become too long"
+tape_words GenerationFull = codes "a tape has the largest possible generation"
+tape_words PendingFull = codes "too many notes are pending: flush before this step"
+tape_words NoTapeMemory = codes "out of memory"
+tape_words (Note fault) = codes "the ledger refused the note"
 
 -- why a step was refused
 abbrev pub step_words : Fault → List ℕ
 step_words NoPeer = codes "no peer of this name is declared"
-step_words NoConnection = codes "there is no connection of this number, or a stop ended it"
-step_words Stopped = codes "all has stopped: only restart and the arming of a stop are steps"
+step_words NoConnection = codes "no connection has this number, or a stop ended it"
+step_words Stopped = codes "everything has stopped: only `restart` and `stop` are allowed"
 step_words Running = codes "nothing has stopped"
 step_words NotNeeded = codes "the connection wants no article"
 step_words (Tape fault) = tape_words fault
-step_words CountFull = codes "the number would pass the greatest that there is"
-step_words NoMemory = codes "memory was refused"
-step_words NotFlushed = codes "no number is kept, or a peer was not flushed since"
+step_words CountFull = codes "the number would exceed the largest possible"
+step_words NoMemory = codes "out of memory"
+step_words NotFlushed = codes "no number is kept, or a peer has not been flushed since"
 
 abbrev pub why_words : Why → List ℕ
 why_words (Script reason) = reason_words reason

@@ -66,14 +66,14 @@ fn step_words(fault: Fault) -> &'static str
 {
     match fault {
         Fault::NoPeer => "no peer of this name is declared",
-        Fault::NoConnection => "there is no connection of this number, or a stop ended it",
-        Fault::Stopped => "all has stopped: only restart and the arming of a stop are steps",
+        Fault::NoConnection => "no connection has this number, or a stop ended it",
+        Fault::Stopped => "everything has stopped: only `restart` and `stop` are allowed",
         Fault::Running => "nothing has stopped",
         Fault::NotNeeded => "the connection wants no article",
         Fault::Tape(fault) => tape_words(fault),
-        Fault::CountFull => "the number would pass the greatest that there is",
-        Fault::NoMemory => "memory was refused",
-        Fault::NotFlushed => "no number is kept, or a peer was not flushed since",
+        Fault::CountFull => "the number would exceed the largest possible",
+        Fault::NoMemory => "out of memory",
+        Fault::NotFlushed => "no number is kept, or a peer has not been flushed since",
     }
 }
 
@@ -84,11 +84,11 @@ fn tape_words(fault: TapeFault) -> &'static str
     match fault {
         TapeFault::Damaged { .. } => "a tape is damaged",
         TapeFault::Disk => "a disk failed",
-        TapeFault::Broken => "a tape broke before",
-        TapeFault::TapeFull => "a tape would be too long",
-        TapeFault::GenerationFull => "a tape has the greatest generation that there is",
-        TapeFault::PendingFull => "too many notes pend: a flush before this step is the cure",
-        TapeFault::NoMemory => "memory was refused",
-        TapeFault::Note(_) => "a ledger refused what was to be noted",
+        TapeFault::Broken => "a tape broke earlier",
+        TapeFault::TapeFull => "a tape would become too long",
+        TapeFault::GenerationFull => "a tape has the largest possible generation",
+        TapeFault::PendingFull => "too many notes are pending: flush before this step",
+        TapeFault::NoMemory => "out of memory",
+        TapeFault::Note(_) => "the ledger refused the note",
     }
 }

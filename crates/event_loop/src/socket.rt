@@ -1,5 +1,7 @@
 // A link over a socket that never waits, whose readiness is told once at each change.
 ghost use Rattle.std.specs.Prelude.{◌≡◌, ◌||◌, IfOk, false};
+ghost use Rattle.std.specs.IoError.{error_kind};
+ghost use Rattle.std.specs.declared.io.ErrorKind.TheVariants.{WouldBlock};
 ghost use Rattle.event_loop.specs.Link.{moved};
 ghost use Rattle.mio.specs.Event as spec;
 
@@ -19,6 +21,8 @@ pub struct SocketLink {
     writable: bool,
     // The peer sends nothing behind what can still be read.
     closing: bool,
+    // Why a call failed.
+    fault: Option<io::Error>,
 }
 
 impl SocketLink {
@@ -37,6 +41,7 @@ impl SocketLink {
             readable: false,
             writable: false,
             closing: false,
+            fault: None,
         })
     }
 
@@ -61,6 +66,13 @@ impl SocketLink {
     /// What the system says where it can't be asked.
     pub fn take_error(&self) -> io::Result<Option<io::Error>> {
         self.stream.take_error()
+    }
+
+    /// Why the last send or receipt failed that did, for a log: it is told once.
+    pub fn take_fault(&mut self) -> Option<io::Error>
+        ensures { result ≡ self.old.fault }
+    {
+        self.fault.take()
     }
 
     /// Notes what the stream was reported ready for. Where it failed each direction is tried once more, and tells so.
@@ -101,7 +113,7 @@ impl Link for SocketLink {
             }
             Err(error) => {
                 self.readable = error.kind() != ErrorKind::WouldBlock;
-                refused(error.kind())
+                self.refused(error)
             }
         }
     }
@@ -114,20 +126,27 @@ impl Link for SocketLink {
             Ok(count) => Moved::Done(count),
             Err(error) => {
                 self.writable = error.kind() != ErrorKind::WouldBlock;
-                refused(error.kind())
+                self.refused(error)
             }
         }
     }
 }
 
-// What a call that failed so did.
-fn refused(kind: ErrorKind) -> Moved
-    ensures none { moved result ≡ 0 }
-    ensures later { result ≡ Moved.Later → kind ≡ ErrorKind.WouldBlock }
-{
-    match kind {
-        ErrorKind::WouldBlock => Moved::Later,
-        ErrorKind::Interrupted => Moved::Done(0),
-        _ => Moved::Fault,
+impl SocketLink {
+    // What a call that failed so did. The reason is kept where the link is at its end.
+    fn refused(&mut self, error: io::Error) -> Moved
+        ensures none { moved result ≡ 0 }
+        ensures later { result ≡ Moved.Later → error_kind error ≡ WouldBlock }
+        ensures readiness { (self.new.readable ≡ self.old.readable)
+            × (self.new.writable ≡ self.old.writable) }
+    {
+        match error.kind() {
+            ErrorKind::WouldBlock => Moved::Later,
+            ErrorKind::Interrupted => Moved::Done(0),
+            _ => {
+                self.fault = Some(error);
+                Moved::Fault
+            }
+        }
     }
 }

@@ -1,0 +1,4 @@
+pub mod Funnel
+pub mod Nowhere
+pub mod OpenFiles
+pub mod Plans

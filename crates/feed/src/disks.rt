@@ -1,7 +1,7 @@
 // The files of the tapes.
 use crate::trouble::{INTAKE, Trouble};
 use commands::TapeTrouble;
-use disk_model::{DirectoryFault, FileDisk, TapeDirectory};
+use disk_model::{DirectoryFault, FileDisk, TapeDirectory, TapeFile};
 use feed_conf::PeerConf;
 use recovery::TapeFault;
 use std::alloc::Global;
@@ -18,7 +18,7 @@ pub(crate) struct Disks {
     /// The directory's path.
     pub path: String,
     /// The first file of each tape and the second.
-    pub files: Vec<(FileDisk<File>, FileDisk<File>)>,
+    pub files: Vec<(FileDisk<TapeFile>, FileDisk<TapeFile>)>,
     /// Why the next ones could not be opened.
     pub missed: Option<Trouble>,
 }
@@ -107,7 +107,7 @@ fn open_file<F: AllocGlobal + Files<File = File>>(
     disks: &Disks,
     name: &[u8],
     ending: &str,
-) -> Result<FileDisk<File>, Trouble> {
+) -> Result<FileDisk<TapeFile>, Trouble> {
     let alloc = files.alloc();
     let file = file_name(alloc, name, ending)?;
     match disks.directory.open(files, file.as_str()) {

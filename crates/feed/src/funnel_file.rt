@@ -1,61 +1,66 @@
-// The funnel file, line by line.
-ghost use Rattle.std.specs.Prelude.{◌≤◌, IfOk, length};
+// The lines of a funnel, of whatever gives its octets.
+ghost use Rattle.std.specs.Prelude.{◌≡◌, ◌+◌, ◌<◌, ◌≤◌, [], IfErr, IfOk, OnOk, OnErr, length, take};
+ghost use Rattle.std.specs.Io.KnownBytes.{Consumes, IsAtEnd, Keeps};
+ghost use Rattle.feed.specs.Funnel.{IsBehind, PassesLines, ends_in};
+ghost use Rattle.funnel.specs.Stream.{StandsFor};
 
 use funnel::{LineCutter, first_line};
-use std::fs::File;
+use std::alloc::{AllocError, Global};
 use std::io::{self, ErrorKind, Read};
-use std::rt::Files;
 
 // How many octets are read at a time.
 const PIECE: usize = 65_536;
 
-/// The funnel file, read in pieces.
+/// A funnel, read in pieces.
 #[derive(Drop)]
-pub(crate) struct FunnelFile {
-    file: File,
+pub(crate) struct FunnelFile<R: Read + Drop> {
+    reader: R,
     cutter: LineCutter,
     piece: Vec<u8>,
+    ghost room: { 0 < length piece.items },
 }
 
-impl FunnelFile {
-    /// Opens the file at this path, behind so many lines. Its first piece is read, so that a path that cannot be read
-    /// is known at once.
+impl<R: Read + Drop> FunnelFile<R> {
+    /// The lines of what this gives.
     ///
     /// # Errors
-    /// The system's; `UnexpectedEof` where it has not so many lines.
-    pub fn open<F: AllocGlobal + Files<File = File>>(
-        files: &F,
-        path: &str,
-        lines: u64,
-    ) -> io::Result<Self> {
-        let alloc = files.alloc();
-        let mut funnel = FunnelFile {
-            file: File::open(files, path)?,
+    /// Memory was refused.
+    pub fn new(alloc: Global, reader: R) -> Result<Self, AllocError>
+        ensures { IfOk result (λ file. (file.reader ≡ reader) × StandsFor file.cutter [] []) }
+    {
+        Ok(FunnelFile {
+            reader,
             cutter: LineCutter::new(alloc),
             piece: vec![in alloc; 0u8; PIECE]?,
-        };
-        funnel.skip(lines)?;
-        Ok(funnel)
+        })
     }
 
-    /// The next line without its LF. None at the end; a rest without LF is no line.
+    /// The next line without its LF, of what was read so far.
+    pub fn next_read(&mut self) -> Option<Vec<u8>> {
+        self.cutter.next()
+    }
+
+    /// Reads a piece, and tells whether there was one: at the end there is none. A rest without LF is no line.
     ///
     /// # Errors
     /// The system's.
-    pub fn next_line(&mut self) -> io::Result<Option<Vec<u8>>> {
-        for _ in 0..u64::MAX {
-            if let Some(line) = self.cutter.next() {
-                return Ok(Some(line));
-            }
-            if !self.read_piece()? {
-                return Ok(None);
-            }
-        }
-        Ok(None)
+    pub fn read_piece(&mut self) -> io::Result<bool> {
+        let count = self.read()?;
+        self.cutter.feed(&self.piece[..count])?;
+        Ok(count > 0)
     }
 
-    // Passes over the file's first lines, and takes in what stands behind them in the piece that has the last of them.
-    fn skip(&mut self, lines: u64) -> io::Result<()> {
+    /// Passes over the first lines, without a copy, and takes in what stands behind them in the piece that has the last
+    /// of them. Nothing may have been read before.
+    ///
+    /// # Errors
+    /// The system's; `UnexpectedEof` if there are not so many lines.
+    #[tactic(auto, using(crate::proofs::Passes::passes_none, crate::proofs::Passes::passes_more))]
+    pub fn skip(&mut self, lines: u64) -> io::Result<()>
+        requires { StandsFor self.old.cutter [] [] }
+        ensures { OnOk result (PassesLines lines (R.remaining self.old.reader)
+            (R.remaining self.new.reader) self.new.cutter) }
+    {
         let mut left = lines;
         for _ in 0..u64::MAX {
             let count = self.read()?;
@@ -68,30 +73,34 @@ impl FunnelFile {
         Err(io::Error::from(ErrorKind::UnexpectedEof))
     }
 
-    // Reads a piece and takes it in, and tells whether there was one.
-    fn read_piece(&mut self) -> io::Result<bool> {
-        let count = self.read()?;
-        self.cutter.feed(&self.piece[..count])?;
-        Ok(count > 0)
-    }
-
     // Reads a piece, and gives its length: 0 at the end.
     fn read(&mut self) -> io::Result<usize>
         ensures within { IfOk result (λ count. count ≤ length self.new.piece.items) }
+        ensures gave { IfOk result (λ count. Consumes (R.remaining self.old.reader)
+            (R.remaining self.new.reader) (take count self.new.piece.items)) }
+        ensures end { IfOk result (λ count. count ≡ 0 → IsAtEnd (R.remaining self.new.reader)) }
+        ensures kept { self.new.cutter ≡ self.old.cutter }
+        ensures unchanged { OnErr result
+            (Keeps (R.remaining self.old.reader) (R.remaining self.new.reader)) }
     {
         for _ in 0..u64::MAX {
-            match self.file.read(&mut self.piece) {
+            match self.reader.read(&mut self.piece) {
                 Ok(count) => return Ok(count),
                 Err(error) if error.kind() == ErrorKind::Interrupted => {}
                 Err(error) => return Err(error),
             }
         }
-        Ok(0)
+        Err(io::Error::from(ErrorKind::TimedOut))
     }
 }
 
-// What stands behind the first lines of a piece; where it has not so many, how many are missing.
-fn behind(piece: &[u8], lines: u64) -> Result<&[u8], u64> {
+// What stands behind the first lines of a piece; if it has not so many, how many are missing.
+#[tactic(auto, using(crate::proofs::Passes::behind_none, crate::proofs::Passes::behind_more))]
+fn behind(piece: &[u8], lines: u64) -> Result<&[u8], u64>
+    ensures found { IfOk result (λ rest. IsBehind lines piece.now rest.now) }
+    ensures missing { IfErr result
+        (λ missing. (0 < missing) × (ends_in piece.now + missing ≡ lines)) }
+{
     let mut rest = piece;
     for passed in 0..lines {
         match first_line(rest) {

@@ -1,32 +1,32 @@
 // The intake: the worker that takes the funnel's lines, batch by batch.
-use crate::funnel_file::FunnelFile;
+ghost use Rattle.std.specs.Prelude.{◌≤◌};
+
 use crate::leaving::Left;
+use crate::lines::{Funnel, Next};
+use crate::nowhere::Nowhere;
 use crate::progress::Progress;
 use crate::status_file::StatusFile;
-use crate::trouble::Trouble;
+use crate::trouble::{Trouble, is_lost_tape};
 use commands::FeedEnd;
 use disk_model::Disk;
-use flusher::{IntakeShare, Naming, Pace, Post, PostFault, Signals, Work};
-use funnel::PeerName;
+use flusher::{IntakeShare, Naming, Pace, Post, PostFault, Receipt, Signals, Work};
+use funnel::{FunnelLine, LineFault, PeerName, read_line};
 use log::Log;
 use mio::Waker;
 use peer_queue::StationFault;
 use recovery::TapeFault;
-use std::alloc::Global;
+use std::alloc::{AllocError, Global};
 use std::fs::File;
 use std::io::{self, Write};
 use std::rt::{Clock, Files};
-use std::sync::Wait;
+use std::sync::{Arc, Wait};
+use std::time::Instant;
 
 // How many lines a batch has at most.
 const BATCH: u64 = 256;
 
-/// The funnel, and the path that it was opened by.
-#[derive(Drop)]
-pub(crate) struct Funnel {
-    pub path: Vec<u8>,
-    pub file: FunnelFile,
-}
+// How often what goes nowhere is told, in seconds.
+const PERIOD: u64 = 60;
 
 // Lines that were taken.
 #[derive(Clone, Copy)]
@@ -34,6 +34,8 @@ struct Batch {
     count: u64,
     // The number of the last one.
     last: u64,
+    // No line comes after it.
+    is_last: bool,
 }
 
 // A batch whose flush is ordered.
@@ -45,17 +47,21 @@ struct Ordered {
 }
 
 /// Takes the funnel's lines, batch by batch, the next one while the one before is flushed, and tells of each batch once
-/// it is acknowledged; then waits for the feeders, and has the status file written meanwhile.
+/// it is acknowledged; then waits for the feeders. Meanwhile it has the status file written, and tells of lines that go
+/// nowhere.
 #[derive(Drop)]
 pub(crate) struct Intake<'a, F, W, N: Naming> {
     pub alloc: Global,
     pub share: IntakeShare<N>,
     pub funnel: Option<Funnel>,
     pub out: &'a mut W,
-    pub wakers: (Waker, Waker),
+    pub wakers: (Arc<Waker>, Arc<Waker>),
     pub names: &'a [PeerName],
     pub status: StatusFile<'a, F>,
     pub progress: Progress,
+    pub nowhere: Nowhere,
+    /// When it was told last which lines go nowhere.
+    pub told: Instant,
     pub left: &'a Left,
     /// What went wrong.
     pub end: FeedEnd,
@@ -68,27 +74,26 @@ impl<F: AllocGlobal + Files<File = File>, W: Write, N: Naming> Intake<'_, F, W, 
         rt: &R,
         post: &Post<D, N>,
         signals: &Signals,
+        funnel: &mut Funnel,
     ) -> Result<(), Trouble> {
-        let Some(mut funnel) = self.funnel.take() else {
-            return Ok(());
-        };
         let mut ordered = None;
         for _ in rt.forever() {
-            let batch = self.take_batch(rt, post, signals, &mut funnel)?;
+            let batch = self.take_batch(rt, post, signals, funnel)?;
             if !self.acknowledge(rt, signals, ordered)? {
                 return Ok(());
             }
             ordered = self.order(signals, &batch);
-            if batch.count < BATCH {
+            if batch.is_last {
                 self.acknowledge(rt, signals, ordered)?;
                 return Ok(());
             }
-            self.look_after(rt, post);
+            self.look_after(rt, post, &funnel.path);
         }
         unreachable!()
     }
 
-    // Takes a batch of lines: fewer than it may have where the funnel is at its end, or cannot be read on.
+    // Takes a batch of lines: fewer than it may have if the funnel is silent, is at its end or cannot be read on, or if
+    // no line may be taken any more.
     fn take_batch<D: Disk, R: Wait + Log>(
         &mut self,
         rt: &R,
@@ -96,28 +101,50 @@ impl<F: AllocGlobal + Files<File = File>, W: Write, N: Naming> Intake<'_, F, W, 
         signals: &Signals,
         funnel: &mut Funnel,
     ) -> Result<Batch, Trouble> {
-        let mut batch = Batch { count: 0, last: 0 };
+        let mut batch = Batch {
+            count: 0,
+            last: 0,
+            is_last: false,
+        };
         for taken in 0..BATCH {
-            let line = match funnel.file.next_line() {
-                Ok(Some(line)) => line,
-                Ok(None) => return Ok(batch),
-                Err(error) => {
-                    Trouble::unread(rt, self.alloc, &funnel.path, &error).add_to(&mut self.end);
-                    return Ok(batch);
-                }
+            let line = match self.next_line(rt, signals, funnel) {
+                Next::Line(line) => line,
+                Next::Silence => return Ok(batch),
+                Next::End => return Ok(Batch {
+                    is_last: true,
+                    ..batch
+                }),
             };
             let Some(number) = self.take_line(rt, post, signals, &line)? else {
-                return Ok(Batch { count: 0, last: 0 });
+                return Ok(Batch {
+                    is_last: true,
+                    ..batch
+                });
             };
-            batch = Batch {
-                count: taken + 1,
-                last: number,
-            };
+            self.note_line(number, &line)?;
+            batch.count = taken + 1;
+            batch.last = number;
         }
         Ok(batch)
     }
 
-    // Takes a line, again after a flush where too many notes pend, and gives its number; none where all were stopped.
+    // What comes next of the funnel. If it cannot be read on, which is noted, or if no line may be taken any more, that
+    // is its end.
+    fn next_line<R: Log>(&mut self, rt: &R, signals: &Signals, funnel: &mut Funnel) -> Next {
+        if signals.is_stopped() || signals.has_lost_tape() {
+            return Next::End;
+        }
+        match funnel.next() {
+            Ok(next) => next,
+            Err(error) => {
+                Trouble::unread(rt, self.alloc, &funnel.path, &error).add_to(&mut self.end);
+                Next::End
+            }
+        }
+    }
+
+    // Takes a line, again after a flush where too many notes pend, and gives its number; none if all were stopped or a
+    // tape failed. Where this call meets that its peer's tape has failed, it says so to the others.
     fn take_line<D: Disk, R: Wait>(
         &mut self,
         rt: &R,
@@ -139,10 +166,45 @@ impl<F: AllocGlobal + Files<File = File>, W: Write, N: Naming> Intake<'_, F, W, 
                         return Ok(None);
                     }
                 }
-                Err(fault) => return Err(Trouble::post(self.alloc, self.names, fault)),
+                Err(fault) => {
+                    let is_lost = is_lost_tape(&fault);
+                    let trouble = Trouble::post(self.alloc, self.names, fault);
+                    if !is_lost {
+                        return Err(trouble);
+                    }
+                    trouble.add_to(&mut self.end);
+                    signals.lose_tape();
+                    return Ok(None);
+                }
             }
         }
         unreachable!()
+    }
+
+    // Counts a line that was taken, if it goes nowhere.
+    fn note_line(&mut self, number: u64, line: &[u8]) -> Result<(), AllocError> {
+        match read_line(self.alloc, line) {
+            Ok(FunnelLine { peers, .. }) => {
+                let unknown = self.unknown(peers)?;
+                self.nowhere.add_strays(&unknown)
+            }
+            Err(LineFault::NoMemory) => Err(AllocError),
+            Err(fault) => {
+                self.nowhere.add_malformed(number, fault);
+                Ok(())
+            }
+        }
+    }
+
+    // Those of these names that are no peer's.
+    fn unknown(&self, peers: Vec<PeerName>) -> Result<Vec<PeerName>, AllocError> {
+        let mut unknown = Vec::new(self.alloc);
+        for peer in peers {
+            if !has_name(self.names, &peer) {
+                unknown.push(peer)?;
+            }
+        }
+        Ok(unknown)
     }
 
     // Has the feeders offer what was taken, and orders a flush of it. None where nothing was.
@@ -157,30 +219,40 @@ impl<F: AllocGlobal + Files<File = File>, W: Write, N: Naming> Intake<'_, F, W, 
         })
     }
 
-    // Waits until a batch is acknowledged, and tells of it. False where all were stopped.
+    // Waits until a batch is acknowledged, and tells of it. False if all were stopped, or a tape failed.
     fn acknowledge<R: Wait>(
         &mut self,
         rt: &R,
         signals: &Signals,
         ordered: Option<Ordered>,
     ) -> Result<bool, Trouble> {
-        let Some(Ordered { order, last }) = ordered else {
+        let Some(Ordered { mut order, last }) = ordered else {
             return Ok(true);
         };
-        if signals.receipt(rt, order).is_none() {
-            return Ok(false);
+        for _ in rt.forever() {
+            let Some(receipt) = signals.receipt(rt, order) else {
+                return Ok(false);
+            };
+            if last <= receipt.number() {
+                return match self.tell(last, &receipt) {
+                    Ok(()) => Ok(true),
+                    Err(error) => Err(Trouble::output(self.alloc, &error)),
+                };
+            }
+            // This flush began before the batch's last line was taken.
+            order = signals.order();
         }
-        match self.tell(last) {
-            Ok(()) => Ok(true),
-            Err(error) => Err(Trouble::output(self.alloc, &error)),
-        }
+        unreachable!()
     }
 
-    // `taken N`, written at once.
-    fn tell(&mut self, number: u64) -> io::Result<()> {
+    // `taken N`, written at once: all lines up to this one are acknowledged, by the receipt.
+    fn tell(&mut self, last: u64, receipt: &Receipt) -> io::Result<()>
+        requires { last ≤ receipt.now.number }
+    {
+        let _ = receipt;
         self.out.write_all(b"taken ")?;
         self.out
-            .write_all(itoa::Buffer::new().format(number).as_bytes())?;
+            .write_all(itoa::Buffer::new().format(last).as_bytes())?;
         self.out.write_all(b"\n")?;
         self.out.flush()
     }
@@ -192,15 +264,57 @@ impl<F: AllocGlobal + Files<File = File>, W: Write, N: Naming> Intake<'_, F, W, 
         let _ = self.wakers.1.wake();
     }
 
-    // Writes the status file, and tells how far all has come, where they are due.
-    fn look_after<D: Disk, R: Wait + Clock + Log>(&mut self, rt: &R, post: &Post<D, N>) {
+    // Writes the status file, tells how far all has come, and which lines go nowhere, if that is due. The funnel has
+    // this path.
+    fn look_after<D: Disk, R: Wait + Clock + Log>(
+        &mut self,
+        rt: &R,
+        post: &Post<D, N>,
+        path: &[u8],
+    ) {
         self.progress.tell(rt, post, self.names);
         if self.status.wait(rt) == 0
             && let Err(trouble) = self.status.write(rt, post, self.names)
         {
             trouble.add_to(&mut self.end);
         }
+        if let Ok(passed) = self.told.elapsed(rt)
+            && passed.as_secs() >= PERIOD
+        {
+            self.nowhere.tell_new(rt, path);
+            if let Ok(now) = Instant::now(rt) {
+                self.told = now;
+            }
+        }
     }
+
+    // Takes all lines of the funnel, if there is one, and tells the feeders that no more come. If memory or another
+    // means is refused, all are stopped.
+    fn take_all<D: Disk, R: Wait + Clock + Log>(
+        &mut self,
+        rt: &R,
+        post: &Post<D, N>,
+        signals: &Signals,
+        funnel: &mut Option<Funnel>,
+    ) {
+        if let Some(funnel) = funnel
+            && let Err(trouble) = self.take_funnel(rt, post, signals, funnel)
+        {
+            if !matches!(trouble, Trouble::File(_)) {
+                signals.stop();
+            }
+            trouble.add_to(&mut self.end);
+        }
+        signals.begin_last_phase();
+        self.wake();
+    }
+}
+
+// Whether one of these names, which are in byte order, is this.
+fn has_name(names: &[PeerName], name: &PeerName) -> bool {
+    names
+        .binary_search_by(|known| known.bytes().cmp(name.bytes()))
+        .is_ok()
 }
 
 impl<D: Disk, F: AllocGlobal + Files<File = File>, W: Write, N: Naming> Work<D, N>
@@ -213,22 +327,19 @@ impl<D: Disk, F: AllocGlobal + Files<File = File>, W: Write, N: Naming> Work<D, 
         _pace: &P,
     ) {
         self.end.lacks |= self.progress.begin(rt, post).is_err();
-        if let Err(trouble) = self.take_funnel(rt, post, signals) {
-            if !matches!(trouble, Trouble::File(_)) {
-                signals.stop();
-            }
-            trouble.add_to(&mut self.end);
-        }
-        signals.begin_last_phase();
-        self.wake();
+        let mut funnel = self.funnel.take();
+        self.take_all(rt, post, signals, &mut funnel);
+        let path: &[u8] = match &funnel {
+            Some(funnel) => &funnel.path,
+            None => b"",
+        };
         for _ in rt.forever() {
-            if self
-                .left
-                .wait(rt, self.status.wait(rt).min(self.progress.wait(rt)))
-            {
+            // It looks each second whether something is due.
+            if self.left.wait(rt, 1) {
+                self.nowhere.tell(rt, path);
                 return;
             }
-            self.look_after(rt, post);
+            self.look_after(rt, post, path);
         }
     }
 }

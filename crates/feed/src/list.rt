@@ -2,7 +2,7 @@
 use crate::plans::by_name;
 use crate::tapes::{Tapes, open_tapes};
 use crate::trouble::Trouble;
-use disk_model::FileDisk;
+use disk_model::{FileDisk, TapeFile};
 use feed_conf::{Conf, PeerConf};
 use recovery::{Tape, TapeFault};
 use std::alloc::Global;
@@ -23,7 +23,7 @@ pub(crate) fn list_owed<F: AllocGlobal + Files<File = File>, W: Write>(
     let alloc = files.alloc();
     let directory = Vec::from_slice(alloc, conf.backlog_directory())?;
     let peers = by_name(conf);
-    let mut tapes: Tapes<Tape<FileDisk<File>>> = open_tapes(files, &directory, &peers)?;
+    let mut tapes: Tapes<Tape<FileDisk<TapeFile>>> = open_tapes(files, &directory, &peers)?;
     for (peer, tape) in peers.iter().zip(&mut tapes.peers) {
         list_peer(alloc, peer, tape, out)?;
     }
@@ -36,7 +36,7 @@ pub(crate) fn list_owed<F: AllocGlobal + Files<File = File>, W: Write>(
 fn list_peer<W: Write>(
     alloc: Global,
     peer: &PeerConf,
-    tape: &mut Tape<FileDisk<File>>,
+    tape: &mut Tape<FileDisk<TapeFile>>,
     out: &mut W,
 ) -> Result<(), Trouble> {
     let numbers = tape.numbers()?;
@@ -55,7 +55,7 @@ fn list_peer<W: Write>(
 fn add_debt(
     line: &mut Vec<u8>,
     peer: &PeerConf,
-    tape: &mut Tape<FileDisk<File>>,
+    tape: &mut Tape<FileDisk<TapeFile>>,
     number: u64,
 ) -> Result<(), Trouble> {
     let debt = match tape.debt(number) {

@@ -11,34 +11,61 @@ use std::sync::Wait;
 use std::thread::Threads;
 use std::time::Duration;
 
-/// What a run's threads work with: the leave of `R` to start threads and to wait, and the system's memory, clock and
-/// standard error. It writes the text of each record to standard error, a line each.
-///
-/// Only the two leaves come of a type parameter, since any other bound on one holds of the thread alone in which it is
-/// assumed.
+/// What a run takes of the system beside files, sockets and threads: the time, and a place for its log.
+pub trait System {
+    /// The time since some moment, which never goes back.
+    ///
+    /// # Errors
+    /// The system's.
+    fn time(&self) -> io::Result<Duration>;
+
+    /// Writes a line of the log, as far as that is possible.
+    fn tell<D: Display>(&self, line: &D);
+}
+
+/// The system's clock, and standard error.
+impl System for HostRuntime {
+    fn time(&self) -> io::Result<Duration> {
+        self.monotonic()
+    }
+
+    fn tell<D: Display>(&self, line: &D) {
+        let _ = self.eprintln(line);
+    }
+}
+
+/// What a run's threads work with: the leave of `R` to start threads and to wait, the system's memory, and the clock
+/// and the log of `Y`. The log has the text of each record, a line each.
 #[derive(Drop)]
-pub(crate) struct Machine<R> {
+pub struct Machine<R, Y> {
     host: HostRuntime,
+    system: Y,
     level: LevelFilter,
     leave: PhantomData<R>,
 }
 
-impl<R> Machine<R> {
-    /// One that logs up to this level.
-    pub fn new(host: HostRuntime, level: LevelFilter) -> Self {
+impl<R, Y> Machine<R, Y> {
+    /// One that logs all if `verbose`, and warnings alone otherwise.
+    pub fn new(host: HostRuntime, system: Y, verbose: bool) -> Self {
+        let level = if verbose {
+            LevelFilter::Info
+        } else {
+            LevelFilter::Warn
+        };
         Machine {
             host,
+            system,
             level,
             leave: PhantomData,
         }
     }
 }
 
-impl<R: Wait> Wait for Machine<R> {}
+impl<R: Wait, Y> Wait for Machine<R, Y> {}
 
-impl<R: Threads> Threads for Machine<R> {}
+impl<R: Threads, Y> Threads for Machine<R, Y> {}
 
-impl<R> Alloc for Machine<R> {
+impl<R, Y> Alloc for Machine<R, Y> {
     type A = Global;
 
     fn alloc(&self) -> Global {
@@ -46,9 +73,9 @@ impl<R> Alloc for Machine<R> {
     }
 }
 
-impl<R> Clock for Machine<R> {
+impl<R, Y: System> Clock for Machine<R, Y> {
     fn monotonic(&self) -> io::Result<Duration> {
-        self.host.monotonic()
+        self.system.time()
     }
 
     fn since_1970(&self) -> io::Result<Duration> {
@@ -60,14 +87,14 @@ impl<R> Clock for Machine<R> {
     }
 }
 
-impl<R> Log for Machine<R> {
+impl<R, Y: System> Log for Machine<R, Y> {
     fn enabled(&self, metadata: &Metadata<'_>) -> bool {
         self.level.allows(metadata.level())
     }
 
     fn log<D: Display, K: Source, S: Spans>(&self, record: &Record<'_, D, K, S>) {
         if self.level.allows(record.level()) {
-            let _ = self.host.eprintln(record.args());
+            self.system.tell(record.args());
         }
     }
 

@@ -1,10 +1,12 @@
 // How each peer is fed.
+ghost use Rattle.std.specs.Prelude.{◌≡◌, IfOk, min};
+ghost use Rattle.feed.specs.Plans.{AreHosts, ArePlansFrom, IsHostOf, IsPlanOf};
+
 use conn_core::Options;
 use feed_conf::{Conf, PeerConf};
 use feeder::PeerPlan;
-use log::Log;
+use resolver::Host;
 use std::alloc::{AllocError, Global};
-use std::net::{Net, SocketAddr};
 use std::str;
 
 /// The peers of these settings, in byte order of their names.
@@ -14,62 +16,66 @@ pub(crate) fn by_name(conf: Conf) -> Vec<PeerConf> {
     peers
 }
 
-/// The addresses of each of these peers' hosts, as they are known now: none where a host can't be looked up, which is
-/// told.
+/// Where each of these peers is, in their order.
 ///
 /// # Errors
 /// Memory was refused.
-pub(crate) fn look_up<R: Log, C: Net>(
-    rt: &R,
-    alloc: Global,
-    net: &C,
-    peers: &[PeerConf],
-) -> Result<Vec<Vec<SocketAddr>>, AllocError> {
-    let mut found = Vec::new(alloc);
+pub(crate) fn hosts_of(alloc: Global, peers: &[PeerConf]) -> Result<Vec<Host>, AllocError>
+    ensures { IfOk result (λ hosts. AreHosts peers.now hosts.items) }
+{
+    let mut hosts = Vec::new(alloc);
     for peer in peers {
-        let addresses = feeder::look_up(rt, alloc, net, &peer.name, host_of(peer), port_of(peer))?;
-        found.push(addresses)?;
+        hosts.push(host_of(alloc, peer)?)?;
     }
-    Ok(found)
+    Ok(hosts)
 }
 
-fn host_of(peer: &PeerConf) -> &str {
-    str::from_utf8(&peer.ip_name).unwrap_or("")
+// Where a peer is. A host whose name is no text has none, and is not found.
+fn host_of(alloc: Global, peer: &PeerConf) -> Result<Host, AllocError>
+    ensures { IfOk result (IsHostOf peer.now) }
+{
+    let name = match str::from_utf8(&peer.ip_name) {
+        Ok(name) => name,
+        Err(_) => "",
+    };
+    Ok(Host {
+        name: String::from_str(alloc, name)?,
+        port: port_of(peer),
+    })
 }
 
-fn port_of(peer: &PeerConf) -> u16 {
-    u16::try_from(peer.port).unwrap_or(u16::MAX)
+fn port_of(peer: &PeerConf) -> u16
+    ensures { result ≡ min peer.now.port 65535 }
+{
+    peer.port.min(65_535) as u16
 }
 
-/// What a feeder has to know of these peers, whose hosts have these addresses.
+/// What a feeder has to know of each of these peers, in their order, if a peer may have so many connections.
 ///
 /// # Errors
 /// Memory was refused.
 pub(crate) fn plans_of(
     alloc: Global,
     peers: &[PeerConf],
-    addresses: &[Vec<SocketAddr>],
-) -> Result<Vec<PeerPlan>, AllocError> {
+    most: u64,
+) -> Result<Vec<PeerPlan>, AllocError>
+    ensures { IfOk result (λ plans. ArePlansFrom most 0 peers.now plans.items) }
+{
     let mut plans = Vec::new(alloc);
-    for (index, (peer, found)) in peers.iter().zip(addresses).enumerate() {
-        plans.push(plan_of(alloc, index, peer, found)?)?;
+    for (index, peer) in peers.iter().enumerate() {
+        plans.push(plan_of(alloc, index, peer, most)?)?;
     }
     Ok(plans)
 }
 
-fn plan_of(
-    alloc: Global,
-    index: usize,
-    peer: &PeerConf,
-    addresses: &[SocketAddr],
-) -> Result<PeerPlan, AllocError> {
+// The plan of the peer with these settings, whose station has this index. Its addresses are not known yet.
+fn plan_of(alloc: Global, index: usize, peer: &PeerConf, most: u64) -> Result<PeerPlan, AllocError>
+    ensures { IfOk result (IsPlanOf most index peer.now) }
+{
     Ok(PeerPlan {
         peer: index,
         name: peer.name.clone()?,
-        host: String::from_str(alloc, host_of(peer))?,
-        port: port_of(peer),
-        addresses: Vec::from_slice(alloc, addresses)?,
-        looked_up: None,
+        addresses: Vec::new(alloc),
         options: Options {
             streaming: peer.streaming,
             max_queue: peer.max_queue,
@@ -78,7 +84,7 @@ fn plan_of(
             check_filter: peer.check_filter,
             response_timeout: peer.response_timeout,
         },
-        connections: peer.max_connections,
+        connections: peer.max_connections.min(most),
         first_wait: peer.first_wait,
         most_wait: peer.most_wait,
     })

@@ -43,14 +43,6 @@ impl Progress {
         Ok(())
     }
 
-    /// Until when it need not be told, in seconds from now on; 0 where it is due.
-    pub fn wait<R: Clock>(&self, rt: &R) -> u64 {
-        match self.told.elapsed(rt) {
-            Ok(passed) => PERIOD.saturating_sub(passed.as_secs()),
-            Err(_) => PERIOD,
-        }
-    }
-
     /// Tells, where it is due, what each peer has had, is owed, and answers a second.
     pub fn tell<D: Disk, N: Naming, R: Wait + Clock + Log>(
         &mut self,

@@ -2,26 +2,31 @@
 ghost use Rattle.std.specs.Prelude.{◌≡◌, length};
 ghost use Rattle.flusher.specs.Post.{names_of};
 
-use crate::funnel_file::FunnelFile;
-use crate::intake::{Funnel, Intake};
+use crate::intake::Intake;
 use crate::leaving::{Leaving, Left};
-use crate::plans::{by_name, look_up, plans_of};
+use crate::lines::Funnel;
+use crate::nowhere::Nowhere;
+use crate::open_files::most_connections;
+use crate::plans::{by_name, hosts_of, plans_of};
 use crate::progress::Progress;
 use crate::status_file::StatusFile;
 use crate::system::Spools;
 use crate::tapes::{Tapes, open_tapes};
 use crate::trouble::{Trouble, add_all};
-use article_store::Articles;
-use commands::{FeedEnd, Owing};
-use disk_model::{Disk, FileDisk};
+use article_store::SpoolDirectory;
+use commands::{FeedEnd, FileTrouble, Owing};
+use disk_model::{Disk, FileDisk, TapeDirectory, TapeFile};
 use feed_conf::{Conf, PeerConf};
-use feeder::{Feeder, FeederFault, PeerPlan, Spool};
+use feeder::{Feeder, FeederFault, PeerPlan, Spool, UnreadPaths};
 use flusher::{
-    Blanks, Flusher, Free, Naming, NoThread, Peer, Post, PostFault, Signals, run_threads,
+    Blanks, FeederShare, Flusher, Free, Naming, NoThread, Peer, Post, PostFault, Signals,
+    run_threads,
 };
 use funnel::PeerName;
-use log::Log;
+use log::{Log, info};
+use mio::Waker;
 use recovery::Tape;
+use resolver::{Host, LookUp, Resolver};
 use std::alloc::{AllocError, Global};
 use std::fs::File;
 use std::io::{self, ErrorKind, Write};
@@ -29,18 +34,19 @@ use std::marker::Brand;
 use std::net::{Net, TcpListener, TcpStream};
 use std::rt::{Clock, Files};
 use std::str;
-use std::sync::Wait;
+use std::sync::{Arc, Wait};
 use std::thread::Threads;
 use std::time::Instant;
 
-/// What a run works with: the runtime of its threads, files for this thread, what opens the spool, and the leave to
-/// open sockets.
+/// What a run works with: the runtime of its threads, files for this thread, what opens the spool, the leave to open
+/// sockets, and what looks hosts up.
 #[derive(Drop)]
-pub(crate) struct Means<'a, R, F, H, C> {
+pub(crate) struct Means<'a, R, F, H, C, L> {
     pub rt: &'a R,
     pub files: &'a F,
     pub spools: H,
     pub net: C,
+    pub look_up: L,
 }
 
 // What stands before the threads start, but for the tapes.
@@ -48,6 +54,7 @@ pub(crate) struct Means<'a, R, F, H, C> {
 struct Prepared<S> {
     names: Vec<PeerName>,
     plans: (Vec<PeerPlan>, Vec<PeerPlan>),
+    hosts: Vec<Host>,
     spools: (Spool<S>, Spool<S>),
     funnel: Option<Funnel>,
     status: Vec<u8>,
@@ -60,14 +67,15 @@ struct Prepared<S> {
 /// # Errors
 /// The first thing that went wrong before the work.
 pub(crate) fn feed<
-    R: AllocGlobal + Threads + Wait + Clock + Log + Sync,
+    R: AllocGlobal + Threads + Wait + Clock + Log + Send + Sync + 'static,
     F: AllocGlobal + Files<File = File>,
-    S: Articles + Send + Drop,
+    S: SpoolDirectory + Send + Drop,
     H: Spools<Store = S>,
     C: Net<Listener = TcpListener, Stream = TcpStream> + Copy + Drop + Send,
+    L: LookUp + Copy + Send + Sync + Drop + 'static,
     W: Write,
 >(
-    means: &Means<'_, R, F, H, C>,
+    means: &Means<'_, R, F, H, C, L>,
     conf: Conf,
     funnel: Option<&str>,
     out: &mut W,
@@ -80,19 +88,29 @@ pub(crate) fn feed<
     let peers = by_name(conf);
     // The directory is locked until the end.
     let Tapes {
-        directory: _directory,
+        directory: tapes,
         peers: stations,
         intake,
     } = open_tapes(means.files, &directory, &peers)?;
-    let funnel = open_funnel(means.rt, means.files, funnel, intake.mark())?;
+    let funnel = open_funnel(means, funnel, intake.mark())?;
     let prepared = prepare(means, &peers, &spool, funnel, status)?;
     let blanks = Blanks::new(stations.len() as u64);
-    work::<Brand, R, F, S, H, C, W>(means, prepared, stations, intake, blanks, out, end)
+    work::<Brand, R, F, S, H, C, L, W>(means, prepared, stations, intake, blanks, out, end)?;
+    tell_fault(means.rt, &directory, &tapes);
+    Ok(())
 }
 
-// Looks up the peers' hosts, and opens the spool for each feeder.
-fn prepare<R: Clock + Log, F: AllocGlobal, S: Drop, H: Spools<Store = S>, C: Net>(
-    means: &Means<'_, R, F, H, C>,
+// Logs why the system refused a call of a tape's file, if it did: of several the first is told.
+fn tell_fault<R: Log>(rt: &R, directory: &[u8], tapes: &TapeDirectory) {
+    if let Some(fault) = tapes.first_fault() {
+        let directory = str::from_utf8(directory).unwrap_or("");
+        info!(rt; "tape file {}/{}: {}", directory, fault.name, fault.reason);
+    }
+}
+
+// Opens the spool for each feeder, and makes what it has to know of the peers. No host is looked up yet.
+fn prepare<R: Clock + Log, F: AllocGlobal, S: Drop, H: Spools<Store = S>, C, L>(
+    means: &Means<'_, R, F, H, C, L>,
     peers: &[PeerConf],
     spool: &[u8],
     funnel: Option<Funnel>,
@@ -103,21 +121,19 @@ fn prepare<R: Clock + Log, F: AllocGlobal, S: Drop, H: Spools<Store = S>, C: Net
         let invalid = io::Error::from(ErrorKind::InvalidInput);
         return Err(Trouble::unread(means.rt, alloc, spool, &invalid));
     };
-    let addresses = look_up(means.rt, alloc, &means.net, peers)?;
+    let most = most_connections(means.rt, peers);
     let mut names = Vec::new(alloc);
     for peer in peers {
         names.push(peer.name.clone()?)?;
     }
     let start = match Instant::now(means.rt) {
         Ok(start) => start,
-        Err(error) => return Err(Trouble::refused(means.rt, "tell the time", &error)),
+        Err(error) => return Err(Trouble::refused(means.rt, "read the clock", &error)),
     };
     Ok(Prepared {
         names,
-        plans: (
-            plans_of(alloc, peers, &addresses)?,
-            plans_of(alloc, peers, &addresses)?,
-        ),
+        plans: (plans_of(alloc, peers, most)?, plans_of(alloc, peers, most)?),
+        hosts: hosts_of(alloc, peers)?,
         spools: (open_spool(means, path)?, open_spool(means, path)?),
         funnel,
         status,
@@ -126,8 +142,8 @@ fn prepare<R: Clock + Log, F: AllocGlobal, S: Drop, H: Spools<Store = S>, C: Net
 }
 
 // The spool below the directory at this path.
-fn open_spool<R, F: AllocGlobal, S: Drop, H: Spools<Store = S>, C>(
-    means: &Means<'_, R, F, H, C>,
+fn open_spool<R, F: AllocGlobal, S: Drop, H: Spools<Store = S>, C, L>(
+    means: &Means<'_, R, F, H, C, L>,
     path: &str,
 ) -> Result<Spool<S>, AllocError> {
     let alloc = means.files.alloc();
@@ -140,17 +156,18 @@ fn open_spool<R, F: AllocGlobal, S: Drop, H: Spools<Store = S>, C>(
 // Runs the threads, and tells what came of them.
 fn work<
     N: Naming + Send + Sync,
-    R: AllocGlobal + Threads + Wait + Clock + Log + Sync,
+    R: AllocGlobal + Threads + Wait + Clock + Log + Send + Sync + 'static,
     F: AllocGlobal + Files<File = File>,
-    S: Articles + Send + Drop,
+    S: SpoolDirectory + Send + Drop,
     H,
     C: Net<Listener = TcpListener, Stream = TcpStream> + Copy + Drop + Send,
+    L: LookUp + Copy + Send + Sync + Drop + 'static,
     W: Write,
 >(
-    means: &Means<'_, R, F, H, C>,
+    means: &Means<'_, R, F, H, C, L>,
     prepared: Prepared<S>,
-    stations: Vec<Peer<FileDisk<File>>>,
-    intake: Tape<FileDisk<File>>,
+    stations: Vec<Peer<FileDisk<TapeFile>>>,
+    intake: Tape<FileDisk<TapeFile>>,
     blanks: Blanks,
     out: &mut W,
     end: &mut FeedEnd,
@@ -164,36 +181,36 @@ fn work<
         × (blanks.dropped.stations.parts ≡ length stations.items) }
 {
     let alloc = means.files.alloc();
-    let (post, share, one, other, third) = Post::<FileDisk<File>, N>::new(
+    let (post, share, one, other, third) = Post::<FileDisk<TapeFile>, N>::new(
         alloc, stations, intake, blanks,
     )?;
     let Prepared {
         names,
         plans,
+        hosts,
         spools,
         funnel,
         status,
         start,
     } = prepared;
-    let first = Feeder::new(alloc, means.net, spools.0, 0, plans.0, start, one).map_err(
-        |error| lacking(means.rt, &error),
-    )?;
-    let second = Feeder::new(alloc, means.net, spools.1, 1, plans.1, start, other).map_err(
-        |error| lacking(means.rt, &error),
-    )?;
+    let resolver = Resolver::start(means.rt, alloc, hosts, means.look_up)?;
+    let (first, second) = feeders(means, &resolver, plans, spools, start, (one, other))?;
+    let wakers = (
+        waker_of(means.rt, alloc, &resolver, &first)?,
+        waker_of(means.rt, alloc, &resolver, &second)?,
+    );
     let left = Left::new(2);
     let mut intake = Intake {
         alloc,
         share,
         funnel,
         out,
-        wakers: (
-            first.waker().map_err(|error| lacking(means.rt, &error))?,
-            second.waker().map_err(|error| lacking(means.rt, &error))?,
-        ),
+        wakers,
         names: &names,
         status: StatusFile::new(means.files, status, start),
         progress: Progress::new(alloc, start),
+        nowhere: Nowhere::new(alloc),
+        told: start,
         left: &left,
         end: FeedEnd::well(alloc),
     };
@@ -223,8 +240,10 @@ fn work<
     } = intake;
     match ended {
         Ok((first, second, flusher)) => {
-            let faults = (flusher.fault, first.worker.fault, second.worker.fault);
+            let (first, second) = (first.worker, second.worker);
+            let faults = (flusher.fault, first.fault, second.fault);
             add_faults(alloc, &names, faults, told, end);
+            add_unread(first.unread, second.unread, end);
         }
         Err(NoThread) => Trouble::Lack.add_to(end),
     }
@@ -232,9 +251,44 @@ fn work<
     Ok(())
 }
 
+// The two feeders, which share this resolver.
+fn feeders<N: Naming, R: Log, F: AllocGlobal, S: SpoolDirectory + Drop, H, C: Net + Copy + Drop, L>(
+    means: &Means<'_, R, F, H, C, L>,
+    resolver: &Resolver,
+    plans: (Vec<PeerPlan>, Vec<PeerPlan>),
+    spools: (Spool<S>, Spool<S>),
+    start: Instant,
+    shares: (FeederShare<N>, FeederShare<N>),
+) -> Result<(Feeder<S, C, N>, Feeder<S, C, N>), Trouble> {
+    let alloc = means.files.alloc();
+    let (hosts, others) = (resolver.try_clone()?, resolver.try_clone()?);
+    let first = Feeder::new(
+        alloc, means.net, hosts, spools.0, 0, plans.0, start, shares.0,
+    )
+    .map_err(|error| lacking(means.rt, &error))?;
+    let second = Feeder::new(
+        alloc, means.net, others, spools.1, 1, plans.1, start, shares.1,
+    )
+    .map_err(|error| lacking(means.rt, &error))?;
+    Ok((first, second))
+}
+
+// What wakes a feeder. Each answer of the resolver does.
+fn waker_of<R: Wait + Log, S: SpoolDirectory + Drop, C: Net + Drop, N: Naming>(
+    rt: &R,
+    alloc: Global,
+    resolver: &Resolver,
+    feeder: &Feeder<S, C, N>,
+) -> Result<Arc<Waker>, Trouble> {
+    let waker = feeder.waker().map_err(|error| lacking(rt, &error))?;
+    let waker = Arc::new(alloc, waker)?;
+    resolver.wake_by(rt, Arc::try_clone(&waker)?)?;
+    Ok(waker)
+}
+
 // The system refused, for this reason, what a feeder waits with.
 fn lacking<R: Log>(rt: &R, error: &io::Error) -> Trouble {
-    Trouble::refused(rt, "wait for sockets", error)
+    Trouble::refused(rt, "poll sockets", error)
 }
 
 // Adds what went wrong at work: the flusher's fault first, since what it meets the others meet after it.
@@ -257,7 +311,21 @@ fn add_faults(
     }
 }
 
-// Flushes what still pends, writes the status file, and adds what is still owed.
+// Adds the files that the feeders could not read, each once.
+fn add_unread(first: UnreadPaths, second: UnreadPaths, end: &mut FeedEnd) {
+    let first = first.into_paths();
+    for path in second.into_paths() {
+        if !first.contains(&path) {
+            Trouble::File(FileTrouble::Unread(path)).add_to(end);
+        }
+    }
+    for path in first {
+        Trouble::File(FileTrouble::Unread(path)).add_to(end);
+    }
+}
+
+// Flushes what still pends, writes the status file, and adds what is still owed. After a fault of a tape the others are
+// flushed alone, and nothing is acknowledged; what its peer is owed is not known, and not told.
 fn close<D: Disk, N: Naming, R: Wait + Clock + Log, F: AllocGlobal + Files<File = File>>(
     rt: &R,
     post: &Post<D, N>,
@@ -265,19 +333,33 @@ fn close<D: Disk, N: Naming, R: Wait + Clock + Log, F: AllocGlobal + Files<File 
     mut status: StatusFile<'_, F>,
     end: &mut FeedEnd,
 ) {
-    if end.tapes.is_empty()
-        && let Err(fault) = post.flush_all(rt, &Free)
-    {
+    if let Err(fault) = flush(rt, post, end.tapes.is_empty()) {
         Trouble::post(*end.tapes.allocator(), names, fault).add_to(end);
     }
     if let Err(trouble) = status.write(rt, post, names) {
         trouble.add_to(end);
     }
     for (peer, name) in names.iter().enumerate() {
-        if peer < post.peers() && add_owing(name, post.totals(rt, peer).owed, end).is_err() {
-            end.lacks = true;
+        if peer < post.peers() {
+            let reported = post.reported(rt, peer);
+            if !reported.has_failed && add_owing(name, reported.totals.owed, end).is_err() {
+                end.lacks = true;
+            }
         }
     }
+}
+
+// Flushes all tapes if they are well, else those that are.
+fn flush<D: Disk, N: Naming, R: Wait>(
+    rt: &R,
+    post: &Post<D, N>,
+    are_well: bool,
+) -> Result<(), PostFault> {
+    if are_well {
+        post.flush_all(rt, &Free)?;
+        return Ok(());
+    }
+    post.flush_working(rt, &Free)
 }
 
 // Adds what a peer is still owed.
@@ -290,21 +372,17 @@ fn add_owing(name: &PeerName, owed: u64, end: &mut FeedEnd) -> Result<(), AllocE
 }
 
 // Opens the funnel, behind the lines that are acknowledged. One that has not all of them is another, and is not read.
-fn open_funnel<R: Log, F: AllocGlobal + Files<File = File>>(
-    rt: &R,
-    files: &F,
+fn open_funnel<R: Log, F: AllocGlobal + Files<File = File>, H, C: Net, L>(
+    means: &Means<'_, R, F, H, C, L>,
     path: Option<&str>,
     acknowledged: u64,
 ) -> Result<Option<Funnel>, Trouble> {
-    let alloc = files.alloc();
+    let alloc = means.files.alloc();
     let Some(path) = path else {
         return Ok(None);
     };
-    match FunnelFile::open(files, path, acknowledged) {
-        Ok(file) => Ok(Some(Funnel {
-            path: Vec::from_slice(alloc, path.as_bytes())?,
-            file,
-        })),
-        Err(error) => Err(Trouble::unread(rt, alloc, path.as_bytes(), &error)),
+    match Funnel::open(means.files, &means.net, path, acknowledged) {
+        Ok(funnel) => Ok(Some(funnel)),
+        Err(error) => Err(Trouble::unread(means.rt, alloc, path.as_bytes(), &error)),
     }
 }

@@ -43,7 +43,8 @@ impl<'a, F: AllocGlobal + Files<File = File>> StatusFile<'a, F> {
     }
 
     /// Writes what the peers of these names have: a file beside it first, which takes its place once it is whole. What
-    /// is there and is no regular file, a device or a FIFO, is written into.
+    /// is there and is no regular file, a device or a FIFO, is written into. A peer whose tape has failed has the
+    /// figures of its last flush that went well.
     ///
     /// # Errors
     /// Memory; that it cannot be written.
@@ -102,7 +103,7 @@ fn text_of<D: Disk, N: Naming, R: Wait>(
         if peer < post.peers() {
             peers.push(PeerStatus {
                 name,
-                totals: post.totals(rt, peer),
+                totals: post.reported(rt, peer).totals,
             })?;
         }
     }

@@ -5,12 +5,13 @@ use crate::run::{Means, feed};
 use article_store::Folder;
 use commands::{FeedEnd, Feeds};
 use feed_conf::Conf;
-use log::LevelFilter;
+use log::Log;
+use resolver::{LookUp, SystemLookUp};
 use std::alloc::{AllocError, Global};
 use std::fs::File;
 use std::io::Write;
 use std::marker::PhantomData;
-use std::rt::Files;
+use std::rt::{Clock, Files};
 use std::sync::Wait;
 use std::thread::Threads;
 
@@ -40,7 +41,39 @@ impl Spools for HostSpools {
     }
 }
 
-/// Feeds with files, sockets and threads of the system's, the threads by the leave of `R`.
+/// Feeds the peers of these settings as [`commands::Feeds`] says: with this runtime of its threads, the files of
+/// `files`, the articles and the sockets of `host`, and what looks hosts up.
+pub fn feed_with<
+    M: AllocGlobal + Threads + Wait + Clock + Log + Send + Sync + 'static,
+    F: AllocGlobal + Files<File = File>,
+    L: LookUp + Copy + Send + Sync + Drop + 'static,
+    W: Write,
+>(
+    rt: &M,
+    files: &F,
+    host: HostRuntime,
+    look_up: L,
+    conf: Conf,
+    funnel: Option<&str>,
+    out: &mut W,
+) -> FeedEnd {
+    let means = Means {
+        rt,
+        files,
+        spools: HostSpools { host },
+        net: host,
+        look_up,
+    };
+    let mut end = FeedEnd::well(files.alloc());
+    if let Err(trouble) = feed(&means, conf, funnel, out, &mut end) {
+        trouble.tell(rt);
+        trouble.add_to(&mut end);
+    }
+    end
+}
+
+/// Feeds with files, sockets, threads, the clock and the standard error of the system's, the threads by the leave of
+/// `R`.
 #[derive(Drop)]
 pub struct SystemFeeds<'a, R, F> {
     files: &'a F,
@@ -59,34 +92,19 @@ impl<'a, R, F> SystemFeeds<'a, R, F> {
     }
 }
 
-impl<R: Threads + Wait + Sync, F: AllocGlobal + Files<File = File>> Feeds
+impl<R: Threads + Wait + Send + Sync + 'static, F: AllocGlobal + Files<File = File>> Feeds
     for SystemFeeds<'_, R, F> {
     fn feed<W: Write>(
         &mut self,
-        alloc: Global,
+        _alloc: Global,
         conf: Conf,
         funnel: Option<&str>,
         verbose: bool,
         out: &mut W,
     ) -> FeedEnd {
-        let level = if verbose {
-            LevelFilter::Info
-        } else {
-            LevelFilter::Off
-        };
-        let rt = Machine::<R>::new(self.host, level);
-        let means = Means {
-            rt: &rt,
-            files: self.files,
-            spools: HostSpools { host: self.host },
-            net: self.host,
-        };
-        let mut end = FeedEnd::well(alloc);
-        if let Err(trouble) = feed(&means, conf, funnel, out, &mut end) {
-            trouble.tell(&rt);
-            trouble.add_to(&mut end);
-        }
-        end
+        let rt = Machine::<R, HostRuntime>::new(self.host, self.host, verbose);
+        let look_up = SystemLookUp(self.host);
+        feed_with(&rt, self.files, self.host, look_up, conf, funnel, out)
     }
 
     fn list_owed<W: Write>(&mut self, alloc: Global, conf: Conf, out: &mut W) -> FeedEnd {

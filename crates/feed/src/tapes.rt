@@ -1,7 +1,7 @@
 // The tapes of all peers and of the intake, opened.
 use crate::disks::{Disks, open_disks};
 use crate::trouble::{INTAKE, Trouble};
-use disk_model::{FileDisk, TapeDirectory};
+use disk_model::{FileDisk, TapeDirectory, TapeFile};
 use feed_conf::PeerConf;
 use flusher::Peer;
 use peer_queue::Limits;
@@ -11,7 +11,7 @@ use std::fs::File;
 use std::rt::Files;
 
 /// The files of a tape, the first and the second.
-type TapeFiles = (FileDisk<File>, FileDisk<File>);
+type TapeFiles = (FileDisk<TapeFile>, FileDisk<TapeFile>);
 
 /// What is opened of each peer.
 pub(crate) trait Opened: Sized {
@@ -19,13 +19,13 @@ pub(crate) trait Opened: Sized {
     fn open(alloc: Global, conf: &PeerConf, files: TapeFiles) -> Result<Self, Trouble>;
 }
 
-impl Opened for Tape<FileDisk<File>> {
+impl Opened for Tape<FileDisk<TapeFile>> {
     fn open(alloc: Global, conf: &PeerConf, files: TapeFiles) -> Result<Self, Trouble> {
         open_tape(alloc, conf.name.bytes(), files)
     }
 }
 
-impl Opened for Peer<FileDisk<File>> {
+impl Opened for Peer<FileDisk<TapeFile>> {
     fn open(alloc: Global, conf: &PeerConf, files: TapeFiles) -> Result<Self, Trouble> {
         let limits = Limits {
             backlog_limit: conf.backlog_limit,
@@ -45,7 +45,7 @@ impl Opened for Peer<FileDisk<File>> {
 pub(crate) struct Tapes<T> {
     pub directory: TapeDirectory,
     pub peers: Vec<T>,
-    pub intake: Tape<FileDisk<File>>,
+    pub intake: Tape<FileDisk<TapeFile>>,
 }
 
 /// Opens the tapes in the backlog directory at this path, of these peers and then of the intake.
@@ -86,7 +86,7 @@ fn open_tape(
     alloc: Global,
     name: &[u8],
     files: TapeFiles,
-) -> Result<Tape<FileDisk<File>>, Trouble> {
+) -> Result<Tape<FileDisk<TapeFile>>, Trouble> {
     let (a, b) = files;
     match Tape::open(alloc, a, b) {
         Ok(tape) => Ok(tape),

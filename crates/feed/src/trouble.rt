@@ -187,6 +187,20 @@ pub(crate) fn add_all(part: FeedEnd, end: &mut FeedEnd) {
     }
 }
 
+/// Whether this fault is a tape's, so that no line is to be taken any more while the other peers' debts are worked off.
+/// Every other fault stops the run.
+pub(crate) fn is_lost_tape(fault: &PostFault) -> bool {
+    match fault {
+        PostFault::Station { fault, .. } => match fault {
+            StationFault::Broken => true,
+            StationFault::Tape(fault) => !matches!(fault, TapeFault::NoMemory),
+            StationFault::NotHeld | StationFault::NoMemory => false,
+        },
+        PostFault::Intake(fault) => !matches!(fault, TapeFault::NoMemory),
+        _ => false,
+    }
+}
+
 // A station's fault, as its tape's.
 fn tape_fault(fault: StationFault) -> TapeFault {
     match fault {

@@ -4,11 +4,18 @@
 //! It may start threads, listen on and connect to 127.0.0.1, make files, and print. Nothing stands above this crate.
 #![tactic(auto)]
 
+mod clock;
+mod feeds;
+mod funnels;
 mod peer;
+mod peers;
 mod row;
 
 use anyhow::Result;
+use clock::{status, waits};
+use funnels::{long_funnel, nowhere, shed, silent_pipe};
 use peer::Manner;
+use peers::four_peers;
 use row::Row;
 use std::fs;
 use std::sync::Wait;
@@ -64,12 +71,22 @@ fn main(rt: HostRuntime) -> Result<()> {
     }
     gone(&rt, rt)?;
     short(&rt, rt)?;
+    four_peers(&rt, rt)?;
+    shed(&rt, rt)?;
+    nowhere(&rt, rt)?;
+    long_funnel(&rt, rt)?;
+    silent_pipe(&rt, rt)?;
+    waits(&rt, rt)?;
+    status(&rt, rt)?;
     fs::remove_dir_all(&rt, "rows")?;
     Ok(())
 }
 
 // Articles that are gone hold up no other.
-fn gone<R: AllocGlobal + Threads + Wait + Print + Sync>(rt: &R, host: HostRuntime) -> Result<()> {
+fn gone<R: AllocGlobal + Threads + Wait + Print + Send + Sync + Drop + 'static>(
+    rt: &R,
+    host: HostRuntime,
+) -> Result<()> {
     let row = Row::new(rt, host, "gone")?;
     row.lines_of_gone(300)?;
     row.take(rt, "300 lines, nobody listens")?;
@@ -82,7 +99,10 @@ fn gone<R: AllocGlobal + Threads + Wait + Print + Sync>(rt: &R, host: HostRuntim
 }
 
 // A funnel that has not all lines that were acknowledged is another.
-fn short<R: AllocGlobal + Threads + Wait + Print + Sync>(rt: &R, host: HostRuntime) -> Result<()> {
+fn short<R: AllocGlobal + Threads + Wait + Print + Send + Sync + Drop + 'static>(
+    rt: &R,
+    host: HostRuntime,
+) -> Result<()> {
     let row = Row::new(rt, host, "short")?;
     row.lines(3)?;
     row.take(rt, "three lines, nobody listens")?;

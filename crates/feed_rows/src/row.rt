@@ -1,8 +1,8 @@
 // A feed, and what is told of it.
+use crate::feeds::{Fast, FastFeeds, LOG};
 use crate::peer::{Heard, Manner, PATIENCE, serve};
 use anyhow::{Result, anyhow};
 use commands::{Order, ReadFile, run};
-use feed::SystemFeeds;
 use std::alloc::Global;
 use std::fs;
 use std::io::{self, Write};
@@ -10,8 +10,8 @@ use std::net::{TcpListener, TcpStream};
 use std::sync::Wait;
 use std::thread::{self, Threads};
 
-// A port of this machine at which nobody listens.
-const NOBODY: u16 = 1;
+/// A port of this machine at which nobody listens.
+pub(crate) const NOBODY: u16 = 1;
 
 /// A backlog directory of its own below `rows`, with a spool and a funnel beside it.
 #[derive(Drop)]
@@ -47,8 +47,14 @@ impl Row {
         Ok(row)
     }
 
-    fn path(&self, file: &str) -> Result<String> {
+    /// The path of a file of the row.
+    pub fn path(&self, file: &str) -> Result<String> {
         Ok(format!(in self.host.alloc(); "rows/{}/{file}", self.name)?)
+    }
+
+    /// The path at which this descriptor of the process is opened.
+    pub fn pipe_path(&self, descriptor: i32) -> Result<String> {
+        Ok(format!(in self.host.alloc(); "/proc/self/fd/{descriptor}")?)
     }
 
     /// Writes so many articles.
@@ -88,29 +94,35 @@ impl Row {
         self.funnel(&text)
     }
 
-    fn funnel(&self, text: &[u8]) -> Result<()> {
+    /// Writes a funnel of this text.
+    pub fn funnel(&self, text: &[u8]) -> Result<()> {
         fs::write(&self.host, self.path("funnel")?.as_str(), text)?;
         Ok(())
     }
 }
 
-// What a run told.
+/// What a run told.
 #[derive(Drop)]
-struct Told {
-    status: u8,
-    out: Vec<u8>,
-    err: Vec<u8>,
+pub(crate) struct Told {
+    pub status: u8,
+    pub out: Vec<u8>,
+    pub log: Vec<u8>,
+    pub err: Vec<u8>,
 }
 
 impl Row {
     /// Takes the funnel's lines for a peer that nobody is, and prints what was told.
-    pub fn take<R: Threads + Wait + Print + Sync>(&self, rt: &R, what: &str) -> Result<()> {
+    pub fn take<R: Threads + Wait + Print + Send + Sync + Drop + 'static>(
+        &self,
+        rt: &R,
+        what: &str,
+    ) -> Result<()> {
         println!(rt; "-- {what}")?;
         print_told(rt, &self.run(rt, NOBODY, PATIENCE, true)?)
     }
 
     /// Feeds this peer from the backlog alone, and prints what was told and what the peer heard.
-    pub fn feed<R: Threads + Wait + Print + Sync>(
+    pub fn feed<R: Threads + Wait + Print + Send + Sync + Drop + 'static>(
         &self,
         rt: &R,
         manner: Manner,
@@ -123,7 +135,11 @@ impl Row {
     }
 
     /// Feeds a peer that streams from the funnel, and prints what was told and how many articles the peer heard.
-    pub fn feed_many<R: Threads + Wait + Print + Sync>(&self, rt: &R, what: &str) -> Result<()> {
+    pub fn feed_many<R: Threads + Wait + Print + Send + Sync + Drop + 'static>(
+        &self,
+        rt: &R,
+        what: &str,
+    ) -> Result<()> {
         println!(rt; "-- {what}")?;
         let (told, heard) = self.meet(rt, Manner::Streams, true)?;
         print_told(rt, &told)?;
@@ -134,7 +150,11 @@ impl Row {
     }
 
     /// What is owed.
-    pub fn owed<R: Threads + Wait + Print + Sync>(&self, rt: &R, what: &str) -> Result<()> {
+    pub fn owed<R: Threads + Wait + Print + Send + Sync + Drop + 'static>(
+        &self,
+        rt: &R,
+        what: &str,
+    ) -> Result<()> {
         println!(rt; "-- {what}")?;
         let told = self.obey(rt, NOBODY, PATIENCE, Order::Owed("conf"))?;
         let lines = told.out.split(|octet| *octet == b'\n').count();
@@ -143,7 +163,11 @@ impl Row {
     }
 
     /// Feeds from the backlog a peer that closes once it has sent so many octets, and prints what is owed then.
-    pub fn cut<R: Threads + Wait + Print + Sync>(&self, rt: &R, octets: usize) -> Result<()> {
+    pub fn cut<R: Threads + Wait + Print + Send + Sync + Drop + 'static>(
+        &self,
+        rt: &R,
+        octets: usize,
+    ) -> Result<()> {
         let (told, _) = self.meet(rt, Manner::Cut(octets), false)?;
         let owed = if told.err.is_empty() { "nothing" } else { "it" };
         println!(rt;
@@ -154,7 +178,7 @@ impl Row {
     }
 
     // Feeds a peer that is there.
-    fn meet<R: Threads + Wait + Sync>(
+    fn meet<R: Threads + Wait + Send + Sync + Drop + 'static>(
         &self,
         rt: &R,
         manner: Manner,
@@ -172,7 +196,7 @@ impl Row {
     }
 
     // Feeds the peer at this port, which has so many seconds to answer.
-    fn run<R: Threads + Wait + Sync>(
+    fn run<R: Threads + Wait + Send + Sync + Drop + 'static>(
         &self,
         rt: &R,
         port: u16,
@@ -189,12 +213,43 @@ impl Row {
     }
 
     // Does what is ordered, by a configuration of one peer at this port, which has so many seconds to answer.
-    fn obey<R: Threads + Wait + Sync>(
+    fn obey<R: Threads + Wait + Send + Sync + Drop + 'static>(
         &self,
         rt: &R,
         port: u16,
         patience: u64,
         order: Order<'_>,
+    ) -> Result<Told> {
+        let alloc = self.host.alloc();
+        let peer = format!(in alloc;
+            "response-timeout: {patience}\npeer p {{ port-number: {port} }}\n"
+        )?;
+        self.obey_conf(rt, 1, &peer, order)
+    }
+
+    /// Does what is ordered, by a clock so many times as fast as the system's, and by a configuration that has these
+    /// lines.
+    pub fn obey_conf<R: Threads + Wait + Send + Sync + Drop + 'static>(
+        &self,
+        rt: &R,
+        speed: u32,
+        lines: &str,
+        order: Order<'_>,
+    ) -> Result<Told> {
+        let mut out = Vec::new(self.host.alloc());
+        let mut told = self.obey_into(rt, speed, lines, order, &mut out)?;
+        told.out = out;
+        Ok(told)
+    }
+
+    /// The same, with this as standard output.
+    pub fn obey_into<R: Threads + Wait + Send + Sync + Drop + 'static, W: Write>(
+        &self,
+        rt: &R,
+        speed: u32,
+        lines: &str,
+        order: Order<'_>,
+        out: &mut W,
     ) -> Result<Told> {
         let alloc = self.host.alloc();
         let mut conf = Conf {
@@ -204,31 +259,35 @@ impl Row {
         writeln!(conf.text, "backlog-directory: rows/{}/backlog", self.name)?;
         writeln!(conf.text, "status-file: rows/{}/status", self.name)?;
         writeln!(conf.text, "ip-name: 127.0.0.1 max-connections: 1")?;
-        writeln!(conf.text, "response-timeout: {patience}")?;
-        writeln!(conf.text, "peer p {{ port-number: {port} }}")?;
-        let mut feeds = SystemFeeds::new(rt, &self.host, self.host);
+        writeln!(conf.text, "{lines}")?;
+        fs::write(&self.host, LOG, b"")?;
+        let system = Fast {
+            host: self.host,
+            speed,
+        };
+        let mut feeds = FastFeeds::new(rt, &self.host, system);
         let mut input: &[u8] = &[];
-        let mut out = Vec::new(alloc);
         let mut err = Vec::new(alloc);
-        let ended = run(
-            alloc, order, &conf, &mut feeds, &mut input, &mut out, &mut err,
-        );
+        let ended = run(alloc, order, &conf, &mut feeds, &mut input, out, &mut err);
         Ok(Told {
             status: ended.exit.status(),
-            out,
+            out: Vec::new(alloc),
+            log: fs::read(&self.host, LOG)?,
             err,
         })
     }
 }
 
-fn print_told<R: Print>(rt: &R, told: &Told) -> Result<()> {
+/// Prints what a run told.
+pub(crate) fn print_told<R: Print>(rt: &R, told: &Told) -> Result<()> {
     println!(rt; "status {}", told.status)?;
     print_lines(rt, "", &told.out)?;
+    print_lines(rt, "", &told.log)?;
     print_lines(rt, "", &told.err)
 }
 
-// Prints each line of a text behind this word.
-fn print_lines<R: Print>(rt: &R, word: &str, text: &[u8]) -> Result<()> {
+/// Prints each line of a text behind this word.
+pub(crate) fn print_lines<R: Print>(rt: &R, word: &str, text: &[u8]) -> Result<()> {
     let Ok(text) = std::str::from_utf8(text) else {
         return Err(anyhow!("no text"));
     };

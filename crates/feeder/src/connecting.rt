@@ -1,10 +1,9 @@
 // Making connections.
-use crate::connection::Connection;
+use crate::Feeder;
+use crate::connection::{Connection, Place};
 use crate::desk::Desk;
-use crate::hosts::look_up;
-use crate::telling::{name_of, tell_unmade};
-use crate::{Feeder, Slot};
-use article_store::Articles;
+use crate::telling::{name_of, tell_unknown, tell_unmade};
+use article_store::SpoolDirectory;
 use conn_core::{Conn, CxnId};
 use disk_model::Disk;
 use event_loop::SocketLink;
@@ -12,13 +11,24 @@ use flusher::{Naming, Pace};
 use log::Log;
 use mio::Token;
 use mio::net::TcpStream;
+use resolver::Answer;
 use std::io::{self, ErrorKind};
 use std::net::Net;
+use std::sync::Wait;
 
-impl<S: Articles + Drop, C: Net + Drop, N: Naming> Feeder<S, C, N> {
-    /// Where slots are to be looked at, begins to connect each that is due and whose peer is owed something. Where that
-    /// is not known, since a station is in use, they are to be looked at once more.
-    pub(crate) fn connect_due<D: Disk, R: Log, P: Pace>(
+// What became of a slot that was to be given a connection.
+#[derive(Clone, Copy, PartialEq, Eq)]
+enum Begun {
+    // It has one, or failed: the peer's next slot is to be looked at.
+    Next,
+    // The peer's connections have room for all that it is owed, or nothing can be done now.
+    Enough,
+}
+
+impl<S: SpoolDirectory + Drop, C: Net + Drop, N: Naming> Feeder<S, C, N> {
+    /// If slots are to be looked at, begins to connect those that are due, of each peer as many as it needs. What is
+    /// not known now, since a station is in use, is looked at once more.
+    pub(crate) fn connect_due<D: Disk, R: Wait + Log, P: Pace>(
         &mut self,
         rt: &R,
         desk: &Desk<'_, D, N, P>,
@@ -28,85 +38,164 @@ impl<S: Articles + Drop, C: Net + Drop, N: Naming> Feeder<S, C, N> {
             return;
         }
         self.looks = false;
-        for at in 0..self.slots.len() {
-            self.connect_if_due(rt, desk, at, last_phase);
+        for at in 0..self.peers.len() {
+            self.hear_of(rt, at);
+            self.connect_peer(rt, desk, at, last_phase);
         }
     }
 
-    // Begins to connect a slot, where it is due and its peer is owed something.
-    fn connect_if_due<D: Disk, R: Log, P: Pace>(
+    // Takes what was found of a peer's host. A name that was known before keeps its addresses.
+    fn hear_of<R: Wait + Log>(&mut self, rt: &R, at: usize) {
+        let Some(peer) = self.peers.get_mut(at) else {
+            return;
+        };
+        match self
+            .hosts
+            .news(rt, peer.plan.peer, &mut peer.seen)
+            .unwrap_or(None)
+        {
+            Some(Answer::Found(addresses)) => {
+                peer.is_unknown = false;
+                peer.plan.addresses = addresses;
+            }
+            Some(Answer::Unknown(reason)) => {
+                peer.is_unknown = peer.plan.addresses.is_empty();
+                // Both feeders hear of it.
+                if self.which == 0 {
+                    tell_unknown(rt, name_of(&self.peers, at), reason.as_str());
+                }
+            }
+            None => {}
+        }
+    }
+
+    // Begins to connect the slots of a peer that are due, while it is owed more than its connections can hold.
+    fn connect_peer<D: Disk, R: Wait + Log, P: Pace>(
         &mut self,
         rt: &R,
         desk: &Desk<'_, D, N, P>,
         at: usize,
         last_phase: bool,
     ) {
-        let Some(slot) = self.slots.get(at).copied() else {
-            return;
-        };
-        if !slot.is_due(desk.now, last_phase) {
-            return;
+        for slot in self.slots_from(at)..self.slots_to(at) {
+            let is_due = match self.slots.get(slot) {
+                Some(slot) => slot.is_due(desk.now, last_phase),
+                None => false,
+            };
+            if is_due && self.connect_slot(rt, desk, at, slot, last_phase) == Begun::Enough {
+                break;
+            }
         }
-        let Some(plan) = self.plans.get(slot.plan()) else {
-            return;
-        };
-        match desk.owes(plan.peer) {
-            Some(true) => self.begin(rt, at, slot, desk.now),
-            Some(false) => {}
-            None => self.looks = true,
+        if let Some(peer) = self.peers.get_mut(at) {
+            peer.is_unknown &= self.looks;
         }
     }
 
-    // Begins to connect a slot; where it waited, its peer's host is looked up again before.
-    fn begin<R: Log>(&mut self, rt: &R, at: usize, slot: Slot, now: u64) {
-        if slot.is_waiting() {
-            self.look_up_again(rt, slot.plan(), now);
+    // Begins to connect a slot of a peer that is due, if the peer is owed more than its connections can hold.
+    fn connect_slot<D: Disk, R: Wait + Log, P: Pace>(
+        &mut self,
+        rt: &R,
+        desk: &Desk<'_, D, N, P>,
+        at: usize,
+        slot: usize,
+        last_phase: bool,
+    ) -> Begun {
+        let Some(peer) = self.peers.get(at) else {
+            return Begun::Enough;
+        };
+        if peer.is_closed {
+            return Begun::Enough;
         }
-        if let Err(error) = self.connect(at) {
-            tell_unmade(rt, name_of(&self.plans, slot.plan()), &error);
-            self.unmade(at, now);
+        let (index, room) = (peer.plan.peer, peer.plan.room());
+        match desk.take_room(index, room) {
+            Some(true) => {}
+            Some(false) => return Begun::Enough,
+            None => {
+                self.looks = true;
+                return Begun::Enough;
+            }
+        }
+        if peer.plan.addresses.is_empty() && !peer.is_unknown {
+            desk.give_room(index, room);
+            self.ask(rt, at, desk.now);
+            return Begun::Enough;
+        }
+        self.begin(rt, desk, at, slot, last_phase);
+        Begun::Next
+    }
+
+    // Begins to connect a slot. If it waited, its peer's host is looked up again meanwhile.
+    fn begin<D: Disk, R: Wait + Log, P: Pace>(
+        &mut self,
+        rt: &R,
+        desk: &Desk<'_, D, N, P>,
+        at: usize,
+        slot: usize,
+        last_phase: bool,
+    ) {
+        let waited = match self.slots.get(slot) {
+            Some(slot) => slot.is_waiting(),
+            None => false,
+        };
+        if waited {
+            self.ask(rt, at, desk.now);
+        }
+        if let Err(error) = self.connect(at, slot, desk.now) {
+            if !self.is_unknown(at) {
+                tell_unmade(rt, name_of(&self.peers, at), &error);
+            }
+            if let Some(peer) = self.peers.get(at) {
+                desk.give_room(peer.plan.peer, peer.plan.room());
+            }
+            self.unmade(desk, slot, last_phase);
         }
     }
 
-    // Looks the host of a plan's peer up again, once in a second at most, however many of its slots are due: a resolver
-    // that does not answer holds the thread up. What is found replaces its addresses; else they stay.
-    fn look_up_again<R: Log>(&mut self, rt: &R, plan: usize, now: u64) {
-        let Some(plan) = self.plans.get_mut(plan) else {
-            return;
-        };
-        if plan.looked_up == Some(now) {
-            return;
-        }
-        plan.looked_up = Some(now);
-        let host = plan.host.as_str();
-        if let Ok(found) = look_up(rt, self.alloc, &self.net, &plan.name, host, plan.port)
-            && !found.is_empty()
+    // Has a peer's host looked up, once in a second at most.
+    fn ask<R: Wait>(&mut self, rt: &R, at: usize, now: u64) {
+        if let Some(peer) = self.peers.get_mut(at)
+            && peer.asked != Some(now)
         {
-            plan.addresses = found;
+            peer.asked = Some(now);
+            self.hosts.ask(rt, peer.plan.peer);
         }
     }
 
-    /// A slot's connection could not be made, to one of as many addresses as its peer has now.
-    pub(crate) fn unmade(&mut self, at: usize, now: u64) {
+    // Whether a peer's host was looked up and is not known.
+    fn is_unknown(&self, at: usize) -> bool {
+        match self.peers.get(at) {
+            Some(peer) => peer.is_unknown,
+            None => false,
+        }
+    }
+
+    /// A slot's connection could not be made, to one of as many addresses as its peer has now. In the last phase the
+    /// peer's other slots are tried at once then.
+    pub(crate) fn unmade<D: Disk, P: Pace>(
+        &mut self,
+        desk: &Desk<'_, D, N, P>,
+        at: usize,
+        last_phase: bool,
+    ) {
         let Some(slot) = self.slots.get_mut(at) else {
             return;
         };
-        let addresses = match self.plans.get(slot.plan()) {
-            Some(plan) => plan.addresses.len(),
-            None => 0,
+        let Some(peer) = self.peers.get(slot.plan()) else {
+            return;
         };
-        slot.unmade(now, addresses);
+        slot.unmade(desk.now, peer.plan.addresses.len());
+        if last_phase {
+            desk.set_failing(peer.plan.peer, true);
+        }
+        self.looks = true;
     }
 
     // Begins to connect a slot, to the next address of its peer.
-    fn connect(&mut self, at: usize) -> io::Result<()> {
-        let Some(slot) = self.slots.get_mut(at) else {
+    fn connect(&mut self, at: usize, slot_at: usize, now: u64) -> io::Result<()> {
+        let (Some(slot), Some(peer)) = (self.slots.get_mut(slot_at), self.peers.get(at)) else {
             return Err(io::Error::from(ErrorKind::NotFound));
         };
-        let Some(plan) = self.plans.get(slot.plan()) else {
-            return Err(io::Error::from(ErrorKind::NotFound));
-        };
-        let address = plan.address(slot.tries());
+        let address = peer.plan.address(slot.tries());
         slot.tried();
         let Some(address) = address else {
             return Err(io::Error::from(ErrorKind::AddrNotAvailable));
@@ -115,10 +204,15 @@ impl<S: Articles + Drop, C: Net + Drop, N: Naming> Feeder<S, C, N> {
         let Some(next) = self.number.checked_add(2) else {
             return Err(io::Error::from(ErrorKind::QuotaExceeded));
         };
-        let conn = Conn::new(self.alloc, CxnId(self.number), plan.options)?;
+        let conn = Conn::new(self.alloc, CxnId(self.number), peer.plan.options)?;
         self.connections.reserve(1)?;
         link.register(self.poll.registry(), Token(self.connections.vacant_key()))?;
-        let made = Connection::new(self.alloc, conn, link, address, plan.peer, at);
+        let place = Place {
+            peer: peer.plan.peer,
+            slot: slot_at,
+            room: peer.plan.room(),
+        };
+        let made = Connection::new(self.alloc, conn, link, address, place, now);
         let _ = self.connections.insert_reserved(made);
         self.number = next;
         Ok(())

@@ -1,17 +1,19 @@
 // One connection: a connection's value, its socket, and what it holds.
 use crate::Spool;
+use crate::ending::{Cause, Ended, Phase};
+use crate::peer::Peer;
+use crate::setbacks::Failure;
 use crate::telling::{tell_unread, tell_unsent};
-use article_store::{Articles, Found, StoreFault};
+use crate::unread::UnreadPaths;
+use article_store::{Found, SpoolDirectory, StoreFault};
 use conn_core::{Conn, CxnId, Mode, Outcome, Ready, Reason};
 use event_loop::{Moved, SocketLink, put_out, take_in};
-use funnel::Token;
 use ledger_core::Debt;
 use log::Log;
 use mio::event::Event;
 use peer_queue::number_in;
-use std::alloc::{AllocError, Global};
-use std::collections::BTreeMap;
-use std::io;
+use std::alloc::Global;
+use std::io::{self, ErrorKind};
 use std::net::SocketAddr;
 
 // How many octets of output are enough: they are sent before another article is read.
@@ -20,29 +22,60 @@ const ENOUGH: usize = 65_536;
 // How many calls of a socket, one after another, are enough before other connections have their turn.
 const CALLS: u64 = 64;
 
+// How long a host has to take a connection, in seconds.
+const MOST_CONNECTING: u64 = 10;
+
+/// For whom a connection is made.
+#[derive(Clone, Copy)]
+pub(crate) struct Place {
+    /// The index of its peer at the post.
+    pub peer: usize,
+    /// The index of its slot among the feeder's.
+    pub slot: usize,
+    /// For how many debts it counts among the peer's connections.
+    pub room: u64,
+}
+
+// A debt that is put off once it comes back.
+#[derive(Clone, Copy)]
+struct Postponed {
+    number: u64,
+    until: u64,
+}
+
 /// A connection of a feeder.
 #[derive(Drop)]
 pub(crate) struct Connection {
+    alloc: Global,
     conn: Conn,
     link: SocketLink,
     address: SocketAddr,
+    place: Place,
+    // The second in which it began to be made.
+    begun: u64,
     // Why it could not be made.
     failure: Option<io::Error>,
-    // The index of its peer at the post.
-    peer: usize,
-    // The index of its slot among the feeder's.
-    slot: usize,
     // The socket was not yet reported ready.
     is_connecting: bool,
-    is_agreed: bool,
-    // It was left before its peer had agreed to a mode.
-    is_left_early: bool,
+    // Its peer has sent something that did not close it: it has greeted.
+    has_greeted: bool,
+    // The mode that its peer has agreed to.
+    agreed: Option<Mode>,
+    // It was asked to end.
+    is_left: bool,
+    // What the feeder saw of its end, besides the reason for which it closed.
+    ended: Ended,
+    // The number of the debt whose article could not be read.
+    unread: Option<u64>,
+    // The debt to be put off was looked for.
+    is_judged: bool,
+    postponed: Option<Postponed>,
     // Something happened on it, or may have.
     is_touched: bool,
     // The station was in use when it was asked.
     is_held_up: bool,
-    // Where the articles lie of the debts that it holds.
-    held: BTreeMap<u64, Token>,
+    // How many debts it holds.
+    held: u64,
     // An outcome that the station could not take yet: it goes before all others.
     kept: Option<Outcome>,
     // How many debts its peer deferred since it was asked last.
@@ -50,28 +83,34 @@ pub(crate) struct Connection {
 }
 
 impl Connection {
-    /// One that is being made to this address, for this slot of this peer.
+    /// One that begins to be made to this address in this second.
     pub fn new(
         alloc: Global,
         conn: Conn,
         link: SocketLink,
         address: SocketAddr,
-        peer: usize,
-        slot: usize,
+        place: Place,
+        begun: u64,
     ) -> Self {
         Connection {
+            alloc,
             conn,
             link,
             address,
+            place,
+            begun,
             failure: None,
-            peer,
-            slot,
             is_connecting: true,
-            is_agreed: false,
-            is_left_early: false,
+            has_greeted: false,
+            agreed: None,
+            is_left: false,
+            ended: Ended::Unseen,
+            unread: None,
+            is_judged: false,
+            postponed: None,
             is_touched: false,
             is_held_up: false,
-            held: BTreeMap::new(alloc),
+            held: 0,
             kept: None,
             deferred: 0,
         }
@@ -84,12 +123,17 @@ impl Connection {
 
     /// The index of its peer at the post.
     pub fn peer(&self) -> usize {
-        self.peer
+        self.place.peer
     }
 
     /// The index of its slot among the feeder's.
     pub fn slot(&self) -> usize {
-        self.slot
+        self.place.slot
+    }
+
+    /// For how many debts it counts among the peer's connections.
+    pub fn room(&self) -> u64 {
+        self.place.room
     }
 
     /// The peer's address.
@@ -97,7 +141,7 @@ impl Connection {
         self.address
     }
 
-    /// Why it could not be made, where it could not.
+    /// Why it could not be made, if it could not.
     pub fn failure(&self) -> Option<&io::Error> {
         self.failure.as_ref()
     }
@@ -146,7 +190,7 @@ impl Connection {
 
     /// Whether it holds debts.
     pub fn is_holding(&self) -> bool {
-        self.kept.is_some() || !self.held.is_empty()
+        self.kept.is_some() || self.held > 0
     }
 
     /// Whether it is to be dropped: it closed, and all its outcomes were taken.
@@ -176,35 +220,51 @@ impl Connection {
         self.is_touched = true;
         self.link.note(event);
         if self.is_connecting && (event.is_writable() || event.is_error()) {
-            self.is_connecting = false;
             match self.link.take_error() {
-                Ok(None) => {}
-                Ok(Some(error)) | Err(error) => {
-                    self.failure = Some(error);
-                    self.conn.broken();
-                }
+                Ok(None) => self.is_connecting = false,
+                Ok(Some(error)) | Err(error) => self.fail(error),
             }
         }
     }
 
-    /// A second has passed.
+    // It could not be made.
+    fn fail(&mut self, error: io::Error) {
+        self.is_connecting = false;
+        self.failure = Some(error);
+        self.conn.broken();
+    }
+
+    /// A second has passed. If the host has not taken it within 10 seconds it is given up.
     pub fn tick(&mut self, now: u64) {
         self.is_touched = true;
+        if self.is_connecting && now.saturating_sub(self.begun) >= MOST_CONNECTING {
+            self.fail(io::Error::from(ErrorKind::TimedOut));
+        }
         self.conn.tick(now);
     }
 
     /// Whether its peer has agreed to a mode since it was asked last.
     pub fn take_agreed(&mut self) -> bool {
-        if self.is_agreed || self.conn.mode().is_none() {
+        if self.agreed.is_some() {
             return false;
         }
-        self.is_agreed = true;
-        true
+        self.agreed = self.conn.mode();
+        self.agreed.is_some()
     }
 
-    /// The mode that its peer has agreed to.
+    /// The mode that its peer has agreed to, if it was asked whether it has.
     pub fn mode(&self) -> Option<Mode> {
-        self.conn.mode()
+        self.agreed
+    }
+
+    /// How much less room it counts for from now on, since it goes by IHAVE, which takes one debt at a time.
+    pub fn shrink(&mut self) -> u64 {
+        if self.agreed != Some(Mode::Ihave) {
+            return 0;
+        }
+        let less = self.place.room.saturating_sub(1);
+        self.place.room -= less;
+        less
     }
 
     /// Whether a debt can be offered.
@@ -215,22 +275,31 @@ impl Connection {
     /// Asks the peer to end it in good order; one whose peer has not agreed to a mode breaks.
     pub fn leave(&mut self) {
         self.is_touched = true;
-        if self.is_agreed {
+        self.is_left = self.conn.closed().is_none();
+        if self.agreed.is_some() {
             self.conn.quit();
         } else {
-            self.is_left_early = self.conn.closed().is_none();
             self.conn.broken();
         }
     }
 
     /// Whether it closed since it was left before its peer had agreed to a mode.
     pub fn is_left_early(&self) -> bool {
-        self.is_left_early
+        self.is_left && self.agreed.is_none()
     }
 
-    /// It broke.
-    pub fn broken(&mut self) {
+    /// It is given up.
+    pub fn give_up(&mut self) {
+        self.is_left = true;
+        self.end(Ended::ByUs);
         self.conn.broken();
+    }
+
+    // The first thing that was seen of its end.
+    fn end(&mut self, ended: Ended) {
+        if matches!(self.ended, Ended::Unseen) {
+            self.ended = ended;
+        }
     }
 
     /// Takes in what has come.
@@ -240,30 +309,55 @@ impl Connection {
                 return;
             }
             match take_in(&mut self.conn, &mut self.link, buffer) {
-                Moved::Done(_) => {}
-                Moved::Later | Moved::Closed | Moved::Fault => return,
+                Moved::Done(count) => self.hear(buffer.get(..count).unwrap_or(&[])),
+                Moved::Later => return,
+                Moved::Closed => return self.end(Ended::ByPeer),
+                Moved::Fault => return self.fail_link(),
             }
         }
         self.is_touched = true;
     }
 
-    /// Sends what is put out.
-    pub fn send(&mut self) {
+    // These octets have come, and were taken in.
+    fn hear(&mut self, octets: &[u8]) {
+        match self.conn.closed() {
+            None => self.has_greeted = true,
+            Some(Reason::Reader(_)) => self.end(Ended::heard(self.alloc, octets)),
+            Some(_) => {}
+        }
+    }
+
+    // Its link failed.
+    fn fail_link(&mut self) {
+        match self.link.take_fault() {
+            Some(error) => self.end(Ended::Fault(error)),
+            None => self.end(Ended::ByPeer),
+        }
+    }
+
+    /// Sends what is put out, and answers how many octets went.
+    pub fn send(&mut self) -> u64 {
+        let mut sent = 0u64;
         for _ in 0..CALLS {
             match put_out(&mut self.conn, &mut self.link) {
-                Moved::Done(_) => {}
-                Moved::Later | Moved::Closed | Moved::Fault => return,
+                Moved::Done(count) => sent = sent.saturating_add(count as u64),
+                Moved::Later => return sent,
+                Moved::Closed | Moved::Fault => {
+                    self.fail_link();
+                    return sent;
+                }
             }
         }
         self.is_touched = true;
+        sent
     }
 
     /// Whether all was sent that was put out, and more can be put out at once.
     pub fn can_go_on(&self) -> bool {
-        self.conn.output().is_empty() && self.conn.need().is_some()
+        self.conn.output().is_empty() && self.conn.wanted().is_some()
     }
 
-    /// The next outcome, and what it was about is held no more. Behind one that is lost it is to be looked at again: no
+    /// The next outcome, and what it was about is held no more. After one that is lost it is to be looked at again: no
     /// answer comes that would tell that there is room for another debt.
     pub fn next_outcome(&mut self) -> Option<Outcome> {
         if let Some(kept) = self.kept.take() {
@@ -275,7 +369,7 @@ impl Connection {
             Outcome::Lost(_, _) => self.is_touched = true,
             Outcome::Final(_) | Outcome::Back(_) => {}
         }
-        let _ = self.held.remove(&number_in(&outcome));
+        self.held = self.held.saturating_sub(1);
         Some(outcome)
     }
 
@@ -286,59 +380,156 @@ impl Connection {
 
     /// Offers a debt to the peer. One that is refused is kept, to go back.
     pub fn offer(&mut self, debt: Debt) {
-        let number = debt.number();
-        if self.hold(&debt).is_err() {
-            self.kept = Some(Outcome::Back(debt));
+        match self.conn.offer(debt) {
+            Ok(()) => self.held = self.held.saturating_add(1),
+            Err(back) => self.kept = Some(Outcome::Back(back.debt)),
+        }
+    }
+
+    /// Once it has closed, decides whether the debt at which it failed is to be put off, and until when.
+    pub fn judge(&mut self, peer: &mut Peer, now: u64) {
+        if self.is_judged || self.conn.closed().is_none() {
             return;
         }
-        if let Err(back) = self.conn.offer(debt) {
-            let _ = self.held.remove(&number);
-            self.kept = Some(Outcome::Back(back.debt));
+        self.is_judged = true;
+        if let Some((number, failure)) = self.suspect()
+            && let Some(wait) = peer.setbacks.wait_after(number, failure)
+        {
+            let until = now.saturating_add(wait);
+            self.postponed = Some(Postponed { number, until });
         }
     }
 
-    // Notes where the article of a debt lies.
-    fn hold(&mut self, debt: &Debt) -> Result<(), AllocError> {
-        let token = debt.token().clone()?;
-        let _ = self.held.insert(debt.number(), token)?;
-        Ok(())
+    // The number of the debt at which it failed, and how. None if it failed at none, or was left.
+    fn suspect(&self) -> Option<(u64, Failure)> {
+        if self.is_left || self.ended.is_of_system() {
+            return None;
+        }
+        if let Some(number) = self.unread {
+            return Some((number, Failure::AtDebt));
+        }
+        let failure = match self.conn.closed()? {
+            Reason::Unmatched => Failure::AtDebt,
+            Reason::Broken | Reason::Reader(_) | Reason::Timeout => Failure::Broke,
+            Reason::Greeting(_) | Reason::Ended(_) | Reason::Quit => return None,
+        };
+        let number = self.conn.first_unanswered()?;
+        Some((number, failure))
     }
 
-    /// Hands in the articles that are wanted, until enough is put out. It breaks where one can't be read.
-    pub fn hand_in<R: Log, S: Articles>(&mut self, rt: &R, spool: &mut Spool<S>) {
+    /// Until when the debt of this outcome is to be put off, if it is the one at which it failed.
+    pub fn postponed(&self, outcome: &Outcome) -> Option<u64> {
+        let postponed = self.postponed?;
+        let is_back = matches!(outcome, Outcome::Back(_));
+        if is_back && postponed.number == number_in(outcome) {
+            Some(postponed.until)
+        } else {
+            None
+        }
+    }
+
+    /// Whether it failed at a debt, and not for its host: its peer had answered a command about a debt as it should.
+    pub fn is_failed_at_debt(&self) -> bool {
+        let is_at_debt = matches!(self.suspect(), Some((_, Failure::AtDebt)));
+        is_at_debt && self.conn.has_answered()
+    }
+
+    /// Why it closed, in words.
+    pub fn cause(&self) -> Cause<'_> {
+        Cause {
+            reason: self.conn.closed(),
+            refused: self.conn.refused(),
+            ended: &self.ended,
+        }
+    }
+
+    /// How far it had come.
+    pub fn phase(&self) -> Phase {
+        match self.agreed {
+            Some(Mode::Streaming) => Phase::Streaming,
+            Some(Mode::Ihave) => Phase::Ihave,
+            None if self.has_greeted => Phase::Mode,
+            None => Phase::Greeting,
+        }
+    }
+
+    /// Hands in the articles that are wanted, until enough is put out. It closes if one can't be read. Answers whether
+    /// the articles are within reach: if not, none is handed in.
+    pub fn hand_in<R: Log, S: SpoolDirectory>(
+        &mut self,
+        rt: &R,
+        spool: &mut Spool<S>,
+        unread: &mut UnreadPaths,
+    ) -> bool {
         for _ in 0..u64::MAX {
             if self.conn.output().len() >= ENOUGH {
-                return;
+                return true;
             }
-            let Some(number) = self.conn.need() else {
-                return;
-            };
-            if !self.hand(rt, number, spool) {
-                self.conn.broken();
-                return;
+            match self.hand(rt, spool, unread) {
+                Handed::None => return true,
+                Handed::One => {}
+                Handed::OutOfReach => return false,
             }
         }
+        true
     }
 
-    // Hands in the article of this number, and answers whether it was taken. Where memory was refused nothing is told.
-    fn hand<R: Log, S: Articles>(&mut self, rt: &R, number: u64, spool: &mut Spool<S>) -> bool {
-        let Some(token) = self.held.get(&number) else {
-            return false;
+    // Hands in the article that came to be wanted first. If memory is refused nothing is told.
+    fn hand<R: Log, S: SpoolDirectory>(
+        &mut self,
+        rt: &R,
+        spool: &mut Spool<S>,
+        unread: &mut UnreadPaths,
+    ) -> Handed {
+        let Some(debt) = self.conn.wanted() else {
+            return Handed::None;
         };
-        match spool.store.fetch(token) {
+        let number = debt.number();
+        match spool.store.fetch(debt.token()) {
+            Ok(Found::Gone) if !spool.store.is_there() => {
+                unread.add(self.alloc, &spool.path, None);
+                self.end(Ended::NoSpool);
+                self.conn.broken();
+                return Handed::OutOfReach;
+            }
             Ok(found) => {
                 match &found {
                     Found::Article(_) => {}
-                    Found::Gone => tell_unsent(rt, token, "is gone, and is offered no more"),
-                    Found::Unsendable => tell_unsent(rt, token, "is no text that can be sent"),
+                    Found::Gone => {
+                        tell_unsent(rt, debt.token(), "not found in the spool; dropped")
+                    }
+                    Found::Unsendable => {
+                        tell_unsent(
+                            rt,
+                            debt.token(),
+                            "cannot be sent (empty, too long, NUL or bare CR); dropped",
+                        )
+                    }
                 }
-                self.conn.article(number, found).is_ok()
+                if self.conn.article(number, found).is_ok() {
+                    return Handed::One;
+                }
             }
             Err(StoreFault::Disk) => {
-                tell_unread(rt, &spool.path, token);
-                false
+                let reason = spool.store.take_reason();
+                tell_unread(rt, &spool.path, debt.token(), reason.as_ref());
+                unread.add(self.alloc, &spool.path, Some(debt.token()));
+                self.unread = Some(number);
+                self.end(Ended::Unread(reason));
             }
-            Err(StoreFault::NoMemory) => false,
+            Err(StoreFault::NoMemory) => {}
         }
+        self.conn.broken();
+        Handed::None
     }
+}
+
+// What became of an article that was to be handed in.
+enum Handed {
+    // None is wanted, or the connection has closed.
+    None,
+    // It was handed in.
+    One,
+    // The articles are out of reach.
+    OutOfReach,
 }

@@ -76,6 +76,32 @@ impl<D: Disk, N: Naming, P: Pace> Desk<'_, D, N, P> {
         }
     }
 
+    /// Puts off until this moment a debt that this connection held.
+    ///
+    /// # Errors
+    /// The debt comes back with the post's fault, `Busy` only if it waits for nobody, or `NoPeer`.
+    pub fn put_off<R: Wait>(
+        &self,
+        rt: &R,
+        peer: usize,
+        connection: CxnId,
+        debt: Debt,
+        until: u64,
+    ) -> Result<(), (Debt, FeederFault)> {
+        if peer >= self.post.peers() {
+            return Err((debt, FeederFault::NoPeer));
+        }
+        let ended = if self.waits {
+            self.post.put_off(rt, peer, connection, debt, until)
+        } else {
+            self.post.try_put_off(peer, connection, debt, until)
+        };
+        match ended {
+            Ok(()) => Ok(()),
+            Err((debt, fault)) => Err((debt, FeederFault::from(fault))),
+        }
+    }
+
     /// Makes all debts ready that this connection held. False where the station is in use, and it waits for nobody.
     pub fn release<R: Wait>(&self, rt: &R, peer: usize, connection: CxnId) -> bool {
         if peer >= self.post.peers() {
@@ -88,13 +114,27 @@ impl<D: Disk, N: Naming, P: Pace> Desk<'_, D, N, P> {
         self.post.try_release(peer, connection).is_some()
     }
 
-    /// Whether the peer is owed anything, held or not. None where its station is in use.
-    pub fn owes(&self, peer: usize) -> Option<bool> {
+    /// Counts a connection of the peer that can hold so many debts, if the peer is owed more than those can hold that
+    /// are counted. None if its station is in use.
+    pub fn take_room(&self, peer: usize, room: u64) -> Option<bool> {
         if peer >= self.post.peers() {
             return Some(false);
         }
-        let owed = self.post.try_owed(peer)?;
-        Some(owed > 0)
+        self.post.try_take_room(peer, room)
+    }
+
+    /// So much room is no longer there.
+    pub fn give_room(&self, peer: usize, room: u64) {
+        if peer < self.post.peers() {
+            self.post.give_room(peer, room);
+        }
+    }
+
+    /// A connection of the peer failed, or agreed to a mode.
+    pub fn set_failing(&self, peer: usize, is_failing: bool) {
+        if peer < self.post.peers() {
+            self.post.set_failing(peer, is_failing);
+        }
     }
 
     /// Whether no debt of the peer is ready, and no connection holds one, as far as that can be told now.
@@ -138,4 +178,12 @@ pub(crate) fn is_full(fault: FeederFault) -> bool {
             ..
         })
     )
+}
+
+/// Whether a peer's tape failed, which concerns that peer alone.
+pub(crate) fn is_of_tape(fault: FeederFault) -> bool {
+    let FeederFault::Post(PostFault::Station { fault, .. }) = fault else {
+        return false;
+    };
+    matches!(fault, StationFault::Broken | StationFault::Tape(_))
 }

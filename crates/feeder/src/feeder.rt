@@ -2,10 +2,12 @@
 ghost use Rattle.std.specs.Prelude.{◌≡◌, ◌+◌, ◌-◌, ◌/◌, ◌%◌};
 
 use crate::connection::Connection;
-use crate::{FeederFault, PeerPlan, Slot, Spool};
-use article_store::Articles;
+use crate::peer::Peer;
+use crate::{FeederFault, PeerPlan, Slot, Spool, UnreadPaths};
+use article_store::SpoolDirectory;
 use flusher::{FeederShare, Naming};
 use mio::{Events, Poll, Token, Waker};
+use resolver::Resolver;
 use slab::Slab;
 use std::alloc::{AllocError, Global};
 use std::io;
@@ -15,8 +17,8 @@ use std::time::Instant;
 // How many octets one receipt takes in at most.
 const BUFFER: usize = 65_536;
 
-// How many reports one wait gives at most.
-const EVENTS: usize = 1_024;
+/// How many reports one wait gives at most.
+pub(crate) const EVENTS: usize = 1_024;
 
 /// The token of the wakers. Connections have their keys.
 pub(crate) const WAKER: Token = Token(usize::MAX);
@@ -24,20 +26,23 @@ pub(crate) const WAKER: Token = Token(usize::MAX);
 /// One thread's work: its connections to all peers. It owns all that it works with, and so goes into its thread by
 /// value and comes back.
 #[derive(Drop)]
-pub struct Feeder<S: Articles + Drop, C: Net + Drop, N: Naming> {
+pub struct Feeder<S: SpoolDirectory + Drop, C: Net + Drop, N: Naming> {
     /// What it has counted.
     pub share: FeederShare<N>,
-    /// Why it ended before its work was done, if it did.
+    /// The first fault that it met, if it met one: of a peer's tape, or one that ended its work.
     pub fault: Option<FeederFault>,
+    /// The files that it could not read.
+    pub unread: UnreadPaths,
     pub(crate) alloc: Global,
     pub(crate) net: C,
+    pub(crate) hosts: Resolver,
     pub(crate) spool: Spool<S>,
     pub(crate) start: Instant,
     pub(crate) which: u8,
-    pub(crate) plans: Vec<PeerPlan>,
-    // Plan by plan.
+    pub(crate) peers: Vec<Peer>,
+    // Peer by peer.
     pub(crate) slots: Vec<Slot>,
-    // How many slots there are up to the end of each plan's.
+    // How many slots there are up to the end of each peer's.
     ends: Vec<usize>,
     pub(crate) connections: Slab<Connection>,
     pub(crate) poll: Poll,
@@ -49,19 +54,23 @@ pub struct Feeder<S: Articles + Drop, C: Net + Drop, N: Naming> {
     pub(crate) ticked: Option<u64>,
     // Slots are to be looked at, whether one of them is to be given a connection.
     pub(crate) looks: bool,
+    // A peer's tape has failed, of which the others were not told yet.
+    pub(crate) has_lost_tape: bool,
     // The second in which it first saw the last phase.
     pub(crate) last_phase_since: Option<u64>,
 }
 
-impl<S: Articles + Drop, C: Net + Drop, N: Naming> Feeder<S, C, N> {
-    /// A feeder, the first (0) or the second (1): connection k of each peer is its where k mod 2 is `which`. Articles
-    /// come from `spool`; `start` is the moment 0 of all threads, and `net` the leave to open sockets.
+impl<S: SpoolDirectory + Drop, C: Net + Drop, N: Naming> Feeder<S, C, N> {
+    /// A feeder, the first (0) or the second (1): connection k of each peer is its if k mod 2 is `which`. Articles come
+    /// from `spool`; `start` is the moment 0 of all threads, `net` the leave to open sockets, and `hosts` knows where
+    /// the peers are.
     ///
     /// # Errors
-    /// What the system says where no poll can be made; want of memory.
+    /// What the system says if no poll can be made; want of memory.
     pub fn new(
         alloc: Global,
         net: C,
+        hosts: Resolver,
         spool: Spool<S>,
         which: u8,
         plans: Vec<PeerPlan>,
@@ -72,15 +81,21 @@ impl<S: Articles + Drop, C: Net + Drop, N: Naming> Feeder<S, C, N> {
         let events = Events::with_capacity(alloc, EVENTS)?;
         let buffer = vec![in alloc; 0u8; BUFFER]?;
         let (slots, ends) = slots_of(alloc, &plans, which)?;
+        let mut peers = Vec::new(alloc);
+        for plan in plans {
+            peers.push(Peer::new(alloc, plan))?;
+        }
         Ok(Feeder {
             share,
             fault: None,
+            unread: UnreadPaths::new(alloc),
             alloc,
             net,
+            hosts,
             spool,
             start,
             which,
-            plans,
+            peers,
             slots,
             ends,
             connections: Slab::new(alloc),
@@ -90,6 +105,7 @@ impl<S: Articles + Drop, C: Net + Drop, N: Naming> Feeder<S, C, N> {
             number: u64::from(which),
             ticked: None,
             looks: true,
+            has_lost_tape: false,
             last_phase_since: None,
         })
     }
@@ -103,18 +119,24 @@ impl<S: Articles + Drop, C: Net + Drop, N: Naming> Feeder<S, C, N> {
         Waker::new(self.poll.registry(), WAKER)
     }
 
-    /// Its slots of the peer of this plan.
-    pub(crate) fn slots_of(&self, plan: usize) -> &[Slot] {
-        let begin = match plan.checked_sub(1) {
-            Some(before) => self.end_of(before),
-            None => 0,
-        };
-        self.slots.get(begin..self.end_of(plan)).unwrap_or(&[])
+    /// Its slots of this peer.
+    pub(crate) fn slots_of(&self, at: usize) -> &[Slot] {
+        self.slots
+            .get(self.slots_from(at)..self.slots_to(at))
+            .unwrap_or(&[])
     }
 
-    // How many slots there are up to the end of this plan's.
-    fn end_of(&self, plan: usize) -> usize {
-        self.ends.get(plan).copied().unwrap_or(0)
+    /// How many slots stand before those of this peer.
+    pub(crate) fn slots_from(&self, at: usize) -> usize {
+        match at.checked_sub(1) {
+            Some(before) => self.slots_to(before),
+            None => 0,
+        }
+    }
+
+    /// How many slots there are up to the end of this peer's.
+    pub(crate) fn slots_to(&self, at: usize) -> usize {
+        self.ends.get(at).copied().unwrap_or(0)
     }
 }
 

@@ -3,7 +3,7 @@ use crate::desk::Desk;
 use crate::moment::Moment;
 use crate::visit::settle;
 use crate::{Feeder, FeederFault};
-use article_store::Articles;
+use article_store::SpoolDirectory;
 use disk_model::Disk;
 use flusher::{Naming, Pace, Post, Signals};
 use log::Log;
@@ -17,7 +17,7 @@ const GOODBYE: u64 = 1_000;
 // How long one wait for them is at most, in milliseconds.
 const STEP: u64 = 50;
 
-impl<S: Articles + Drop, C: Net + Drop, N: Naming> Feeder<S, C, N> {
+impl<S: SpoolDirectory + Drop, C: Net + Drop, N: Naming> Feeder<S, C, N> {
     /// Leaves all connections in good order, where their peers answer within a second; what is held then goes back.
     pub(crate) fn leave<D: Disk, R: Wait + Clock + Log, P: Pace>(
         &mut self,
@@ -58,7 +58,7 @@ impl<S: Articles + Drop, C: Net + Drop, N: Naming> Feeder<S, C, N> {
             if self.is_waiting() {
                 signals.order();
             }
-            self.wait(rt, STEP)?;
+            let _ = self.wait(rt, STEP)?;
         }
         unreachable!()
     }
@@ -66,11 +66,26 @@ impl<S: Articles + Drop, C: Net + Drop, N: Naming> Feeder<S, C, N> {
     // Breaks each connection that is left, takes what it held back, and drops it.
     fn break_all<D: Disk, R: Wait + Log, P: Pace>(&mut self, rt: &R, desk: &Desk<'_, D, N, P>) {
         for key in 0..self.connections.capacity() {
-            if let Some(connection) = self.connections.get_mut(key) {
-                connection.broken();
-                let _ = settle(connection, rt, desk, &mut self.share);
-            }
+            self.break_one(rt, desk, key);
             self.remove(rt, desk, key);
+        }
+    }
+
+    // Breaks a connection, if it is there, and takes what it held back.
+    fn break_one<D: Disk, R: Wait + Log, P: Pace>(
+        &mut self,
+        rt: &R,
+        desk: &Desk<'_, D, N, P>,
+        key: usize,
+    ) {
+        let Some(connection) = self.connections.get_mut(key) else {
+            return;
+        };
+        connection.give_up();
+        if let Some(slot) = self.slots.get(connection.slot())
+            && let Some(peer) = self.peers.get_mut(slot.plan())
+        {
+            let _ = settle(connection, rt, desk, peer, &mut self.share);
         }
     }
 }

@@ -27,7 +27,7 @@ impl Moment {
                 millis: since.subsec_millis(),
             }),
             Err(error) => {
-                tell_refused(rt, "tell the time", &error);
+                tell_refused(rt, "read the clock", &error);
                 Err(FeederFault::System)
             }
         }

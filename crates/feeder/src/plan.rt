@@ -8,18 +8,12 @@ use std::net::SocketAddr;
 /// How a peer is fed.
 #[derive(Drop)]
 pub struct PeerPlan {
-    /// The index of its station at the post.
+    /// The index of its station at the post, and of its host among those that are looked up.
     pub peer: usize,
     /// Its name.
     pub name: PeerName,
-    /// Where it is (`ip-name`): a name or an address, which is looked up again where a connection failed.
-    pub host: String,
-    /// Its port (`port-number`).
-    pub port: u16,
-    /// The addresses of its host, as they were looked up; they are tried in turn, one a try.
+    /// The addresses of its host, as far as they are known: none at first. They are tried in turn, one a try.
     pub addresses: Vec<SocketAddr>,
-    /// The second in which its host was looked up again last: none before that.
-    pub looked_up: Option<u64>,
     /// How each connection to it works.
     pub options: Options,
     /// How many connections it is to have (`max-connections`).
@@ -31,6 +25,15 @@ pub struct PeerPlan {
 }
 
 impl PeerPlan {
+    /// How many debts one connection to it can hold, as far as that is known before it has agreed to a mode.
+    pub(crate) fn room(&self) -> u64 {
+        if self.options.streaming {
+            self.options.max_queue
+        } else {
+            1
+        }
+    }
+
     /// How many feeders have connections to it.
     pub(crate) fn feeders(&self) -> u64 {
         self.connections.min(2)

@@ -5,6 +5,6 @@
 pub struct Spool<S> {
     /// What gives them.
     pub store: S,
-    /// The path of the directory (`news-spool`), which is named where an article can't be read.
+    /// The path of the directory (`news-spool`), which is named if an article can't be read.
     pub path: String,
 }

@@ -1,28 +1,29 @@
 // What a feeder tells of its connections, where its runtime logs.
-use crate::PeerPlan;
 use crate::connection::Connection;
+use crate::ending::Cause;
+use crate::peer::Peer;
 use conn_core::{Mode, Reason};
 use funnel::{PeerName, Token};
-use log::{Log, info};
+use log::{Log, info, warn};
 use std::net::SocketAddr;
 use std::{io, str};
 
-/// The name of the peer of this plan.
-pub(crate) fn name_of(plans: &[PeerPlan], at: usize) -> &str {
-    match plans.get(at) {
-        Some(plan) => text_of(&plan.name),
+/// The name of one of these peers.
+pub(crate) fn name_of(peers: &[Peer], at: usize) -> &str {
+    match peers.get(at) {
+        Some(peer) => text_of(&peer.plan.name),
         None => "",
     }
 }
 
-// A peer's name, which is ASCII.
-fn text_of(name: &PeerName) -> &str {
+/// A peer's name, which is ASCII.
+pub(crate) fn text_of(name: &PeerName) -> &str {
     str::from_utf8(name.bytes()).unwrap_or("")
 }
 
 /// A peer's host could not be looked up.
-pub(crate) fn tell_unknown<R: Log>(rt: &R, name: &PeerName, host: &str, error: &io::Error) {
-    info!(rt; "{}: cannot look up {}: {}", text_of(name), host, error);
+pub(crate) fn tell_unknown<R: Log>(rt: &R, name: &str, reason: &str) {
+    info!(rt; "{}: cannot look up its host: {}", name, reason);
 }
 
 /// A peer agreed to be fed over a connection, in this mode.
@@ -54,35 +55,38 @@ pub(crate) fn tell_over<R: Log>(rt: &R, name: &str, connection: &Connection) {
         (Some(error), _) => {
             info!(rt; "{}: cannot connect to {}: {}", name, connection.address(), error)
         }
-        (None, Some(reason)) => tell_closed(rt, name, reason),
+        (None, Some(Reason::Quit)) => {
+            info!(rt; "{}: closed {} in good order", name, connection.address())
+        }
+        (None, Some(reason)) => {
+            info!(
+                rt; "{}: closed {} {}: {}{}",
+                name, connection.address(), connection.phase(), connection.cause(), advice(reason)
+            )
+        }
         (None, None) => {}
     }
 }
 
-// A connection closed for this reason.
-fn tell_closed<R: Log>(rt: &R, name: &str, reason: Reason) {
-    match reason {
-        Reason::Greeting(code) => {
-            info!(rt; "{}: closed: it greeted with {}{}", name, code, advice(code))
-        }
-        Reason::Ended(code) => {
-            info!(rt; "{}: closed: it ended the session with {}{}", name, code, advice(code))
-        }
-        Reason::Reader(_) => info!(rt; "{}: closed: what it sent is no NNTP reply", name),
-        Reason::Unmatched => info!(rt; "{}: closed: it sent a reply that answers nothing", name),
-        Reason::Timeout => info!(rt; "{}: closed: it did not answer in time", name),
-        Reason::Broken => info!(rt; "{}: closed: the connection broke", name),
-        Reason::Quit => info!(rt; "{}: closed in good order", name),
-    }
+/// A connection to a peer failed at the article under a token, which is offered again later. It is told in any case:
+/// an article that stops its peer again and again is an administrator's to look at.
+pub(crate) fn tell_postponed<R: Log>(rt: &R, name: &str, token: &Token, cause: Cause<'_>) {
+    warn!(rt; "{}: connection failed at {} ({}); deferred", name, token_text(token), cause);
 }
 
-// What is to be done about a code that ends a session (RFC 3977, section 3.2.1).
-fn advice(code: u16) -> &'static str {
-    match code {
-        400 => ", it takes no articles for now",
-        480 =>
-            ", it wants to be logged in to, which is not done here: have it know this host by its address",
-        502 => ", it does not permit this host to feed it: ask its administrator",
+/// A peer gets nothing more in this run.
+pub(crate) fn tell_stopped<R: Log>(rt: &R, name: &str, why: &str) {
+    info!(rt; "{}: gets no more articles in this run: {}", name, why);
+}
+
+// What is to be done about the code that ended a session (RFC 3977, section 3.2.1).
+fn advice(reason: Reason) -> &'static str {
+    match reason {
+        Reason::Greeting(400) | Reason::Ended(400) => ", it takes no articles for now",
+        Reason::Greeting(480) | Reason::Ended(480) =>
+            ", authentication is required and not supported: ask the peer to allow this host by address",
+        Reason::Greeting(502) | Reason::Ended(502) =>
+            ", this host may not feed it: ask its administrator",
         _ => "",
     }
 }
@@ -95,18 +99,21 @@ pub(crate) fn tell_given_up<R: Log>(rt: &R, name: &str) {
 /// A peer wants so many articles to be offered again later. Where it is none, nothing is told.
 pub(crate) fn tell_deferred<R: Log>(rt: &R, name: &str, count: u64) {
     if count > 0 {
-        info!(rt; "{}: defers {} articles", name, count);
+        info!(rt; "{}: deferred {} articles", name, count);
     }
 }
 
 /// Why the article under a token is not sent.
 pub(crate) fn tell_unsent<R: Log>(rt: &R, token: &Token, why: &str) {
-    info!(rt; "article {} {}", token_text(token), why);
+    info!(rt; "article {}: {}", token_text(token), why);
 }
 
 /// The article under a token can't be read from its file below the directory at this path.
-pub(crate) fn tell_unread<R: Log>(rt: &R, spool: &str, token: &Token) {
-    info!(rt; "article {}/{} cannot be read", spool, token_text(token));
+pub(crate) fn tell_unread<R: Log>(rt: &R, spool: &str, token: &Token, reason: Option<&io::Error>) {
+    match reason {
+        Some(error) => info!(rt; "cannot read {}/{}: {}", spool, token_text(token), error),
+        None => info!(rt; "cannot read {}/{}", spool, token_text(token)),
+    }
 }
 
 // A token, which is ASCII.

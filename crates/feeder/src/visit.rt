@@ -1,37 +1,57 @@
 // A visit of one connection: what came is taken in, what became of debts goes to the station, and more goes out.
 use crate::connection::Connection;
 use crate::desk::{Desk, is_busy, is_full};
+use crate::peer::Peer;
+use crate::telling::{tell_postponed, text_of};
+use crate::unread::UnreadPaths;
 use crate::{FeederFault, Spool};
-use article_store::Articles;
+use article_store::SpoolDirectory;
+use conn_core::Outcome;
 use disk_model::Disk;
 use flusher::{FeederShare, Naming, Pace};
+use funnel::Token;
+use ledger_core::Debt;
 use log::Log;
+use peer_queue::number_in;
+use std::alloc::AllocError;
 use std::sync::Wait;
 
 // How often a connection puts out and sends in one visit, before others have their turn.
 const ROUNDS: u64 = 64;
 
+// How many octets it sends in one visit, before others have their turn.
+const MOST_SENT: u64 = 1_048_576;
+
+/// What a visit works with, besides the connection.
+#[derive(Drop)]
+pub(crate) struct Means<'a, S, N: Naming> {
+    /// The connection's peer.
+    pub peer: &'a mut Peer,
+    pub spool: &'a mut Spool<S>,
+    pub buffer: &'a mut [u8],
+    pub share: &'a mut FeederShare<N>,
+    pub unread: &'a mut UnreadPaths,
+}
+
 /// Does all that can be done on a connection without waiting. What came goes first: it frees the window, so that one
 /// visit turns a window of replies into new articles, and one send.
 ///
 /// # Errors
-/// The post's, where no flush helps.
-pub(crate) fn visit<D: Disk, N: Naming, S: Articles, R: Wait + Log, P: Pace>(
+/// The post's, if no flush helps.
+pub(crate) fn visit<D: Disk, N: Naming, S: SpoolDirectory, R: Wait + Log, P: Pace>(
     connection: &mut Connection,
     rt: &R,
     desk: &Desk<'_, D, N, P>,
-    spool: &mut Spool<S>,
-    buffer: &mut [u8],
-    share: &mut FeederShare<N>,
+    means: &mut Means<'_, S, N>,
 ) -> Result<(), FeederFault> {
     connection.rest();
-    connection.receive(buffer);
-    settle(connection, rt, desk, share)?;
+    connection.receive(means.buffer);
+    settle(connection, rt, desk, means.peer, means.share)?;
     if connection.is_keeping() {
-        connection.send();
+        let _ = connection.send();
     } else {
-        work(connection, rt, desk, spool)?;
-        settle(connection, rt, desk, share)?;
+        work(connection, rt, desk, means)?;
+        settle(connection, rt, desk, means.peer, means.share)?;
     }
     Ok(())
 }
@@ -40,33 +60,74 @@ pub(crate) fn visit<D: Disk, N: Naming, S: Articles, R: Wait + Log, P: Pace>(
 /// is in use.
 ///
 /// # Errors
-/// The post's, where no flush helps; the outcome stays the connection's.
-pub(crate) fn settle<D: Disk, N: Naming, R: Wait, P: Pace>(
+/// The post's, if no flush helps; the outcome stays the connection's.
+pub(crate) fn settle<D: Disk, N: Naming, R: Wait + Log, P: Pace>(
     connection: &mut Connection,
     rt: &R,
     desk: &Desk<'_, D, N, P>,
+    peer: &mut Peer,
     share: &mut FeederShare<N>,
 ) -> Result<(), FeederFault> {
+    connection.judge(peer, desk.now);
     for _ in 0..u64::MAX {
         let Some(outcome) = connection.next_outcome() else {
             return Ok(());
         };
-        if let Err((outcome, fault)) = desk.finish(
-            rt,
-            connection.peer(),
-            connection.id(),
-            outcome,
-            share,
-        ) {
+        if let Err((outcome, fault)) = take(connection, rt, desk, peer, share, outcome) {
             connection.keep(outcome);
-            return put_off(connection, fault);
+            return wait_for(connection, fault);
         }
     }
     Ok(())
 }
 
-// Puts off what a station refused, where a flush or the next turn helps.
-fn put_off(connection: &mut Connection, fault: FeederFault) -> Result<(), FeederFault> {
+// Takes what became of a debt to the station. The debt at which the connection failed is put off.
+fn take<D: Disk, N: Naming, R: Wait + Log, P: Pace>(
+    connection: &Connection,
+    rt: &R,
+    desk: &Desk<'_, D, N, P>,
+    peer: &mut Peer,
+    share: &mut FeederShare<N>,
+    outcome: Outcome,
+) -> Result<(), (Outcome, FeederFault)> {
+    let postponed = connection.postponed(&outcome);
+    match (outcome, postponed) {
+        (Outcome::Back(debt), Some(until)) => put_off(connection, rt, desk, peer, debt, until),
+        (outcome, _) => {
+            let number = number_in(&outcome);
+            let is_end = matches!(outcome, Outcome::Final(_) | Outcome::Lost(_, _));
+            desk.finish(rt, connection.peer(), connection.id(), outcome, share)?;
+            if is_end {
+                peer.setbacks.forget(number);
+            }
+            Ok(())
+        }
+    }
+}
+
+// Puts a debt off at which the connection failed, and tells so.
+fn put_off<D: Disk, N: Naming, R: Wait + Log, P: Pace>(
+    connection: &Connection,
+    rt: &R,
+    desk: &Desk<'_, D, N, P>,
+    peer: &Peer,
+    debt: Debt,
+    until: u64,
+) -> Result<(), (Outcome, FeederFault)> {
+    let token: Result<Token, AllocError> = debt.token().clone();
+    match desk.put_off(rt, connection.peer(), connection.id(), debt, until) {
+        Ok(()) => {
+            if let Ok(token) = token {
+                tell_postponed(rt, text_of(&peer.plan.name), &token, connection.cause());
+            }
+            Ok(())
+        }
+        Err((debt, fault)) => Err((Outcome::Back(debt), fault)),
+    }
+}
+
+// Waits with what a station refused, if a flush or the next turn helps.
+fn wait_for(connection: &mut Connection, fault: FeederFault) -> Result<(), FeederFault> {
     if is_busy(fault) {
         connection.hold_up();
         return Ok(());
@@ -75,18 +136,26 @@ fn put_off(connection: &mut Connection, fault: FeederFault) -> Result<(), Feeder
 }
 
 // Offers debts, hands in articles and sends, in rounds: what is enough is sent before another article is read.
-fn work<D: Disk, N: Naming, S: Articles, R: Wait + Log, P: Pace>(
+fn work<D: Disk, N: Naming, S: SpoolDirectory, R: Wait + Log, P: Pace>(
     connection: &mut Connection,
     rt: &R,
     desk: &Desk<'_, D, N, P>,
-    spool: &mut Spool<S>,
+    means: &mut Means<'_, S, N>,
 ) -> Result<(), FeederFault> {
+    let mut sent = 0u64;
     for _ in 0..ROUNDS {
-        offer(connection, rt, desk)?;
-        connection.hand_in(rt, spool);
-        connection.send();
+        if !means.peer.is_closed {
+            offer(connection, rt, desk)?;
+        }
+        if !connection.hand_in(rt, means.spool, means.unread) {
+            means.peer.is_closed = true;
+        }
+        sent = sent.saturating_add(connection.send());
         if !connection.can_go_on() {
             return Ok(());
+        }
+        if sent >= MOST_SENT {
+            break;
         }
     }
     connection.touch();
@@ -106,7 +175,7 @@ fn offer<D: Disk, N: Naming, R: Wait, P: Pace>(
         match desk.claim(rt, connection.peer(), connection.id()) {
             Ok(Some(debt)) => connection.offer(debt),
             Ok(None) => return Ok(()),
-            Err(fault) => return put_off(connection, fault),
+            Err(fault) => return wait_for(connection, fault),
         }
     }
     Ok(())

@@ -76,6 +76,17 @@ module _ {D : Type 0} {g : Ghosts D} where
       → ∥ IsKept new ∥₁
   keeps_shed old new numbers disks stands kept = ∥∥₁_map kept (shed_kept old new numbers disks stands)
 
+  -- a call left the tape as it was, or was refused and changed nothing
+  pub keeps_moved : {A E : Type 0} (B C : Type 0) (old new : Station D g) (result : Result A E)
+      → OnOk result (IsSameTape old new × B × C) → OnErr result (IsSame old new) → ∥ IsKept old ∥₁ → ∥ IsKept new ∥₁
+  keeps_moved B C old new (Ok a) same refused kept = keeps_tape old new same.0 kept
+  keeps_moved B C old new (Err e) same refused kept = keeps_same old new refused kept
+
+  pub ledger_moved : {A E : Type 0} (B C : Type 0) (old new : Station D g) (result : Result A E)
+      → OnOk result (IsSameTape old new × B × C) → OnErr result (IsSame old new) → ledger_of new ≡ ledger_of old
+  ledger_moved B C old new (Ok a) same refused = ap tape_ledger same.0.tape
+  ledger_moved B C old new (Err e) same refused = refused.ledger
+
   -- what became of a debt is one note, or leaves the tape as it was
   pub keeps_settled : (connection number : ℕ) (settled : Settled) (old new : Station D g)
       → Settles connection number settled old new → ∥ IsKept old ∥₁ → ∥ IsKept new ∥₁

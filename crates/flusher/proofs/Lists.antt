@@ -1,5 +1,5 @@
 -- Lists that are made of others, one item after another.
-use Rattle.std.proofs.Common.{◌≡◌, ℕ, ◌+◌, List, [], ◌∷◌, ◌++◌, length, refl, ap, ◌∙◌, arith}
+use Rattle.std.proofs.Common.{◌≡◌, ℕ, ◌+◌, ◌≤◌, List, [], ◌∷◌, ◌++◌, length, refl, ap, ◌∙◌, arith}
 use Rattle.std.specs.Prelude.{map, sum_by}
 use Rattle.std.proofs.lemmas.List.Sums.{sum_by-append}
 use Rattle.std.proofs.lemmas.List.{map-append}
@@ -32,3 +32,8 @@ all_moved (y ∷ ys) = ap (λ (cs : List _). y ∷ cs) (all_moved ys)
 pub nothing : {A : Type 0} (xs : List A) → length xs ≡ 0 → xs ≡ []
 nothing [] none = refl
 nothing (x ∷ xs) none = absurd (omega arith)
+
+-- there is room for one of each, where there is room for so many more
+pub has_room : (len more count peers capacity : ℕ) → len + more ≤ capacity → more ≡ count → count ≡ peers
+    → peers ≤ capacity
+has_room len more count peers capacity room same all = omega (arith, room, same, all)

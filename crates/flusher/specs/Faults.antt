@@ -1,9 +1,9 @@
 -- Why a post refuses its calls.
-use Rattle.std.specs.Prelude.{◌≡◌, ◌⊎◌, ◌<◌, ℕ, List, [], slice_index_or, length, Contains}
+use Rattle.std.specs.Prelude.{◌≡◌, ◌≢◌, ◌⊎◌, ◌<◌, ℕ, List, [], slice_index_or, length, Contains}
 use Rattle.funnel.specs.Line.{IsFunnelLine}
 use Rattle.peer_queue.specs.Faults.{IsFlushFault, IsOweFault}
 use Rattle.peer_queue.specs.declared.fault.StationFault.{StationFault}
-use Rattle.peer_queue.specs.declared.fault.StationFault.TheVariants.{Broken as BrokenStation, Tape}
+use Rattle.peer_queue.specs.declared.fault.StationFault.TheVariants.{Broken as BrokenStation, NotHeld, Tape}
 use Rattle.peer_queue.specs.declared.fault.StationFault.TheVariants.{NoMemory as NoStationMemory}
 use Rattle.recovery.specs.declared.fault.TapeFault.{TapeFault}
 use Rattle.recovery.specs.declared.fault.TapeFault.TheVariants.{Disk, Broken, TapeFull}
@@ -60,6 +60,19 @@ IsFlushAllFault peers (Station at fault) = (at < peers) × IsFlushFault fault
 IsFlushAllFault peers (Intake fault) = IsSealFault fault
 IsFlushAllFault peers fault = ⊥
 
+-- the faults that a flush tells of a station that is not broken
+abbrev pub IsWorkingFlushFault : StationFault → Type 0
+IsWorkingFlushFault fault = IsFlushFault fault × (fault ≢ BrokenStation)
+
+-- the faults that `flush_working` tells of so many peers
+abbrev pub IsFlushWorkingFault : ℕ → PostFault → Type 0
+IsFlushWorkingFault peers (Station at fault) = (at < peers) × IsWorkingFlushFault fault
+IsFlushWorkingFault peers fault = ⊥
+
+-- the faults that a station's `put_off` tells
+abbrev pub IsPutOffFault : StationFault → Type 0
+IsPutOffFault fault = (fault ≡ BrokenStation) ⊎ (fault ≡ NotHeld)
+
 -- a disk of the station failed, now or before
 abbrev pub IsDiskFault : StationFault → Type 0
 IsDiskFault fault = (fault ≡ Tape Disk) ⊎ (fault ≡ BrokenStation)
@@ -69,3 +82,10 @@ abbrev pub IsRotateAllFault : ℕ → PostFault → Type 0
 IsRotateAllFault peers (Station at fault) = (at < peers) × IsDiskFault fault
 IsRotateAllFault peers (Intake fault) = (fault ≡ Disk) ⊎ (fault ≡ Broken)
 IsRotateAllFault peers fault = ⊥
+
+-- a tape failed, now or before, or has no room: the tape of a station, or the intake's
+abbrev pub IsOfTape : PostFault → Type 0
+IsOfTape (Station at BrokenStation) = Unit {0}
+IsOfTape (Station at (Tape fault)) = Unit {0}
+IsOfTape (Intake fault) = fault ≢ NoTapeMemory
+IsOfTape fault = ⊥

@@ -3,27 +3,24 @@ ghost use Rattle.std.specs.Prelude.{◌≡◌, ◌+◌, ◌-◌, ◌<◌, ◌≤
 ghost use Rattle.std.specs.Prelude.{slice_index_or, true, false, if◌then◌else◌, IfOk, IfErr, OnOk, OnErr, max};
 ghost use Rattle.std.specs.Prelude.{nat_lt, ◌≢◌, ◌⊎◌, ◌↔◌, IsErr, IsErrAnd, IsErrOf, Contains};
 ghost use Rattle.flusher.specs.Counted.{IsCounted};
-ghost use Rattle.flusher.specs.Faults.{IsDiskFault, IsFlushAllFault, IsLineFault, IsOfStation};
-ghost use Rattle.flusher.specs.Faults.{IsRotateAllFault, IsSealFault, IsShedFault};
+ghost use Rattle.flusher.specs.Faults.{IsLineFault, IsOfStation, IsPutOffFault, IsShedFault};
 ghost use Rattle.flusher.specs.Marks.{IsRaised, IsRaisedBy, IsTakenAt, RefusesGood, RefusesLine, rises};
 ghost use Rattle.flusher.specs.Room.{IsCountFull};
-ghost use Rattle.peer_queue.specs.Faults.{IsClaimFault, IsEndFault, IsFlushFault};
-ghost use Rattle.peer_queue.specs.Words.{ledger_of};
+ghost use Rattle.peer_queue.specs.Faults.{IsClaimFault, IsEndFault};
+ghost use Rattle.peer_queue.specs.Place.{moved, place_until};
+ghost use Rattle.peer_queue.specs.Words.{IsSame, IsSameTape, ledger_of, places_of};
 
 use crate::desk::Desk;
 use crate::fault::TakeFault;
 use crate::naming::TakenByIntake;
-use crate::pace::{Pace, Point, Who};
-use crate::post::Intake;
 use crate::share::{FeederShare, IntakeShare};
 use crate::tally::Tally;
-use crate::{Naming, Post, PostFault};
+use crate::{Naming, Post, PostFault, Reported};
 use conn_core::{CxnId, Outcome};
 use disk_model::Disk;
 use funnel::{FunnelLine, LineFault, read_line};
-use ledger_core::{Debt, Note, Totals};
-use peer_queue::{Settled, Shed, StationFault};
-use recovery::TapeFault;
+use ledger_core::{Debt, Totals};
+use peer_queue::{Settled, Shed};
 use std::hint::spin_loop;
 use std::sync::atomic::Ordering;
 use std::sync::ledger::Share;
@@ -34,21 +31,6 @@ const HALF: u64 = 32_768;
 
 // How often a call that waits for nobody looks whether a station is free.
 const LOOKS: u32 = 100;
-
-/// All lines up to this number are acknowledged. `Post::flush_all` alone makes one.
-#[derive(Clone, Copy, Debug, PartialEq, Eq)]
-pub struct Receipt {
-    number: u64,
-}
-
-impl Receipt {
-    /// The number.
-    pub fn number(&self) -> u64
-        ensures { result ≡ self.now.number }
-    {
-        self.number
-    }
-}
 
 impl<D: Disk, N: Naming> Post<D, N> {
     /// How many peers there are.
@@ -64,6 +46,16 @@ impl<D: Disk, N: Naming> Post<D, N> {
         ensures sum { result.taken ≡ result.owed + result.answered + result.dropped }
     {
         self.peers[peer].desk.lock(rt).station.totals()
+    }
+
+    /// What is told of a peer's station: what it counts; once a flush or a rotation of it has failed, what it counted
+    /// when it was last flushed well, written anew, or opened.
+    pub fn reported<R: Wait>(&self, rt: &R, peer: usize) -> Reported
+        requires { peer < length self.now.names }
+        ensures sum { result.totals.taken ≡ result.totals.owed + result.totals.answered
+            + result.totals.dropped }
+    {
+        self.peers[peer].desk.lock(rt).reported()
     }
 
     /// How many debts a peer is owed, without a wait. None where the peer's station is in use.
@@ -106,7 +98,7 @@ impl<D: Disk, N: Naming> Post<D, N> {
     }
 
     // A peer's station, where it is free, or is so at once.
-    fn free_desk(&self, peer: usize) -> Option<MutexGuard<'_, Desk<D, N>>>
+    pub(crate) fn free_desk(&self, peer: usize) -> Option<MutexGuard<'_, Desk<D, N>>>
         requires { peer < length self.now.names }
     {
         let desk = &self.peers[peer].desk;
@@ -170,6 +162,54 @@ impl<D: Disk, N: Naming> Post<D, N> {
     {
         let mut desk = self.free_desk(peer)?;
         Some(desk.release(connection))
+    }
+
+    /// Takes a debt back to its peer's station, and has it wait until this moment; until 0 is no wait: it is ready. No
+    /// share counts it.
+    ///
+    /// # Errors
+    /// The debt is handed back. The station's, in this order: `Broken`; `NotHeld`.
+    pub fn put_off<R: Wait>(
+        &self,
+        rt: &R,
+        peer: usize,
+        connection: CxnId,
+        debt: Debt,
+        until: u64,
+    ) -> Result<(), (Debt, PostFault)>
+        requires { peer < length self.now.names }
+        ensures returned { IfErr result (λ e. e.0 ≡ debt) }
+        ensures kinds { IfErr result (λ e. IsOfStation peer IsPutOffFault e.1) }
+    {
+        put_off_at(
+            peer,
+            &mut self.peers[peer].desk.lock(rt),
+            connection,
+            debt,
+            until,
+        )
+    }
+
+    /// Does what [`Post::put_off`] does, and waits for nobody.
+    ///
+    /// # Errors
+    /// Those of `put_off`; `Busy` if the peer's station is in use: nothing has changed.
+    pub fn try_put_off(
+        &self,
+        peer: usize,
+        connection: CxnId,
+        debt: Debt,
+        until: u64,
+    ) -> Result<(), (Debt, PostFault)>
+        requires { peer < length self.now.names }
+        ensures returned { IfErr result (λ e. e.0 ≡ debt) }
+        ensures kinds { IfErr result
+            (λ e. (e.1 ≡ PostFault.Busy peer) ⊎ IsOfStation peer IsPutOffFault e.1) }
+    {
+        match self.free_desk(peer) {
+            Some(mut desk) => put_off_at(peer, &mut desk, connection, debt, until),
+            None => Err((debt, PostFault::Busy { peer })),
+        }
     }
 
     /// Drops what exceeds a peer's limit, and counts it.
@@ -444,74 +484,6 @@ impl<D: Disk, N: Naming> Post<D, N> {
         self.note_half_full(peer, before, desk.pending());
         took
     }
-
-    /// Puts all that pends on the disks: the stations' notes by name, and then, with the number that the last line had
-    /// before, the intake's. Where a station's tape has no room for what pends behind what lies there, it is written
-    /// anew, with what pends.
-    ///
-    /// # Errors
-    /// A station's: `Tape(TapeFull)` where what it owes is too long to be written anew too, or where its tape has the
-    /// greatest generation. Then the intake tape's.
-    pub fn flush_all<P: Pace, R: Wait>(&self, rt: &R, pace: &P) -> Result<Receipt, PostFault>
-        ensures kinds { IfErr result (IsFlushAllFault (length self.now.names)) }
-    {
-        let number = self.last.load(Ordering::SeqCst);
-        for peer in 0..self.peers.len() {
-            self.flush_one(rt, pace, peer)?;
-            pace.turn(Who::Flusher, Point::AfterFlush);
-        }
-        match self.intake.lock(rt).seal(number) {
-            Ok(()) => Ok(Receipt { number }),
-            Err(fault) => Err(PostFault::Intake(fault)),
-        }
-    }
-
-    /// Writes each tape anew for which that is due: the stations' by name, and then the intake's. One that is refused
-    /// without a fault of its disks stays as it is.
-    ///
-    /// # Errors
-    /// A station's or the intake's `Disk`, after which that tape is broken, or its `Broken`.
-    pub fn rotate_all<R: Wait>(&self, rt: &R) -> Result<(), PostFault>
-        ensures kinds { IfErr result (IsRotateAllFault (length self.now.names)) }
-    {
-        for peer in 0..self.peers.len() {
-            self.rotate_one(rt, peer)?;
-        }
-        match self.intake.lock(rt).rotate() {
-            Err(fault @ (TapeFault::Disk | TapeFault::Broken)) => Err(PostFault::Intake(fault)),
-            _ => Ok(()),
-        }
-    }
-
-    // Writes one station's tape anew, where that is due.
-    fn rotate_one<R: Wait>(&self, rt: &R, peer: usize) -> Result<(), PostFault>
-        requires { peer < length self.now.names }
-        ensures kinds { IfErr result (IsOfStation peer IsDiskFault) }
-    {
-        let mut desk = self.peers[peer].desk.lock(rt);
-        if !desk.rotate_due() {
-            return Ok(());
-        }
-        match desk.rotate() {
-            Err(fault @ (StationFault::Tape(TapeFault::Disk) | StationFault::Broken)) => {
-                Err(PostFault::Station { peer, fault })
-            }
-            _ => Ok(()),
-        }
-    }
-
-    // Flushes one station, or writes its tape anew.
-    fn flush_one<P: Pace, R: Wait>(&self, rt: &R, pace: &P, peer: usize) -> Result<(), PostFault>
-        requires { peer < length self.now.names }
-        ensures kinds { IfErr result (IsOfStation peer IsFlushFault) }
-    {
-        let mut desk = self.peers[peer].desk.lock(rt);
-        pace.turn(Who::Flusher, Point::InFlush);
-        match desk.flush_or_rotate() {
-            Ok(()) => Ok(()),
-            Err(fault) => Err(PostFault::Station { peer, fault }),
-        }
-    }
 }
 
 // Claims the least candidate at a peer's station.
@@ -526,6 +498,28 @@ fn claim_at<D: Disk, N: Naming>(
     match desk.claim(connection, now) {
         Ok(debt) => Ok(debt),
         Err(fault) => Err(PostFault::Station { peer, fault }),
+    }
+}
+
+// Takes a debt back to its peer's station, and has it wait until this moment.
+fn put_off_at<D: Disk, N: Naming>(
+    peer: usize,
+    desk: &mut Desk<D, N>,
+    connection: CxnId,
+    debt: Debt,
+    until: u64,
+) -> Result<(), (Debt, PostFault)>
+    ensures ok { OnOk result
+        (IsSameTape desk.old.station desk.new.station
+        × (places_of desk.new.station
+        ≡ moved (places_of desk.old.station) debt.0 (place_until until))) }
+    ensures returned { IfErr result (λ e. e.0 ≡ debt) }
+    ensures kinds { IfErr result (λ e. IsOfStation peer IsPutOffFault e.1) }
+    ensures unchanged { OnErr result (IsSame desk.old.station desk.new.station) }
+{
+    match desk.put_off(connection, debt, until) {
+        Ok(()) => Ok(()),
+        Err((debt, fault)) => Err((debt, PostFault::Station { peer, fault })),
     }
 }
 
@@ -614,28 +608,5 @@ fn take_in<D: Disk, N: Naming>(
         Ok(()) => Ok(()),
         Err(TakeFault::Stranger) => Err(PostFault::Stranger { peer }),
         Err(TakeFault::Station(fault)) => Err(PostFault::Station { peer, fault }),
-    }
-}
-
-impl<D: Disk> Intake<D> {
-    // Notes that all lines up to this number are acknowledged.
-    fn seal(&mut self, number: u64) -> Result<(), TapeFault>
-        ensures kinds { IfErr result IsSealFault }
-    {
-        if number > self.tape.mark()
-            && let Err((_, fault)) = self.tape.note(Note::Seen { number })
-        {
-            return Err(fault);
-        }
-        self.tape.flush()?;
-        Ok(())
-    }
-
-    // Writes the intake tape anew, where that is due.
-    fn rotate(&mut self) -> Result<(), TapeFault> {
-        if self.tape.rotate_due() {
-            self.tape.rotate()?;
-        }
-        Ok(())
     }
 }

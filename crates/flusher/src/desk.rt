@@ -4,17 +4,19 @@ ghost use Rattle.std.specs.Prelude.{false, if◌then◌else◌, max, length, nat
 ghost use Rattle.std.specs.Prelude.{◌⊎◌, IsErrOf};
 ghost use Rattle.peer_queue.specs.Settled.{Finishes};
 ghost use Rattle.peer_queue.specs.Words.{IsRead, IsSame, IsSameTape, ledger_of};
-ghost use Rattle.peer_queue.specs.Words.{places_of, pending_of};
-ghost use Rattle.peer_queue.specs.Place.{least_candidate, held_count};
+ghost use Rattle.peer_queue.specs.Words.{places_of};
+ghost use Rattle.peer_queue.specs.Place.{held_count, moved, place_until};
+ghost use Rattle.ledger_core.specs.Ledger.{totals_of};
+ghost use Rattle.flusher.specs.Sealed.{IsFlushed};
+ghost use Rattle.flusher.specs.Reported.{Reports};
 ghost use Rattle.flusher.specs.Counted.{IsCounted};
 ghost use Rattle.flusher.specs.Kept.{IsKept};
-ghost use Rattle.flusher.specs.Faults.{IsShedFault, IsTakeFault};
+ghost use Rattle.flusher.specs.Faults.{IsPutOffFault, IsShedFault, IsTakeFault};
 ghost use Rattle.flusher.specs.Room.{HasNoRoom};
 ghost use Rattle.peer_queue.specs.Faults.{IsClaimFault, IsEndFault, IsFlushFault, IsRotateFault};
 ghost use Rattle.peer_queue.specs.Words.{generation_of, tape_of};
 ghost use Rattle.recovery.specs.Words.{IsFull, RotatesTooLong};
 
-use crate::Naming;
 use crate::fault::TakeFault;
 use crate::naming::{
     AnsweredAtStations, DroppedAtStations, DroppedByFeeders, TakenAtStations, TakenByIntake,
@@ -22,10 +24,11 @@ use crate::naming::{
 use crate::peer::{counted_at, noted_in};
 use crate::share::FeederShare;
 use crate::tally::{Books, Tally};
+use crate::{Naming, Reported};
 use conn_core::{CxnId, Outcome};
 use disk_model::Disk;
 use funnel::FunnelLine;
-use ledger_core::Debt;
+use ledger_core::{Debt, Totals};
 use peer_queue::{Owed, Settled, Shed, Station, StationFault};
 use recovery::TapeFault;
 use std::sync::ledger::Share;
@@ -39,10 +42,15 @@ pub struct Desk<D: Disk, N: Naming> {
     pub(crate) dropped: Share<DroppedAtStations<N>>,
     // How many notes its ledger had when it was flushed last.
     pub(crate) flushed: u64,
+    // What it counted when it was last flushed well, written anew, or opened.
+    pub(crate) acknowledged: Totals,
+    // A flush or a rotation has failed since.
+    pub(crate) has_failed: bool,
     ghost kept: { ∥ IsKept station ∥₁ },
     ghost one_part: { (taken.parts ≡ 1) × (answered.parts ≡ 1) × (dropped.parts ≡ 1) },
     ghost counted: { (taken.amount ≡ (ledger_of station).taken) × (answered.amount ≡ (ledger_of station).answered)
         × (dropped.amount ≡ (ledger_of station).dropped) },
+    ghost sum: { acknowledged.taken ≡ acknowledged.owed + acknowledged.answered + acknowledged.dropped },
 }
 
 impl<D: Disk, N: Naming> Desk<D, N> {
@@ -128,6 +136,26 @@ impl<D: Disk, N: Naming> Desk<D, N> {
         self.station.release(connection)
     }
 
+    /// Takes a debt back, and has it wait until this moment.
+    pub fn put_off(
+        &mut self,
+        connection: CxnId,
+        debt: Debt,
+        until: u64,
+    ) -> Result<(), (Debt, StationFault)>
+        ensures ok { OnOk result
+            (IsSameTape self.old.station self.new.station
+            × (places_of self.new.station
+            ≡ moved (places_of self.old.station) debt.0 (place_until until))) }
+        ensures returned { IfErr result (λ e. e.0 ≡ debt) }
+        ensures kinds { IfErr result (λ e. IsPutOffFault e.1) }
+        ensures unchanged { OnErr result (IsSame self.old.station self.new.station) }
+    {
+        let Desk { station, .. } = self;
+        station.put_off(connection, debt, until)?;
+        Ok(())
+    }
+
     /// Drops what exceeds the limit, and counts it.
     pub fn shed(
         &mut self,
@@ -157,14 +185,52 @@ impl<D: Disk, N: Naming> Desk<D, N> {
     pub fn flush(&mut self) -> Result<u64, StationFault>
         ensures ledger { ledger_of self.new.station ≡ ledger_of self.old.station }
         ensures places { places_of self.new.station ≡ places_of self.old.station }
-        ensures none_pends { OnOk result (pending_of self.new.station ≡ 0) }
+        ensures flushed { OnOk result (IsFlushed self.new.station) }
+        ensures reports { Reports (ledger_of self.new.station) self.old.acknowledged
+            self.new.acknowledged self.new.has_failed result }
         ensures full { IsErrOf result (StationFault.Tape TapeFault.TapeFull)
             → IsFull (tape_of self.old.station) × IsSame self.old.station self.new.station }
         ensures kinds { IfErr result IsFlushFault }
     {
-        let count = self.station.flush()?;
+        match self.station.flush() {
+            Ok(count) => {
+                self.acknowledge();
+                Ok(count)
+            }
+            Err(fault) => {
+                self.has_failed = true;
+                Err(fault)
+            }
+        }
+    }
+
+    // All that it counts is acknowledged.
+    fn acknowledge(&mut self)
+        ensures station { self.new.station ≡ self.old.station }
+        ensures works { self.new.has_failed ≡ false }
+        ensures totals { self.new.acknowledged ≡ totals_of (ledger_of self.old.station) }
+    {
+        self.acknowledged = self.station.totals();
         self.flushed = noted_in(counted_at(&self.station));
-        Ok(count)
+        self.has_failed = false;
+    }
+
+    /// What is told of it.
+    pub fn reported(&self) -> Reported
+        ensures working { self.now.has_failed ≡ false → (result.has_failed ≡ false)
+            × (result.totals ≡ totals_of (ledger_of self.now.station)) }
+        ensures failed { self.now.has_failed ≡ true → (result.has_failed ≡ true)
+            × (result.totals ≡ self.now.acknowledged) }
+        ensures sum { result.totals.taken ≡ result.totals.owed + result.totals.answered
+            + result.totals.dropped }
+    {
+        let has_failed = self.has_failed;
+        let totals = if has_failed {
+            self.acknowledged
+        } else {
+            self.station.totals()
+        };
+        Reported { totals, has_failed }
     }
 
     /// Puts the notes that pend on the disks. Where there is no room for them behind what lies there, as behind the
@@ -172,7 +238,9 @@ impl<D: Disk, N: Naming> Desk<D, N> {
     pub fn flush_or_rotate(&mut self) -> Result<(), StationFault>
         ensures ledger { ledger_of self.new.station ≡ ledger_of self.old.station }
         ensures places { places_of self.new.station ≡ places_of self.old.station }
-        ensures none_pends { OnOk result (pending_of self.new.station ≡ 0) }
+        ensures flushed { OnOk result (IsFlushed self.new.station) }
+        ensures reports { Reports (ledger_of self.new.station) self.old.acknowledged
+            self.new.acknowledged self.new.has_failed result }
         ensures full { IsErrOf result (StationFault.Tape TapeFault.TapeFull)
             → HasNoRoom self.old.station }
         ensures kinds { IfErr result IsFlushFault }
@@ -188,7 +256,9 @@ impl<D: Disk, N: Naming> Desk<D, N> {
     fn rotate_full(&mut self) -> Result<(), StationFault>
         ensures ledger { ledger_of self.new.station ≡ ledger_of self.old.station }
         ensures places { places_of self.new.station ≡ places_of self.old.station }
-        ensures none_pends { OnOk result (pending_of self.new.station ≡ 0) }
+        ensures flushed { OnOk result (IsFlushed self.new.station) }
+        ensures reports { Reports (ledger_of self.new.station) self.old.acknowledged
+            self.new.acknowledged self.new.has_failed result }
         ensures full { IsErrOf result (StationFault.Tape TapeFault.TapeFull)
             → (generation_of self.old.station ≡ 2 ^ 64 - 1)
             ⊎ RotatesTooLong (tape_of self.old.station) }
@@ -212,16 +282,25 @@ impl<D: Disk, N: Naming> Desk<D, N> {
     pub fn rotate(&mut self) -> Result<u64, StationFault>
         ensures ledger { ledger_of self.new.station ≡ ledger_of self.old.station }
         ensures places { places_of self.new.station ≡ places_of self.old.station }
-        ensures none_pends { OnOk result (pending_of self.new.station ≡ 0) }
+        ensures flushed { OnOk result (IsFlushed self.new.station) }
+        ensures reports { Reports (ledger_of self.new.station) self.old.acknowledged
+            self.new.acknowledged self.new.has_failed result }
         ensures generation_full { IsErrOf result (StationFault.Tape TapeFault.GenerationFull)
             → generation_of self.old.station ≡ 2 ^ 64 - 1 }
         ensures full { IsErrOf result (StationFault.Tape TapeFault.TapeFull)
             → RotatesTooLong (tape_of self.old.station) }
         ensures kinds { IfErr result IsRotateFault }
     {
-        let generation = self.station.rotate()?;
-        self.flushed = noted_in(counted_at(&self.station));
-        Ok(generation)
+        match self.station.rotate() {
+            Ok(generation) => {
+                self.acknowledge();
+                Ok(generation)
+            }
+            Err(fault) => {
+                self.has_failed = true;
+                Err(fault)
+            }
+        }
     }
 
     /// How many notes it has taken since it was opened or flushed last.

@@ -1,4 +1,7 @@
 // Why a call of a post was refused.
+ghost use Rattle.std.specs.Prelude.{◌↔◌, IsTrue};
+ghost use Rattle.flusher.specs.Faults.{IsOfTape};
+
 use peer_queue::StationFault;
 use recovery::TapeFault;
 use thiserror::Error;
@@ -24,6 +27,22 @@ pub enum PostFault {
     /// Memory was refused.
     #[error("NoMemory")]
     NoMemory,
+}
+
+impl PostFault {
+    // Whether a tape failed, so that the other peers' debts can be worked off, and no more lines be taken.
+    pub(crate) fn is_of_tape(&self) -> bool
+        ensures { IsTrue result ↔ IsOfTape self.now }
+    {
+        match self {
+            PostFault::Station {
+                fault: StationFault::Broken | StationFault::Tape(_),
+                ..
+            } => true,
+            PostFault::Intake(fault) => !matches!(fault, TapeFault::NoMemory),
+            _ => false,
+        }
+    }
 }
 
 // Why a station did not take a line.

@@ -1,5 +1,6 @@
 // The flusher: the worker that puts on the disks what pends.
-ghost use Rattle.std.specs.Prelude.{◌≡◌, Some};
+ghost use Rattle.std.specs.Prelude.{◌≡◌, Err, IfErr, IsSome, None, Some};
+ghost use Rattle.flusher.specs.Faults.{IsOfTape};
 
 use crate::pace::Pace;
 use crate::share::FeederShare;
@@ -19,12 +20,14 @@ const SLOW: u64 = 1;
 /// Before the flush of an order it drops what exceeds the peers' limits; behind each flush it writes the tapes anew for
 /// which that is due.
 ///
-/// The first fault ends it, and stops all workers.
+/// Once a tape has failed, as this or another worker found, it flushes the stations that work, as often as before and
+/// once more at its end, so that the answers of their peers are kept: nothing is dropped or written anew any more, and
+/// no receipt comes. Every other fault ends it, and stops all workers.
 #[derive(Drop)]
 pub struct Flusher<N: Naming> {
     /// What it has dropped.
     pub share: FeederShare<N>,
-    /// The fault that ended it.
+    /// The first fault that it met.
     pub fault: Option<PostFault>,
 }
 
@@ -34,12 +37,15 @@ impl<N: Naming> Flusher<N> {
         Flusher { share, fault: None }
     }
 
-    // This fault ends it.
-    fn end(&mut self, fault: PostFault)
-        ensures fault { self.new.fault ≡ Some fault }
+    // Keeps a fault, if it is the first.
+    fn keep(&mut self, fault: PostFault)
+        ensures first { self.old.fault ≡ None → self.new.fault ≡ Some fault }
+        ensures later { IsSome self.old.fault → self.new.fault ≡ self.old.fault }
         ensures share { self.new.share ≡ self.old.share }
     {
-        self.fault = Some(fault);
+        if self.fault.is_none() {
+            self.fault = Some(fault);
+        }
     }
 
     // Drops what exceeds each peer's limit.
@@ -48,6 +54,29 @@ impl<N: Naming> Flusher<N> {
             post.shed(rt, peer, &mut self.share)?;
         }
         Ok(())
+    }
+
+    // Flushes all, before it what exceeds the limits is dropped, if that was ordered, and tells the receipt, of so many
+    // orders.
+    fn flush<D: Disk, R: Wait + Clock + Log, P: Pace>(
+        &mut self,
+        rt: &R,
+        post: &Post<D, N>,
+        signals: &Signals,
+        pace: &P,
+        orders: u64,
+        is_ordered: bool,
+    ) -> Result<(), PostFault> {
+        if is_ordered {
+            self.shed_all(rt, post)?;
+        }
+        let begun = Instant::now(rt);
+        let receipt = post.flush_all(rt, pace)?;
+        if let Ok(begun) = begun {
+            tell_slow(rt, begun);
+        }
+        signals.answer(rt, orders, receipt);
+        post.rotate_all(rt)
     }
 
     // Answers the orders until it is told to end.
@@ -60,22 +89,42 @@ impl<N: Naming> Flusher<N> {
     ) -> Result<(), PostFault> {
         let mut answered = 0;
         for _ in rt.forever() {
-            let Some(orders) = signals.next_flush(rt, answered) else {
+            let next = signals.next_flush(rt, answered);
+            let flushed = match next {
+                Some(orders) if !signals.has_lost_tape() => {
+                    self.flush(rt, post, signals, pace, orders, orders != answered)
+                }
+                _ => post.flush_working(rt, pace),
+            };
+            self.meet(rt, signals, flushed)?;
+            let Some(orders) = next else {
                 return Ok(());
             };
-            if orders != answered {
-                self.shed_all(rt, post)?;
-            }
-            let begun = Instant::now(rt);
-            let receipt = post.flush_all(rt, pace)?;
-            if let Ok(begun) = begun {
-                tell_slow(rt, begun);
-            }
-            signals.answer(rt, orders, receipt);
             answered = orders;
-            post.rotate_all(rt)?;
         }
         unreachable!()
+    }
+
+    // Goes on after a tape's fault, which is kept if it is the first, and told in the log if it is not.
+    fn meet<R: Log>(
+        &mut self,
+        rt: &R,
+        signals: &Signals,
+        flushed: Result<(), PostFault>,
+    ) -> Result<(), PostFault>
+        ensures { IfErr result (λ fault. flushed ≡ Err fault × (IsOfTape fault → ⊥)) }
+    {
+        if let Err(fault) = flushed {
+            if !fault.is_of_tape() {
+                return Err(fault);
+            }
+            if self.fault.is_some() {
+                info!(rt; "a further fault: {fault}");
+            }
+            self.keep(fault);
+            signals.lose_tape();
+        }
+        Ok(())
     }
 }
 
@@ -88,7 +137,7 @@ impl<D: Disk, N: Naming> Work<D, N> for Flusher<N> {
         pace: &P,
     ) {
         if let Err(fault) = self.flush_on(rt, post, signals, pace) {
-            self.end(fault);
+            self.keep(fault);
             signals.stop();
         }
     }

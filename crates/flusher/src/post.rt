@@ -35,6 +35,10 @@ pub(crate) struct PeerDesk<D: Disk, N: Naming> {
     pub(crate) half_full: AtomicBool,
     // How many feeders have given it up.
     pub(crate) given_up: AtomicU64,
+    // For how many debts its counted connections have room.
+    pub(crate) room: AtomicU64,
+    // A connection of it failed, and none has agreed to a mode since.
+    pub(crate) is_failing: AtomicBool,
 }
 
 // The intake tape.
@@ -121,12 +125,15 @@ impl<N: Naming> Openings<N> {
     {
         let Peer { name, station, .. } = peer;
         let opened = counted_at(&station);
+        let acknowledged = station.totals();
         let desk = Desk {
             station,
             taken: self.taken.cut(opened.taken),
             answered: self.answered.cut(opened.answered),
             dropped: self.dropped.cut(opened.dropped),
             flushed: noted_in(opened),
+            acknowledged,
+            has_failed: false,
         };
         PeerDesk {
             name,
@@ -134,6 +141,8 @@ impl<N: Naming> Openings<N> {
             desk: Mutex::new(desk),
             half_full: AtomicBool::new(false),
             given_up: AtomicU64::new(0),
+            room: AtomicU64::new(0),
+            is_failing: AtomicBool::new(false),
         }
     }
 }

@@ -18,6 +18,7 @@ pub struct Signals {
     orders: AtomicU64,
     latest: Mutex<Latest>,
     last_phase: AtomicBool,
+    lost_tape: AtomicBool,
     // The flusher is to end.
     over: AtomicBool,
     stopped: AtomicBool,
@@ -42,6 +43,7 @@ impl Signals {
                 receipt: None,
             }),
             last_phase: AtomicBool::new(false),
+            lost_tape: AtomicBool::new(false),
             over: AtomicBool::new(false),
             stopped: AtomicBool::new(false),
         }
@@ -54,13 +56,13 @@ impl Signals {
         before.wrapping_add(1)
     }
 
-    /// Waits for the receipt of a flush that began after the order of this number. None where all were stopped before
-    /// it came: by a fault, which the worker that met it has.
+    /// Waits for the receipt of a flush that began after the order of this number. None if all were stopped before it
+    /// came, or a tape was lost: by a fault, which the worker that met it has.
     pub fn receipt<R: Wait>(&self, rt: &R, order: u64) -> Option<Receipt> {
         for _ in rt.forever() {
             let seen = self.changes.load(Ordering::SeqCst);
             let latest = self.receipt_since(rt, order);
-            if latest.is_some() || self.is_stopped() {
+            if latest.is_some() || self.is_stopped() || self.has_lost_tape() {
                 return latest;
             }
             self.changes.park(rt, low(seen));
@@ -77,6 +79,18 @@ impl Signals {
     /// Whether the last phase has begun.
     pub fn is_last_phase(&self) -> bool {
         self.last_phase.load(Ordering::SeqCst)
+    }
+
+    /// Tells that a tape failed: no line is to be taken, and no receipt comes any more. The last phase begins, in which
+    /// the other peers' debts are worked off.
+    pub fn lose_tape(&self) {
+        self.lost_tape.store(true, Ordering::SeqCst);
+        self.begin_last_phase();
+    }
+
+    /// Whether a tape has failed.
+    pub fn has_lost_tape(&self) -> bool {
+        self.lost_tape.load(Ordering::SeqCst)
     }
 
     /// Tells everyone to end at once: a worker met a fault, or a thread could not be started.

@@ -7,9 +7,13 @@
 #![tactic(auto)]
 
 #[cfg(test)]
+mod faults;
+#[cfg(test)]
 mod pace;
 #[cfg(test)]
 mod posts;
+#[cfg(test)]
+mod rooms;
 #[cfg(test)]
 mod shared;
 #[cfg(test)]

@@ -1,10 +1,10 @@
 // Peers of a post, and debts that their peers answer.
 use conn_core::{Conn, CxnId, Options, Outcome};
-use disk_model::MemDisk;
+use disk_model::{Disk, FuseDisk, MemDisk};
 use flusher::Peer;
 use funnel::PeerName;
-use ledger_core::Debt;
-use peer_queue::Limits;
+use ledger_core::{Debt, Totals};
+use peer_queue::{Limits, Station};
 use recovery::Tape;
 use std::alloc::Global;
 use std::test::Fail;
@@ -17,6 +17,9 @@ const STREAMING: Options = Options {
     check_filter: 20,
     response_timeout: 300,
 };
+
+// How many calls of its first disk the opening of a station makes whose disks are empty.
+const OPENING_CALLS: u64 = 5;
 
 // How a connection comes to an end of a debt.
 #[derive(Clone, Copy)]
@@ -48,14 +51,38 @@ pub(crate) fn outcome(
 
 // A peer that is owed nothing.
 pub(crate) fn peer(alloc: Global, name: &[u8], limits: Limits) -> Result<Peer<MemDisk>, Fail> {
-    let name = PeerName::read(alloc, name)?.ok_or("a name")?;
-    match Peer::open(
+    peer_on(
         alloc,
         name,
-        MemDisk::new(alloc),
-        MemDisk::new(alloc),
+        (MemDisk::new(alloc), MemDisk::new(alloc)),
         limits,
-    ) {
+    )
+}
+
+// A peer that is owed nothing, whose first disk passes so many calls once its station is opened.
+pub(crate) fn fused_peer(
+    alloc: Global,
+    name: &[u8],
+    limits: Limits,
+    calls: u64,
+) -> Result<Peer<FuseDisk<MemDisk>>, Fail> {
+    let first = fused(alloc, calls.saturating_add(OPENING_CALLS));
+    peer_on(alloc, name, (first, fused(alloc, u64::MAX)), limits)
+}
+
+fn fused(alloc: Global, calls: u64) -> FuseDisk<MemDisk> {
+    FuseDisk::new(MemDisk::new(alloc), calls)
+}
+
+// A peer whose station is opened from these disks.
+fn peer_on<D: Disk + Drop>(
+    alloc: Global,
+    name: &[u8],
+    (a, b): (D, D),
+    limits: Limits,
+) -> Result<Peer<D>, Fail> {
+    let name = PeerName::read(alloc, name)?.ok_or("a name")?;
+    match Peer::open(alloc, name, a, b, limits) {
         Ok(peer) => Ok(peer),
         Err(refused) => Err(Fail::from(refused.fault)),
     }
@@ -63,8 +90,30 @@ pub(crate) fn peer(alloc: Global, name: &[u8], limits: Limits) -> Result<Peer<Me
 
 // An intake tape on which nothing is noted.
 pub(crate) fn intake(alloc: Global) -> Result<Tape<MemDisk>, Fail> {
-    match Tape::open(alloc, MemDisk::new(alloc), MemDisk::new(alloc)) {
+    intake_on(alloc, (MemDisk::new(alloc), MemDisk::new(alloc)))
+}
+
+// One on disks that pass every call.
+pub(crate) fn fused_intake(alloc: Global) -> Result<Tape<FuseDisk<MemDisk>>, Fail> {
+    intake_on(alloc, (fused(alloc, u64::MAX), fused(alloc, u64::MAX)))
+}
+
+fn intake_on<D: Disk + Drop>(alloc: Global, (a, b): (D, D)) -> Result<Tape<D>, Fail> {
+    match Tape::open(alloc, a, b) {
         Ok(tape) => Ok(tape),
+        Err(refused) => Err(Fail::from(refused.fault)),
+    }
+}
+
+// What a station counts once it is opened again from its disks.
+pub(crate) fn counted_on_disks(
+    alloc: Global,
+    station: Station<FuseDisk<MemDisk>>,
+) -> Result<Totals, Fail> {
+    let limits = station.limits();
+    let (a, b) = station.into_disks();
+    match Station::open(alloc, a.into_inner(), b.into_inner(), limits) {
+        Ok(station) => Ok(station.totals()),
         Err(refused) => Err(Fail::from(refused.fault)),
     }
 }

@@ -1,25 +1,29 @@
 // Workers in threads of their own that meet, as rows.
-ghost use Rattle.std.specs.Prelude.{◌≡◌, length};
+ghost use Rattle.std.specs.Prelude.{◌≡◌, ◌<◌, length};
 ghost use Rattle.flusher.specs.Post.{names_of};
 
 use crate::pace::{At, Meeting};
-use crate::shared::{Ending, intake, outcome, peer};
+use crate::shared::{Ending, counted_on_disks, fused_intake, fused_peer, outcome};
 use conn_core::{CxnId, Outcome};
-use disk_model::{Disk, MemDisk};
+use disk_model::{Disk, FuseDisk, MemDisk};
 use flusher::{
-    Blanks, Closed, FeederShare, Flusher, IntakeShare, Naming, NoThread, Pace, Peer, Point, Post,
-    PostFault, Signals, Sums, Who, Work, run_threads,
+    Blanks, Closed, ClosedPeer, FeederShare, Flusher, IntakeShare, Naming, NoThread, Pace, Peer,
+    Point, Post, PostFault, Signals, Sums, Who, Work, run_threads,
 };
 use ledger_core::FinalCode;
 use log::Log;
-use peer_queue::{Limits, Settled};
-use recovery::Tape;
+use peer_queue::{Limits, Settled, StationFault};
+use recovery::{Tape, TapeFault};
 use std::alloc::Global;
 use std::marker::Brand;
 use std::rt::Clock;
 use std::sync::Wait;
 use std::test::*;
+use std::thread;
 use std::thread::Threads;
+
+// How often room is asked for, so that a test ends.
+const MOST_LOOKS: u32 = 1_000_000;
 
 // What becomes of a debt that its peer does not want.
 const NOT_WANTED: Settled = Settled::Answered(FinalCode::CheckNotWanted);
@@ -41,6 +45,8 @@ enum Job {
     Claim,
     // Calls `flush_all` once.
     Flush,
+    // Takes room for one debt at the first peer, if it is to be had.
+    TakeRoom,
 }
 
 // A worker that does one thing. What it is told is a number, 0 where there is none, and what became of a debt.
@@ -53,6 +59,8 @@ struct Hand<N: Naming> {
     outcome: Option<Outcome>,
     share: FeederShare<N>,
     number: u64,
+    // For how many debts it took room.
+    room: u64,
     // The first peer's station was in use.
     is_refused: bool,
     settled: Option<Settled>,
@@ -91,8 +99,13 @@ impl<N: Naming> Hand<N> {
                 }
                 let debt = post.claim(rt, self.peer, self.connection, 0).ok()??;
                 self.number = debt.number();
+                if self.peer > 0 {
+                    let asked = post.try_put_off(0, self.connection, debt, 30);
+                    self.is_refused &= matches!(asked, Err((_, PostFault::Busy { .. })));
+                }
             }
             Job::Flush => self.number = post.flush_all(rt, pace).ok()?.number(),
+            Job::TakeRoom => self.room = room_taken(post),
         }
         Some(())
     }
@@ -110,6 +123,20 @@ impl<D: Disk, N: Naming> Work<D, N> for Hand<N> {
         self.done(rt, post, pace);
         pace.turn(self.who, Point::AfterSettle);
     }
+}
+
+// For how many debts room is taken at the first peer, whose station others may use.
+fn room_taken<D: Disk, N: Naming>(post: &Post<D, N>) -> u64
+    requires { 0 < length post.now.names }
+{
+    for _ in 0..MOST_LOOKS {
+        match post.try_take_room(0, 1) {
+            Some(true) => return 1,
+            Some(false) => return 0,
+            None => thread::yield_now(),
+        }
+    }
+    0
 }
 
 // What the intake does.
@@ -166,16 +193,16 @@ enum Third<N: Naming> {
 }
 
 impl<N: Naming> Third<N> {
-    // What it has counted, and what it was told.
-    fn parts(self) -> (FeederShare<N>, u64) {
+    // What it has counted, what it was told, and the fault that it met.
+    fn parts(self) -> (FeederShare<N>, u64, Option<PostFault>) {
         match self {
             Third::Flusher(flusher) => {
-                let Flusher { share, .. } = flusher;
-                (share, 0)
+                let Flusher { share, fault } = flusher;
+                (share, 0, fault)
             }
             Third::Hand(hand) => {
                 let Hand { share, number, .. } = hand;
-                (share, number)
+                (share, number, None)
             }
         }
     }
@@ -204,6 +231,8 @@ struct Told {
     // The number of the debt that the second claimed, and whether it was refused one of the first peer's.
     claimed: u64,
     refused: bool,
+    // For how many debts the two took room.
+    room: u64,
     // The receipt of the third, where it is no flusher.
     receipt: u64,
     // The intake's line, or its receipt.
@@ -212,12 +241,18 @@ struct Told {
     // The mark of the intake tape.
     mark: u64,
     sums: Sums,
+    // The flusher's fault.
+    fault: Option<PostFault>,
+    // How many debts each station has answered, once it is opened again from its disks.
+    on_disks: (u64, u64),
 }
 
 // Two feeders, a third worker and the intake over the peers `p` and `q`, each of which is owed one debt, of line 1.
 struct Row {
     name: &'static str,
-    feeders: Job,
+    // How many calls the first disk of q passes.
+    calls: u64,
+    feeders: (Job, Job),
     flushes: bool,
     turn: Turn,
     first: At,
@@ -252,6 +287,7 @@ fn hire<D: Disk, N: Naming, R: Wait>(
         outcome: outcome_of,
         share,
         number: 0,
+        room: 0,
         is_refused: false,
         settled: None,
     })
@@ -274,16 +310,26 @@ fn run_all<
     run_threads(rt, post, &signals, feeders, third, taker, pace)
 }
 
-fn meet<
-    D: Disk + Drop + Send,
-    N: Naming + Send + Sync,
-    R: AllocGlobal + Clock + Log + Threads + Wait + Sync,
->(
+// How many debts the stations of two peers have answered, once they are opened again.
+fn answered_on_disks(
+    alloc: Global,
+    peers: Vec<ClosedPeer<FuseDisk<MemDisk>>>,
+) -> Result<(u64, u64), Fail> {
+    let mut peers = peers.into_iter();
+    let first = peers.next().ok_or("a peer")?;
+    let second = peers.next().ok_or("a second peer")?;
+    Ok((
+        counted_on_disks(alloc, first.station)?.answered,
+        counted_on_disks(alloc, second.station)?.answered,
+    ))
+}
+
+fn meet<N: Naming + Send + Sync, R: AllocGlobal + Clock + Log + Threads + Wait + Sync>(
     rt: &R,
     alloc: Global,
     row: &Row,
-    peers: Vec<Peer<D>>,
-    intake: Tape<D>,
+    peers: Vec<Peer<FuseDisk<MemDisk>>>,
+    intake: Tape<FuseDisk<MemDisk>>,
     blanks: Blanks,
 ) -> Result<Told, Fail>
     requires names { N.names ≡ names_of blanks peers.items }
@@ -294,10 +340,12 @@ fn meet<
     requires dropped { (blanks.dropped.workers.parts ≡ 3)
         × (blanks.dropped.stations.parts ≡ length peers.items) }
 {
-    let (post, mut share, first, second, third) = Post::<D, N>::new(alloc, peers, intake, blanks)?;
+    let (post, mut share, first, second, third) = Post::<FuseDisk<MemDisk>, N>::new(
+        alloc, peers, intake, blanks,
+    )?;
     post.take_line(rt, b"a/1 <x@y> p q", &mut share)?;
-    let first = hire(rt, alloc, &post, 0, row.feeders, first)?;
-    let second = hire(rt, alloc, &post, 1, row.feeders, second)?;
+    let first = hire(rt, alloc, &post, 0, row.feeders.0, first)?;
+    let second = hire(rt, alloc, &post, 1, row.feeders.1, second)?;
     let third = if row.flushes {
         let hand = hire(rt, alloc, &post, 0, Job::Flush, third)?;
         Third::Hand(Hand {
@@ -321,28 +369,39 @@ fn meet<
     let Hand {
         share: one,
         settled: first,
+        room: first_room,
         ..
     } = first;
     let Hand {
         share: two,
         settled: second,
         number: claimed,
+        room: second_room,
         is_refused: refused,
         ..
     } = second;
-    let (three, receipt) = third.parts();
+    let (three, receipt, fault) = third.parts();
     let Taker { share, number, .. } = taker;
     match post.close(share, one, two, three) {
-        Ok(Closed { intake, sums, .. }) => Ok(Told {
+        Ok(
+            Closed {
+                peers,
+                intake,
+                sums,
+            },
+        ) => Ok(Told {
             first,
             second,
             claimed,
             refused,
+            room: first_room.saturating_add(second_room),
             receipt,
             intake: number,
             gave_up,
             mark: intake.mark(),
             sums,
+            fault,
+            on_disks: answered_on_disks(alloc, peers)?,
         }),
         Err(_) => Err(Fail::from("memory")),
     }
@@ -353,16 +412,17 @@ fn on_disks<R: AllocGlobal + Clock + Log + Threads + Wait + Sync>(
     alloc: Global,
     row: &Row,
 ) -> Result<Told, Fail> {
-    let first = peer(alloc, b"p", UNLIMITED)?;
-    let second = peer(alloc, b"q", UNLIMITED)?;
+    let first = fused_peer(alloc, b"p", UNLIMITED, u64::MAX)?;
+    let second = fused_peer(alloc, b"q", UNLIMITED, row.calls)?;
     let peers = vec![in alloc; first, second]?;
-    meet::<MemDisk, Brand, R>(rt, alloc, row, peers, intake(alloc)?, Blanks::new(2))
+    meet::<Brand, R>(rt, alloc, row, peers, fused_intake(alloc)?, Blanks::new(2))
 }
 
-const ROWS: [Row; 3] = [
+const ROWS: [Row; 5] = [
     Row {
         name: "both feeders settle at once",
-        feeders: Job::Finish,
+        calls: u64::MAX,
+        feeders: (Job::Finish, Job::Finish),
         flushes: false,
         turn: Turn::Order,
         first: At {
@@ -382,6 +442,7 @@ const ROWS: [Row; 3] = [
             second: Some(NOT_WANTED),
             claimed: 0,
             refused: false,
+            room: 0,
             receipt: 0,
             intake: 1,
             gave_up: false,
@@ -391,11 +452,14 @@ const ROWS: [Row; 3] = [
                 answered: 2,
                 dropped: 0,
             },
+            fault: None,
+            on_disks: (1, 1),
         },
     },
     Row {
         name: "in p's flush a claim at q is answered, and one at p is refused where it does not wait",
-        feeders: Job::Claim,
+        calls: u64::MAX,
+        feeders: (Job::Claim, Job::Claim),
         flushes: true,
         turn: Turn::Nothing,
         first: At {
@@ -415,6 +479,7 @@ const ROWS: [Row; 3] = [
             second: None,
             claimed: 1,
             refused: true,
+            room: 0,
             receipt: 1,
             intake: 0,
             gave_up: false,
@@ -424,11 +489,14 @@ const ROWS: [Row; 3] = [
                 answered: 0,
                 dropped: 0,
             },
+            fault: None,
+            on_disks: (0, 0),
         },
     },
     Row {
         name: "a line is taken at the first end of a flush",
-        feeders: Job::Nothing,
+        calls: u64::MAX,
+        feeders: (Job::Nothing, Job::Nothing),
         flushes: true,
         turn: Turn::Take,
         first: At {
@@ -448,6 +516,7 @@ const ROWS: [Row; 3] = [
             second: None,
             claimed: 0,
             refused: false,
+            room: 0,
             receipt: 1,
             intake: 2,
             gave_up: false,
@@ -457,6 +526,85 @@ const ROWS: [Row; 3] = [
                 answered: 0,
                 dropped: 0,
             },
+            fault: None,
+            on_disks: (0, 0),
+        },
+    },
+    Row {
+        name: "the tape of q fails, and p's answer reaches its disk",
+        calls: 0,
+        feeders: (Job::Finish, Job::Nothing),
+        flushes: false,
+        turn: Turn::Order,
+        first: At {
+            who: Who::Feeder(0),
+            point: Point::BeforeSettle,
+        },
+        second: At {
+            who: Who::Feeder(1),
+            point: Point::BeforeSettle,
+        },
+        last: At {
+            who: Who::Intake,
+            point: Point::AfterSettle,
+        },
+        told: Told {
+            first: Some(NOT_WANTED),
+            second: None,
+            claimed: 0,
+            refused: false,
+            room: 0,
+            receipt: 0,
+            intake: 0,
+            gave_up: false,
+            mark: 0,
+            sums: Sums {
+                taken: 2,
+                answered: 1,
+                dropped: 0,
+            },
+            fault: Some(PostFault::Station {
+                peer: 1,
+                fault: StationFault::Tape(TapeFault::Disk),
+            }),
+            on_disks: (1, 0),
+        },
+    },
+    Row {
+        name: "two feeders ask for room for one debt, and one takes it",
+        calls: u64::MAX,
+        feeders: (Job::TakeRoom, Job::TakeRoom),
+        flushes: true,
+        turn: Turn::Nothing,
+        first: At {
+            who: Who::Feeder(0),
+            point: Point::BeforeSettle,
+        },
+        second: At {
+            who: Who::Feeder(1),
+            point: Point::BeforeSettle,
+        },
+        last: At {
+            who: Who::Feeder(1),
+            point: Point::BeforeSettle,
+        },
+        told: Told {
+            first: None,
+            second: None,
+            claimed: 0,
+            refused: false,
+            room: 1,
+            receipt: 1,
+            intake: 0,
+            gave_up: false,
+            mark: 1,
+            sums: Sums {
+                taken: 2,
+                answered: 0,
+                dropped: 0,
+            },
+            fault: None,
+            on_disks: (0, 0),
         },
     },
 ];

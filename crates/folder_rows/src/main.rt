@@ -1,16 +1,20 @@
 //! What `Folder` of article_store has under each token, over the files that lie in `data/` (README.md).
 //!
-//! It may touch the files of the folder that it runs in, memory and its output. Nothing stands above this crate.
+//! It may touch the folder that it runs in, in which it makes the link `device` and removes it, memory and its output.
+//! Nothing stands above this crate.
 #![tactic(auto)]
 
 use anyhow::{Result, bail};
-use article_store::{Articles, Folder, Found};
+use article_store::{Articles, Folder, Found, SpoolDirectory};
 use funnel::Token;
 use std::alloc::Global;
+use std::fs;
+use std::os::unix::fs::symlink;
 use std::rt::Files;
 
-// A file, one with no LF at its end, no octet, a NUL, no file, a directory, a path through a file, and a file again.
-const TOKENS: [&str; 8] = [
+// A file, one with no LF at its end, no octet, a NUL, no file, a directory, a path through a file, a device, and a file
+// again.
+const TOKENS: [&str; 9] = [
     "present",
     "no_line_end",
     "empty",
@@ -18,14 +22,22 @@ const TOKENS: [&str; 8] = [
     "missing",
     "./.",
     "present/1",
+    "device",
     "./present",
 ];
 
 fn main(rt: HostRuntime) -> Result<()> {
     let alloc = rt.alloc();
+    symlink(&rt, "/dev/zero", "device")?;
     let mut folder = hand_over(Folder::new(rt, alloc, ".")?);
     for name in TOKENS {
         tell(&rt, alloc, &mut folder, name)?;
+    }
+    fs::remove_file(&rt, "device")?;
+    println!(rt; "the folder is there: {}", folder.is_there())?;
+    for path in ["missing", "present"] {
+        let none = Folder::new(rt, alloc, path)?;
+        println!(rt; "{path} is a folder: {}", none.is_there())?;
     }
     Ok(())
 }
@@ -47,10 +59,14 @@ fn tell<R: Files + Print + Drop>(
     };
     let path = folder.path_of(&token)?;
     print!(rt; "{path} ")?;
-    match folder.fetch(&token)? {
-        Found::Article(text) => println!(rt; "{:?}", text.as_slice())?,
-        Found::Gone => println!(rt; "gone")?,
-        Found::Unsendable => println!(rt; "unsendable")?,
+    match folder.fetch(&token) {
+        Ok(Found::Article(text)) => println!(rt; "{:?}", text.as_slice())?,
+        Ok(Found::Gone) => println!(rt; "gone")?,
+        Ok(Found::Unsendable) => println!(rt; "unsendable")?,
+        Err(fault) => match folder.take_reason() {
+            Some(reason) => println!(rt; "{fault}: {reason}")?,
+            None => println!(rt; "{fault}")?,
+        },
     }
     Ok(())
 }

@@ -7,6 +7,7 @@
 #![tactic(auto)]
 
 mod files;
+mod streams;
 
 use commands::{Exit, Feeds, Order, run};
 use feed::SystemFeeds;
@@ -15,11 +16,19 @@ use std::env;
 use std::io::{self, BufWriter, ErrorKind, Write};
 use std::process::ExitCode;
 use std::rt::{Env, Files};
+use streams::stand_in;
 use words::read_words;
 
-const NOT_TEXT: &str = "a word of the command line is not UTF-8, as a path has to be";
+const NO_NULL: &[u8] = b"innfeed: cannot open /dev/null in place of closed standard streams\n";
+
+const NOT_TEXT: &str = "an argument of the command line is not valid UTF-8";
 
 fn main(rt: HostRuntime) -> ExitCode {
+    // Held to the end: before it is there nothing else is opened.
+    let Ok(_stand_ins) = stand_in(&rt) else {
+        let _ = rt.stderr().write_all(NO_NULL);
+        return ExitCode::from(Exit::Unreadable.status());
+    };
     // Outside of an order nothing fails but for want of memory.
     let mut feeds = SystemFeeds::new(&rt, &rt, rt);
     let exit = obey_words(&rt, &mut feeds, &mut rt.stderr()).unwrap_or(Exit::NoMemory);

@@ -1,11 +1,11 @@
 -- What an index of places holds: the moment that each number is due at, if any, and who holds what, told by number and
 -- by connection.
-use Rattle.std.specs.Prelude.{◌≡◌, ◌↔◌, ◌<◌, ◌^◌, ℕ, zero, suc, Bool, true}
+use Rattle.std.specs.Prelude.{◌≡◌, ◌↔◌, ◌<◌, ◌^◌, ℕ, Bool, true}
 use Rattle.std.specs.Prelude.{Option, Some, None, IsSome, map, unwrap_or}
 use Rattle.std.specs.Ordering.{nat_cmp, ordering_then}
 use Rattle.std.specs.declared.cmp.Ordering.{Ordering}
 use Rattle.deferral.specs.Due.{Waiting, IsRising, due_of}
-use Rattle.peer_queue.specs.Place.{Place, Places, Ready, Held, Later}
+use Rattle.peer_queue.specs.Place.{Place, Places, Ready, Held, place_until}
 use Rattle.peer_queue.specs.declared.wait.Wait.{Wait}
 use Rattle.peer_queue.specs.declared.wait.Wait.TheVariants.{Ready as ReadyNow, Until}
 
@@ -17,11 +17,10 @@ pair_cmp one other = ordering_then (nat_cmp one.0 other.0) (nat_cmp one.1 other.
 abbrev pub Holders : Type 0
 Holders = ℕ → Option ℕ
 
--- the place of a number that waits for this: until 0 is no wait
+-- the place of a number that waits for this
 abbrev pub place_for : Wait → Place
 place_for ReadyNow = Ready
-place_for (Until zero) = Ready
-place_for (Until (suc moment)) = Later (suc moment)
+place_for (Until moment) = place_until moment
 
 -- the moment from which on it may be claimed
 abbrev pub due_at : Wait → ℕ

@@ -1,5 +1,5 @@
 -- Where the debts of a peer are (profile). Moments are seconds of the caller's clock, connections are told by their numbers.
-use Rattle.std.specs.Prelude.{◌≡◌, ◌==◌, ◌+◌, ◌<◌, ◌^◌, ◌-◌, ℕ, Bool, true, false, nat_le, min, Option, Some, option_map, if◌then◌else◌, List, [], ◌∷◌, length, map, find, filter}
+use Rattle.std.specs.Prelude.{◌≡◌, ◌==◌, ◌+◌, ◌<◌, ◌^◌, ◌-◌, ℕ, zero, suc, Bool, true, false, nat_le, min, Option, Some, option_map, if◌then◌else◌, List, [], ◌∷◌, length, map, find, filter}
 use Rattle.std.specs.Map.{lookup}
 
 -- a debt waits to be claimed, is held by one connection, or waits until a moment
@@ -7,6 +7,11 @@ pub data Place : Type 0 where
   Ready : Place
   Held : (connection : ℕ) → Place
   Later : (moment : ℕ) → Place
+
+-- the place of a debt that waits until this moment: until 0 is no wait
+abbrev pub place_until : ℕ → Place
+place_until zero = Ready
+place_until (suc moment) = Later (suc moment)
 
 -- the place of each number that is owed, by rising numbers
 abbrev pub Places : Type 0

@@ -55,8 +55,8 @@ impl<D: Disk> Station<D> {
     ghost use Rattle.peer_queue.specs.Calls.{Defers, IsFresh, KeepsDebts, RefusesClaim, RefusesFlush};
     ghost use Rattle.peer_queue.specs.Calls.{RefusesDebt, RefusesOwe, RefusesRotation, Sheds};
     ghost use Rattle.peer_queue.specs.Place.{AreRising, Held, IsHeldBy, IsLater, Later, Ready};
-    ghost use Rattle.peer_queue.specs.Place.{gone, held_count, least_candidate, moved, released};
-    ghost use Rattle.peer_queue.specs.Place.{unheld};
+    ghost use Rattle.peer_queue.specs.Place.{gone, held_count, least_candidate, moved, place_until};
+    ghost use Rattle.peer_queue.specs.Place.{released, unheld};
     ghost use Rattle.peer_queue.specs.Index.{place_for};
     ghost use Rattle.peer_queue.specs.Shed.{IsShedSet};
     ghost use Rattle.peer_queue.specs.Settled.{Finishes, IsEnded, Settles, number_in, settled_by};
@@ -272,6 +272,36 @@ impl<D: Disk> Station<D> {
             Ok(()) => Ok(()),
             Err(fault) => Err((debt, fault)),
         }
+    }
+
+    /// Takes a debt back, and has it wait until this moment; until 0 is no wait: it is ready. Takes no memory, and
+    /// makes no note.
+    ///
+    /// # Errors
+    /// The debt is handed back. Tried in this order: `Broken`; `NotHeld`.
+    pub fn put_off(
+        &mut self,
+        connection: CxnId,
+        debt: Debt,
+        until: u64,
+    ) -> Result<(), (Debt, StationFault)>
+        ensures ok { OnOk result
+            (IsSameTape self.old self.new × IsHeldBy (places_of self.old) connection.0 debt.0
+            × (places_of self.new ≡ moved (places_of self.old) debt.0 (place_until until))) }
+        ensures refuses { Refuses self.old connection.0 debt.0 result }
+        ensures kinds { IfErr result
+            (λ e. (e.1 ≡ StationFault.Broken) ⊎ (e.1 ≡ StationFault.NotHeld)) }
+        ensures returned { IfErr result (λ e. e.0 ≡ debt) }
+        ensures unchanged { OnErr result (IsSame self.old self.new) }
+    {
+        if self.tape.is_broken() {
+            return Err((debt, StationFault::Broken));
+        }
+        if !self.index.is_held_by(connection, debt.number()) {
+            return Err((debt, StationFault::NotHeld));
+        }
+        self.give_up(connection, debt.number(), Wait::Until(until));
+        Ok(())
     }
 
     /// Takes what a connection tells of a debt that it held: a final answer settles it, a deferral has it wait or drops

@@ -6,12 +6,12 @@ use Rattle.script.specs.declared.fault.Reason.TheVariants.{NoTape, TapeBehindSte
 
 -- why a line breaks the rules of a script
 abbrev pub reason_words : Reason → List ℕ
-reason_words NoStep = codes "no step is written so"
-reason_words NoPeer = codes "the settings are not those of one peer"
-reason_words PeerBehindStep = codes "a peer stands behind a step"
-reason_words DeclaredTwice = codes "the peer is declared already"
-reason_words NoTape = codes "no tape is written so"
-reason_words TapeBehindStep = codes "a tape stands behind a step"
-reason_words NoPeerOfTape = codes "the peer of the tape is not declared before it"
-reason_words TapeTwice = codes "the tape of the peer is given already"
-reason_words Unended = codes "the last line has no end"
+reason_words NoStep = codes "unknown or malformed step"
+reason_words NoPeer = codes "malformed settings of a peer"
+reason_words PeerBehindStep = codes "a peer line after the first step"
+reason_words DeclaredTwice = codes "peer declared twice"
+reason_words NoTape = codes "malformed tape line"
+reason_words TapeBehindStep = codes "a tape line after the first step"
+reason_words NoPeerOfTape = codes "no earlier line declares the peer of this tape"
+reason_words TapeTwice = codes "tape given twice"
+reason_words Unended = codes "no newline at end of file"

@@ -36,15 +36,15 @@ impl Reason {
         ensures { result.now ≡ reason_words self }
     {
         match self {
-            Reason::NoStep => "no step is written so",
-            Reason::NoPeer => "the settings are not those of one peer",
-            Reason::PeerBehindStep => "a peer stands behind a step",
-            Reason::DeclaredTwice => "the peer is declared already",
-            Reason::NoTape => "no tape is written so",
-            Reason::TapeBehindStep => "a tape stands behind a step",
-            Reason::NoPeerOfTape => "the peer of the tape is not declared before it",
-            Reason::TapeTwice => "the tape of the peer is given already",
-            Reason::Unended => "the last line has no end",
+            Reason::NoStep => "unknown or malformed step",
+            Reason::NoPeer => "malformed settings of a peer",
+            Reason::PeerBehindStep => "a peer line after the first step",
+            Reason::DeclaredTwice => "peer declared twice",
+            Reason::NoTape => "malformed tape line",
+            Reason::TapeBehindStep => "a tape line after the first step",
+            Reason::NoPeerOfTape => "no earlier line declares the peer of this tape",
+            Reason::TapeTwice => "tape given twice",
+            Reason::Unended => "no newline at end of file",
         }
     }
 }

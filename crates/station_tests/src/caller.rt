@@ -60,6 +60,8 @@ pub(crate) enum Step {
     Defer(CxnId, u64, u64, Result<(), StationFault>),
     Lose(CxnId, u64, Result<(), StationFault>),
     Back(CxnId, u64, Result<(), StationFault>),
+    // A connection has a debt of this number wait until this moment. What is refused is handed back, and stays held.
+    PutOff(CxnId, u64, u64, Result<(), StationFault>),
     // The article of this number, which is held, is not there.
     Gone(u64),
     // A connection tells at this moment what is held of this number, and this becomes of the debt. What is refused is
@@ -261,6 +263,9 @@ fn take<A: Abort>(rt: &A, caller: &mut Caller, step: Step) -> Result<(), Fail> {
         }
         Step::Lose(connection, number, want) => lose(rt, caller, connection, number, want),
         Step::Back(connection, number, want) => back(rt, caller, connection, number, want),
+        Step::PutOff(connection, number, until, want) => {
+            put_off(rt, caller, connection, number, until, want)
+        }
         Step::Gone(number) => lack(caller, number),
         Step::Finish(connection, number, now, want) => {
             finish(rt, caller, connection, number, now, want)
@@ -549,6 +554,22 @@ fn back<A: Abort>(
 ) -> Result<(), Fail> {
     let debt = debt_given(caller, number)?;
     let refused = match caller.station.back(connection, debt) {
+        Ok(()) => None,
+        Err((debt, fault)) => Some((Outcome::Back(debt), fault)),
+    };
+    assert_ended(rt, caller, number, refused, want)
+}
+
+fn put_off<A: Abort>(
+    rt: &A,
+    caller: &mut Caller,
+    connection: CxnId,
+    number: u64,
+    until: u64,
+    want: Result<(), StationFault>,
+) -> Result<(), Fail> {
+    let debt = debt_given(caller, number)?;
+    let refused = match caller.station.put_off(connection, debt, until) {
         Ok(()) => None,
         Err((debt, fault)) => Some((Outcome::Back(debt), fault)),
     };

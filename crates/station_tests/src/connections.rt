@@ -393,6 +393,44 @@ fn play_switched<A: Abort>(rt: &A, alloc: Global, wire: Wire) -> Result<(), Fail
     Ok(())
 }
 
+// Checks are off once the first two have been played: the articles are wanted at once, and each TAKETHIS is awaited.
+const UNCHECKED: &[Step] = &[
+    Step::Offer(21, b"<x@y>"),
+    Step::Offer(22, b"<z@y>"),
+    Step::Wanted(Some(21)),
+    Step::Text(21, b"t\n"),
+    Step::Wanted(Some(22)),
+    Step::Text(22, b"u\n"),
+    Step::Wanted(None),
+    Step::Output(b"TAKETHIS <x@y>\r\nt\r\n.\r\nTAKETHIS <z@y>\r\nu\r\n.\r\n"),
+    Step::Line(b"239 <x@y>"),
+    Step::Outcome(21, 239),
+    Step::Unanswered(None),
+    Step::Broken,
+    Step::Unanswered(Some(22)),
+    Step::Answered(true),
+    Step::Outcome(22, BACK),
+    Step::Unanswered(Some(22)),
+];
+
+fn play_unchecked<A: Abort>(rt: &A, alloc: Global, wire: Wire) -> Result<(), Fail> {
+    let mut exchange = begin(rt, alloc, SWITCHED, wire)?;
+    for answers in ANSWERS.iter().take(2) {
+        play_articles(rt, &mut exchange, *answers)?;
+    }
+    play(rt, &mut exchange, UNCHECKED)?;
+    end(rt, &mut exchange, Some(Reason::Broken));
+    Ok(())
+}
+
+#[test]
+fn unchecked_articles_are_awaited(rt: HostRuntime) -> Result<(), Fail> {
+    for wire in WIRES {
+        play_unchecked(&rt, rt.alloc(), wire)?;
+    }
+    Ok(())
+}
+
 #[test]
 fn debts_are_answered(rt: HostRuntime) -> Result<(), Fail> {
     play_rows(&rt, rt.alloc(), ANSWERED)

@@ -64,6 +64,14 @@ pub(crate) enum Step {
     Need(Option<u64>),
     Checks(bool),
     Mode(Option<Mode>),
+    // The number of the debt whose article came to be wanted first.
+    Wanted(Option<u64>),
+    // Whether the peer answered a command about a debt.
+    Answered(bool),
+    // The number of the debt whose command was the first without an answer when it closed.
+    Unanswered(Option<u64>),
+    // The code and the text of the reply that closed it.
+    Refused(Option<(u16, &'static [u8])>),
 }
 
 // A mode stands: streaming mode, and a CHECK of the debt 1 is out; streaming mode; IHAVE mode.
@@ -178,6 +186,18 @@ fn assert_told<A: Abort>(rt: &A, exchange: &mut Exchange, step: Step) {
         Step::Need(want) => assert_need(rt, exchange, want),
         Step::Checks(want) => assert_same(rt, exchange.place, &exchange.conn.checks(), &want),
         Step::Mode(want) => assert_same(rt, exchange.place, &exchange.conn.mode(), &want),
+        _ => assert_known(rt, exchange, step),
+    }
+}
+
+// A step that asks what the connection knows of its debts and of its peer.
+fn assert_known<A: Abort>(rt: &A, exchange: &Exchange, step: Step) {
+    let conn = &exchange.conn;
+    match step {
+        Step::Wanted(want) => assert_wanted(rt, exchange, want),
+        Step::Answered(want) => assert_same(rt, exchange.place, &conn.has_answered(), &want),
+        Step::Unanswered(want) => assert_same(rt, exchange.place, &conn.first_unanswered(), &want),
+        Step::Refused(want) => assert_refused(rt, exchange, want),
         _ => {}
     }
 }
@@ -232,6 +252,7 @@ fn hand_in<A: Abort>(
     found: Found,
 ) -> Result<(), Fail> {
     assert_need(rt, exchange, Some(number));
+    assert_wanted(rt, exchange, Some(number));
     hand(&mut exchange.conn, number, found)
 }
 
@@ -274,6 +295,22 @@ fn assert_ready<A: Abort>(rt: &A, exchange: &Exchange, want: Ready) {
 
 fn assert_need<A: Abort>(rt: &A, exchange: &Exchange, want: Option<u64>) {
     assert_same(rt, exchange.place, &exchange.conn.need(), &want);
+}
+
+fn assert_wanted<A: Abort>(rt: &A, exchange: &Exchange, want: Option<u64>) {
+    let wanted = match exchange.conn.wanted() {
+        Some(debt) => Some(debt.number()),
+        None => None,
+    };
+    assert_same(rt, exchange.place, &wanted, &want);
+}
+
+fn assert_refused<A: Abort>(rt: &A, exchange: &Exchange, want: Option<(u16, &'static [u8])>) {
+    let refused = match exchange.conn.refused() {
+        Some(reply) => Some((reply.code, reply.text.as_slice())),
+        None => None,
+    };
+    assert_same(rt, exchange.place, &refused, &want);
 }
 
 // Nothing is left to be told, and the connection is closed for this reason or open.

@@ -23,3 +23,5 @@ mod shared;
 mod stations;
 #[cfg(test)]
 mod sweeps;
+#[cfg(test)]
+mod tells;

@@ -115,6 +115,7 @@ const REOPENING: &[Script] = &[
                 Step::Defer(ONE, 2, 0, Err(BROKEN)),
                 Step::Lose(ONE, 3, Err(BROKEN)),
                 Step::Back(OTHER, 3, Err(BROKEN)),
+                Step::PutOff(OTHER, 3, 60, Err(BROKEN)),
                 Step::Finish(ONE, 1, 0, Err(BROKEN)),
                 Step::ShedRefused(BROKEN),
                 Step::Debt(1, Err(BROKEN)),

@@ -1,6 +1,7 @@
 // Scripts of stations. A debt of a script has ten octets.
 use crate::caller::{
-    NOT_HELD, ONE, OTHER, SMALL, Script, Step, UNLIMITED, begin, play, play_script, play_scripts,
+    NOT_HELD, ONE, OTHER, Opening, SMALL, Script, Step, UNLIMITED, begin, play, play_script,
+    play_scripts,
 };
 use conn_core::CxnId;
 use ledger_core::{Cause, FinalCode};
@@ -262,6 +263,91 @@ const DEFERRING: &[Script] = &[
     },
 ];
 
+const PUTTING_OFF: &[Script] = &[
+    Script {
+        name: "what is put off waits until its moment, and the others keep their places",
+        owed: 4,
+        limits: UNLIMITED,
+        steps: &[
+            Step::Claim(ONE, 0, Ok(1)),
+            Step::Claim(ONE, 0, Ok(2)),
+            Step::Claim(OTHER, 0, Ok(3)),
+            Step::PutOff(ONE, 1, 100, Ok(())),
+            Step::List(&[1, 2, 3, 4]),
+            Step::Totals(4, 0, 0, 4),
+            Step::Claim(OTHER, 99, Ok(4)),
+            Step::Claim(OTHER, 99, Ok(0)),
+            Step::Claim(OTHER, 100, Ok(1)),
+            Step::Claim(OTHER, u64::MAX, Ok(0)),
+            Step::Release(ONE, 1),
+            Step::Release(OTHER, 3),
+        ],
+        opened: &[],
+        tape: None,
+    },
+    Script {
+        name: "what is put off until a moment that is past is given at once",
+        owed: 2,
+        limits: UNLIMITED,
+        steps: &[
+            Step::Claim(ONE, 100, Ok(1)),
+            Step::PutOff(ONE, 1, 0, Ok(())),
+            Step::Claim(ONE, 0, Ok(1)),
+            Step::PutOff(ONE, 1, 99, Ok(())),
+            Step::Claim(ONE, 98, Ok(2)),
+            Step::Claim(ONE, 100, Ok(1)),
+        ],
+        opened: &[],
+        tape: None,
+    },
+    Script {
+        name: "a debt is put off until the last moment",
+        owed: 1,
+        limits: DROPPING,
+        steps: &[
+            Step::Claim(ONE, 0, Ok(1)),
+            Step::PutOff(ONE, 1, u64::MAX, Ok(())),
+            Step::Claim(ONE, u64::MAX - 1, Ok(0)),
+            Step::List(&[1]),
+            Step::Claim(ONE, u64::MAX, Ok(1)),
+        ],
+        opened: &[],
+        tape: None,
+    },
+    Script {
+        name: "who does not hold puts nothing off",
+        owed: 1,
+        limits: UNLIMITED,
+        steps: &[
+            Step::Claim(ONE, 0, Ok(1)),
+            Step::PutOff(OTHER, 1, 60, Err(NOT_HELD)),
+            Step::Claim(ONE, u64::MAX, Ok(0)),
+            Step::Release(ONE, 1),
+            Step::PutOff(ONE, 1, 60, Err(NOT_HELD)),
+            Step::Claim(ONE, 0, Ok(1)),
+            Step::PutOff(ONE, 1, 60, Ok(())),
+            Step::Owe(2, Ok(Owed::New)),
+            Step::Claim(ONE, 0, Ok(2)),
+            Step::PutOff(ONE, 2, 50, Ok(())),
+            Step::Claim(ONE, 60, Ok(1)),
+        ],
+        opened: &[],
+        tape: None,
+    },
+    Script {
+        name: "what is put off is ready once it is opened again",
+        owed: 1,
+        limits: UNLIMITED,
+        steps: &[
+            Step::Claim(ONE, 0, Ok(1)),
+            Step::PutOff(ONE, 1, u64::MAX, Ok(())),
+            Step::Claim(ONE, 0, Ok(0)),
+        ],
+        opened: &[(Opening::Flushed, &[Step::Claim(ONE, 0, Ok(1))])],
+        tape: None,
+    },
+];
+
 const FINISHING: &[Script] = &[
     Script {
         name: "each outcome makes of its debt what it says",
@@ -346,6 +432,8 @@ const FINISHED_WITHOUT_ROOM: Script = Script {
         Step::Finish(ONE, 2, 0, Ok(Settled::Later(60))),
         Step::Finish(ONE, 3, 0, Err(FULL)),
         Step::Finish(ONE, 4, 0, Ok(Settled::Ready)),
+        Step::Claim(ONE, 0, Ok(4)),
+        Step::PutOff(ONE, 4, 60, Ok(())),
         Step::Flush(Ok(MOST_PENDING)),
         Step::Finish(ONE, 1, 0, Ok(NOT_WANTED)),
         Step::Finish(ONE, 3, 0, Ok(Settled::Dropped(Cause::Missing))),
@@ -458,6 +546,11 @@ fn a_debt_ends_once_and_by_who_holds_it(rt: HostRuntime) -> Result<(), Fail> {
 #[test]
 fn the_deferred_wait(rt: HostRuntime) -> Result<(), Fail> {
     play_scripts(&rt, rt.alloc(), DEFERRING)
+}
+
+#[test]
+fn what_is_put_off_waits(rt: HostRuntime) -> Result<(), Fail> {
+    play_scripts(&rt, rt.alloc(), PUTTING_OFF)
 }
 
 #[test]

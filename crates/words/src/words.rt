@@ -13,16 +13,15 @@ const USAGE: &str =
     "innfeed -c FILE [-C] [-x] [-v] [--owed] [FUNNEL]\n       innfeed --drill FILE\n       innfeed < SCRIPT";
 
 const ABOUT: &str =
-    "The outgoing feeder of a news server: offers peers the articles of a funnel file, and of their backlogs.";
+    "The outgoing feeder of a news server: offers its peers the articles of a funnel file and of their backlogs.";
 
 const MORE: &str =
-    "Of -C, --owed and -x the first in this order acts alone, and FUNNEL is not read; else it is needed.
-With no argument a drill script is read on standard input.
+    "-C takes precedence over --owed, and --owed over -x; with any of them FUNNEL is ignored. Otherwise it is required.
+Without arguments a drill script is read from standard input.
 
-Exit status: 0 done; 1 a bad configuration, or a script that breaks its rules or whose step was refused;
-2 a mistake in the words; 3 a tape that cannot be opened, broke, is damaged or full; 4 another file or standard
-input that cannot be read, or a file or standard output that cannot be written; 5 memory, a thread or what
-sockets want was refused.";
+Exit status: 0 success; 1 bad configuration, malformed drill script or refused step; 2 usage error;
+3 a tape cannot be opened, or is broken, damaged or full; 4 another file or standard input cannot be read, or a
+file or standard output cannot be written; 5 out of memory, threads or system resources for sockets.";
 
 /// Reads the words of the command line, of which the first is the program's own name.
 ///
@@ -57,16 +56,16 @@ fn command<'a>(alloc: Global) -> Result<Command<'a>, AllocError> {
     let config = Arg::new(alloc, "config")
         .short('c')
         .value_name("FILE")
-        .help("The configuration, as innfeed.conf(5) has it");
+        .help("Read this configuration file, see innfeed.conf(5)");
     let drill = Arg::new(alloc, "drill")
         .long("drill")
         .value_name("FILE")
         .help(
-            "Run the drill script in this file: print what each step does and what each peer is owed",
+            "Run this drill script, and print what each step does and what is queued for each peer",
         );
     let funnel = Arg::new(alloc, "funnel").value_name("FUNNEL").help(
-        "The file of lines to feed from, each a token, a message-id and peers: go on behind the last \
-            acknowledged line",
+        "Read articles to feed from this file: lines of a token, a message-id and peers; continue \
+            after the last acknowledged line",
     );
     Command::new(alloc, "innfeed")
         .version(VERSION)
@@ -87,7 +86,7 @@ fn check_flag<'a>(alloc: Global) -> Arg<'a> {
         .short('C')
         .action(ArgAction::SetTrue)
         .help(
-            "Check the configuration: print what is ignored or limited in it, and how many peers it has",
+            "Check the configuration, and print which settings are ignored or limited and how many peers it has",
         )
 }
 
@@ -95,23 +94,23 @@ fn owed_flag<'a>(alloc: Global) -> Arg<'a> {
     Arg::new(alloc, "owed")
         .long("owed")
         .action(ArgAction::SetTrue)
-        .help("Print what each peer is owed: its name, and a line's number, token and message-id")
+        .help(
+            "List what is queued for each peer: its name, and the number, token and message-id of each article",
+        )
 }
 
 fn backlog_flag<'a>(alloc: Global) -> Arg<'a> {
     Arg::new(alloc, "backlog")
         .short('x')
         .action(ArgAction::SetTrue)
-        .help("Feed from the backlogs alone, and read no funnel")
+        .help("Feed from the backlogs only, without a funnel")
 }
 
 fn verbose_flag<'a>(alloc: Global) -> Arg<'a> {
     Arg::new(alloc, "verbose")
         .short('v')
         .action(ArgAction::SetTrue)
-        .help(
-            "Log to standard error what becomes of connections and articles, and each 10 seconds how far all is",
-        )
+        .help("Log connections and articles to standard error, and progress every 10 seconds")
 }
 
 // What a parse found on the command line.
@@ -152,8 +151,8 @@ fn order_of<'a>(alloc: Global, given: Given<'a>) -> Result<Order<'a>, AllocError
     match (given.drill, given.config) {
         (None, Some(conf)) => order_on(alloc, conf, given),
         (Some(path), None) if !has_more(&given) => Ok(Order::Drill(path)),
-        (Some(_), _) => mistake(alloc, "no other argument may stand beside '--drill FILE'"),
-        (None, None) => mistake(alloc, "'-c FILE' or '--drill FILE' is needed"),
+        (Some(_), _) => mistake(alloc, "'--drill FILE' takes no other argument"),
+        (None, None) => mistake(alloc, "'-c FILE' or '--drill FILE' is required"),
     }
 }
 
@@ -180,7 +179,7 @@ fn order_on<'a>(alloc: Global, conf: &'a str, given: Given<'a>) -> Result<Order<
             funnel: Some(path),
             verbose: given.verbose,
         }),
-        None => mistake(alloc, "FUNNEL or '-x' is needed"),
+        None => mistake(alloc, "FUNNEL or '-x' is required"),
     }
 }
 

@@ -172,6 +172,8 @@ module _ (o : Options) where
           accepted_is = st.accepted_is ∙ ap length m.accepted_is;
           recent_is = st.recent_is ∙ ap (take o.check_filter) m.counted_is;
           off_is = st.off_is ∙ rw (m.counted_is) refl;
+          unanswered_is = st.unanswered_is ∙ (m.unanswered_is ∙ sym t.unanswered_is);
+          answered_is = st.answered_is ∙ (m.has_answered_is ∙ sym t.has_answered_is);
           untold_is = st.untold_is ∙ (ap (λ n. drop n (outcomes o one)) m.taken_is ∙ ap (drop (taken other + 1)) outs);
           taken_few = omega (arith, st.taken_few, m.taken_is, ap length outs);
           while_open = λ still.

@@ -1,13 +1,23 @@
 -- A transcript in which one outcome more is taken is as the other in all else, whatever comes behind it.
-use Rattle.std.proofs.Common.{◌≡◌, ◌+◌, Bool, true, false, List, [], ◌∷◌, ◌++◌, refl, ap, subst}
+use Rattle.std.proofs.Common.{◌≡◌, ◌+◌, ℕ, Bool, true, false, List, [], ◌∷◌, ◌++◌, refl, sym, ap, subst}
+use Rattle.std.proofs.Common.{Option, Some, None}
 use Rattle.std.specs.Prelude.{◌||◌, nat_lt, is_some, if◌then◌else◌}
 use Rattle.conn_core.specs.ClosingLaws.{first_reason-none}
-use Rattle.conn_core.specs.Commands.{Command, Quit}
+use Rattle.conn_core.specs.Commands.{Ask, Command, Held, Quit}
 use Rattle.conn_core.specs.History.{Event, Offered, Put, Came, Faulted, Handed, Sent, Tick, Broke, Leave, Taken}
 use Rattle.conn_core.specs.History.{accepted, after, answered, ask_in, asks, counted, is_leaving, is_quit_due, outside}
 use Rattle.conn_core.specs.History.{phase, phase_after, phase_put, put_out, puts, quiet, reason, sent, stirred, story}
-use Rattle.conn_core.specs.History.{taken, with_puts}
+use Rattle.conn_core.specs.History.{taken, with_puts, closes, first_reason, first_unanswered, has_answered}
+use Rattle.conn_core.specs.History.{unanswered_at_close}
 use Rattle.conn_core.specs.declared.options.Options.{Options}
+use Rattle.conn_core.specs.declared.reason.Reason.{Reason}
+
+open_step : (r now : Option Reason) (before : Option ℕ) (held : List Held) (commands : List Ask)
+    → first_reason r now ≡ None
+    → (if is_some r then before else unanswered_at_close now held commands) ≡ None
+open_step None None before held commands is = refl
+open_step None (Some why) before held commands is = cc
+open_step (Some why) now before held commands is = cc
 
 module _ (options : Options) where
   -- the one has one outcome more taken than the other, and says the same in all else
@@ -24,7 +34,20 @@ module _ (options : Options) where
     pub quiet_is : quiet options one ≡ quiet options other
     pub reason_is : reason options one ≡ reason options other
     pub story_is : story options one ≡ story options other
+    pub has_answered_is : has_answered options one ≡ has_answered options other
+    pub unanswered_is : first_unanswered options one ≡ first_unanswered options other
     pub taken_is : taken one ≡ taken other + 1
+
+  -- while it is open, none counts as unanswered
+  unanswered_open : (h : List Event) → reason options h ≡ None → first_unanswered options h ≡ None
+  unanswered_open [] is = refl
+  unanswered_open (e ∷ h) is = open_step (reason options h) (closes options h e) _ _ _ is
+
+  -- an outcome that is taken changes nothing of it
+  unanswered_step : (h : List Event) (r : Option Reason) → reason options h ≡ r
+      → first_unanswered options (Taken ∷ h) ≡ first_unanswered options h
+  unanswered_step h None running = rw (running) (sym (unanswered_open h running))
+  unanswered_step h (Some why) closed = rw (closed) refl
 
   -- one is taken now
   pub more_taken : (h : List Event) → IsOneMore (Taken ∷ h) h
@@ -42,6 +65,8 @@ module _ (options : Options) where
     quiet_is = refl;
     reason_is = first_reason-none (reason options h);
     story_is = refl;
+    has_answered_is = refl;
+    unanswered_is = unanswered_step h (reason options h) refl;
     taken_is = refl;
   }
 
@@ -61,6 +86,8 @@ module _ (options : Options) where
     quiet_is = a.quiet_is;
     reason_is = rw (a.reason_is) refl;
     story_is = rw (a.story_is, a.phase_is, a.counted_is, a.accepted_is) refl;
+    has_answered_is = a.has_answered_is;
+    unanswered_is = rw (a.reason_is, a.unanswered_is) refl;
     taken_is = a.taken_is;
   }
   more_cons (Put command) one other a = record {
@@ -76,6 +103,8 @@ module _ (options : Options) where
     quiet_is = a.quiet_is;
     reason_is = rw (a.reason_is) refl;
     story_is = a.story_is;
+    has_answered_is = a.has_answered_is;
+    unanswered_is = rw (a.reason_is, a.unanswered_is) refl;
     taken_is = a.taken_is;
   }
   more_cons (Came reply) one other a = record {
@@ -91,6 +120,16 @@ module _ (options : Options) where
     quiet_is = a.quiet_is;
     reason_is = rw (a.reason_is, a.phase_is, a.answered_is, a.asks_is) refl;
     story_is = rw (a.story_is, a.accepted_is, a.phase_is, a.answered_is, a.asks_is) refl;
+    has_answered_is = rw (a.phase_is, a.answered_is, a.asks_is, a.has_answered_is) refl;
+    unanswered_is = rw (
+      a.reason_is,
+      a.unanswered_is,
+      a.phase_is,
+      a.answered_is,
+      a.asks_is,
+      a.accepted_is,
+      a.story_is,
+    ) refl;
     taken_is = a.taken_is;
   }
   more_cons (Faulted fault) one other a = record {
@@ -106,6 +145,8 @@ module _ (options : Options) where
     quiet_is = a.quiet_is;
     reason_is = rw (a.reason_is) refl;
     story_is = rw (a.story_is, a.accepted_is) refl;
+    has_answered_is = a.has_answered_is;
+    unanswered_is = rw (a.reason_is, a.unanswered_is, a.accepted_is, a.story_is, a.asks_is, a.answered_is) refl;
     taken_is = a.taken_is;
   }
   more_cons (Handed number handing) one other a = record {
@@ -121,6 +162,8 @@ module _ (options : Options) where
     quiet_is = a.quiet_is;
     reason_is = rw (a.reason_is) refl;
     story_is = rw (a.story_is, a.accepted_is) refl;
+    has_answered_is = a.has_answered_is;
+    unanswered_is = rw (a.reason_is, a.unanswered_is) refl;
     taken_is = a.taken_is;
   }
   more_cons (Sent count) one other a = record {
@@ -136,6 +179,8 @@ module _ (options : Options) where
     quiet_is = a.quiet_is;
     reason_is = rw (a.reason_is) refl;
     story_is = a.story_is;
+    has_answered_is = a.has_answered_is;
+    unanswered_is = rw (a.reason_is, a.unanswered_is) refl;
     taken_is = a.taken_is;
   }
   more_cons (Tick now) one other a = record {
@@ -151,6 +196,18 @@ module _ (options : Options) where
     quiet_is = rw (a.quiet_is, a.stirred_is, a.phase_is, a.answered_is, a.asks_is) refl;
     reason_is = rw (a.reason_is, a.quiet_is, a.stirred_is, a.phase_is, a.answered_is, a.asks_is) refl;
     story_is = rw (a.story_is, a.accepted_is, a.quiet_is, a.stirred_is, a.phase_is, a.answered_is, a.asks_is) refl;
+    has_answered_is = a.has_answered_is;
+    unanswered_is = rw (
+      a.reason_is,
+      a.unanswered_is,
+      a.quiet_is,
+      a.stirred_is,
+      a.phase_is,
+      a.answered_is,
+      a.asks_is,
+      a.accepted_is,
+      a.story_is,
+    ) refl;
     taken_is = a.taken_is;
   }
   more_cons Broke one other a = record {
@@ -166,6 +223,8 @@ module _ (options : Options) where
     quiet_is = a.quiet_is;
     reason_is = rw (a.reason_is) refl;
     story_is = rw (a.story_is, a.accepted_is) refl;
+    has_answered_is = a.has_answered_is;
+    unanswered_is = rw (a.reason_is, a.unanswered_is, a.accepted_is, a.story_is, a.asks_is, a.answered_is) refl;
     taken_is = a.taken_is;
   }
   more_cons Leave one other a = record {
@@ -181,6 +240,8 @@ module _ (options : Options) where
     quiet_is = a.quiet_is;
     reason_is = rw (a.reason_is) refl;
     story_is = a.story_is;
+    has_answered_is = a.has_answered_is;
+    unanswered_is = rw (a.reason_is, a.unanswered_is) refl;
     taken_is = a.taken_is;
   }
   more_cons Taken one other a = record {
@@ -196,6 +257,8 @@ module _ (options : Options) where
     quiet_is = a.quiet_is;
     reason_is = rw (a.reason_is) refl;
     story_is = a.story_is;
+    has_answered_is = a.has_answered_is;
+    unanswered_is = rw (a.reason_is, a.unanswered_is) refl;
     taken_is = ap (λ n. n + 1) a.taken_is;
   }
 

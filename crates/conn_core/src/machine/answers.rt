@@ -120,6 +120,7 @@ impl Machine {
             self.close(stray(reply.code));
             return Ok(());
         };
+        self.has_answered = true;
         match self.held.get(ask.ticket()) {
             Some(x) => {
                 let want = WantedArticle::new(x.ticket(), x.debt().number());
@@ -143,6 +144,7 @@ impl Machine {
             self.close(stray(reply.code));
             return Ok(());
         };
+        self.has_answered = true;
         put_block(&mut self.output, &mut self.blocks);
         let block = AwaitedAsk::new(Verb::Block, ask.ticket());
         self.window.push_back_reserved(block);
@@ -159,6 +161,7 @@ impl Machine {
             self.close(stray(reply.code));
             return;
         };
+        self.has_answered = true;
         self.let_go(ask.verb());
         self.count(reply.code);
         self.tell(meaning_of(ask.verb(), reply.code), ask.ticket());

@@ -11,7 +11,7 @@ returns-in_ok-on_reply-in-Ok-Some-clause-read c = λ options waiting h reading.
     let gives = rw c.in-Ok-Some.field-0-is at c.in-Ok-Some.ensures.some in
     let begins = begins-reply c.self.inside.reader c.next.new.self waiting (given_of c.in-Ok-Some.reply) gives reader in
     reads-reply options c.args.self.now _ waiting h reading (given_of c.in-Ok-Some.reply) gives.rest begins gives.waits (rw (← c.self.view_is) c.in_ok-on_reply-in-Ok-Some.ensures.ok)
-    c.is_none.result (ap is_some (sym c.closed.ensures) ∙ c.is_none.ensures)
+    c.is_none.result (ap is_some (sym c.closed-closed.ensures) ∙ c.is_none.ensures)
 
 pub returns-in_ok-on_reply-in-Ok-Some-clause-shorter : goal.returns-in_ok-on_reply-in-Ok-Some-clause-shorter
 returns-in_ok-on_reply-in-Ok-Some-clause-shorter c = λ more.

@@ -12,4 +12,5 @@ invariant_of-self g c =
       one_part = old.one_part;
       counted = counted_along _ _ _ (ledger_of old.station) (ledger_of c.claim.new.self)
           (ledger-read (tape_of old.station) (tape_of c.claim.new.self) read.tape) old.counted;
+      sum = old.sum;
     }

@@ -14,6 +14,7 @@ invariant_of-self g c =
       kept = keeps_same old.station new same old.kept;
       one_part = old.one_part;
       counted = counted_along _ _ _ (ledger_of old.station) (ledger_of new) same.ledger old.counted;
+      sum = old.sum;
     }
 
 pub invariant_of-self-2 : goal.invariant_of-self-2
@@ -32,4 +33,5 @@ invariant_of-self-2 g c =
       kept = keeps_settled held number settled old.station new made old.kept;
       one_part = (old.one_part.0, answered.0, dropped.0);
       counted = counted_settled _ _ _ _ _ held number settled old.station new made answered.1 dropped.1 old.counted;
+      sum = old.sum;
     }

@@ -13,4 +13,5 @@ invariant_of-self g c =
       one_part = old.one_part;
       counted = counted_along _ _ _ (ledger_of old.station) (ledger_of c.release.new.self)
           (ap tape_ledger same.tape) old.counted;
+      sum = old.sum;
     }

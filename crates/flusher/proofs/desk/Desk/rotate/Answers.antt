@@ -13,10 +13,11 @@ invariant_of-self g c =
       one_part = old.one_part;
       counted =
           counted_along _ _ _ (ledger_of old.station) (ledger_of new) e.keeps.ledger old.counted;
+      sum = old.sum;
     }
 
-pub invariant_of-self-2 : goal.invariant_of-self-2
-invariant_of-self-2 g c =
+pub invariant_of-self-in-Err : goal.invariant_of-self-in-Err
+invariant_of-self-in-Err g c =
     let old = c.args.self.now in
     let new = c.rotate.new.self in
     let e = c.rotate.ensures in
@@ -26,4 +27,5 @@ invariant_of-self-2 g c =
       one_part = old.one_part;
       counted =
           counted_along _ _ _ (ledger_of old.station) (ledger_of new) e.keeps.ledger old.counted;
+      sum = old.sum;
     }

@@ -12,6 +12,7 @@ invariant_of-self g c =
       kept = keeps_same old.station c.shed.new.self same old.kept;
       one_part = old.one_part;
       counted = counted_along _ _ _ (ledger_of old.station) (ledger_of c.shed.new.self) same.ledger old.counted;
+      sum = old.sum;
     }
 
 pub invariant_of-self-2 : goal.invariant_of-self-2
@@ -26,4 +27,5 @@ invariant_of-self-2 g c =
       kept = keeps_shed old.station new numbers c.shed.ensures.disks e.ok.notes old.kept;
       one_part = (old.one_part.0, old.one_part.1, count.1 ∙ old.one_part.2);
       counted = counted_shed _ _ _ _ numbers (ledger_of old.station) (ledger_of new) e.ok.ledger more old.counted;
+      sum = old.sum;
     }

@@ -16,6 +16,7 @@ invariant_of-self-in-Ok-New g c =
       one_part = (count.1 ∙ old.one_part.0, old.one_part.1, old.one_part.2);
       counted = counted_owe _ _ _ _ c.args.number c.args.line.now.token c.args.line.now.id (ledger_of old.station)
           (ledger_of new) took.ledger count.0 old.counted;
+      sum = old.sum;
     }
 
 pub invariant_of-self-in-Ok-Already : goal.invariant_of-self-in-Ok-Already
@@ -28,6 +29,7 @@ invariant_of-self-in-Ok-Already g c =
       one_part = old.one_part;
       counted = counted_along _ _ _ (ledger_of old.station) (ledger_of c.owe.new.self)
           (ap ledger_of same) old.counted;
+      sum = old.sum;
     }
 
 pub invariant_of-self-in-Err-1 : goal.invariant_of-self-in-Err-1
@@ -38,4 +40,5 @@ invariant_of-self-in-Err-1 g c =
       kept = keeps_same old.station c.owe.new.self same old.kept;
       one_part = old.one_part;
       counted = counted_along _ _ _ (ledger_of old.station) (ledger_of c.owe.new.self) same.ledger old.counted;
+      sum = old.sum;
     }

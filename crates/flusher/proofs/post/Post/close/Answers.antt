@@ -1,7 +1,7 @@
 use Rattle.std.proofs.Common.{◌≡◌, ◌+◌, ◌++◌, [], map, length, ap, sym, ◌∙◌, arith, rules}
 use Rattle.flusher.specs.Post.{sums_in, total}
 use Rattle.flusher.specs.Shares.{IntakeCount}
-use Rattle.flusher.proofs.Lists.{nothing, all_moved}
+use Rattle.flusher.proofs.Lists.{all_moved, has_room, nothing}
 use Rattle.flusher.proofs.post.Post.close.Goals as goal
 
 pub loop-peer-init : goal.loop-peer-init
@@ -20,7 +20,7 @@ loop-peer-init g c =
       (λ i. map (λ p. p.name) (none i) ++ map (λ q. q.name) (gives i)) ∙ ap (λ v. v.names) c.self.view_is,
       (λ i. map (λ p. p.opened) (none i) ++ map (λ q. q.opened) (gives i)) ∙ ap (λ v. v.opened) c.self.view_is,
       omega (arith, zero, some, c.self.invariant.0),
-      omega (arith, c.in-Ok.ensures.ok, c.len.ensures, c.self.invariant.0),
+      has_room _ _ _ _ _ c.in-Ok.ensures.ok (c.len.ensures ∙ c.self.inside.peers.ok.0) c.self.invariant.0,
       t.0 ∙ sym zero,
       a.0 ∙ sym zero,
       d.0 ∙ sym zero,

@@ -4,7 +4,7 @@ use Rattle.flusher.proofs.Crosses.{Post-sync, Signals-sync}
 use Rattle.flusher.proofs.threads.fn.run_threads.scope.Goals as goal
 
 pub spawn-requires-send-F : goal.spawn-requires-send-F
-spawn-requires-send-F g c κs within = search (Post-sync, Signals-sync, sendable, crosses) depth 20
+spawn-requires-send-F g c κs within = search (Post-sync, Signals-sync, sendable) depth 20
 
 pub run_feeders-ended-requires-send-D : goal.run_feeders-ended-requires-send-D
 run_feeders-ended-requires-send-D g c κs within = search (sendable, crosses) depth 20

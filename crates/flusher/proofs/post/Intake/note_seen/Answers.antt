@@ -2,15 +2,12 @@ use Rattle.std.proofs.Common.{◌<◌, arith}
 use Rattle.ledger_core.specs.State.{State}
 use Rattle.recovery.specs.Words.{ledger_of}
 use Rattle.flusher.proofs.Refused.{seal_fault_of, seen_taken}
-use Rattle.flusher.proofs.post.Intake.seal.Goals as goal
+use Rattle.flusher.proofs.post.Intake.note_seen.Goals as goal
 
-pub returns : goal.returns
-returns g c =
+pub returns-clause-kinds : goal.returns-clause-kinds
+returns-clause-kinds g c =
     let refuses = c.in-Err.ensures.refuses in
     let state : State = ledger_of c.args.self.now.tape in
     let above : state.mark < c.args.number = omega arith in
-    record {
-      kinds = seal_fault_of c.in-Err.fault
-          (λ refused is. seen_taken state c.args.number refused above ((refuses.note refused).0 is).1)
-          refuses.kinds;
-    }
+    seal_fault_of c.in-Err.fault
+    (λ refused is. seen_taken state c.args.number refused above ((refuses.note refused).0 is).1) refuses.kinds

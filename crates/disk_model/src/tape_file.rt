@@ -1,0 +1,140 @@
+// The files of tapes, which keep why the system refused a call.
+ghost use Rattle.std.specs.Prelude.{[]};
+
+use crate::raw_file::{RawFault, RawFile};
+use std::alloc::{AllocError, Global};
+use std::fs::File;
+use std::io::{self, ErrorKind};
+use std::os::unix::fs::FileExt;
+use std::sync::{Arc, OnceLock};
+
+/// Why the system refused a call of a tape's file.
+#[derive(Debug, Drop)]
+pub struct FileFault {
+    /// The file's name in its directory.
+    pub name: String,
+    /// What the system said.
+    pub reason: String,
+}
+
+/// The first fault of the files of a directory, which they share.
+#[derive(Drop)]
+pub(crate) struct FirstFault {
+    place: Arc<OnceLock<FileFault>>,
+}
+
+impl FirstFault {
+    /// There was none.
+    ///
+    /// # Errors
+    /// Memory was refused.
+    pub fn new(alloc: Global) -> Result<Self, AllocError> {
+        Ok(FirstFault {
+            place: Arc::new(alloc, OnceLock::new())?,
+        })
+    }
+
+    /// The same for one more file.
+    ///
+    /// # Errors
+    /// Memory was refused, or there are too many files.
+    pub fn share(&self) -> Result<Self, AllocError> {
+        Ok(FirstFault {
+            place: Arc::try_clone(&self.place)?,
+        })
+    }
+
+    /// The fault, if there was one.
+    pub fn get(&self) -> Option<&FileFault> {
+        self.place.get()
+    }
+
+    // Keeps a fault of the file of this name, if it is the first and there is memory for it.
+    fn keep(&self, name: &String, error: &io::Error) {
+        let alloc = *name.allocator();
+        if let (Ok(name), Ok(reason)) = (String::from_str(alloc, name), error.to_string(alloc)) {
+            let _ = self.place.try_set(FileFault { name, reason });
+        }
+    }
+}
+
+/// A file of a tape, as the system has it: one call of the system a method. The first fault of all files of its
+/// directory is kept, for a log.
+#[derive(Drop)]
+pub struct TapeFile {
+    file: File,
+    name: String,
+    first_fault: FirstFault,
+}
+
+impl TapeFile {
+    /// An open file of this name, by itself.
+    ///
+    /// # Errors
+    /// Memory was refused.
+    pub fn new(alloc: Global, file: File, name: &str) -> Result<Self, AllocError> {
+        TapeFile::among(alloc, file, name, FirstFault::new(alloc)?)
+    }
+
+    // An open file of this name, among others that share the first fault.
+    pub(crate) fn among(
+        alloc: Global,
+        file: File,
+        name: &str,
+        first_fault: FirstFault,
+    ) -> Result<Self, AllocError> {
+        Ok(TapeFile {
+            file,
+            name: String::from_str(alloc, name)?,
+            first_fault,
+        })
+    }
+
+    // Why a call was refused. What is no interruption is kept, if it is the first fault.
+    fn refused(&self, error: io::Error) -> RawFault {
+        if error.kind() != ErrorKind::Interrupted {
+            self.first_fault.keep(&self.name, &error);
+        }
+        RawFault::from(error)
+    }
+}
+
+/// That a file of the system is honest is a premise, of which nothing can be proved: these bodies are to be read by
+/// eye.
+impl RawFile for TapeFile {
+    ghost honest = { λ _. ⊥ };
+
+    ghost log = { λ _. [] };
+
+    ghost content_is_image = { λ _ no. absurd no };
+
+    // Of a file whose length the system does not tell it is the greatest: a read then fails at the file's end. One that
+    // was told as empty would be cut.
+    fn len(&self) -> u64 {
+        self.file
+            .metadata()
+            .map_or(u64::MAX, |metadata| metadata.len())
+    }
+
+    fn pread(&mut self, at: u64, into: &mut [u8], done: usize) -> Result<usize, RawFault> {
+        match self.file.read_at(&mut into[done..], at + done as u64) {
+            Ok(count) => Ok(count),
+            Err(error) => Err(self.refused(error)),
+        }
+    }
+
+    fn pwrite(&mut self, at: u64, from: &[u8], done: usize) -> Result<usize, RawFault> {
+        match self.file.write_at(&from[done..], at + done as u64) {
+            Ok(count) => Ok(count),
+            Err(error) => Err(self.refused(error)),
+        }
+    }
+
+    fn truncate(&mut self, len: u64) -> Result<(), RawFault> {
+        self.file.set_len(len).map_err(|error| self.refused(error))
+    }
+
+    fn sync(&mut self) -> Result<(), RawFault> {
+        self.file.sync_data().map_err(|error| self.refused(error))
+    }
+}

@@ -1,0 +1,61 @@
+// Waiting for what may be silent.
+use mio::unix::SourceFd;
+use mio::{Events, Interest, Poll, Token};
+use std::alloc::Global;
+use std::fs::File;
+use std::io::{self, ErrorKind};
+use std::net::Net;
+use std::os::fd::{AsRawFd, RawFd};
+use std::time::Duration;
+
+// What it is registered under.
+const TOKEN: Token = Token(0);
+
+/// What waits until something can be read from a pipe, a terminal or the like. The descriptor stays as it is, since
+/// other processes may share it: it is not made non-blocking.
+#[derive(Drop)]
+pub(crate) struct Watch {
+    poll: Poll,
+    events: Events,
+    descriptor: RawFd,
+}
+
+impl Watch {
+    /// For this file, as long as that is open. None if there is nothing to wait for: a plain file and a directory can
+    /// be read at once.
+    ///
+    /// # Errors
+    /// The system's.
+    pub fn new<C: Net>(alloc: Global, net: &C, file: &File) -> io::Result<Option<Self>> {
+        let watch = Watch {
+            poll: Poll::new(net)?,
+            events: Events::with_capacity(alloc, 1)?,
+            descriptor: file.as_raw_fd(),
+        };
+        let mut source = SourceFd(&watch.descriptor);
+        let registered = watch
+            .poll
+            .registry()
+            .register(&mut source, TOKEN, Interest::READABLE);
+        match registered {
+            Ok(()) => Ok(Some(watch)),
+            Err(error) if error.kind() == ErrorKind::PermissionDenied => Ok(None),
+            Err(error) => Err(error),
+        }
+    }
+
+    /// Waits until something can be read or the end has come, so many milliseconds at most, and tells whether it is so.
+    ///
+    /// # Errors
+    /// The system's.
+    pub fn wait(&mut self, at_most: u64) -> io::Result<bool> {
+        // What was there before the last wait is reported once more after this alone.
+        let mut source = SourceFd(&self.descriptor);
+        self.poll
+            .registry()
+            .reregister(&mut source, TOKEN, Interest::READABLE)?;
+        self.poll
+            .poll(&mut self.events, Some(Duration::from_millis(at_most)))?;
+        Ok(!self.events.is_empty())
+    }
+}

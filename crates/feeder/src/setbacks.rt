@@ -1,0 +1,107 @@
+// The debts of a peer at which its connections failed.
+ghost use Rattle.std.specs.Prelude.{◌≡◌, ◌≤◌, ◌↔◌, IfSome, IsNone, IsSome, false, true};
+
+use std::alloc::Global;
+use std::collections::BTreeMap;
+
+// How long a debt is put off for the first time, in seconds.
+const FIRST_WAIT: u64 = 60;
+
+// How long it is put off at most, in seconds.
+const MOST_WAIT: u64 = 3_600;
+
+// How many debts are remembered at most.
+const MOST_DEBTS: usize = 4_096;
+
+/// How a connection failed at a debt.
+#[derive(Clone, Copy, Debug, PartialEq, Eq)]
+pub(crate) enum Failure {
+    /// The debt is the likely cause: its command was the first without an answer when a reply came that answers
+    /// nothing, or its article could not be read.
+    AtDebt,
+    /// It broke, while the debt's command was the first without an answer: that may be by chance.
+    Broke,
+}
+
+// What is known of a debt at which a connection failed.
+#[derive(Drop)]
+struct Setback {
+    // A connection broke at it.
+    has_broken: bool,
+    // How long it was put off last, in seconds: 0 if it was not.
+    wait: u64,
+}
+
+/// The debts of a peer at which connections failed in this run, of which 4,096 are remembered at most.
+#[derive(Drop)]
+pub(crate) struct Setbacks {
+    debts: BTreeMap<u64, Setback>,
+}
+
+impl Setbacks {
+    /// No connection has failed.
+    pub fn new(alloc: Global) -> Self {
+        Setbacks {
+            debts: BTreeMap::new(alloc),
+        }
+    }
+
+    /// A connection failed so at the debt of this number: for how many seconds the debt is to be put off, twice as long
+    /// each time, or None if it is not. If a debt cannot be remembered, each failure counts as its first.
+    pub fn wait_after(&mut self, number: u64, failure: Failure) -> Option<u64>
+        ensures at_debt { failure ≡ Failure.AtDebt → IsSome result }
+        ensures within { IfSome result (λ wait. (60 ≤ wait) × (wait ≤ 3600)) }
+    {
+        match self.debts.get_mut(&number) {
+            Some(setback) => setback.wait_after(failure),
+            None => self.first_wait(number, failure),
+        }
+    }
+
+    // The first failure at a debt.
+    fn first_wait(&mut self, number: u64, failure: Failure) -> Option<u64>
+        ensures at_debt { failure ≡ Failure.AtDebt → IsSome result }
+        ensures broke { failure ≡ Failure.Broke → IsNone result }
+        ensures within { IfSome result (λ wait. (60 ≤ wait) × (wait ≤ 3600)) }
+    {
+        let mut setback = Setback::new();
+        let wait = setback.wait_after(failure);
+        if self.debts.len() < MOST_DEBTS {
+            let _ = self.debts.insert(number, setback);
+        }
+        wait
+    }
+
+    /// The debt of this number has ended.
+    pub fn forget(&mut self, number: u64) {
+        let _ = self.debts.remove(&number);
+    }
+}
+
+impl Setback {
+    // None yet.
+    fn new() -> Self
+        ensures { result.has_broken ≡ false }
+    {
+        Setback {
+            has_broken: false,
+            wait: 0,
+        }
+    }
+
+    // A connection failed so: for how long the debt is put off, if it is.
+    fn wait_after(&mut self, failure: Failure) -> Option<u64>
+        ensures none { IsNone result
+            ↔ ((failure ≡ Failure.Broke) × (self.old.has_broken ≡ false)) }
+        ensures within { IfSome result (λ wait. (60 ≤ wait) × (wait ≤ 3600)) }
+        ensures remembers { failure ≡ Failure.Broke → self.new.has_broken ≡ true }
+    {
+        let is_first_break = failure == Failure::Broke && !self.has_broken;
+        if is_first_break {
+            self.has_broken = true;
+            return None;
+        }
+        self.wait = self.wait.saturating_mul(2).clamp(FIRST_WAIT, MOST_WAIT);
+        Some(self.wait)
+    }
+}

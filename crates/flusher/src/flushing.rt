@@ -1,0 +1,190 @@
+// What the flusher asks of a post.
+ghost use Rattle.std.specs.Prelude.{◌≡◌, ◌+◌, ◌<◌, ◌^◌, length, IfErr, OnOk};
+ghost use Rattle.flusher.specs.Faults.{IsDiskFault, IsFlushAllFault, IsFlushWorkingFault, IsWorkingFlushFault};
+ghost use Rattle.flusher.specs.Faults.{IsOfStation, IsRotateAllFault, IsSealFault};
+ghost use Rattle.flusher.specs.Sealed.{IsSealed};
+ghost use Rattle.peer_queue.specs.Faults.{IsFlushFault};
+
+use crate::desk::Desk;
+use crate::pace::{Pace, Point, Who};
+use crate::post::Intake;
+use crate::sealing::Sealing;
+use crate::{Naming, Post, PostFault, Receipt};
+use disk_model::Disk;
+use ledger_core::Note;
+use peer_queue::StationFault;
+use recovery::TapeFault;
+use std::sync::Wait;
+
+impl<D: Disk, N: Naming> Post<D, N> {
+    /// Puts all that pends on the disks: the stations' notes by name, and then, with the number that the last line had
+    /// before, the intake's. Where a station's tape has no room for what pends behind what lies there, it is written
+    /// anew, with what pends.
+    ///
+    /// # Errors
+    /// A station's: `Tape(TapeFull)` where what it owes is too long to be written anew too, or where its tape has the
+    /// greatest generation. Then the intake tape's.
+    pub fn flush_all<P: Pace, R: Wait>(&self, rt: &R, pace: &P) -> Result<Receipt, PostFault>
+        ensures kinds { IfErr result (IsFlushAllFault (length self.now.names)) }
+    {
+        let mut sealing = Sealing::begin(&self.last);
+        for peer in 0..self.peers() {
+            self.flush_next(rt, pace, peer, &mut sealing)?;
+            pace.turn(Who::Flusher, Point::AfterFlush);
+        }
+        self.seal(rt, sealing)
+    }
+
+    // Flushes the station that comes next, or writes its tape anew, and counts it.
+    fn flush_next<P: Pace, R: Wait>(
+        &self,
+        rt: &R,
+        pace: &P,
+        peer: usize,
+        sealing: &mut Sealing,
+    ) -> Result<(), PostFault>
+        requires peer { peer < length self.now.names }
+        requires next { peer ≡ sealing.old.flushed }
+        ensures flushed { OnOk result (sealing.new.flushed ≡ sealing.old.flushed + 1) }
+        ensures kinds { IfErr result (IsOfStation peer IsFlushFault) }
+    {
+        // The number behind this peer's is one that there is.
+        let _peers = self.peers();
+        let mut desk = self.peers[peer].desk.lock(rt);
+        pace.turn(Who::Flusher, Point::InFlush);
+        flush_in(peer, &mut desk, sealing)
+    }
+
+    // Notes on the intake tape that all lines are acknowledged up to the number that was read before the flushes.
+    fn seal<R: Wait>(&self, rt: &R, sealing: Sealing) -> Result<Receipt, PostFault>
+        requires { sealing.flushed ≡ length self.now.names }
+        ensures kinds { IfErr result (IsFlushAllFault (length self.now.names)) }
+    {
+        match self.intake.lock(rt).seal(self, sealing) {
+            Ok(receipt) => Ok(receipt),
+            Err(fault) => Err(PostFault::Intake(fault)),
+        }
+    }
+
+    /// Puts on the disks what pends at each station that works, by name, as [`Post::flush_all`] does. A station that is
+    /// broken is passed over, and after one's fault the others are flushed too. No receipt comes of it, and the intake
+    /// tape is left alone: so the answers of other peers are kept once a tape has failed.
+    ///
+    /// # Errors
+    /// The first that a station tells, once all were flushed: `Tape(Disk)`, after which that station is broken;
+    /// `Tape(TapeFull)`; `NoMemory`.
+    pub fn flush_working<P: Pace, R: Wait>(&self, rt: &R, pace: &P) -> Result<(), PostFault>
+        ensures kinds { IfErr result (IsFlushWorkingFault (length self.now.names)) }
+    {
+        let mut first = Ok(());
+        for peer in 0..self.peers.len() {
+            let flushed = self.flush_if_working(rt, pace, peer);
+            pace.turn(Who::Flusher, Point::AfterFlush);
+            first = first.and(flushed);
+        }
+        first
+    }
+
+    // Flushes a station, or writes its tape anew, unless it is broken.
+    fn flush_if_working<P: Pace, R: Wait>(
+        &self,
+        rt: &R,
+        pace: &P,
+        peer: usize,
+    ) -> Result<(), PostFault>
+        requires { peer < length self.now.names }
+        ensures kinds { IfErr result (IsOfStation peer IsWorkingFlushFault) }
+    {
+        let mut desk = self.peers[peer].desk.lock(rt);
+        pace.turn(Who::Flusher, Point::InFlush);
+        match desk.flush_or_rotate() {
+            Ok(()) | Err(StationFault::Broken) => Ok(()),
+            Err(fault) => Err(PostFault::Station { peer, fault }),
+        }
+    }
+
+    /// Writes each tape anew for which that is due: the stations' by name, and then the intake's. One that is refused
+    /// without a fault of its disks stays as it is.
+    ///
+    /// # Errors
+    /// A station's or the intake's `Disk`, after which that tape is broken, or its `Broken`.
+    pub fn rotate_all<R: Wait>(&self, rt: &R) -> Result<(), PostFault>
+        ensures kinds { IfErr result (IsRotateAllFault (length self.now.names)) }
+    {
+        for peer in 0..self.peers.len() {
+            self.rotate_one(rt, peer)?;
+        }
+        match self.intake.lock(rt).rotate() {
+            Err(fault @ (TapeFault::Disk | TapeFault::Broken)) => Err(PostFault::Intake(fault)),
+            _ => Ok(()),
+        }
+    }
+
+    // Writes one station's tape anew, where that is due.
+    fn rotate_one<R: Wait>(&self, rt: &R, peer: usize) -> Result<(), PostFault>
+        requires { peer < length self.now.names }
+        ensures kinds { IfErr result (IsOfStation peer IsDiskFault) }
+    {
+        let mut desk = self.peers[peer].desk.lock(rt);
+        if !desk.rotate_due() {
+            return Ok(());
+        }
+        match desk.rotate() {
+            Err(fault @ (StationFault::Tape(TapeFault::Disk) | StationFault::Broken)) => {
+                Err(PostFault::Station { peer, fault })
+            }
+            _ => Ok(()),
+        }
+    }
+}
+
+// Flushes the station that comes next, or writes its tape anew, and counts it.
+fn flush_in<D: Disk, N: Naming>(
+    peer: usize,
+    desk: &mut Desk<D, N>,
+    sealing: &mut Sealing,
+) -> Result<(), PostFault>
+    requires next { peer ≡ sealing.old.flushed }
+    requires room { peer + 1 < 2 ^ 64 }
+    ensures flushed { OnOk result (sealing.new.flushed ≡ sealing.old.flushed + 1) }
+    ensures kinds { IfErr result (IsOfStation peer IsFlushFault) }
+{
+    if let Err(fault) = desk.flush_or_rotate() {
+        return Err(PostFault::Station { peer, fault });
+    }
+    sealing.add(peer, desk);
+    Ok(())
+}
+
+impl<D: Disk> Intake<D> {
+    // Notes that all lines up to the number are acknowledged that was read before the flushes, and gives the receipt.
+    fn seal<N: Naming>(&mut self, post: &Post<D, N>, sealing: Sealing) -> Result<Receipt, TapeFault>
+        requires { sealing.flushed ≡ length post.now.names }
+        ensures kinds { IfErr result IsSealFault }
+    {
+        self.note_seen(sealing.number())?;
+        Ok(sealing.receipt(post, self))
+    }
+
+    // Notes that all lines up to this number are acknowledged.
+    fn note_seen(&mut self, number: u64) -> Result<(), TapeFault>
+        ensures sealed { OnOk result (IsSealed number self.new.tape) }
+        ensures kinds { IfErr result IsSealFault }
+    {
+        if number > self.tape.mark()
+            && let Err((_, fault)) = self.tape.note(Note::Seen { number })
+        {
+            return Err(fault);
+        }
+        self.tape.flush()?;
+        Ok(())
+    }
+
+    // Writes the intake tape anew, where that is due.
+    fn rotate(&mut self) -> Result<(), TapeFault> {
+        if self.tape.rotate_due() {
+            self.tape.rotate()?;
+        }
+        Ok(())
+    }
+}

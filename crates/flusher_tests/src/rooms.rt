@@ -1,0 +1,173 @@
+// The room that is counted of a peer's connections, and debts that are put off, in one thread.
+ghost use Rattle.std.specs.Prelude.{◌≡◌, ◌<◌, length};
+ghost use Rattle.flusher.specs.Post.{names_of};
+
+use crate::shared::{intake, peer};
+use conn_core::CxnId;
+use disk_model::{Disk, MemDisk};
+use flusher::{Blanks, Closed, Naming, Peer, Post, PostFault, Sums};
+use peer_queue::{Limits, StationFault};
+use recovery::Tape;
+use std::alloc::Global;
+use std::marker::Brand;
+use std::process::Abort;
+use std::sync::Wait;
+use std::test::*;
+
+const UNLIMITED: Limits = Limits {
+    backlog_limit: 0,
+    backlog_high: 0,
+    drop_deferred: false,
+};
+
+#[derive(Clone, Copy)]
+enum Step {
+    // Room for so many debts is asked for, and whether it was counted.
+    Take(u64, bool),
+    Give(u64),
+    Fail(bool),
+}
+
+// What is asked of the room at a peer that is owed two debts.
+const STEPS: [Step; 16] = [
+    Step::Take(1, true),
+    Step::Take(1, true),
+    Step::Take(1, false),
+    Step::Give(1),
+    Step::Take(20, true),
+    Step::Take(1, false),
+    Step::Fail(true),
+    Step::Take(1, true),
+    Step::Take(u64::MAX, true),
+    Step::Fail(false),
+    Step::Take(1, false),
+    Step::Give(u64::MAX),
+    Step::Take(2, true),
+    Step::Give(5),
+    Step::Take(2, true),
+    Step::Take(1, false),
+];
+
+// Takes these steps at the first peer.
+fn play<D: Disk, N: Naming, A: Abort>(rt: &A, post: &Post<D, N>, steps: &[Step])
+    requires { 0 < length post.now.names }
+{
+    for (at, step) in steps.iter().enumerate() {
+        match step {
+            Step::Take(room, want) => {
+                assert_eq!(rt; post.try_take_room(0, *room), Some(*want), "step {at}");
+            }
+            Step::Give(room) => post.give_room(0, *room),
+            Step::Fail(is_failing) => post.set_failing(0, *is_failing),
+        }
+    }
+}
+
+// What comes of a debt that is put off at the first peer, and then once more by who does not hold it.
+#[derive(Clone, Copy, Debug, PartialEq, Eq)]
+struct Told {
+    // The debt that is claimed before the moment, and at it.
+    before: u64,
+    then: u64,
+    refused: (u64, PostFault),
+    sums: Sums,
+}
+
+fn claimed<D: Disk, N: Naming, R: Wait>(
+    rt: &R,
+    post: &Post<D, N>,
+    connection: CxnId,
+    now: u64,
+) -> Result<u64, Fail>
+    requires { 0 < length post.now.names }
+{
+    match post.claim(rt, 0, connection, now)? {
+        Some(debt) => Ok(debt.number()),
+        None => Ok(0),
+    }
+}
+
+// Puts the first peer's first debt off until the moment 60, and once more by who does not hold it.
+fn put_off<D: Disk, N: Naming, R: Wait>(rt: &R, post: &Post<D, N>) -> Result<(u64, PostFault), Fail>
+    requires { 0 < length post.now.names }
+{
+    let debt = post.claim(rt, 0, CxnId(1), 0)?.ok_or("a debt")?;
+    let Err((debt, fault)) = post.try_put_off(0, CxnId(2), debt, 30) else {
+        return Err(Fail::from("a refusal"));
+    };
+    let number = debt.number();
+    match post.put_off(rt, 0, CxnId(1), debt, 60) {
+        Ok(()) => Ok((number, fault)),
+        Err((_, fault)) => Err(Fail::from(fault)),
+    }
+}
+
+fn run_steps<D: Disk + Drop, N: Naming, R: Abort + Wait>(
+    rt: &R,
+    alloc: Global,
+    peers: Vec<Peer<D>>,
+    intake: Tape<D>,
+    blanks: Blanks,
+) -> Result<Told, Fail>
+    requires names { N.names ≡ names_of blanks peers.items }
+    requires taken { (blanks.taken.workers.parts ≡ 1)
+        × (blanks.taken.stations.parts ≡ length peers.items) }
+    requires answered { (blanks.answered.workers.parts ≡ 3)
+        × (blanks.answered.stations.parts ≡ length peers.items) }
+    requires dropped { (blanks.dropped.workers.parts ≡ 3)
+        × (blanks.dropped.stations.parts ≡ length peers.items) }
+{
+    let (post, mut lines, first, second, third) = Post::<D, N>::new(alloc, peers, intake, blanks)?;
+    if post.peers() == 0 {
+        return Err(Fail::from("a peer"));
+    }
+    post.take_line(rt, b"a/1 <x@y> p", &mut lines)?;
+    post.take_line(rt, b"a/1 <x@y> p", &mut lines)?;
+    play(rt, &post, &STEPS);
+    let refused = put_off(rt, &post)?;
+    let before = claimed(rt, &post, CxnId(3), 59)?;
+    let then = claimed(rt, &post, CxnId(3), 60)?;
+    match post.close(lines, first, second, third) {
+        Ok(Closed { sums, .. }) => Ok(Told {
+            before,
+            then,
+            refused,
+            sums,
+        }),
+        Err(_) => Err(Fail::from("memory")),
+    }
+}
+
+fn on_disks<R: Abort + Wait>(
+    rt: &R,
+    alloc: Global,
+    peer: Peer<MemDisk>,
+    intake: Tape<MemDisk>,
+) -> Result<Told, Fail> {
+    let peers = vec![in alloc; peer]?;
+    run_steps::<MemDisk, Brand, R>(rt, alloc, peers, intake, Blanks::new(1))
+}
+
+#[test]
+fn rooms_are_counted_and_what_is_put_off_is_not(rt: HostRuntime) -> Result<(), Fail> {
+    let alloc = rt.alloc();
+    let told = on_disks(&rt, alloc, peer(alloc, b"p", UNLIMITED)?, intake(alloc)?)?;
+    let want = Told {
+        before: 2,
+        then: 1,
+        refused: (
+            1,
+            PostFault::Station {
+                peer: 0,
+                fault: StationFault::NotHeld,
+            },
+        ),
+        sums: Sums {
+            taken: 2,
+            answered: 0,
+            dropped: 0,
+        },
+    };
+    assert_eq!(rt; told, want);
+    Ok(())
+}
