@@ -1,5 +1,5 @@
 -- The line that tells of a fault, where it was written and where it was not.
-use Rattle.std.proofs.Common.{ℕ, List, [], Option, None, Some, Result, Ok, Err, refl}
+use Rattle.std.proofs.Common.{◌++◌, ℕ, List, [], Option, None, Some, Result, Ok, Err, refl}
 use Rattle.std.proofs.KnownBytes.{Keeps-refl}
 use Rattle.std.specs.declared.io.Error.{Error}
 use Rattle.std.specs.Prelude.{string_bytes}
@@ -10,13 +10,14 @@ use Rattle.commands.specs.Lines.{config_text, refusal_text, no_tape_text, unread
 use Rattle.commands.specs.Lines.{mistake_text}
 use Rattle.commands.specs.declared.exit.Exit.{Exit}
 use Rattle.commands.specs.declared.fault.Fault.{Fault}
-use Rattle.commands.specs.declared.fault.Fault.TheVariants.{NoMemory, Config, Refused, NoTape, Unread, Input}
+use Rattle.commands.specs.declared.fault.Fault.TheVariants.{NoMemory, Config, Checked, Refused, NoTape, Unread, Input}
 use Rattle.commands.specs.declared.fault.Fault.TheVariants.{Output, Mistake, Fed}
 
 -- each fault has a line, or none
 pub has_line : (fault : Fault) → (line : Option (List ℕ)) × IsLineOf fault line
 has_line NoMemory = (None, refl)
-has_line (Config fault) = (Some (config_text fault), refl)
+has_line (Config fault more) = (Some (config_text fault ++ more.items), refl)
+has_line (Checked lines) = (Some lines.items, refl)
 has_line (Refused source refusal) = (Some (refusal_text source.now refusal), refl)
 has_line (NoTape refusal) = (Some (no_tape_text refusal), refl)
 has_line (Unread path) = (Some (unread_text path.now), refl)

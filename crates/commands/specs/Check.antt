@@ -1,7 +1,11 @@
 -- What is told of settings (docs/MANUAL.md).
-use Rattle.std.specs.Prelude.{ℕ, Bool, true, false, List, [], ◌∷◌, ◌++◌, length, codes, decimal, flat_map}
+use Rattle.std.specs.Prelude.{ℕ, Bool, true, false, List, [], ◌∷◌, ◌++◌, Option, None, Some, length, codes, decimal}
+use Rattle.std.specs.Prelude.{flat_map}
+use Rattle.feed_conf.specs.Advice.{advice}
+use Rattle.feed_conf.specs.Explanation.{explanation}
 use Rattle.feed_conf.specs.Reading.{Report}
 use Rattle.feed_conf.specs.Settings.{Outcome}
+use Rattle.feed_conf.specs.declared.fault.ConfFault.{ConfFault}
 
 -- what became of a use that is reported
 abbrev pub ending : Bool → List ℕ
@@ -16,6 +20,16 @@ report_text report =
 -- how many peers there are
 abbrev pub count_text : ℕ → List ℕ
 count_text count = codes "peers " ++ decimal count ++ 10 ∷ []
+
+-- What is said of settings on standard error: with -v, what their reports mean for the feed.
+abbrev pub advice_line : (verbose : Bool) → (path : List ℕ) → Outcome → Option (List ℕ)
+advice_line true path outcome = Some (advice path outcome)
+advice_line false path outcome = None
+
+-- What is said beside a fault of the configuration with this text: with -v, what it means.
+abbrev pub more_text : (verbose : Bool) → (path text : List ℕ) → ConfFault → List ℕ
+more_text true path text fault = explanation path text fault
+more_text false path text fault = []
 
 -- a line for each report, in reading order, and the count of the peers
 abbrev pub check_text : Outcome → List ℕ

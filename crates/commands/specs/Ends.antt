@@ -1,7 +1,7 @@
 -- What each order comes to: its exit status, what is on standard output, and the line on standard error, if any
 -- (docs/MANUAL.md).
-use Rattle.std.specs.Prelude.{◌≡◌, ◌⊎◌, ℕ, List, Option, None, Some, Result, Ok, Err, OnOk, IfSome, codes, option_map}
-use Rattle.std.specs.Prelude.{string_bytes}
+use Rattle.std.specs.Prelude.{◌≡◌, ◌⊎◌, ◌++◌, ℕ, Bool, List, Option, None, Some, Result, Ok, Err, OnOk, IfSome}
+use Rattle.std.specs.Prelude.{codes, option_map, string_bytes}
 use Rattle.std.specs.Io.KnownBytes.{Appends, Keeps}
 use Rattle.std.specs.declared.io.Error.{Error}
 use Rattle.drill.specs.Drill.{Drills}
@@ -12,7 +12,7 @@ use Rattle.feed_conf.specs.Reading.{HaveLexemes, lines_of}
 use Rattle.feed_conf.specs.Settings.{Outcome, meaning}
 use Rattle.feed_conf.specs.Lexemes.{Lexeme}
 use Rattle.feed_conf.specs.declared.fault.ConfFault.{ConfFault}
-use Rattle.commands.specs.Check.{check_text}
+use Rattle.commands.specs.Check.{advice_line, check_text, more_text}
 use Rattle.commands.specs.Exit.{exit_of}
 use Rattle.commands.specs.Feed.{exit_of_end}
 use Rattle.commands.specs.Feeding.{Feeding}
@@ -45,12 +45,17 @@ LosesInput exit line = (exit ≡ Unreadable) × ((reason : List ℕ) × (line �
 abbrev pub MissesFile : (Option (List ℕ) → Type 0) → List ℕ → Exit → Option (List ℕ) → Type 0
 MissesFile says path exit line = says None × (exit ≡ Unreadable) × (line ≡ Some (unread_text path))
 
--- a text was printed, or could not be
-abbrev pub Prints : List ℕ → Option (List ℕ) → Option (List ℕ) → Exit → Option (List ℕ) → Type 0
-Prints text old new exit line =
-    ((exit ≡ Done) × (line ≡ None) × Appends old new text)
+-- a text was printed, and this said on standard error; or it could not be printed
+abbrev pub PrintsBeside : (said : Option (List ℕ)) → List ℕ →
+    Option (List ℕ) → Option (List ℕ) → Exit → Option (List ℕ) → Type 0
+PrintsBeside said text old new exit line =
+    ((exit ≡ Done) × (line ≡ said) × Appends old new text)
     ⊎ LosesOutput exit line
     ⊎ LacksMemory exit line
+
+-- a text was printed, or could not be
+abbrev pub Prints : List ℕ → Option (List ℕ) → Option (List ℕ) → Exit → Option (List ℕ) → Type 0
+Prints = PrintsBeside None
 
 -- the line that tells of a drill's ending, of a script from here: which line or which peer's tape was refused, and why
 abbrev pub line_of_ending : List ℕ → Ending → Option (List ℕ)
@@ -68,22 +73,26 @@ Runs text source old new exit line =
     ⊎ LosesOutput exit line
     ⊎ LacksMemory exit line
 
--- a configuration has settings, of which standard output gets what is told of them
-abbrev pub Passes : List ℕ → Option (List ℕ) → Option (List ℕ) → Exit → Option (List ℕ) → Type 0
-Passes text old new exit line =
-    (outcome : Outcome) × Means text (Ok outcome) × Prints (check_text outcome) old new exit line
+-- A configuration has settings, of which standard output gets what is told of them; with -v it is said on standard
+-- error what that means.
+abbrev pub Passes : (verbose : Bool) → (path text : List ℕ) →
+    Option (List ℕ) → Option (List ℕ) → Exit → Option (List ℕ) → Type 0
+Passes verbose path text old new exit line =
+    (outcome : Outcome) × Means text (Ok outcome)
+    × PrintsBeside (advice_line verbose path outcome) (check_text outcome) old new exit line
 
--- a configuration has a fault, which is the line on standard error
-abbrev pub Refuses : List ℕ → Exit → Option (List ℕ) → Type 0
-Refuses text exit line =
-    (fault : ConfFault) × Means text (Err fault) × (exit ≡ Refused) × (line ≡ Some (config_text fault))
+-- A configuration has a fault, which is the line on standard error; with -v it is said there what that means.
+abbrev pub Refuses : (verbose : Bool) → (path text : List ℕ) → Exit → Option (List ℕ) → Type 0
+Refuses verbose path text exit line =
+    (fault : ConfFault) × Means text (Err fault) × (exit ≡ Refused)
+    × (line ≡ Some (config_text fault ++ more_text verbose path text fault))
 
 -- A check of the configuration in a file.
-abbrev pub Checks : (Option (List ℕ) → Type 0) → List ℕ →
+abbrev pub Checks : (Option (List ℕ) → Type 0) → List ℕ → (verbose : Bool) →
     Option (List ℕ) → Option (List ℕ) → Exit → Option (List ℕ) → Type 0
-Checks says path old new exit line =
-    ((text : List ℕ) × says (Some text) × Passes text old new exit line)
-    ⊎ ((text : List ℕ) × says (Some text) × Refuses text exit line × Keeps old new)
+Checks says path verbose old new exit line =
+    ((text : List ℕ) × says (Some text) × Passes verbose path text old new exit line)
+    ⊎ ((text : List ℕ) × says (Some text) × Refuses verbose path text exit line × Keeps old new)
     ⊎ (MissesFile says path exit line × Keeps old new)
     ⊎ LacksMemory exit line
 
@@ -94,11 +103,11 @@ EndsFeed did outcome exit line =
 
 -- Something that what feeds does with the settings in a file, which is asked for nothing where there are none.
 abbrev pub Works : (Option (List ℕ) → Type 0) → (did : Outcome → FeedEnd → Type 0) → (unasked : Type 0) → List ℕ →
-    Option (List ℕ) → Option (List ℕ) → Exit → Option (List ℕ) → Type 0
-Works says did unasked path old new exit line =
+    (verbose : Bool) → Option (List ℕ) → Option (List ℕ) → Exit → Option (List ℕ) → Type 0
+Works says did unasked path verbose old new exit line =
     ((text : List ℕ) × (outcome : Outcome) × says (Some text) × Means text (Ok outcome)
     × EndsFeed did outcome exit line)
-    ⊎ ((text : List ℕ) × says (Some text) × Refuses text exit line × Keeps old new × unasked)
+    ⊎ ((text : List ℕ) × says (Some text) × Refuses verbose path text exit line × Keeps old new × unasked)
     ⊎ (MissesFile says path exit line × Keeps old new × unasked)
     ⊎ (LacksMemory exit line × Keeps old new × unasked)
 
@@ -123,12 +132,13 @@ abbrev pub Does : (List ℕ → Option (List ℕ) → Type 0) → Feeding →
     Option (List ℕ) → Option (List ℕ) → Option (List ℕ) → Order → Exit → Option (List ℕ) → Type 0
 Does says feeds holds old new DrillFromInput exit line = DrillsInput holds old new exit line
 Does says feeds holds old new (Drill path) exit line = DrillsFile (says path.now) path.now old new exit line
-Does says feeds holds old new (Check path) exit line = Checks (says path.now) path.now old new exit line
-Does says feeds holds old new (Owed path) exit line =
-    Works (says path.now) feeds.listed feeds.unasked path.now old new exit line
+Does says feeds holds old new (Check path verbose) exit line =
+    Checks (says path.now) path.now verbose old new exit line
+Does says feeds holds old new (Owed path verbose) exit line =
+    Works (says path.now) feeds.listed feeds.unasked path.now verbose old new exit line
 Does says feeds holds old new (Feed path funnel verbose) exit line =
     Works (says path.now) (λ conf end. feeds.fed conf (option_map (λ name. name.now) funnel) verbose end) feeds.unasked
-    path.now old new exit line
+    path.now verbose old new exit line
 Does says feeds holds old new (Tell text) exit line = Prints (string_bytes text) old new exit line
 Does says feeds holds old new (Mistake what) exit line =
     (exit ≡ Usage) × (line ≡ Some (mistake_text (string_bytes what))) × Keeps old new

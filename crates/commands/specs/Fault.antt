@@ -1,12 +1,13 @@
 -- Why an order did not end well, or how a feed ended.
-use Rattle.std.specs.Prelude.{◌≡◌, ◌≢◌, ◌⊎◌, ℕ, List, Option, None, Some, Result, Ok, Err, string_bytes}
+use Rattle.std.specs.Prelude.{◌≡◌, ◌≢◌, ◌⊎◌, ◌++◌, ℕ, List, Option, None, Some, Result, Ok, Err, string_bytes}
 use Rattle.std.specs.IoError.{error_kind}
 use Rattle.std.specs.declared.io.Error.{Error}
 use Rattle.std.specs.declared.io.ErrorKind.TheVariants.{OutOfMemory}
 use Rattle.commands.specs.declared.exit.Exit.{Exit}
-use Rattle.commands.specs.declared.exit.Exit.TheVariants.{Refused, Tape, Usage, Unreadable, NoMemory as ExitNoMemory}
+use Rattle.commands.specs.declared.exit.Exit.TheVariants.{Done, Refused, Tape, Usage, Unreadable}
+use Rattle.commands.specs.declared.exit.Exit.TheVariants.{NoMemory as ExitNoMemory}
 use Rattle.commands.specs.declared.fault.Fault.{Fault}
-use Rattle.commands.specs.declared.fault.Fault.TheVariants.{NoMemory, Config, Refused as ScriptRefused, NoTape}
+use Rattle.commands.specs.declared.fault.Fault.TheVariants.{NoMemory, Config, Checked, Refused as ScriptRefused, NoTape}
 use Rattle.commands.specs.declared.fault.Fault.TheVariants.{Unread, Input, Output, Mistake, Fed}
 use Rattle.commands.specs.Feed.{exit_of_end}
 use Rattle.commands.specs.FeedLines.{end_text}
@@ -16,7 +17,8 @@ use Rattle.commands.specs.Lines.{mistake_text}
 -- the status that tells of a fault
 abbrev pub exit_of_fault : Fault → Exit
 exit_of_fault NoMemory = ExitNoMemory
-exit_of_fault (Config fault) = Refused
+exit_of_fault (Config fault more) = Refused
+exit_of_fault (Checked lines) = Done
 exit_of_fault (ScriptRefused source refusal) = Refused
 exit_of_fault (NoTape refusal) = Tape
 exit_of_fault (Unread path) = Unreadable
@@ -28,7 +30,8 @@ exit_of_fault (Fed end) = exit_of_end end
 -- the line that tells of it, or a feed's lines; want of memory has none, and why a stream failed is the system's word
 abbrev pub IsLineOf : Fault → Option (List ℕ) → Type 0
 IsLineOf NoMemory line = line ≡ None
-IsLineOf (Config fault) line = line ≡ Some (config_text fault)
+IsLineOf (Config fault more) line = line ≡ Some (config_text fault ++ more.items)
+IsLineOf (Checked lines) line = line ≡ Some lines.items
 IsLineOf (ScriptRefused source refusal) line = line ≡ Some (refusal_text source.now refusal)
 IsLineOf (NoTape refusal) line = line ≡ Some (no_tape_text refusal)
 IsLineOf (Unread path) line = line ≡ Some (unread_text path.now)

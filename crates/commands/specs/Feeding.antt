@@ -28,8 +28,8 @@ feeding_of fed listed before behind old new = record {
 abbrev pub asks_feeds : Order → Bool
 asks_feeds DrillFromInput = false
 asks_feeds (Drill path) = false
-asks_feeds (Check path) = false
-asks_feeds (Owed path) = true
+asks_feeds (Check path verbose) = false
+asks_feeds (Owed path verbose) = true
 asks_feeds (Feed path funnel verbose) = true
 asks_feeds (Tell text) = false
 asks_feeds (Mistake what) = false

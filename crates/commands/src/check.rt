@@ -1,52 +1,114 @@
 // What is told of a configuration: what is ignored or limited in it, and how many peers it has
 // (docs/MANUAL.md).
 ghost use Rattle.std.specs.Prelude.{◌≡◌, ◌≢◌, ◌++◌, ◌⊎◌, List, Ok, Err, IfOk, OnOk, MatchResult};
+ghost use Rattle.std.specs.Prelude.{option_map};
 ghost use Rattle.feed_conf.specs.ConfView.{conf_view};
 ghost use Rattle.feed_conf.specs.ReaderView.{report_view};
 ghost use Rattle.feed_conf.specs.Settings.{Outcome};
-ghost use Rattle.commands.specs.Check.{check_text, count_text, report_text};
+ghost use Rattle.commands.specs.Check.{advice_line, check_text, count_text, more_text, report_text};
 ghost use Rattle.commands.specs.Ends.{LacksMemory, Means, Refuses};
 ghost use Rattle.commands.specs.Fault.{ComesBy};
 
 use crate::fault::Fault;
-use feed_conf::{Conf, ConfFaultKind, Ignored, read_conf};
+use feed_conf::{Conf, ConfFault, ConfFaultKind, Ignored, advise, explain, read_conf};
 use std::alloc::{AllocError, Global};
 
-/// What is told of the configuration in this text: a line for each use of a key that is ignored or limited, and then
-/// how many peers there are.
+/// What is told of a configuration without a fault.
+#[derive(Drop)]
+pub struct Checked {
+    /// On standard output: a line for each setting that is ignored or limited, and then how many peers there are.
+    pub report: Vec<u8>,
+    /// On standard error: what that means for the feed, if this is asked for.
+    pub advice: Option<Vec<u8>>,
+}
+
+/// What is told of the configuration in this text, of the file at this path.
 ///
 /// # Errors
 /// The configuration's fault; `NoMemory`.
-pub fn checked<'a>(alloc: Global, text: &[u8]) -> Result<Vec<u8>, Fault<'a>>
+pub fn check<'a>(
+    alloc: Global,
+    path: &str,
+    text: &[u8],
+    verbose: bool,
+) -> Result<Checked, Fault<'a>>
     ensures { MatchResult result
         (λ told. (outcome : Outcome) × Means text.now (Ok outcome)
-        × (told.items ≡ check_text outcome))
-        (ComesBy (λ exit line. Refuses text.now exit line ⊎ LacksMemory exit line)) }
+        × (told.report.items ≡ check_text outcome)
+        × (option_map (λ lines. lines.items) told.advice ≡ advice_line verbose path.now outcome))
+        (ComesBy (λ exit line. Refuses verbose path.now text.now exit line
+        ⊎ LacksMemory exit line)) }
 {
-    match settings_of(alloc, text) {
-        Ok(conf) => Ok(tell(alloc, &conf)?),
+    match settings_of(alloc, path, text, verbose) {
+        Ok(conf) => Ok(Checked {
+            report: report(alloc, &conf)?,
+            advice: advice(alloc, path, &conf, verbose)?,
+        }),
         Err(fault) => Err(fault),
     }
 }
 
-/// The settings that this text has.
+/// The settings that this text has, of the file at this path.
 ///
 /// # Errors
-/// The configuration's fault; `NoMemory`.
-pub fn settings_of<'a>(alloc: Global, text: &[u8]) -> Result<Conf, Fault<'a>>
+/// The configuration's fault, with an explanation if `verbose`; `NoMemory`.
+pub fn settings_of<'a>(
+    alloc: Global,
+    path: &str,
+    text: &[u8],
+    verbose: bool,
+) -> Result<Conf, Fault<'a>>
     ensures { MatchResult result
         (λ conf. Means text.now (Ok (conf_view conf)))
-        (ComesBy (λ exit line. Refuses text.now exit line ⊎ LacksMemory exit line)) }
+        (ComesBy (λ exit line. Refuses verbose path.now text.now exit line
+        ⊎ LacksMemory exit line)) }
 {
     match read_conf(alloc, text) {
         Ok(conf) => Ok(conf),
         Err(fault) if fault.kind == ConfFaultKind::NoMemory => Err(Fault::NoMemory),
-        Err(fault) => Err(Fault::Config(fault)),
+        Err(fault) => Err(Fault::Config {
+            fault,
+            more: more(alloc, path, text, fault, verbose)?,
+        }),
     }
 }
 
-// What is told of settings.
-fn tell(alloc: Global, conf: &Conf) -> Result<Vec<u8>, AllocError>
+// What is said of a fault beside its line.
+fn more(
+    alloc: Global,
+    path: &str,
+    text: &[u8],
+    fault: ConfFault,
+    verbose: bool,
+) -> Result<Vec<u8>, AllocError>
+    ensures { IfOk result (λ lines. lines.items ≡ more_text verbose path.now text.now fault) }
+{
+    if verbose {
+        explain(alloc, path.as_bytes(), text, fault)
+    } else {
+        Ok(Vec::new(alloc))
+    }
+}
+
+// What is said of settings on standard error.
+fn advice(
+    alloc: Global,
+    path: &str,
+    conf: &Conf,
+    verbose: bool,
+) -> Result<Option<Vec<u8>>, AllocError>
+    ensures { IfOk result (λ advice. option_map (λ lines. lines.items) advice
+        ≡ advice_line verbose path.now (conf_view conf.now)) }
+{
+    if verbose {
+        Ok(Some(advise(alloc, path.as_bytes(), conf)?))
+    } else {
+        Ok(None)
+    }
+}
+
+// What is told of settings on standard output.
+fn report(alloc: Global, conf: &Conf) -> Result<Vec<u8>, AllocError>
     ensures { IfOk result (λ told. told.items ≡ check_text (conf_view conf.now)) }
 {
     let mut told = Vec::new(alloc);

@@ -22,8 +22,10 @@ const USAGE: &[u8] =
 pub enum Fault<'a> {
     /// Memory was refused, of which nothing is said.
     NoMemory,
-    /// The configuration has this fault.
-    Config(ConfFault),
+    /// The configuration has this fault, of which this is said too.
+    Config { fault: ConfFault, more: Vec<u8> },
+    /// A configuration has none, and this is said of its settings.
+    Checked(Vec<u8>),
     /// A line of the script from here was refused.
     Refused(&'a str, Refusal),
     /// The tape of a peer of a script was refused.
@@ -85,7 +87,8 @@ impl<'a> Fault<'a> {
     {
         match self {
             Fault::NoMemory => Exit::NoMemory,
-            Fault::Config(_) | Fault::Refused(_, _) => Exit::Refused,
+            Fault::Config { .. } | Fault::Refused(_, _) => Exit::Refused,
+            Fault::Checked(_) => Exit::Done,
             Fault::NoTape(_) => Exit::Tape,
             Fault::Unread(_) | Fault::Input(_) | Fault::Output(_) => Exit::Unreadable,
             Fault::Mistake(_) => Exit::Usage,
@@ -103,7 +106,8 @@ impl<'a> Fault<'a> {
     {
         match self {
             Fault::NoMemory => Ok(None),
-            Fault::Config(fault) => Ok(Some(config_line(alloc, fault)?)),
+            Fault::Config { fault, more } => Ok(Some(config_lines(alloc, fault, more)?)),
+            Fault::Checked(lines) => Ok(Some(Vec::from_slice(alloc, lines)?)),
             Fault::Refused(source, refusal) => Ok(Some(refusal_line(alloc, source, *refusal)?)),
             Fault::NoTape(refusal) => Ok(Some(no_tape_line(alloc, refusal)?)),
             Fault::Unread(path) => Ok(Some(unread_line(alloc, path)?)),
@@ -119,15 +123,16 @@ impl<'a> Fault<'a> {
     }
 }
 
-// `config line N: KIND`.
-fn config_line(alloc: Global, fault: &ConfFault) -> Result<Vec<u8>, AllocError>
-    ensures { IfOk result (λ line. line.items ≡ config_text fault.now) }
+// `config line N: KIND`, and what is said of it too.
+fn config_lines(alloc: Global, fault: &ConfFault, more: &[u8]) -> Result<Vec<u8>, AllocError>
+    ensures { IfOk result (λ lines. lines.items ≡ config_text fault.now ++ more.now) }
 {
     let mut line = Vec::from_slice(alloc, b"config line ")?;
     line.extend_from_slice(itoa::Buffer::new().format(fault.line).as_bytes())?;
     line.extend_from_slice(b": ")?;
     line.extend_from_slice(fault.kind.name().as_bytes())?;
     line.push(b'\n')?;
+    line.extend_from_slice(more)?;
     Ok(line)
 }
 

@@ -7,12 +7,18 @@ pub enum Order<'a> {
     DrillFromInput,
     /// Run the drill script in this file.
     Drill(&'a str),
-    /// Check the configuration in this file.
-    Check(&'a str),
-    /// Print what each peer of the configuration in this file is owed.
-    Owed(&'a str),
+    /// Check the configuration in the file `conf`; if `verbose`, say what its faults and ignored settings mean.
+    Check {
+        conf: &'a str,
+        verbose: bool,
+    },
+    /// Print what each peer of the configuration in the file `conf` is owed; if `verbose`, explain a bad configuration.
+    Owed {
+        conf: &'a str,
+        verbose: bool,
+    },
     /// Feed the peers of the configuration in the file `conf` from the funnel file, or with none from their backlogs
-    /// alone; where `verbose`, log what becomes of connections.
+    /// alone; if `verbose`, log what becomes of connections, and explain a bad configuration.
     Feed {
         conf: &'a str,
         funnel: Option<&'a str>,

@@ -1,13 +1,13 @@
 // What each order of the command line does (docs/MANUAL.md).
-ghost use Rattle.std.specs.Prelude.{◌≡◌, ◌≢◌, List, ℕ, Option, OnOk, false};
+ghost use Rattle.std.specs.Prelude.{◌≡◌, ◌≢◌, List, ℕ, Option, OnOk, false, option_map};
 ghost use Rattle.std.specs.Io.KnownBytes.{Appends};
 ghost use Rattle.feed_conf.specs.ConfView.{conf_view};
-ghost use Rattle.commands.specs.Ends.{Checks, Does, DrillsFile, DrillsInput, Prints, Runs, Tells, Works};
+ghost use Rattle.commands.specs.Ends.{Checks, Does, DrillsFile, DrillsInput, Prints, PrintsBeside, Runs, Tells, Works};
 ghost use Rattle.commands.specs.Errand.{DoesErrand};
 ghost use Rattle.commands.specs.Feeding.{asks_feeds, feeding_of};
 ghost use Rattle.commands.specs.Fault.{Comes, IsLineOf};
 
-use crate::check::{checked, settings_of};
+use crate::check::{Checked, check, settings_of};
 use crate::exit::Exit;
 use crate::fault::Fault;
 use crate::feeds::{FeedEnd, Feeds};
@@ -95,15 +95,17 @@ fn perform<'a, F: ReadFile, P: Feeds, S: Read, W: Write>(
     match order {
         Order::DrillFromInput => drill_input(alloc, input, out),
         Order::Drill(path) => drill_file(alloc, files, path, out),
-        Order::Check(path) => check_file(alloc, files, path, out),
-        Order::Owed(path) => serve(alloc, files, feeds, path, Errand::List, out),
+        Order::Check { conf, verbose } => check_file(alloc, files, conf, verbose, out),
+        Order::Owed { conf, verbose } => {
+            serve(alloc, files, feeds, conf, verbose, Errand::List, out)
+        }
         Order::Feed {
             conf,
             funnel,
             verbose,
         } => {
             let errand = Errand::Feed { funnel, verbose };
-            serve(alloc, files, feeds, conf, errand, out)
+            serve(alloc, files, feeds, conf, verbose, errand, out)
         }
         Order::Tell(text) => print(out, text.as_bytes()),
         Order::Mistake(what) => Err(Fault::Mistake(what)),
@@ -166,15 +168,28 @@ fn check_file<'a, F: ReadFile, W: Write>(
     alloc: Global,
     files: &F,
     path: &'a str,
+    verbose: bool,
     out: &mut W,
 ) -> Result<Exit, Fault<'a>>
     ensures { Comes
-        (Checks (F.says files.now path.now) path.now (W.contents out.old) (W.contents out.new))
+        (Checks (F.says files.now path.now) path.now verbose (W.contents out.old)
+        (W.contents out.new))
         result }
 {
     match files.read_file(alloc, path) {
-        Ok(text) => print(out, &checked(alloc, &text)?),
+        Ok(text) => print_checked(out, check(alloc, path, &text, verbose)?),
         Err(error) => Err(Fault::of_file(path, error)),
+    }
+}
+
+// Prints what is told of a configuration on standard output, and hands on what is said on standard error.
+fn print_checked<'a, W: Write>(out: &mut W, checked: Checked) -> Result<Exit, Fault<'a>>
+    ensures { Comes (PrintsBeside (option_map (λ lines. lines.items) checked.advice)
+        checked.report.items (W.contents out.old) (W.contents out.new)) result }
+{
+    match (print(out, &checked.report), checked.advice) {
+        (Ok(_), Some(lines)) => Err(Fault::Checked(lines)),
+        (printed, _) => printed,
     }
 }
 
@@ -196,6 +211,7 @@ fn serve<'a, F: ReadFile, P: Feeds, W: Write>(
     files: &F,
     feeds: &mut P,
     path: &'a str,
+    verbose: bool,
     errand: Errand<'_>,
     out: &mut W,
 ) -> Result<Exit, Fault<'a>>
@@ -203,11 +219,11 @@ fn serve<'a, F: ReadFile, P: Feeds, W: Write>(
         (Works (F.says files.now path.now)
         (DoesErrand P.fed P.listed feeds.old feeds.new (W.contents out.old) (W.contents out.new)
         errand.entry)
-        (feeds.new ≡ feeds.old) path.now (W.contents out.old) (W.contents out.new))
+        (feeds.new ≡ feeds.old) path.now verbose (W.contents out.old) (W.contents out.new))
         result }
 {
     match files.read_file(alloc, path) {
-        Ok(text) => match settings_of(alloc, &text) {
+        Ok(text) => match settings_of(alloc, path, &text, verbose) {
             Ok(conf) => Err(Fault::Fed(run_errand(alloc, feeds, conf, errand, out))),
             Err(fault) => Err(fault),
         },

@@ -6,7 +6,7 @@ use std::test::Fail;
 use words::read_words;
 
 // The words of a line, with one space between them, and what they ask for: a name, and what it names.
-const ROWS: [(&str, &str); 46] = [
+const ROWS: [(&str, &str); 47] = [
     ("innfeed", "drill input"),
     ("innfeed -c x.conf -C", "check x.conf"),
     ("innfeed -C -c x.conf", "check x.conf"),
@@ -21,7 +21,8 @@ const ROWS: [(&str, &str); 46] = [
     ("innfeed -c x.conf -- -x", "feed x.conf -x"),
     ("innfeed -v -c x.conf a/funnel", "log feed x.conf a/funnel"),
     ("innfeed -c x.conf -vx", "log backlog x.conf"),
-    ("innfeed -c x.conf -C -v", "check x.conf"),
+    ("innfeed -c x.conf -C -v", "explain check x.conf"),
+    ("innfeed -c x.conf -v --owed", "explain owed x.conf"),
     ("innfeed -c x.conf -v", "mistake FUNNEL or '-x' is required"),
     ("innfeed -v --drill x.drill", DRILL_ALONE),
     ("innfeed --drill x.drill", "drill x.drill"),
@@ -125,14 +126,22 @@ fn feed_text(
     Ok(text)
 }
 
+fn checked_text(verbose: bool) -> &'static str {
+    if verbose { "explain check " } else { "check " }
+}
+
+fn owed_text(verbose: bool) -> &'static str {
+    if verbose { "explain owed " } else { "owed " }
+}
+
 // What a line's words ask for.
 fn asked(alloc: Global, line: &str) -> Result<String, AllocError> {
     let words = split_words(alloc, line)?;
     match read_words(alloc, &words)? {
         Order::DrillFromInput => joined(alloc, "drill ", "input"),
         Order::Drill(path) => joined(alloc, "drill ", path),
-        Order::Check(path) => joined(alloc, "check ", path),
-        Order::Owed(path) => joined(alloc, "owed ", path),
+        Order::Check { conf, verbose } => joined(alloc, checked_text(verbose), conf),
+        Order::Owed { conf, verbose } => joined(alloc, owed_text(verbose), conf),
         Order::Feed {
             conf,
             funnel,

@@ -61,7 +61,9 @@ pub enum Asked {
     Input,
     Drill(&'static str),
     Check(&'static str),
+    CheckExplained(&'static str),
     Owed(&'static str),
+    OwedExplained(&'static str),
     Feed(&'static str, Option<&'static str>),
     FeedLogged(&'static str, &'static str),
     Tell(&'static str),
@@ -73,8 +75,22 @@ pub fn order_of(alloc: Global, asked: Asked) -> Result<Order<'static>, AllocErro
     Ok(match asked {
         Asked::Input => Order::DrillFromInput,
         Asked::Drill(path) => Order::Drill(path),
-        Asked::Check(path) => Order::Check(path),
-        Asked::Owed(path) => Order::Owed(path),
+        Asked::Check(conf) => Order::Check {
+            conf,
+            verbose: false,
+        },
+        Asked::CheckExplained(conf) => Order::Check {
+            conf,
+            verbose: true,
+        },
+        Asked::Owed(conf) => Order::Owed {
+            conf,
+            verbose: false,
+        },
+        Asked::OwedExplained(conf) => Order::Owed {
+            conf,
+            verbose: true,
+        },
         Asked::Feed(conf, funnel) => Order::Feed {
             conf,
             funnel,

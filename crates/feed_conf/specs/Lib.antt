@@ -16,3 +16,5 @@ pub mod ConfView
 pub mod Bounds
 pub mod LexemeLaws
 pub mod Faults
+pub mod Explanation
+pub mod Advice

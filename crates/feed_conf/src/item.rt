@@ -11,7 +11,7 @@ use crate::fault::ConfFaultKind;
 use crate::lexeme::{Lexeme, next_lexeme};
 
 /// One thing that a line says.
-#[derive(Clone, Copy, Debug)]
+#[derive(Clone, Copy)]
 pub(crate) enum Item<'t> {
     /// The word `peer` and the name behind it, which is empty where none stands there; and whether `{` follows.
     Peer(&'t [u8], bool),
@@ -26,7 +26,7 @@ pub(crate) enum Item<'t> {
 }
 
 // What a word is where a new item may begin.
-#[derive(Clone, Copy, Debug)]
+#[derive(Clone, Copy)]
 enum Sort<'t> {
     PeerWord,
     GroupWord,

@@ -10,7 +10,7 @@ use crate::item::is_text;
 use crate::value::Value;
 
 /// How the value of a key is written.
-#[derive(Clone, Copy, Debug)]
+#[derive(Clone, Copy)]
 pub(crate) enum Kind {
     /// Any text.
     AnyText,
@@ -29,7 +29,7 @@ pub(crate) enum Kind {
 }
 
 /// A key of the profile (innfeed.conf(5)).
-#[derive(Clone, Copy, Debug)]
+#[derive(Clone, Copy)]
 pub(crate) enum Key {
     /// The host that is connected to.
     IpName,
@@ -92,7 +92,7 @@ const KEYS: [Key; 18] = [
 ];
 
 // What the profile says of a key.
-#[derive(Clone, Copy, Debug)]
+#[derive(Clone, Copy)]
 struct Row {
     // Its index in the table of keys.
     index: usize,

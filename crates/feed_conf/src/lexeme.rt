@@ -6,7 +6,7 @@ ghost use Rattle.feed_conf.specs.Scan.{BeginsWord, StopsAt, lexemes_of};
 ghost use Rattle.feed_conf.specs.View.{lexeme_of};
 
 /// What stands on a line besides blanks and a comment.
-#[derive(Clone, Copy, Debug)]
+#[derive(Clone, Copy)]
 pub(crate) enum Lexeme<'t> {
     /// Octets that stand together, none of them blank, a quote, `#` or a brace.
     Word(&'t [u8]),

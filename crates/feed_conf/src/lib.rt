@@ -1,13 +1,16 @@
 //! The settings of the feed (innfeed.conf(5), this profile): reads a configuration and answers each peer's values.
 //!
 //! May touch nothing but memory; it stands on `funnel` for the names of peers, on `memchr` for the search for line
-//! ends. The crates above use `read_conf`, which gives what `specs/Settings.antt` has as the meaning of the text's
-//! lexemes (`specs/Lexemes.antt`, `specs/Items.antt`, `specs/Reading.antt`), or names its first fault, what `Conf`
-//! answers of it, and `read_digits`, which reads a number in digits.
+//! ends, and on `itoa`, which writes numbers. The crates above use `read_conf`, which gives what `specs/Settings.antt`
+//! has as the meaning of the text's lexemes (`specs/Lexemes.antt`, `specs/Items.antt`, `specs/Reading.antt`), or names
+//! its first fault, what `Conf` answers of it, `explain` and `advise`, which say more of a fault and of settings that
+//! are ignored (`specs/Explanation.antt`, `specs/Advice.antt`), and `read_digits`, which reads a number in digits.
 #![tactic(auto)]
 
+mod advice;
 mod conf;
 mod digits;
+mod explanation;
 mod fault;
 mod item;
 mod key;
@@ -20,8 +23,10 @@ mod settings;
 mod table;
 mod value;
 
+pub use advice::advise;
 pub use conf::{Conf, Ignored, PeerConf};
 pub use digits::{DigitsFault, read_digits};
+pub use explanation::explain;
 pub use fault::{ConfFault, ConfFaultKind};
 pub use settings::read_conf;
 /// Memory was refused.

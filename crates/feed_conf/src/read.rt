@@ -18,8 +18,8 @@ fn line_end(text: &[u8]) -> Option<usize>
     memchr(b'\n', text)
 }
 
-// The first line without its LF, and what stands behind that LF.
-fn first_line(text: &[u8]) -> (&[u8], Option<&[u8]>)
+/// The first line without its LF, and what stands behind that LF.
+pub(crate) fn first_line(text: &[u8]) -> (&[u8], Option<&[u8]>)
     ensures lines { MatchOption result.1 (lines_of text.now ≡ result.0.now ∷ [])
         (λ behind. lines_of text.now ≡ result.0.now ∷ lines_of behind.now) }
     ensures within { MatchOption result.1 (length result.0.now ≤ length text.now)

@@ -21,7 +21,7 @@ use std::alloc::Global;
 use std::collections::BTreeMap;
 
 /// A block that is open.
-#[derive(Clone, Copy, Debug)]
+#[derive(Clone, Copy)]
 pub(crate) struct OpenBlock {
     /// Blocks are numbered from 1 in the order of their words; 0 is the scope of the file.
     pub(crate) number: usize,
@@ -31,7 +31,7 @@ pub(crate) struct OpenBlock {
 }
 
 /// A use of a key that counts.
-#[derive(Clone, Copy, Debug)]
+#[derive(Clone, Copy)]
 pub(crate) struct Use<'t> {
     /// The number of the block that it stands in, 0 for the scope of the file.
     pub(crate) block: usize,
@@ -40,7 +40,7 @@ pub(crate) struct Use<'t> {
 }
 
 /// A peer that is declared.
-#[derive(Debug, Drop)]
+#[derive(Drop)]
 pub(crate) struct Declared {
     pub(crate) name: PeerName,
     /// The line of its word.
@@ -50,7 +50,7 @@ pub(crate) struct Declared {
 }
 
 /// What was read so far.
-#[derive(Debug, Drop)]
+#[derive(Drop)]
 pub(crate) struct Reader<'t> {
     pub(crate) alloc: Global,
     /// The blocks that are open, from the outermost in.

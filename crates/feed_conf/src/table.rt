@@ -16,7 +16,7 @@ use std::alloc::{AllocError, Global};
 use std::collections::BTreeMap;
 
 /// The value of each key's last use in each block, by the block's number and the key's index.
-#[derive(Debug, Drop)]
+#[derive(Drop)]
 pub(crate) struct Table<'t> {
     values: BTreeMap<(usize, usize), Value<'t>>,
 }

@@ -12,7 +12,7 @@ use crate::fault::ConfFaultKind;
 use crate::key::Kind;
 
 /// A value that was read.
-#[derive(Clone, Copy, Debug)]
+#[derive(Clone, Copy)]
 pub(crate) enum Value<'t> {
     Text(&'t [u8]),
     Switch(bool),
@@ -20,7 +20,7 @@ pub(crate) enum Value<'t> {
 }
 
 /// A value as it is taken.
-#[derive(Clone, Copy, Debug)]
+#[derive(Clone, Copy)]
 pub(crate) struct Taken<'t> {
     pub(crate) value: Value<'t>,
     /// Whether it was written above the greatest value, or as no connections.

@@ -1,8 +1,7 @@
 // Rows of funnels: long ones, silent ones, and lines that go nowhere.
 use crate::peers::feed_from;
-use crate::row::{NOBODY, Row, print_told};
+use crate::row::{NOBODY, Row, list_owed, print_told};
 use anyhow::{Result, anyhow};
-use commands::Order;
 use std::io::{self, PipeWriter, Write, pipe};
 use std::os::fd::AsRawFd;
 use std::sync::Wait;
@@ -25,7 +24,7 @@ pub(crate) fn long_funnel<R: AllocGlobal + Threads + Wait + Print + Send + Sync 
         row.funnel(&text)?;
         print_told(rt, &row.obey_conf(rt, 1, &conf, feed_from(&path))?)?;
     }
-    let told = row.obey_conf(rt, 1, &conf, Order::Owed("conf"))?;
+    let told = row.obey_conf(rt, 1, &conf, list_owed())?;
     let mut wanted = Vec::new(host.alloc());
     for number in 1..=2_000 {
         writeln!(wanted, "p {number} {number:04} <{number:066}@x>")?;
@@ -55,7 +54,7 @@ pub(crate) fn shed<R: AllocGlobal + Threads + Wait + Print + Send + Sync + Drop 
         &row.obey_conf(rt, 1, &conf, feed_from(&row.path("funnel")?))?,
     )?;
     println!(rt; "-- and is owed")?;
-    print_told(rt, &row.obey_conf(rt, 1, &conf, Order::Owed("conf"))?)
+    print_told(rt, &row.obey_conf(rt, 1, &conf, list_owed())?)
 }
 
 /// Lines that name unknown peers, and lines that are malformed, are told without -v, each once.

@@ -1,6 +1,6 @@
 // Rows of several peers.
 use crate::peer::{Heard, Manner, PATIENCE, serve};
-use crate::row::{NOBODY, Row, print_lines, print_told};
+use crate::row::{NOBODY, Row, list_owed, print_lines, print_told};
 use anyhow::Result;
 use commands::Order;
 use std::io::Write;
@@ -25,7 +25,7 @@ pub(crate) fn four_peers<R: AllocGlobal + Threads + Wait + Print + Send + Sync +
     let path = row.path("funnel")?;
     print_told(rt, &row.obey_conf(rt, 1, &conf, feed_from(&path))?)?;
     println!(rt; "-- and is owed")?;
-    print_told(rt, &row.obey_conf(rt, 1, &conf, Order::Owed("conf"))?)?;
+    print_told(rt, &row.obey_conf(rt, 1, &conf, list_owed())?)?;
 
     println!(rt; "-- a streams, b knows IHAVE alone, nobody is c, d says nothing")?;
     let alloc = host.alloc();
@@ -55,7 +55,7 @@ pub(crate) fn four_peers<R: AllocGlobal + Threads + Wait + Print + Send + Sync +
         print_lines(rt, name, &heard.lines)?;
     }
     println!(rt; "-- and is owed")?;
-    print_told(rt, &row.obey_conf(rt, 1, &conf, Order::Owed("conf"))?)
+    print_told(rt, &row.obey_conf(rt, 1, &conf, list_owed())?)
 }
 
 // The peers, in another order than that of their names. Nobody is c.

@@ -20,6 +20,14 @@ pub(crate) struct Row {
     name: &'static str,
 }
 
+/// What lists what is owed.
+pub(crate) fn list_owed() -> Order<'static> {
+    Order::Owed {
+        conf: "conf",
+        verbose: false,
+    }
+}
+
 // A configuration.
 #[derive(Drop)]
 struct Conf {
@@ -156,7 +164,7 @@ impl Row {
         what: &str,
     ) -> Result<()> {
         println!(rt; "-- {what}")?;
-        let told = self.obey(rt, NOBODY, PATIENCE, Order::Owed("conf"))?;
+        let told = self.obey(rt, NOBODY, PATIENCE, list_owed())?;
         let lines = told.out.split(|octet| *octet == b'\n').count();
         println!(rt; "status {}, {} debts", told.status, lines.saturating_sub(1))?;
         Ok(())

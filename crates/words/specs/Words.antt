@@ -18,13 +18,13 @@ abbrev pub AsksDrill : List ℕ → Given → Type 0
 AsksDrill path given =
     (option_map (λ file. file.now) given.drill ≡ Some path) × IsNone given.config × (HasMore given → ⊥)
 
--- `-C` acts alone.
-abbrev pub AsksCheck : Given → Type 0
-AsksCheck given = given.check ≡ true
+-- `-C` acts alone; with `-v` it is explained.
+abbrev pub AsksCheck : Bool → Given → Type 0
+AsksCheck verbose given = (given.check ≡ true) × (verbose ≡ given.verbose)
 
--- Else `--owed` does.
-abbrev pub AsksOwed : Given → Type 0
-AsksOwed given = (given.check ≡ false) × (given.owed ≡ true)
+-- Else `--owed` does; with `-v` a bad configuration is explained.
+abbrev pub AsksOwed : Bool → Given → Type 0
+AsksOwed verbose given = (given.check ≡ false) × (given.owed ≡ true) × (verbose ≡ given.verbose)
 
 -- Else the peers are fed: from their backlogs alone with `-x`, else from the funnel; with `-v` it is logged.
 abbrev pub AsksFeed : Option (List ℕ) → Bool → Given → Type 0
@@ -36,8 +36,8 @@ AsksFeed funnel verbose given = (given.check ≡ false) × (given.owed ≡ false
 abbrev pub AsksOf : List ℕ → Given → Order → Type 0
 AsksOf conf given DrillFromInput = ⊥
 AsksOf conf given (Drill path) = ⊥
-AsksOf conf given (Check path) = (path.now ≡ conf) × AsksCheck given
-AsksOf conf given (Owed path) = (path.now ≡ conf) × AsksOwed given
+AsksOf conf given (Check path verbose) = (path.now ≡ conf) × AsksCheck verbose given
+AsksOf conf given (Owed path verbose) = (path.now ≡ conf) × AsksOwed verbose given
 AsksOf conf given (Feed path funnel verbose) = (path.now ≡ conf)
     × AsksFeed (option_map (λ file. file.now) funnel) verbose given
 AsksOf conf given (Tell text) = ⊥
@@ -47,10 +47,10 @@ AsksOf conf given (Mistake what) = HasOrder given → ⊥
 abbrev pub Asks : Given → Order → Type 0
 Asks given DrillFromInput = ⊥
 Asks given (Drill path) = AsksDrill path.now given
-Asks given (Check path) = (option_map (λ file. file.now) given.config ≡ Some path.now) × IsNone given.drill
-    × AsksCheck given
-Asks given (Owed path) = (option_map (λ file. file.now) given.config ≡ Some path.now) × IsNone given.drill
-    × AsksOwed given
+Asks given (Check path verbose) = (option_map (λ file. file.now) given.config ≡ Some path.now) × IsNone given.drill
+    × AsksCheck verbose given
+Asks given (Owed path verbose) = (option_map (λ file. file.now) given.config ≡ Some path.now) × IsNone given.drill
+    × AsksOwed verbose given
 Asks given (Feed path funnel verbose) = (option_map (λ file. file.now) given.config ≡ Some path.now) × IsNone given.drill
     × AsksFeed (option_map (λ file. file.now) funnel) verbose given
 Asks given (Tell text) = ⊥
@@ -62,8 +62,8 @@ Asks given (Mistake what) = (IsSome given.drill × (IsSome given.config ⊎ HasM
 abbrev pub IsTold : Order → Type 0
 IsTold DrillFromInput = ⊥
 IsTold (Drill path) = ⊥
-IsTold (Check path) = ⊥
-IsTold (Owed path) = ⊥
+IsTold (Check path verbose) = ⊥
+IsTold (Owed path verbose) = ⊥
 IsTold (Feed path funnel verbose) = ⊥
 IsTold (Tell text) = Unit {0}
 IsTold (Mistake what) = ⊥
@@ -72,8 +72,8 @@ IsTold (Mistake what) = ⊥
 abbrev pub IsMistaken : Order → Type 0
 IsMistaken DrillFromInput = ⊥
 IsMistaken (Drill path) = ⊥
-IsMistaken (Check path) = ⊥
-IsMistaken (Owed path) = ⊥
+IsMistaken (Check path verbose) = ⊥
+IsMistaken (Owed path verbose) = ⊥
 IsMistaken (Feed path funnel verbose) = ⊥
 IsMistaken (Tell text) = ⊥
 IsMistaken (Mistake what) = Unit {0}

@@ -110,7 +110,10 @@ fn verbose_flag<'a>(alloc: Global) -> Arg<'a> {
     Arg::new(alloc, "verbose")
         .short('v')
         .action(ArgAction::SetTrue)
-        .help("Log connections and articles to standard error, and progress every 10 seconds")
+        .help(
+            "Log connections and articles to standard error, and progress every 10 seconds; explain a bad \
+            configuration",
+        )
 }
 
 // What a parse found on the command line.
@@ -161,10 +164,16 @@ fn order_on<'a>(alloc: Global, conf: &'a str, given: Given<'a>) -> Result<Order<
     ensures { IfOk result (AsksOf conf.now given.entry) }
 {
     if given.check {
-        return Ok(Order::Check(conf));
+        return Ok(Order::Check {
+            conf,
+            verbose: given.verbose,
+        });
     }
     if given.owed {
-        return Ok(Order::Owed(conf));
+        return Ok(Order::Owed {
+            conf,
+            verbose: given.verbose,
+        });
     }
     if given.backlog {
         return Ok(Order::Feed {

@@ -1,11 +1,11 @@
 use Rattle.std.proofs.Common.{inl}
-use Rattle.commands.specs.Ends.{Checks, Prints}
+use Rattle.commands.specs.Ends.{Checks, PrintsBeside}
 use Rattle.commands.proofs.Telling.{comes_as}
 use Rattle.commands.proofs.runner.check_file.Goals as goal
 
-pub returns-in_ok-checked-in-Ok : goal.returns-in_ok-checked-in-Ok
-returns-in_ok-checked-in-Ok g c =
-    let told = c.in_ok-checked-in-Ok.ensures in
+pub returns-in_ok-check-in-Ok : goal.returns-in_ok-check-in-Ok
+returns-in_ok-check-in-Ok g c =
+    let told = c.in_ok-check-in-Ok.ensures in
     let means = rw c.deref.ensures.value at told.1 in
     let old = g.W.Write.contents c.args.out.now in
     let new = g.W.Write.contents c.print.new.out in

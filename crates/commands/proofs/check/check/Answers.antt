@@ -1,5 +1,5 @@
 use Rattle.feed_conf.specs.ConfView.{conf_view}
-use Rattle.commands.proofs.check.checked.Goals as goal
+use Rattle.commands.proofs.check.check.Goals as goal
 
 pub returns-in_ok-tell-in-Ok : goal.returns-in_ok-tell-in-Ok
 returns-in_ok-tell-in-Ok c =

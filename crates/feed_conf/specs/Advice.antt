@@ -1,0 +1,94 @@
+-- What is told of settings that are ignored or limited, and of a configuration without peers (docs/MANUAL.md).
+use Rattle.std.specs.Prelude.{◌||◌, ℕ, Bool, true, false, List, [], ◌∷◌, ◌++◌, Option, None, Some, codes, flat_map}
+use Rattle.std.specs.Prelude.{if◌then◌else◌}
+use Rattle.std.specs.Str.{bytes_eq}
+use Rattle.feed_conf.specs.Explanation.{place_text}
+use Rattle.feed_conf.specs.Keys.{key_of}
+use Rattle.feed_conf.specs.Reading.{Report}
+use Rattle.feed_conf.specs.Settings.{Outcome, Settings}
+use Rattle.feed_conf.specs.declared.key.Key.{Key}
+
+-- settings of INN by which a connection logs in
+abbrev pub is_login : List ℕ → Bool
+is_login name = bytes_eq name (codes "username") || bytes_eq name (codes "password")
+
+-- settings of INN that choose where a connection comes from
+abbrev pub is_source : List ℕ → Bool
+is_source name =
+    bytes_eq name (codes "bindaddress") || bytes_eq name (codes "bindaddress6") || bytes_eq name (codes "force-ipv4")
+
+-- settings of INN by which the number of connections grows
+abbrev pub is_growth : List ℕ → Bool
+is_growth name =
+    bytes_eq name (codes "initial-connections") || bytes_eq name (codes "dynamic-method")
+    || bytes_eq name (codes "dynamic-backlog-low") || bytes_eq name (codes "dynamic-backlog-high")
+    || bytes_eq name (codes "dynamic-backlog-filter") || bytes_eq name (codes "min-queue-connection")
+
+-- settings of INN that close connections by time
+abbrev pub is_closing : List ℕ → Bool
+is_closing name = bytes_eq name (codes "close-period") || bytes_eq name (codes "article-timeout")
+
+-- settings of INN's own logs, status pages and files, and of its process
+abbrev pub is_house : List ℕ → Bool
+is_house name =
+    bytes_eq name (codes "pid-file") || bytes_eq name (codes "log-file") || bytes_eq name (codes "log-time-format")
+    || bytes_eq name (codes "debug-level") || bytes_eq name (codes "debug-shrinking")
+    || bytes_eq name (codes "gen-html") || bytes_eq name (codes "connection-stats")
+    || bytes_eq name (codes "stats-period") || bytes_eq name (codes "stats-reset")
+    || bytes_eq name (codes "fast-exit") || bytes_eq name (codes "use-mmap") || bytes_eq name (codes "stdio-fdmax")
+
+-- settings of INN that say when its files and names are renewed, and what waits in memory
+abbrev pub is_timing : List ℕ → Bool
+is_timing name =
+    bytes_eq name (codes "backlog-rotate-period") || bytes_eq name (codes "backlog-ckpt-period")
+    || bytes_eq name (codes "backlog-newfile-period") || bytes_eq name (codes "backlog-highwater")
+    || bytes_eq name (codes "host-queue-highwater") || bytes_eq name (codes "initial-sleep")
+    || bytes_eq name (codes "dns-retry") || bytes_eq name (codes "dns-expire")
+
+-- settings of INN for mail, which its innfeed does not use
+abbrev pub is_mail : List ℕ → Bool
+is_mail name =
+    bytes_eq name (codes "deliver-authname") || bytes_eq name (codes "deliver-password")
+    || bytes_eq name (codes "deliver-username") || bytes_eq name (codes "deliver-realm")
+    || bytes_eq name (codes "deliver-rcpt-to") || bytes_eq name (codes "deliver-to-header")
+
+-- what it means for the feed that a setting of this name is ignored, which is none of this profile
+abbrev pub foreign_text : List ℕ → List ℕ
+foreign_text name =
+    if is_login name then codes "changes the feed: innfeed does not log in to its peers" else (
+    if is_source name then codes "changes the feed: the system chooses the addresses of connections" else (
+    if is_growth name then codes "changes the feed: connections are opened as the queue grows" else (
+    if is_closing name then codes "changes the feed: no connection is closed for its age or for being idle" else (
+    if bytes_eq name (codes "no-backlog") then codes "changes the feed: what a peer does not take stays queued" else (
+    if bytes_eq name (codes "backlog-feed-first")
+    then codes "changes the feed: the oldest article is offered first" else (
+    if bytes_eq name (codes "input-file") then codes "changes the feed: FUNNEL is an argument" else (
+    if is_house name || is_timing name || is_mail name then codes "does not change the feed" else
+    codes "innfeed.conf(5) has no such setting")))))))
+
+-- what it means that a setting of this name is ignored
+abbrev pub effect_text : List ℕ → Option Key → List ℕ
+effect_text name None = foreign_text name
+effect_text name (Some key) = codes "belongs outside all blocks"
+
+-- what became of a setting
+abbrev pub advice_text : Report → Bool → List ℕ
+advice_text report true = codes ": limited; the greatest value that is allowed is taken"
+advice_text report false = codes ": ignored; " ++ effect_text report.key (key_of report.key)
+
+-- the line on a setting that is ignored or limited
+abbrev pub report_text : (file : List ℕ) → Report → List ℕ
+report_text file report = place_text file report.line ++ report.key ++ advice_text report report.limited ++ 10 ∷ []
+
+-- the line on a configuration without peers
+abbrev pub no_peers_text : (file : List ℕ) → List ℕ
+no_peers_text file = file ++ codes ": no peers; nothing will be fed" ++ 10 ∷ []
+
+-- the line on a configuration with these peers
+abbrev pub peers_text : (file : List ℕ) → List Settings → List ℕ
+peers_text file [] = no_peers_text file
+peers_text file (peer ∷ peers) = []
+
+-- the lines on settings: each that is ignored or limited, in reading order, and whether there are no peers
+abbrev pub advice : (file : List ℕ) → Outcome → List ℕ
+advice file outcome = flat_map (report_text file) outcome.reports ++ peers_text file outcome.peers

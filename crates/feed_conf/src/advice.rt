@@ -1,0 +1,179 @@
+// What is told of settings that are ignored or limited, and of a configuration without peers (docs/MANUAL.md).
+ghost use Rattle.std.specs.Prelude.{◌≡◌, ◌++◌, IfOk, OnOk, flat_map, map};
+ghost use Rattle.feed_conf.specs.Advice.{advice, advice_text, effect_text, foreign_text, is_closing, is_growth};
+ghost use Rattle.feed_conf.specs.Advice.{is_house, is_login, is_mail, is_source, is_timing, no_peers_text};
+ghost use Rattle.feed_conf.specs.Advice.{peers_text, report_text};
+ghost use Rattle.feed_conf.specs.ConfView.{conf_view};
+ghost use Rattle.feed_conf.specs.Keys.{key_of};
+ghost use Rattle.feed_conf.specs.PeerView.{settings_view};
+ghost use Rattle.feed_conf.specs.ReaderView.{report_view};
+
+use crate::conf::{Conf, Ignored, PeerConf};
+use crate::explanation::add_place;
+use crate::item::is_text;
+use crate::key::find_key;
+use std::alloc::{AllocError, Global};
+
+/// The lines on settings that are ignored or limited, in reading order, with what that means for the feed, and on a
+/// configuration without peers, of the file that they were read from; an empty text if there is nothing to say.
+///
+/// # Errors
+/// Memory was refused.
+pub fn advise(alloc: Global, file: &[u8], conf: &Conf) -> Result<Vec<u8>, AllocError>
+    ensures { IfOk result (λ lines. lines.items ≡ advice file.now (conf_view conf.now)) }
+{
+    let mut lines = Vec::new(alloc);
+    let reports = conf.ignored();
+    for report in reports {
+        add_report(&mut lines, file, report)?;
+    }
+    add_peers(&mut lines, file, conf.peers())?;
+    Ok(lines)
+}
+
+fn add_report(out: &mut Vec<u8>, file: &[u8], report: &Ignored) -> Result<(), AllocError>
+    ensures { OnOk result
+        (out.new.items ≡ out.old.items ++ report_text file.now (report_view report.now)) }
+{
+    add_place(out, file, report.line)?;
+    out.extend_from_slice(&report.key)?;
+    if report.limited {
+        out.extend_from_slice(b": limited; the greatest value that is allowed is taken\n")
+    } else {
+        out.extend_from_slice(b": ignored; ")?;
+        out.extend_from_slice(effect(&report.key))?;
+        out.push(b'\n')?;
+        Ok(())
+    }
+}
+
+fn add_peers(out: &mut Vec<u8>, file: &[u8], peers: &[PeerConf]) -> Result<(), AllocError>
+    ensures { OnOk result
+        (out.new.items ≡ out.old.items ++ peers_text file.now (map settings_view peers.now)) }
+{
+    match peers {
+        [] => add_no_peers(out, file),
+        [_, ..] => Ok(()),
+    }
+}
+
+fn add_no_peers(out: &mut Vec<u8>, file: &[u8]) -> Result<(), AllocError>
+    ensures { OnOk result (out.new.items ≡ out.old.items ++ no_peers_text file.now) }
+{
+    out.extend_from_slice(file)?;
+    out.extend_from_slice(b": no peers; nothing will be fed")?;
+    out.push(b'\n')?;
+    Ok(())
+}
+
+// What it means that a setting of this name is ignored.
+fn effect(name: &[u8]) -> &'static [u8]
+    ensures { result.now ≡ effect_text name.now (key_of name.now) }
+{
+    match find_key(name) {
+        Some(_) => b"belongs outside all blocks",
+        None => foreign_effect(name),
+    }
+}
+
+// What it means that a setting of INN's is ignored, or whatever has this name.
+fn foreign_effect(name: &[u8]) -> &'static [u8]
+    ensures { result.now ≡ foreign_text name.now }
+{
+    if is_login(name) {
+        b"changes the feed: innfeed does not log in to its peers"
+    } else if is_source(name) {
+        b"changes the feed: the system chooses the addresses of connections"
+    } else if is_growth(name) {
+        b"changes the feed: connections are opened as the queue grows"
+    } else if is_closing(name) {
+        b"changes the feed: no connection is closed for its age or for being idle"
+    } else if is_text(name, b"no-backlog") {
+        b"changes the feed: what a peer does not take stays queued"
+    } else if is_text(name, b"backlog-feed-first") {
+        b"changes the feed: the oldest article is offered first"
+    } else if is_text(name, b"input-file") {
+        b"changes the feed: FUNNEL is an argument"
+    } else if is_house(name) || is_timing(name) || is_mail(name) {
+        b"does not change the feed"
+    } else {
+        b"innfeed.conf(5) has no such setting"
+    }
+}
+
+// Settings by which a connection logs in.
+fn is_login(name: &[u8]) -> bool
+    ensures { result ≡ is_login name.now }
+{
+    is_text(name, b"username") || is_text(name, b"password")
+}
+
+// Settings that choose where a connection comes from.
+fn is_source(name: &[u8]) -> bool
+    ensures { result ≡ is_source name.now }
+{
+    is_text(name, b"bindaddress") || is_text(name, b"bindaddress6") || is_text(name, b"force-ipv4")
+}
+
+// Settings by which the number of connections grows.
+fn is_growth(name: &[u8]) -> bool
+    ensures { result ≡ is_growth name.now }
+{
+    is_text(name, b"initial-connections")
+        || is_text(name, b"dynamic-method")
+        || is_text(name, b"dynamic-backlog-low")
+        || is_text(name, b"dynamic-backlog-high")
+        || is_text(name, b"dynamic-backlog-filter")
+        || is_text(name, b"min-queue-connection")
+}
+
+// Settings that close connections by time.
+fn is_closing(name: &[u8]) -> bool
+    ensures { result ≡ is_closing name.now }
+{
+    is_text(name, b"close-period") || is_text(name, b"article-timeout")
+}
+
+// Settings of logs, status pages and files, and of the process.
+fn is_house(name: &[u8]) -> bool
+    ensures { result ≡ is_house name.now }
+{
+    is_text(name, b"pid-file")
+        || is_text(name, b"log-file")
+        || is_text(name, b"log-time-format")
+        || is_text(name, b"debug-level")
+        || is_text(name, b"debug-shrinking")
+        || is_text(name, b"gen-html")
+        || is_text(name, b"connection-stats")
+        || is_text(name, b"stats-period")
+        || is_text(name, b"stats-reset")
+        || is_text(name, b"fast-exit")
+        || is_text(name, b"use-mmap")
+        || is_text(name, b"stdio-fdmax")
+}
+
+// Settings that say when files and names are renewed, and what waits in memory.
+fn is_timing(name: &[u8]) -> bool
+    ensures { result ≡ is_timing name.now }
+{
+    is_text(name, b"backlog-rotate-period")
+        || is_text(name, b"backlog-ckpt-period")
+        || is_text(name, b"backlog-newfile-period")
+        || is_text(name, b"backlog-highwater")
+        || is_text(name, b"host-queue-highwater")
+        || is_text(name, b"initial-sleep")
+        || is_text(name, b"dns-retry")
+        || is_text(name, b"dns-expire")
+}
+
+// Settings for mail, which innfeed does not send.
+fn is_mail(name: &[u8]) -> bool
+    ensures { result ≡ is_mail name.now }
+{
+    is_text(name, b"deliver-authname")
+        || is_text(name, b"deliver-password")
+        || is_text(name, b"deliver-username")
+        || is_text(name, b"deliver-realm")
+        || is_text(name, b"deliver-rcpt-to")
+        || is_text(name, b"deliver-to-header")
+}
