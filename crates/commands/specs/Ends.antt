@@ -1,7 +1,7 @@
 -- What each order comes to: its exit status, what is on standard output, and the line on standard error, if any
 -- (docs/MANUAL.md).
 use Rattle.std.specs.Prelude.{◌≡◌, ◌⊎◌, ◌++◌, ℕ, Bool, List, Option, None, Some, Result, Ok, Err, OnOk, IfSome}
-use Rattle.std.specs.Prelude.{codes, option_map, string_bytes}
+use Rattle.std.specs.Prelude.{codes, string_bytes}
 use Rattle.std.specs.Io.KnownBytes.{Appends, Keeps}
 use Rattle.std.specs.declared.io.Error.{Error}
 use Rattle.drill.specs.Drill.{Drills}
@@ -15,7 +15,7 @@ use Rattle.feed_conf.specs.declared.fault.ConfFault.{ConfFault}
 use Rattle.commands.specs.Check.{advice_line, check_text, more_text}
 use Rattle.commands.specs.Exit.{exit_of}
 use Rattle.commands.specs.Feed.{exit_of_end}
-use Rattle.commands.specs.Feeding.{Feeding}
+use Rattle.commands.specs.Feeding.{Feeding, source_view}
 use Rattle.commands.specs.FeedLines.{end_text}
 use Rattle.commands.specs.Lines.{config_text, refusal_text, no_tape_text, unread_text, input_text, output_text}
 use Rattle.commands.specs.Lines.{mistake_text}
@@ -136,8 +136,8 @@ Does says feeds holds old new (Check path verbose) exit line =
     Checks (says path.now) path.now verbose old new exit line
 Does says feeds holds old new (Owed path verbose) exit line =
     Works (says path.now) feeds.listed feeds.unasked path.now verbose old new exit line
-Does says feeds holds old new (Feed path funnel verbose) exit line =
-    Works (says path.now) (λ conf end. feeds.fed conf (option_map (λ name. name.now) funnel) verbose end) feeds.unasked
+Does says feeds holds old new (Feed path source verbose) exit line =
+    Works (says path.now) (λ conf end. feeds.fed conf (source_view source) verbose end) feeds.unasked
     path.now verbose old new exit line
 Does says feeds holds old new (Tell text) exit line = Prints (string_bytes text) old new exit line
 Does says feeds holds old new (Mistake what) exit line =

@@ -4,7 +4,7 @@ use Rattle.recovery.specs.Faults.{tape_fault_name}
 use Rattle.recovery.specs.declared.fault.TapeFault.{TapeFault}
 use Rattle.commands.specs.declared.feeds.FeedEnd.{FeedEnd}
 use Rattle.commands.specs.declared.feeds.FileTrouble.{FileTrouble}
-use Rattle.commands.specs.declared.feeds.FileTrouble.TheVariants.{Unread, Unwritten, Output}
+use Rattle.commands.specs.declared.feeds.FileTrouble.TheVariants.{Unread, Unwritten, Unremoved, Output}
 use Rattle.commands.specs.declared.feeds.Owing.{Owing}
 use Rattle.commands.specs.declared.feeds.TapeTrouble.{TapeTrouble}
 use Rattle.commands.specs.declared.feeds.TapeTrouble.TheVariants.{Taken, Failed}
@@ -22,6 +22,7 @@ tape_text (Failed name fault) = failed_text name.items fault
 abbrev pub file_text : FileTrouble → List ℕ
 file_text (Unread path) = codes "cannot read " ++ path.items ++ 10 ∷ []
 file_text (Unwritten path) = codes "cannot write " ++ path.items ++ 10 ∷ []
+file_text (Unremoved path) = codes "cannot remove " ++ path.items ++ 10 ∷ []
 file_text (Output reason) = codes "innfeed: cannot write standard output: " ++ string_bytes reason ++ 10 ∷ []
 
 -- how much a peer is owed

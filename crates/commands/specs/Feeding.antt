@@ -3,23 +3,38 @@ use Rattle.std.specs.Prelude.{◌≡◌, ℕ, Bool, true, false, List, Option}
 use Rattle.feed_conf.specs.Settings.{Outcome}
 use Rattle.commands.specs.declared.feeds.FeedEnd.{FeedEnd}
 use Rattle.commands.specs.declared.order.Order.{Order}
+use Rattle.commands.specs.declared.order.Source.{Source as HeldSource}
+use Rattle.commands.specs.declared.order.Source.TheVariants as held
 use Rattle.commands.specs.declared.order.Order.TheVariants.{DrillFromInput, Drill, Check, Owed, Feed, Tell, Mistake}
 
--- What became of it, and of standard output, where it fed by these settings, from the funnel file at this path or from
--- none, logging or not, and ended so; where it listed what is owed by these settings, and ended so; and where it was
--- not asked.
+-- where the lines of a feed come from
+pub data Source : Type 0 where
+  -- from nowhere: peers are fed from their backlogs alone
+  Backlogs : Source
+  -- from the funnel at this path, up to its end
+  Funnel : List ℕ → Source
+  -- from the funnel at this path, and whatever is added to it
+  Follow : List ℕ → Source
+
+abbrev pub source_view : HeldSource → Source
+source_view held.Backlogs = Backlogs
+source_view (held.Funnel path) = Funnel path.now
+source_view (held.Follow path) = Follow path.now
+
+-- What became of it, and of standard output, if it fed by these settings, from this source, logging or not, and ended
+-- so; if it listed what is owed by these settings, and ended so; and if it was not asked.
 pub record Feeding : Type 1 where
-  pub fed : Outcome → Option (List ℕ) → Bool → FeedEnd → Type 0
+  pub fed : Outcome → Source → Bool → FeedEnd → Type 0
   pub listed : Outcome → FeedEnd → Type 0
   pub unasked : Type 0
 
 -- of what feeds, before and behind the order, and with what standard output had and has
 abbrev pub feeding_of : {P : Type 0}
-    → (fed : P → Option (List ℕ) → Outcome → Option (List ℕ) → Bool → FeedEnd → P → Option (List ℕ) → Type 0)
+    → (fed : P → Option (List ℕ) → Outcome → Source → Bool → FeedEnd → P → Option (List ℕ) → Type 0)
     → (listed : P → Option (List ℕ) → Outcome → FeedEnd → P → Option (List ℕ) → Type 0)
     → (before behind : P) → (old new : Option (List ℕ)) → Feeding
 feeding_of fed listed before behind old new = record {
-  fed = λ conf funnel verbose end. fed before old conf funnel verbose end behind new;
+  fed = λ conf source verbose end. fed before old conf source verbose end behind new;
   listed = λ conf end. listed before old conf end behind new;
   unasked = behind ≡ before;
 }
@@ -30,6 +45,6 @@ asks_feeds DrillFromInput = false
 asks_feeds (Drill path) = false
 asks_feeds (Check path verbose) = false
 asks_feeds (Owed path verbose) = true
-asks_feeds (Feed path funnel verbose) = true
+asks_feeds (Feed path source verbose) = true
 asks_feeds (Tell text) = false
 asks_feeds (Mistake what) = false

@@ -69,13 +69,14 @@ fn add_files(lines: &mut Vec<u8>, files: &[FileTrouble]) -> Result<(), AllocErro
     Ok(())
 }
 
-// `cannot read PATH`, `cannot write PATH`, or why standard output was not written.
+// `cannot read PATH`, `cannot write PATH`, `cannot remove PATH`, or why standard output was not written.
 fn add_file(lines: &mut Vec<u8>, trouble: &FileTrouble) -> Result<(), AllocError>
     ensures { OnOk result (lines.new.items ≡ lines.old.items ++ file_text trouble.now) }
 {
     match trouble {
         FileTrouble::Unread(path) => add_line(lines, b"cannot read ", path),
         FileTrouble::Unwritten(path) => add_line(lines, b"cannot write ", path),
+        FileTrouble::Unremoved(path) => add_line(lines, b"cannot remove ", path),
         FileTrouble::Output(reason) => {
             add_line(
                 lines,

@@ -1,10 +1,12 @@
 // What feeds peers, and what it tells at its end.
-ghost use Rattle.std.specs.Prelude.{ℕ, List, Option, Bool, option_map};
+ghost use Rattle.std.specs.Prelude.{ℕ, List, Option, Bool};
 ghost use Rattle.feed_conf.specs.ConfView.{conf_view};
 ghost use Rattle.feed_conf.specs.Settings.{Outcome};
+ghost use Rattle.commands.specs.Feeding.{Source, source_view};
 ghost use Rattle.commands.specs.declared.feeds.FeedEnd.{FeedEnd};
 
 use crate::exit::Exit;
+use crate::order::Source;
 use feed_conf::Conf;
 use recovery::TapeFault;
 use std::alloc::Global;
@@ -26,6 +28,8 @@ pub enum FileTrouble {
     Unread(Vec<u8>),
     /// The file at this path cannot be written.
     Unwritten(Vec<u8>),
+    /// The file at this path cannot be removed.
+    Unremoved(Vec<u8>),
     /// Standard output cannot be written, for this reason.
     Output(String),
 }
@@ -88,28 +92,28 @@ impl FeedEnd {
 
 /// What feeds peers, and lists what they are owed.
 pub trait Feeds {
-    /// What a feed made of it, and of what was written, by these settings, from the funnel file at this path or from
-    /// none, logging or not, where it ended so. Where no more is said of it than that it ended, as by the default, this
+    /// What a feed made of it, and of what was written, by these settings, from this source, logging or not, where it
+    /// ended so. Where no more is said of it than that it ended, as by the default, this
     /// holds of all.
-    ghost fed: { Self → Option (List ℕ) → Outcome → Option (List ℕ) → Bool → FeedEnd → Self
+    ghost fed: { Self → Option (List ℕ) → Outcome → Source → Bool → FeedEnd → Self
         → Option (List ℕ) → Type 0 } = { λ _ _ _ _ _ _ _ _. Unit {0} };
 
     /// What a list of what is owed made of it, and of what was written, in the same way.
     ghost listed: { Self → Option (List ℕ) → Outcome → FeedEnd → Self
         → Option (List ℕ) → Type 0 } = { λ _ _ _ _ _ _. Unit {0} };
 
-    /// Feeds the peers of these settings from the funnel file at this path, or with none from their backlogs alone, and
-    /// writes `taken N` for each acknowledged batch of lines; where `verbose`, what becomes of connections is logged.
+    /// Feeds the peers of these settings from this source, and writes `taken N` for each acknowledged batch of lines.
+    /// If `verbose`, what becomes of connections is logged.
     fn feed<W: Write>(
         &mut self,
         alloc: Global,
         conf: Conf,
-        funnel: Option<&str>,
+        source: Source<'_>,
         verbose: bool,
         out: &mut W,
     ) -> FeedEnd
         ensures { fed self.old (W.contents out.old) (conf_view conf)
-            (option_map (λ name. name.now) funnel.entry) verbose result self.new
+            (source_view source.entry) verbose result self.new
             (W.contents out.new) };
 
     /// Writes a line for each debt of the peers of these settings, `NAME NUMBER TOKEN ID`, by name and rising number.

@@ -21,7 +21,7 @@ mod runner;
 pub use exit::Exit;
 pub use feeds::{FeedEnd, Feeds, FileTrouble, Owing, TapeTrouble};
 pub use files::ReadFile;
-pub use order::Order;
+pub use order::{Order, Source};
 pub use runner::{Ended, run};
 
 /// The version of innfeed.

@@ -1,5 +1,16 @@
 // What the command line asks for.
 
+/// Where the lines of a feed come from.
+#[derive(Clone, Copy, Debug, PartialEq, Eq)]
+pub enum Source<'a> {
+    /// From nowhere: peers are fed from their backlogs alone.
+    Backlogs,
+    /// From the funnel at this path, up to its end.
+    Funnel(&'a str),
+    /// From the funnel at this path, and whatever is added to it, until the run is ended.
+    Follow(&'a str),
+}
+
 /// What the program is to do.
 #[derive(Debug, Drop)]
 pub enum Order<'a> {
@@ -17,11 +28,11 @@ pub enum Order<'a> {
         conf: &'a str,
         verbose: bool,
     },
-    /// Feed the peers of the configuration in the file `conf` from the funnel file, or with none from their backlogs
-    /// alone; if `verbose`, log what becomes of connections, and explain a bad configuration.
+    /// Feed the peers of the configuration in the file `conf` from this source; if `verbose`, log what becomes of
+    /// connections, and explain a bad configuration.
     Feed {
         conf: &'a str,
-        funnel: Option<&'a str>,
+        source: Source<'a>,
         verbose: bool,
     },
     /// Print this text, the help or the version.

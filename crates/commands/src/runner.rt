@@ -12,7 +12,7 @@ use crate::exit::Exit;
 use crate::fault::Fault;
 use crate::feeds::{FeedEnd, Feeds};
 use crate::files::ReadFile;
-use crate::order::Order;
+use crate::order::{Order, Source};
 use drill::{Ending, run_script};
 use feed_conf::Conf;
 use std::alloc::Global;
@@ -101,10 +101,10 @@ fn perform<'a, F: ReadFile, P: Feeds, S: Read, W: Write>(
         }
         Order::Feed {
             conf,
-            funnel,
+            source,
             verbose,
         } => {
-            let errand = Errand::Feed { funnel, verbose };
+            let errand = Errand::Feed { source, verbose };
             serve(alloc, files, feeds, conf, verbose, errand, out)
         }
         Order::Tell(text) => print(out, text.as_bytes()),
@@ -199,10 +199,7 @@ enum Errand<'a> {
     // Lists what their peers are owed.
     List,
     // Feeds their peers.
-    Feed {
-        funnel: Option<&'a str>,
-        verbose: bool,
-    },
+    Feed { source: Source<'a>, verbose: bool },
 }
 
 // Runs an errand with the settings in a file.
@@ -244,7 +241,7 @@ fn run_errand<P: Feeds, W: Write>(
 {
     match errand {
         Errand::List => feeds.list_owed(alloc, conf, out),
-        Errand::Feed { funnel, verbose } => feeds.feed(alloc, conf, funnel, verbose, out),
+        Errand::Feed { source, verbose } => feeds.feed(alloc, conf, source, verbose, out),
     }
 }
 

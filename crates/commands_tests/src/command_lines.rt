@@ -1,12 +1,12 @@
 // The words of the command line.
 
-use commands::Order;
+use commands::{Order, Source};
 use std::alloc::{AllocError, Global};
 use std::test::Fail;
 use words::read_words;
 
 // The words of a line, with one space between them, and what they ask for: a name, and what it names.
-const ROWS: [(&str, &str); 47] = [
+const ROWS: [(&str, &str); 56] = [
     ("innfeed", "drill input"),
     ("innfeed -c x.conf -C", "check x.conf"),
     ("innfeed -C -c x.conf", "check x.conf"),
@@ -24,6 +24,30 @@ const ROWS: [(&str, &str); 47] = [
     ("innfeed -c x.conf -C -v", "explain check x.conf"),
     ("innfeed -c x.conf -v --owed", "explain owed x.conf"),
     ("innfeed -c x.conf -v", "mistake FUNNEL or '-x' is required"),
+    (
+        "innfeed -c x.conf --follow a/funnel",
+        "follow x.conf a/funnel",
+    ),
+    (
+        "innfeed --follow -v -c x.conf funnel",
+        "log follow x.conf funnel",
+    ),
+    (
+        "innfeed -c x.conf --follow",
+        "mistake '--follow' requires FUNNEL",
+    ),
+    (
+        "innfeed -c x.conf -x --follow",
+        "mistake '-x' and '--follow' cannot be used together",
+    ),
+    (
+        "innfeed -c x.conf -x --follow funnel",
+        "mistake '-x' and '--follow' cannot be used together",
+    ),
+    ("innfeed -c x.conf -C --follow", "check x.conf"),
+    ("innfeed -c x.conf --owed -x --follow", "owed x.conf"),
+    ("innfeed --follow funnel", NEEDS_FILE),
+    ("innfeed --drill x.drill --follow", DRILL_ALONE),
     ("innfeed -v --drill x.drill", DRILL_ALONE),
     ("innfeed --drill x.drill", "drill x.drill"),
     ("innfeed --drill=x.drill", "drill x.drill"),
@@ -104,24 +128,23 @@ fn joined(alloc: Global, first: &str, second: &str) -> Result<String, AllocError
 fn feed_text(
     alloc: Global,
     conf: &str,
-    funnel: Option<&str>,
+    source: Source<'_>,
     verbose: bool,
 ) -> Result<String, AllocError> {
     let mut text = String::new(alloc);
     if verbose {
         text.push_str("log ")?;
     }
-    match funnel {
-        Some(funnel) => {
-            text.push_str("feed ")?;
-            text.push_str(conf)?;
-            text.push_str(" ")?;
-            text.push_str(funnel)?;
-        }
-        None => {
-            text.push_str("backlog ")?;
-            text.push_str(conf)?;
-        }
+    let (what, funnel) = match source {
+        Source::Backlogs => ("backlog ", None),
+        Source::Funnel(path) => ("feed ", Some(path)),
+        Source::Follow(path) => ("follow ", Some(path)),
+    };
+    text.push_str(what)?;
+    text.push_str(conf)?;
+    if let Some(path) = funnel {
+        text.push_str(" ")?;
+        text.push_str(path)?;
     }
     Ok(text)
 }
@@ -144,9 +167,9 @@ fn asked(alloc: Global, line: &str) -> Result<String, AllocError> {
         Order::Owed { conf, verbose } => joined(alloc, owed_text(verbose), conf),
         Order::Feed {
             conf,
-            funnel,
+            source,
             verbose,
-        } => feed_text(alloc, conf, funnel, verbose),
+        } => feed_text(alloc, conf, source, verbose),
         Order::Tell(text) => joined(alloc, "tell ", text.as_str()),
         Order::Mistake(what) => joined(alloc, "mistake ", what.as_str()),
     }
@@ -168,13 +191,14 @@ fn help(rt: HostRuntime) -> Result<(), Fail> {
     for line in ["innfeed --help", "innfeed -h"] {
         let help = asked(rt.alloc(), line)?;
         for part in [
-            "Usage: innfeed -c FILE [-C] [-x] [-v] [--owed] [FUNNEL]\n",
+            "Usage: innfeed -c FILE [-C] [-x] [-v] [--owed] [--follow] [FUNNEL]\n",
             "\n       innfeed --drill FILE\n",
             "-c <FILE>",
             "-C ",
             "-x ",
             "-v ",
             "--owed ",
+            "--follow ",
             "[FUNNEL]",
             "--drill <FILE>",
             "-h, --help",

@@ -1,7 +1,7 @@
 // How feeds end, and what is told of it.
 
 use crate::streams::{Asked, OneFile, told};
-use commands::{FeedEnd, Feeds, FileTrouble, Owing, TapeTrouble};
+use commands::{FeedEnd, Feeds, FileTrouble, Owing, Source, TapeTrouble};
 use feed_conf::Conf;
 use recovery::TapeFault;
 use std::alloc::{AllocError, Global};
@@ -57,11 +57,15 @@ impl Feeds for Ends {
         &mut self,
         alloc: Global,
         conf: Conf,
-        funnel: Option<&str>,
+        source: Source<'_>,
         verbose: bool,
         out: &mut W,
     ) -> FeedEnd {
-        let what = funnel.unwrap_or("no funnel");
+        let what = match source {
+            Source::Backlogs => "no funnel",
+            Source::Funnel(path) => path,
+            Source::Follow(_) => "a funnel that it follows",
+        };
         let how = if verbose { " and log" } else { "" };
         let _ = writeln!(out, "feed {} peers from {what}{how}", conf.peers().len());
         self.end(alloc)
@@ -85,13 +89,13 @@ const ROWS: [(Asked, &str, OneFile, &[u8]); 15] = [
         b"0\nfeed 2 peers from f and log\n--\n",
     ),
     (
-        Asked::Feed("x", Some("f")),
+        Asked::Feed("x", Source::Funnel("f")),
         "",
         OneFile("x", Ok(CONF)),
         b"0\nfeed 2 peers from f\n--\n",
     ),
     (
-        Asked::Feed("x", None),
+        Asked::Feed("x", Source::Backlogs),
         "p",
         OneFile("x", Ok(CONF)),
         b"0\nfeed 2 peers from no funnel\n--\np owes 300\n",
@@ -109,49 +113,49 @@ const ROWS: [(Asked, &str, OneFile, &[u8]); 15] = [
         b"3\nlist 0 peers\n--\nanother innfeed works on a/b\n",
     ),
     (
-        Asked::Feed("x", None),
+        Asked::Feed("x", Source::Backlogs),
         "T",
         OneFile("x", Ok(b"")),
         b"3\nfeed 0 peers from no funnel\n--\ntape p: Damaged\n",
     ),
     (
-        Asked::Feed("x", None),
+        Asked::Feed("x", Source::Backlogs),
         "r",
         OneFile("x", Ok(b"")),
         b"4\nfeed 0 peers from no funnel\n--\ncannot read r r\n",
     ),
     (
-        Asked::Feed("x", None),
+        Asked::Feed("x", Source::Backlogs),
         "w",
         OneFile("x", Ok(b"")),
         b"4\nfeed 0 peers from no funnel\n--\ncannot write w\n",
     ),
     (
-        Asked::Feed("x", None),
+        Asked::Feed("x", Source::Backlogs),
         "o",
         OneFile("x", Ok(b"")),
         b"4\nfeed 0 peers from no funnel\n--\ninnfeed: cannot write standard output: worn out\n",
     ),
     (
-        Asked::Feed("x", None),
+        Asked::Feed("x", Source::Backlogs),
         "l",
         OneFile("x", Ok(b"")),
         b"5\nfeed 0 peers from no funnel\n--\n",
     ),
     (
-        Asked::Feed("x", None),
+        Asked::Feed("x", Source::Backlogs),
         "wl",
         OneFile("x", Ok(b"")),
         b"5\nfeed 0 peers from no funnel\n--\ncannot write w\n",
     ),
     (
-        Asked::Feed("x", None),
+        Asked::Feed("x", Source::Backlogs),
         "plwT",
         OneFile("x", Ok(b"")),
         b"3\nfeed 0 peers from no funnel\n--\ntape p: Damaged\ncannot write w\np owes 300\n",
     ),
     (
-        Asked::Feed("x", None),
+        Asked::Feed("x", Source::Backlogs),
         "T",
         OneFile("x", Ok(b"peer .x { }")),
         b"1\n--\nconfig line 1: BadPeerName\n",
@@ -163,7 +167,7 @@ const ROWS: [(Asked, &str, OneFile, &[u8]); 15] = [
         b"4\n--\ncannot read y\n",
     ),
     (
-        Asked::Feed("x", None),
+        Asked::Feed("x", Source::Backlogs),
         "T",
         OneFile("x", Err(ErrorKind::OutOfMemory)),
         b"5\n--\n",

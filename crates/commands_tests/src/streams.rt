@@ -1,7 +1,7 @@
 // One file, streams that fail, and what a run with them tells.
 
 use crate::feeds::Ends;
-use commands::{Order, ReadFile, run};
+use commands::{Order, ReadFile, Source, run};
 use std::alloc::{AllocError, Global};
 use std::io::{self, Error, ErrorKind, Read, Write};
 
@@ -64,7 +64,7 @@ pub enum Asked {
     CheckExplained(&'static str),
     Owed(&'static str),
     OwedExplained(&'static str),
-    Feed(&'static str, Option<&'static str>),
+    Feed(&'static str, Source<'static>),
     FeedLogged(&'static str, &'static str),
     Tell(&'static str),
     Mistake(&'static str),
@@ -91,14 +91,14 @@ pub fn order_of(alloc: Global, asked: Asked) -> Result<Order<'static>, AllocErro
             conf,
             verbose: true,
         },
-        Asked::Feed(conf, funnel) => Order::Feed {
+        Asked::Feed(conf, source) => Order::Feed {
             conf,
-            funnel,
+            source,
             verbose: false,
         },
         Asked::FeedLogged(conf, funnel) => Order::Feed {
             conf,
-            funnel: Some(funnel),
+            source: Source::Funnel(funnel),
             verbose: true,
         },
         Asked::Tell(text) => Order::Tell(String::from_str(alloc, text)?),

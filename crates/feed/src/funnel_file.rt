@@ -17,6 +17,8 @@ pub(crate) struct FunnelFile<R: Read + Drop> {
     reader: R,
     cutter: LineCutter,
     piece: Vec<u8>,
+    // How many octets were read, up to the greatest u64.
+    read: u64,
     ghost room: { 0 < length piece.items },
 }
 
@@ -32,12 +34,18 @@ impl<R: Read + Drop> FunnelFile<R> {
             reader,
             cutter: LineCutter::new(alloc),
             piece: vec![in alloc; 0u8; PIECE]?,
+            read: 0,
         })
     }
 
     /// The next line without its LF, of what was read so far.
     pub fn next_read(&mut self) -> Option<Vec<u8>> {
         self.cutter.next()
+    }
+
+    /// What it is read from, and how many octets were, up to the greatest u64.
+    pub fn reader(&self) -> (&R, u64) {
+        (&self.reader, self.read)
     }
 
     /// Reads a piece, and tells whether there was one: at the end there is none. A rest without LF is no line.
@@ -85,7 +93,10 @@ impl<R: Read + Drop> FunnelFile<R> {
     {
         for _ in 0..u64::MAX {
             match self.reader.read(&mut self.piece) {
-                Ok(count) => return Ok(count),
+                Ok(count) => {
+                    self.read = self.read.saturating_add(count as u64);
+                    return Ok(count);
+                }
                 Err(error) if error.kind() == ErrorKind::Interrupted => {}
                 Err(error) => return Err(error),
             }

@@ -6,6 +6,7 @@ use crate::lines::{Funnel, Next};
 use crate::nowhere::Nowhere;
 use crate::progress::Progress;
 use crate::status_file::StatusFile;
+use crate::stop_file::StopFile;
 use crate::trouble::{Trouble, is_lost_tape};
 use commands::FeedEnd;
 use disk_model::Disk;
@@ -20,10 +21,14 @@ use std::fs::File;
 use std::io::{self, Write};
 use std::rt::{Clock, Files};
 use std::sync::{Arc, Wait};
-use std::time::Instant;
+use std::thread;
+use std::time::{Duration, Instant};
 
 // How many lines a batch has at most.
 const BATCH: u64 = 256;
+
+// How long it waits for more lines at the end of a funnel that it follows, in milliseconds.
+const PAUSE: u64 = 200;
 
 // How often what goes nowhere is told, in seconds.
 const PERIOD: u64 = 60;
@@ -63,6 +68,10 @@ pub(crate) struct Intake<'a, F, W, N: Naming> {
     /// When it was told last which lines go nowhere.
     pub told: Instant,
     pub left: &'a Left,
+    /// The file by which it is asked to end, if it follows its funnel.
+    pub stop: Option<StopFile<'a, F>>,
+    /// Whether the status file could not be written before: this is told once.
+    pub has_no_status: bool,
     /// What went wrong.
     pub end: FeedEnd,
 }
@@ -83,18 +92,24 @@ impl<F: AllocGlobal + Files<File = File>, W: Write, N: Naming> Intake<'_, F, W, 
                 return Ok(());
             }
             ordered = self.order(signals, &batch);
-            if batch.is_last {
+            if batch.count < BATCH {
+                // Nothing more is there now.
+                if !self.acknowledge(rt, signals, ordered.take())? || batch.is_last {
+                    return Ok(());
+                }
+            }
+            self.look_after(rt, post, &funnel.path);
+            if self.is_to_end(rt) {
                 self.acknowledge(rt, signals, ordered)?;
                 return Ok(());
             }
-            self.look_after(rt, post, &funnel.path);
         }
         unreachable!()
     }
 
     // Takes a batch of lines: fewer than it may have if the funnel is silent, is at its end or cannot be read on, or if
     // no line may be taken any more.
-    fn take_batch<D: Disk, R: Wait + Log>(
+    fn take_batch<D: Disk, R: Wait + Clock + Log>(
         &mut self,
         rt: &R,
         post: &Post<D, N>,
@@ -110,6 +125,12 @@ impl<F: AllocGlobal + Files<File = File>, W: Write, N: Naming> Intake<'_, F, W, 
             let line = match self.next_line(rt, signals, funnel) {
                 Next::Line(line) => line,
                 Next::Silence => return Ok(batch),
+                Next::Pause => {
+                    if batch.count == 0 {
+                        thread::sleep(rt, Duration::from_millis(PAUSE));
+                    }
+                    return Ok(batch);
+                }
                 Next::End => return Ok(Batch {
                     is_last: true,
                     ..batch
@@ -207,6 +228,14 @@ impl<F: AllocGlobal + Files<File = File>, W: Write, N: Naming> Intake<'_, F, W, 
         Ok(unknown)
     }
 
+    // Whether it follows the funnel, and is asked to end.
+    fn is_to_end<R: Clock>(&mut self, rt: &R) -> bool {
+        match &mut self.stop {
+            Some(stop) => stop.has_come(rt),
+            None => false,
+        }
+    }
+
     // Has the feeders offer what was taken, and orders a flush of it. None where nothing was.
     fn order(&self, signals: &Signals, batch: &Batch) -> Option<Ordered> {
         if batch.count == 0 {
@@ -276,7 +305,7 @@ impl<F: AllocGlobal + Files<File = File>, W: Write, N: Naming> Intake<'_, F, W, 
         if self.status.wait(rt) == 0
             && let Err(trouble) = self.status.write(rt, post, self.names)
         {
-            trouble.add_to(&mut self.end);
+            self.note_status(trouble);
         }
         if let Ok(passed) = self.told.elapsed(rt)
             && passed.as_secs() >= PERIOD
@@ -285,6 +314,14 @@ impl<F: AllocGlobal + Files<File = File>, W: Write, N: Naming> Intake<'_, F, W, 
             if let Ok(now) = Instant::now(rt) {
                 self.told = now;
             }
+        }
+    }
+
+    // The status file could not be written.
+    fn note_status(&mut self, trouble: Trouble) {
+        if !self.has_no_status {
+            self.has_no_status = true;
+            trouble.add_to(&mut self.end);
         }
     }
 
@@ -305,7 +342,11 @@ impl<F: AllocGlobal + Files<File = File>, W: Write, N: Naming> Intake<'_, F, W, 
             }
             trouble.add_to(&mut self.end);
         }
-        signals.begin_last_phase();
+        if self.is_to_end(rt) {
+            signals.begin_draining();
+        } else {
+            signals.begin_last_phase();
+        }
         self.wake();
     }
 }

@@ -19,6 +19,7 @@ mod plans;
 mod progress;
 mod run;
 mod status_file;
+mod stop_file;
 mod system;
 mod tapes;
 mod trouble;

@@ -2,7 +2,7 @@
 use crate::funnel_file::FunnelFile;
 use crate::watch::Watch;
 use std::fs::File;
-use std::io;
+use std::io::{self, ErrorKind};
 use std::net::Net;
 use std::rt::Files;
 
@@ -16,6 +16,8 @@ pub(crate) enum Next {
     Line(Vec<u8>),
     /// Nothing came for a tenth of a second.
     Silence,
+    /// It is at its end for now: what may be added to it comes later.
+    Pause,
     /// Its end; a rest without LF is no line.
     End,
 }
@@ -28,11 +30,14 @@ pub(crate) struct Funnel {
     lines: FunnelFile<File>,
     // None if it can be read at once.
     watch: Option<Watch>,
+    // Whether something may be added at its end.
+    is_followed: bool,
 }
 
 impl Funnel {
-    /// Opens the file at this path, behind so many lines. The first piece of a plain file is read, so that a path that
-    /// cannot be read is known at once; what may be silent is read here only if lines have to be passed over.
+    /// Opens the file at this path, behind so many lines. If it is followed, more may be added at its end. The first
+    /// piece of a plain file is read, so that a path that cannot be read is known at once; what may be silent is read
+    /// here only if lines have to be passed over.
     ///
     /// # Errors
     /// The system's; `UnexpectedEof` if there are not so many lines.
@@ -41,6 +46,7 @@ impl Funnel {
         net: &C,
         path: &str,
         lines: u64,
+        is_followed: bool,
     ) -> io::Result<Self> {
         let alloc = files.alloc();
         let file = File::open(files, path)?;
@@ -49,6 +55,7 @@ impl Funnel {
             path: Vec::from_slice(alloc, path.as_bytes())?,
             lines: FunnelFile::new(alloc, file)?,
             watch,
+            is_followed,
         };
         if funnel.watch.is_none() || lines > 0 {
             funnel.lines.skip(lines)?;
@@ -59,7 +66,7 @@ impl Funnel {
     /// What comes next.
     ///
     /// # Errors
-    /// The system's.
+    /// The system's; `UnexpectedEof` if a file that is followed has become shorter than what was read of it.
     pub fn next(&mut self) -> io::Result<Next> {
         for _ in 0..u64::MAX {
             if let Some(line) = self.lines.next_read() {
@@ -71,9 +78,21 @@ impl Funnel {
                 return Ok(Next::Silence);
             }
             if !self.lines.read_piece()? {
-                return Ok(Next::End);
+                return self.end();
             }
         }
         Ok(Next::End)
+    }
+
+    // What its end is.
+    fn end(&self) -> io::Result<Next> {
+        if !self.is_followed {
+            return Ok(Next::End);
+        }
+        let (file, read) = self.lines.reader();
+        if self.watch.is_none() && file.metadata()?.len() < read {
+            return Err(io::Error::from(ErrorKind::UnexpectedEof));
+        }
+        Ok(Next::Pause)
     }
 }

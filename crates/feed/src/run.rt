@@ -10,11 +10,12 @@ use crate::open_files::most_connections;
 use crate::plans::{by_name, hosts_of, plans_of};
 use crate::progress::Progress;
 use crate::status_file::StatusFile;
+use crate::stop_file::StopFile;
 use crate::system::Spools;
 use crate::tapes::{Tapes, open_tapes};
 use crate::trouble::{Trouble, add_all};
 use article_store::SpoolDirectory;
-use commands::{FeedEnd, FileTrouble, Owing};
+use commands::{FeedEnd, FileTrouble, Owing, Source};
 use disk_model::{Disk, FileDisk, TapeDirectory, TapeFile};
 use feed_conf::{Conf, PeerConf};
 use feeder::{Feeder, FeederFault, PeerPlan, Spool, UnreadPaths};
@@ -58,11 +59,13 @@ struct Prepared<S> {
     spools: (Spool<S>, Spool<S>),
     funnel: Option<Funnel>,
     status: Vec<u8>,
+    // The backlog directory's path, if the funnel is followed.
+    followed_in: Option<String>,
     start: Instant,
 }
 
-/// Feeds the peers of these settings from the funnel file, or with none from their backlogs alone, and adds to `end`
-/// what went wrong at work, and what is still owed.
+/// Feeds the peers of these settings from this source, and adds to `end` what went wrong at work, and what is still
+/// owed.
 ///
 /// # Errors
 /// The first thing that went wrong before the work.
@@ -77,7 +80,7 @@ pub(crate) fn feed<
 >(
     means: &Means<'_, R, F, H, C, L>,
     conf: Conf,
-    funnel: Option<&str>,
+    source: Source<'_>,
     out: &mut W,
     end: &mut FeedEnd,
 ) -> Result<(), Trouble> {
@@ -92,8 +95,9 @@ pub(crate) fn feed<
         peers: stations,
         intake,
     } = open_tapes(means.files, &directory, &peers)?;
-    let funnel = open_funnel(means, funnel, intake.mark())?;
-    let prepared = prepare(means, &peers, &spool, funnel, status)?;
+    let funnel = open_funnel(means, source, intake.mark())?;
+    let followed_in = followed_in(alloc, source, &directory)?;
+    let prepared = prepare(means, &peers, &spool, funnel, followed_in, status)?;
     let blanks = Blanks::new(stations.len() as u64);
     work::<Brand, R, F, S, H, C, L, W>(means, prepared, stations, intake, blanks, out, end)?;
     tell_fault(means.rt, &directory, &tapes);
@@ -114,6 +118,7 @@ fn prepare<R: Clock + Log, F: AllocGlobal, S: Drop, H: Spools<Store = S>, C, L>(
     peers: &[PeerConf],
     spool: &[u8],
     funnel: Option<Funnel>,
+    followed_in: Option<String>,
     status: Vec<u8>,
 ) -> Result<Prepared<S>, Trouble> {
     let alloc = means.files.alloc();
@@ -136,6 +141,7 @@ fn prepare<R: Clock + Log, F: AllocGlobal, S: Drop, H: Spools<Store = S>, C, L>(
         hosts: hosts_of(alloc, peers)?,
         spools: (open_spool(means, path)?, open_spool(means, path)?),
         funnel,
+        followed_in,
         status,
         start,
     })
@@ -190,11 +196,21 @@ fn work<
         hosts,
         spools,
         funnel,
+        followed_in,
         status,
         start,
     } = prepared;
+    let stop = stop_file(means, followed_in, start)?;
     let resolver = Resolver::start(means.rt, alloc, hosts, means.look_up)?;
-    let (first, second) = feeders(means, &resolver, plans, spools, start, (one, other))?;
+    let (first, second) = feeders(
+        means,
+        &resolver,
+        plans,
+        spools,
+        start,
+        (one, other),
+        stop.is_some(),
+    )?;
     let wakers = (
         waker_of(means.rt, alloc, &resolver, &first)?,
         waker_of(means.rt, alloc, &resolver, &second)?,
@@ -212,6 +228,8 @@ fn work<
         nowhere: Nowhere::new(alloc),
         told: start,
         left: &left,
+        stop,
+        has_no_status: false,
         end: FeedEnd::well(alloc),
     };
     let first = Leaving {
@@ -235,6 +253,7 @@ fn work<
     );
     let Intake {
         status,
+        stop,
         end: told,
         ..
     } = intake;
@@ -248,10 +267,40 @@ fn work<
         Err(NoThread) => Trouble::Lack.add_to(end),
     }
     close(means.rt, &post, &names, status, end);
+    obeyed(means.rt, stop, end);
     Ok(())
 }
 
-// The two feeders, which share this resolver.
+// The file by which the run is asked to end, if it follows its funnel.
+fn stop_file<'a, R: Log, F: AllocGlobal + Files<File = File>, H, C, L>(
+    means: &Means<'a, R, F, H, C, L>,
+    followed_in: Option<String>,
+    start: Instant,
+) -> Result<Option<StopFile<'a, F>>, Trouble> {
+    match followed_in {
+        Some(directory) => {
+            let stop = StopFile::new(means.rt, means.files, directory.as_str(), start)?;
+            Ok(Some(stop))
+        }
+        None => Ok(None),
+    }
+}
+
+// Removes the file by which the run was asked to end, if it was.
+fn obeyed<R: Clock + Log, F: AllocGlobal + Files<File = File>>(
+    rt: &R,
+    stop: Option<StopFile<'_, F>>,
+    end: &mut FeedEnd,
+) {
+    if let Some(mut stop) = stop
+        && stop.has_come(rt)
+        && let Err(trouble) = stop.remove(rt)
+    {
+        trouble.add_to(end);
+    }
+}
+
+// The two feeders, which share this resolver, and may leave idle connections.
 fn feeders<N: Naming, R: Log, F: AllocGlobal, S: SpoolDirectory + Drop, H, C: Net + Copy + Drop, L>(
     means: &Means<'_, R, F, H, C, L>,
     resolver: &Resolver,
@@ -259,17 +308,20 @@ fn feeders<N: Naming, R: Log, F: AllocGlobal, S: SpoolDirectory + Drop, H, C: Ne
     spools: (Spool<S>, Spool<S>),
     start: Instant,
     shares: (FeederShare<N>, FeederShare<N>),
+    leaves_idle: bool,
 ) -> Result<(Feeder<S, C, N>, Feeder<S, C, N>), Trouble> {
     let alloc = means.files.alloc();
     let (hosts, others) = (resolver.try_clone()?, resolver.try_clone()?);
-    let first = Feeder::new(
+    let mut first = Feeder::new(
         alloc, means.net, hosts, spools.0, 0, plans.0, start, shares.0,
     )
     .map_err(|error| lacking(means.rt, &error))?;
-    let second = Feeder::new(
+    let mut second = Feeder::new(
         alloc, means.net, others, spools.1, 1, plans.1, start, shares.1,
     )
     .map_err(|error| lacking(means.rt, &error))?;
+    first.leaves_idle = leaves_idle;
+    second.leaves_idle = leaves_idle;
     Ok((first, second))
 }
 
@@ -371,17 +423,34 @@ fn add_owing(name: &PeerName, owed: u64, end: &mut FeedEnd) -> Result<(), AllocE
     Ok(())
 }
 
+// The path of the backlog directory, if the funnel is followed.
+fn followed_in(
+    alloc: Global,
+    source: Source<'_>,
+    directory: &[u8],
+) -> Result<Option<String>, AllocError> {
+    match source {
+        Source::Follow(_) => {
+            let path = str::from_utf8(directory).unwrap_or("");
+            Ok(Some(String::from_str(alloc, path)?))
+        }
+        Source::Backlogs | Source::Funnel(_) => Ok(None),
+    }
+}
+
 // Opens the funnel, behind the lines that are acknowledged. One that has not all of them is another, and is not read.
 fn open_funnel<R: Log, F: AllocGlobal + Files<File = File>, H, C: Net, L>(
     means: &Means<'_, R, F, H, C, L>,
-    path: Option<&str>,
+    source: Source<'_>,
     acknowledged: u64,
 ) -> Result<Option<Funnel>, Trouble> {
     let alloc = means.files.alloc();
-    let Some(path) = path else {
-        return Ok(None);
+    let (path, is_followed) = match source {
+        Source::Backlogs => return Ok(None),
+        Source::Funnel(path) => (path, false),
+        Source::Follow(path) => (path, true),
     };
-    match Funnel::open(means.files, &means.net, path, acknowledged) {
+    match Funnel::open(means.files, &means.net, path, acknowledged, is_followed) {
         Ok(funnel) => Ok(Some(funnel)),
         Err(error) => Err(Trouble::unread(means.rt, alloc, path.as_bytes(), &error)),
     }

@@ -3,7 +3,7 @@ use crate::list::list_owed;
 use crate::machine::Machine;
 use crate::run::{Means, feed};
 use article_store::Folder;
-use commands::{FeedEnd, Feeds};
+use commands::{FeedEnd, Feeds, Source};
 use feed_conf::Conf;
 use log::Log;
 use resolver::{LookUp, SystemLookUp};
@@ -54,7 +54,7 @@ pub fn feed_with<
     host: HostRuntime,
     look_up: L,
     conf: Conf,
-    funnel: Option<&str>,
+    source: Source<'_>,
     out: &mut W,
 ) -> FeedEnd {
     let means = Means {
@@ -65,7 +65,7 @@ pub fn feed_with<
         look_up,
     };
     let mut end = FeedEnd::well(files.alloc());
-    if let Err(trouble) = feed(&means, conf, funnel, out, &mut end) {
+    if let Err(trouble) = feed(&means, conf, source, out, &mut end) {
         trouble.tell(rt);
         trouble.add_to(&mut end);
     }
@@ -98,13 +98,13 @@ impl<R: Threads + Wait + Send + Sync + 'static, F: AllocGlobal + Files<File = Fi
         &mut self,
         _alloc: Global,
         conf: Conf,
-        funnel: Option<&str>,
+        source: Source<'_>,
         verbose: bool,
         out: &mut W,
     ) -> FeedEnd {
         let rt = Machine::<R, HostRuntime>::new(self.host, self.host, verbose);
         let look_up = SystemLookUp(self.host);
-        feed_with(&rt, self.files, self.host, look_up, conf, funnel, out)
+        feed_with(&rt, self.files, self.host, look_up, conf, source, out)
     }
 
     fn list_owed<W: Write>(&mut self, alloc: Global, conf: Conf, out: &mut W) -> FeedEnd {

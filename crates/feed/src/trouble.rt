@@ -91,6 +91,15 @@ impl Trouble {
         }
     }
 
+    /// The file at this path was not removed for this error, which is logged.
+    pub fn unremoved<R: Log>(rt: &R, alloc: Global, path: &[u8], error: &io::Error) -> Self {
+        info!(rt; "cannot remove {}: {}", text_of(path), error);
+        match (error.kind(), Vec::from_slice(alloc, path)) {
+            (ErrorKind::OutOfMemory, _) | (_, Err(_)) => Trouble::Lack,
+            (_, Ok(path)) => Trouble::File(FileTrouble::Unremoved(path)),
+        }
+    }
+
     /// The system refused, for this reason, which is logged, what a run can't do without.
     pub fn refused<R: Log>(rt: &R, what: &str, reason: &io::Error) -> Self {
         info!(rt; "cannot {}: {}", what, reason);

@@ -1,5 +1,5 @@
 // Feeds by a clock that runs faster than the system's, with a file in place of standard error.
-use commands::{FeedEnd, Feeds};
+use commands::{FeedEnd, Feeds, Source};
 use feed::{Machine, System, SystemFeeds, feed_with};
 use feed_conf::Conf;
 use resolver::SystemLookUp;
@@ -69,13 +69,13 @@ impl<R: Threads + Wait + Send + Sync + Drop + 'static> Feeds for FastFeeds<'_, R
         &mut self,
         _alloc: Global,
         conf: Conf,
-        funnel: Option<&str>,
+        source: Source<'_>,
         verbose: bool,
         out: &mut W,
     ) -> FeedEnd {
         let host = self.system.host;
         let rt = Machine::<R, Fast>::new(host, self.system, verbose);
-        feed_with(&rt, self.files, host, SystemLookUp(host), conf, funnel, out)
+        feed_with(&rt, self.files, host, SystemLookUp(host), conf, source, out)
     }
 
     fn list_owed<W: Write>(&mut self, alloc: Global, conf: Conf, out: &mut W) -> FeedEnd {

@@ -6,6 +6,7 @@
 
 mod clock;
 mod feeds;
+mod follow;
 mod funnels;
 mod peer;
 mod peers;
@@ -13,6 +14,7 @@ mod row;
 
 use anyhow::Result;
 use clock::{status, waits};
+use follow::{closes, grows, idle};
 use funnels::{long_funnel, nowhere, shed, silent_pipe};
 use peer::Manner;
 use peers::four_peers;
@@ -78,6 +80,9 @@ fn main(rt: HostRuntime) -> Result<()> {
     silent_pipe(&rt, rt)?;
     waits(&rt, rt)?;
     status(&rt, rt)?;
+    grows(&rt, rt)?;
+    idle(&rt, rt)?;
+    closes(&rt, rt)?;
     fs::remove_dir_all(&rt, "rows")?;
     Ok(())
 }

@@ -2,7 +2,7 @@
 use crate::peer::{Heard, Manner, PATIENCE, serve};
 use crate::row::{NOBODY, Row, list_owed, print_lines, print_told};
 use anyhow::Result;
-use commands::Order;
+use commands::{Order, Source};
 use std::io::Write;
 use std::net::{TcpListener, TcpStream};
 use std::sync::Wait;
@@ -78,7 +78,7 @@ fn conf_of(host: HostRuntime, a: u16, b: u16, d: u16) -> Result<String> {
 pub(crate) fn feed_from(path: &String) -> Order<'_> {
     Order::Feed {
         conf: "conf",
-        funnel: Some(path.as_str()),
+        source: Source::Funnel(path.as_str()),
         verbose: false,
     }
 }
@@ -87,7 +87,7 @@ pub(crate) fn feed_from(path: &String) -> Order<'_> {
 fn feed_from_backlogs<'a>() -> Order<'a> {
     Order::Feed {
         conf: "conf",
-        funnel: None,
+        source: Source::Backlogs,
         verbose: false,
     }
 }

@@ -2,7 +2,7 @@
 use crate::feeds::{Fast, FastFeeds, LOG};
 use crate::peer::{Heard, Manner, PATIENCE, serve};
 use anyhow::{Result, anyhow};
-use commands::{Order, ReadFile, run};
+use commands::{Order, ReadFile, Source, run};
 use std::alloc::Global;
 use std::fs;
 use std::io::{self, Write};
@@ -214,7 +214,11 @@ impl Row {
         let path = self.path("funnel")?;
         let order = Order::Feed {
             conf: "conf",
-            funnel: if funnel { Some(path.as_str()) } else { None },
+            source: if funnel {
+                Source::Funnel(path.as_str())
+            } else {
+                Source::Backlogs
+            },
             verbose: false,
         };
         self.obey(rt, port, patience, order)

@@ -26,15 +26,15 @@ enum Begun {
 }
 
 impl<S: SpoolDirectory + Drop, C: Net + Drop, N: Naming> Feeder<S, C, N> {
-    /// If slots are to be looked at, begins to connect those that are due, of each peer as many as it needs. What is
-    /// not known now, since a station is in use, is looked at once more.
+    /// If slots are to be looked at, and debts are claimed, begins to connect those that are due, of each peer as many
+    /// as it needs. What is not known now, since a station is in use, is looked at once more.
     pub(crate) fn connect_due<D: Disk, R: Wait + Log, P: Pace>(
         &mut self,
         rt: &R,
         desk: &Desk<'_, D, N, P>,
         last_phase: bool,
     ) {
-        if !self.looks {
+        if !self.looks || !desk.claims {
             return;
         }
         self.looks = false;

@@ -14,6 +14,7 @@ use mio::event::Event;
 use peer_queue::number_in;
 use std::alloc::Global;
 use std::io::{self, ErrorKind};
+use std::mem;
 use std::net::SocketAddr;
 
 // How many octets of output are enough: they are sent before another article is read.
@@ -21,6 +22,15 @@ const ENOUGH: usize = 65_536;
 
 // How many calls of a socket, one after another, are enough before other connections have their turn.
 const CALLS: u64 = 64;
+
+// How long a connection may hold nothing before it is left, in seconds.
+const MOST_IDLE: u64 = 60;
+
+// How long the peer has to end a connection that was left, in seconds.
+const GOODBYE: u64 = 10;
+
+// How long a connection has to have held nothing if its peer may close it without a wait, in seconds.
+const RESTED: u64 = 10;
 
 // How long a host has to take a connection, in seconds.
 const MOST_CONNECTING: u64 = 10;
@@ -80,6 +90,8 @@ pub(crate) struct Connection {
     kept: Option<Outcome>,
     // How many debts its peer deferred since it was asked last.
     deferred: u64,
+    // Since which second it has held nothing, if its peer has agreed to a mode.
+    idle_since: Option<u64>,
 }
 
 impl Connection {
@@ -113,6 +125,7 @@ impl Connection {
             held: 0,
             kept: None,
             deferred: 0,
+            idle_since: None,
         }
     }
 
@@ -241,6 +254,40 @@ impl Connection {
             self.fail(io::Error::from(ErrorKind::TimedOut));
         }
         self.conn.tick(now);
+        self.idle_since = if self.agreed.is_none() || self.is_holding() {
+            None
+        } else {
+            self.idle_since.or(Some(now))
+        };
+    }
+
+    // For how many seconds it has held nothing, its peer having agreed to a mode.
+    fn idle(&self, now: u64) -> u64 {
+        match self.idle_since {
+            Some(since) => now.saturating_sub(since),
+            None => 0,
+        }
+    }
+
+    /// If it has held nothing for a minute, asks the peer to end it; if that takes too long, breaks it. Answers for how
+    /// many debts it counts no more.
+    pub fn leave_idle(&mut self, now: u64) -> u64 {
+        let idle = self.idle(now);
+        if idle >= MOST_IDLE + GOODBYE {
+            self.give_up();
+        } else if idle >= MOST_IDLE && !self.is_left {
+            self.leave();
+            return mem::take(&mut self.place.room);
+        }
+        0
+    }
+
+    /// Whether its end is no failure of its peer's: it had held nothing for some seconds, and was left, or the peer
+    /// closed it.
+    pub fn is_let_go(&self, now: u64) -> bool {
+        let is_by_peer = matches!(self.ended, Ended::ByPeer)
+            || matches!(self.conn.closed(), Some(Reason::Ended(_)));
+        self.idle(now) >= RESTED && (self.is_left || is_by_peer)
     }
 
     /// Whether its peer has agreed to a mode since it was asked last.
@@ -381,7 +428,10 @@ impl Connection {
     /// Offers a debt to the peer. One that is refused is kept, to go back.
     pub fn offer(&mut self, debt: Debt) {
         match self.conn.offer(debt) {
-            Ok(()) => self.held = self.held.saturating_add(1),
+            Ok(()) => {
+                self.held = self.held.saturating_add(1);
+                self.idle_since = None;
+            }
             Err(back) => self.kept = Some(Outcome::Back(back.debt)),
         }
     }

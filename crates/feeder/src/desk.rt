@@ -20,6 +20,8 @@ pub(crate) struct Desk<'a, D: Disk, N: Naming, P: Pace> {
     /// The moment up to which debts that wait are offered: in the last phase its beginning, so that what is deferred in
     /// it is not offered again in it.
     pub due: u64,
+    /// Whether debts are claimed.
+    pub claims: bool,
     /// Whether it waits where a station is in use. Else it is refused, and asks again at the next turn.
     pub waits: bool,
 }

@@ -33,6 +33,9 @@ pub struct Feeder<S: SpoolDirectory + Drop, C: Net + Drop, N: Naming> {
     pub fault: Option<FeederFault>,
     /// The files that it could not read.
     pub unread: UnreadPaths,
+    /// Whether it leaves connections that have held nothing for a minute, and takes it for no failure if a peer closes
+    /// one that has held nothing for some seconds.
+    pub leaves_idle: bool,
     pub(crate) alloc: Global,
     pub(crate) net: C,
     pub(crate) hosts: Resolver,
@@ -58,6 +61,8 @@ pub struct Feeder<S: SpoolDirectory + Drop, C: Net + Drop, N: Naming> {
     pub(crate) has_lost_tape: bool,
     // The second in which it first saw the last phase.
     pub(crate) last_phase_since: Option<u64>,
+    // The second in which it first saw that the run is to end in good order.
+    pub(crate) draining_since: Option<u64>,
 }
 
 impl<S: SpoolDirectory + Drop, C: Net + Drop, N: Naming> Feeder<S, C, N> {
@@ -89,6 +94,7 @@ impl<S: SpoolDirectory + Drop, C: Net + Drop, N: Naming> Feeder<S, C, N> {
             share,
             fault: None,
             unread: UnreadPaths::new(alloc),
+            leaves_idle: false,
             alloc,
             net,
             hosts,
@@ -107,6 +113,7 @@ impl<S: SpoolDirectory + Drop, C: Net + Drop, N: Naming> Feeder<S, C, N> {
             looks: true,
             has_lost_tape: false,
             last_phase_since: None,
+            draining_since: None,
         })
     }
 

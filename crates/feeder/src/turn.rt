@@ -17,11 +17,15 @@ use std::net::Net;
 use std::rt::Clock;
 use std::sync::Wait;
 
+// How long what is held may wait for its answers if the run is to end in good order, in seconds.
+const DRAINING: u64 = 10;
+
 impl<D: Disk, S: SpoolDirectory + Drop, C: Net + Drop, N: Naming> Work<D, N> for Feeder<S, C, N> {
-    /// Feeds its share of the connections until all are stopped, or in the last phase no debt of its peers is ready or
-    /// held, or could still be sent by it. The fault of a peer's tape ends the work for that peer, and begins the last
-    /// phase; any other stops all. At the end it leaves its connections, for which their peers have a second; what they
-    /// still hold then goes back.
+    /// Feeds its share of the connections until all are stopped; or the run is to end in good order and what is held
+    /// has its answers, 10 seconds at most; or in the last phase no debt of its peers is ready or held, or could still
+    /// be sent by it. The fault of a peer's tape ends the work for that peer, and begins the last phase; any other
+    /// stops all. At the end it leaves its connections, for which their peers have a second; what they still hold then
+    /// goes back.
     fn run<R: AllocGlobal + Wait + Clock + Log, P: Pace>(
         &mut self,
         rt: &R,
@@ -57,9 +61,7 @@ impl<S: SpoolDirectory + Drop, C: Net + Drop, N: Naming> Feeder<S, C, N> {
             }
             let last_phase = signals.is_last_phase();
             let now = Moment::now(rt, self.start)?;
-            if last_phase {
-                self.last_phase_since = self.last_phase_since.or(Some(now.seconds));
-            }
+            self.hear(signals, now.seconds);
             let desk = self.desk(post, pace, now.seconds, false);
             self.catch_up(rt, now.seconds)?;
             self.visit_all(rt, &desk)?;
@@ -67,8 +69,11 @@ impl<S: SpoolDirectory + Drop, C: Net + Drop, N: Naming> Feeder<S, C, N> {
                 self.has_lost_tape = false;
                 signals.lose_tape();
             }
-            self.pass_second(rt, now.seconds);
+            self.pass_second(rt, &desk);
             self.connect_due(rt, &desk, last_phase);
+            if self.is_drained(now.seconds) {
+                return Ok(());
+            }
             if last_phase && self.is_done(&desk)? {
                 self.tell_given_up(rt, &desk);
                 return Ok(());
@@ -79,6 +84,25 @@ impl<S: SpoolDirectory + Drop, C: Net + Drop, N: Naming> Feeder<S, C, N> {
             let _ = self.wait(rt, self.haste(last_phase).sleep(now.millis))?;
         }
         unreachable!()
+    }
+
+    // Notes when the last phase began, and when the run is to end.
+    fn hear(&mut self, signals: &Signals, now: u64) {
+        if signals.is_last_phase() {
+            self.last_phase_since = self.last_phase_since.or(Some(now));
+        }
+        if signals.is_draining() {
+            self.draining_since = self.draining_since.or(Some(now));
+        }
+    }
+
+    // Whether the run is to end, and no connection holds anything, or has had time to.
+    fn is_drained(&self, now: u64) -> bool {
+        let Some(since) = self.draining_since else {
+            return false;
+        };
+        now.saturating_sub(since) >= DRAINING
+            || !self.connections.iter().any(|(_, one)| one.is_holding())
     }
 
     /// The post, as this feeder asks it at this moment, and whether it waits where a station is in use.
@@ -95,6 +119,7 @@ impl<S: SpoolDirectory + Drop, C: Net + Drop, N: Naming> Feeder<S, C, N> {
             who: Who::Feeder(self.which),
             now,
             due: self.last_phase_since.unwrap_or(now),
+            claims: self.draining_since.is_none(),
             waits,
         }
     }
@@ -114,23 +139,27 @@ impl<S: SpoolDirectory + Drop, C: Net + Drop, N: Naming> Feeder<S, C, N> {
     }
 
     // If a second has passed, tells each connection; slots are to be looked at then.
-    fn pass_second<R: Log>(&mut self, rt: &R, now: u64) {
-        if self.ticked == Some(now) {
+    fn pass_second<D: Disk, R: Log, P: Pace>(&mut self, rt: &R, desk: &Desk<'_, D, N, P>) {
+        if self.ticked == Some(desk.now) {
             return;
         }
-        self.ticked = Some(now);
+        self.ticked = Some(desk.now);
         self.looks = true;
         for key in 0..self.connections.capacity() {
-            self.tick_one(rt, key, now);
+            self.tick_one(rt, desk, key);
         }
     }
 
-    // Tells a connection that a second has passed, and of what was deferred in it.
-    fn tick_one<R: Log>(&mut self, rt: &R, key: usize, now: u64) {
+    // Tells a connection that a second has passed, and of what was deferred in it. One that has been idle for long is
+    // left, and counts no more among its peer's.
+    fn tick_one<D: Disk, R: Log, P: Pace>(&mut self, rt: &R, desk: &Desk<'_, D, N, P>, key: usize) {
         let Some(connection) = self.connections.get_mut(key) else {
             return;
         };
-        connection.tick(now);
+        connection.tick(desk.now);
+        if self.leaves_idle {
+            desk.give_room(connection.peer(), connection.leave_idle(desk.now));
+        }
         let deferred = connection.take_deferred();
         if let Some(slot) = self.slots.get(connection.slot()) {
             tell_deferred(rt, name_of(&self.peers, slot.plan()), deferred);
@@ -295,7 +324,8 @@ impl<S: SpoolDirectory + Drop, C: Net + Drop, N: Naming> Feeder<S, C, N> {
                     .peers
                     .get_mut(slot.plan())
                     .is_some_and(|peer| peer.take_retry());
-            if is_retried || connection.closed() == Some(Reason::Quit) {
+            let is_let_go = self.leaves_idle && connection.is_let_go(desk.now);
+            if is_retried || is_let_go || connection.closed() == Some(Reason::Quit) {
                 slot.left();
             } else {
                 slot.lost(desk.now);
@@ -367,7 +397,7 @@ impl<S: SpoolDirectory + Drop, C: Net + Drop, N: Naming> Feeder<S, C, N> {
             Haste::Station
         } else if self.is_waiting() {
             Haste::Flush
-        } else if last_phase {
+        } else if last_phase || self.draining_since.is_some() {
             Haste::LastPhase
         } else {
             Haste::None

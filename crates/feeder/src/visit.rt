@@ -162,14 +162,14 @@ fn work<D: Disk, N: Naming, S: SpoolDirectory, R: Wait + Log, P: Pace>(
     Ok(())
 }
 
-// Claims and offers debts while the connection takes them and none was refused.
+// Claims and offers debts, if any are claimed, while the connection takes them and none was refused.
 fn offer<D: Disk, N: Naming, R: Wait, P: Pace>(
     connection: &mut Connection,
     rt: &R,
     desk: &Desk<'_, D, N, P>,
 ) -> Result<(), FeederFault> {
     for _ in 0..u64::MAX {
-        if connection.is_keeping() || !connection.is_ready() {
+        if !desk.claims || connection.is_keeping() || !connection.is_ready() {
             return Ok(());
         }
         match desk.claim(rt, connection.peer(), connection.id()) {

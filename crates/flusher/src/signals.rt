@@ -18,6 +18,7 @@ pub struct Signals {
     orders: AtomicU64,
     latest: Mutex<Latest>,
     last_phase: AtomicBool,
+    draining: AtomicBool,
     lost_tape: AtomicBool,
     // The flusher is to end.
     over: AtomicBool,
@@ -43,6 +44,7 @@ impl Signals {
                 receipt: None,
             }),
             last_phase: AtomicBool::new(false),
+            draining: AtomicBool::new(false),
             lost_tape: AtomicBool::new(false),
             over: AtomicBool::new(false),
             stopped: AtomicBool::new(false),
@@ -79,6 +81,17 @@ impl Signals {
     /// Whether the last phase has begun.
     pub fn is_last_phase(&self) -> bool {
         self.last_phase.load(Ordering::SeqCst)
+    }
+
+    /// Tells that the run is to end in good order: nothing more is claimed, and what is held gets its answers.
+    pub fn begin_draining(&self) {
+        self.draining.store(true, Ordering::SeqCst);
+        self.tell();
+    }
+
+    /// Whether the run is to end in good order.
+    pub fn is_draining(&self) -> bool {
+        self.draining.load(Ordering::SeqCst)
     }
 
     /// Tells that a tape failed: no line is to be taken, and no receipt comes any more. The last phase begins, in which

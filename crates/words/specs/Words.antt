@@ -2,16 +2,20 @@
 use Rattle.std.specs.Prelude.{◌≡◌, ◌⊎◌, List, ℕ, Bool, true, false, Option, None, Some, IsSome, IsNone, codes}
 use Rattle.std.specs.Prelude.{option_map}
 use Rattle.commands.specs.declared.order.Order.{Order}
+use Rattle.commands.specs.declared.order.Source.{Source}
+use Rattle.commands.specs.declared.order.Source.TheVariants.{Backlogs, Funnel, Follow}
 use Rattle.commands.specs.declared.order.Order.TheVariants.{DrillFromInput, Drill, Check, Owed, Feed, Tell, Mistake}
 use Rattle.words.specs.declared.words.Given.{Given}
 
 -- something is asked for on a configuration
 abbrev pub HasOrder : Given → Type 0
-HasOrder given = (given.check ≡ true) ⊎ (given.owed ≡ true) ⊎ (given.backlog ≡ true) ⊎ IsSome given.funnel
+HasOrder given = (given.check ≡ true) ⊎ (given.owed ≡ true) ⊎ ((given.backlog ≡ true) × (given.follow ≡ false))
+    ⊎ ((given.backlog ≡ false) × IsSome given.funnel)
 
 -- something stands there but `-c FILE` and `--drill FILE`
 abbrev pub HasMore : Given → Type 0
-HasMore given = (given.verbose ≡ true) ⊎ HasOrder given
+HasMore given = (given.verbose ≡ true) ⊎ (given.follow ≡ true) ⊎ (given.check ≡ true) ⊎ (given.owed ≡ true)
+    ⊎ (given.backlog ≡ true) ⊎ IsSome given.funnel
 
 -- A drill's file, and nothing beside it.
 abbrev pub AsksDrill : List ℕ → Given → Type 0
@@ -26,11 +30,18 @@ AsksCheck verbose given = (given.check ≡ true) × (verbose ≡ given.verbose)
 abbrev pub AsksOwed : Bool → Given → Type 0
 AsksOwed verbose given = (given.check ≡ false) × (given.owed ≡ true) × (verbose ≡ given.verbose)
 
--- Else the peers are fed: from their backlogs alone with `-x`, else from the funnel; with `-v` it is logged.
-abbrev pub AsksFeed : Option (List ℕ) → Bool → Given → Type 0
-AsksFeed funnel verbose given = (given.check ≡ false) × (given.owed ≡ false) × (verbose ≡ given.verbose)
-    × ((given.backlog ≡ true) × (funnel ≡ None)
-    ⊎ (given.backlog ≡ false) × IsSome funnel × (funnel ≡ option_map (λ file. file.now) given.funnel))
+-- from the backlogs alone with `-x`, else from the funnel, which is followed with `--follow`
+abbrev pub AsksSource : Source → Given → Type 0
+AsksSource Backlogs given = (given.backlog ≡ true) × (given.follow ≡ false)
+AsksSource (Funnel path) given = (given.backlog ≡ false) × (given.follow ≡ false)
+    × (option_map (λ file. file.now) given.funnel ≡ Some path.now)
+AsksSource (Follow path) given = (given.backlog ≡ false) × (given.follow ≡ true)
+    × (option_map (λ file. file.now) given.funnel ≡ Some path.now)
+
+-- Else the peers are fed; with `-v` it is logged.
+abbrev pub AsksFeed : Source → Bool → Given → Type 0
+AsksFeed source verbose given = (given.check ≡ false) × (given.owed ≡ false) × (verbose ≡ given.verbose)
+    × AsksSource source given
 
 -- What is asked for on the configuration of this path.
 abbrev pub AsksOf : List ℕ → Given → Order → Type 0
@@ -38,8 +49,7 @@ AsksOf conf given DrillFromInput = ⊥
 AsksOf conf given (Drill path) = ⊥
 AsksOf conf given (Check path verbose) = (path.now ≡ conf) × AsksCheck verbose given
 AsksOf conf given (Owed path verbose) = (path.now ≡ conf) × AsksOwed verbose given
-AsksOf conf given (Feed path funnel verbose) = (path.now ≡ conf)
-    × AsksFeed (option_map (λ file. file.now) funnel) verbose given
+AsksOf conf given (Feed path source verbose) = (path.now ≡ conf) × AsksFeed source verbose given
 AsksOf conf given (Tell text) = ⊥
 AsksOf conf given (Mistake what) = HasOrder given → ⊥
 
@@ -51,8 +61,8 @@ Asks given (Check path verbose) = (option_map (λ file. file.now) given.config �
     × AsksCheck verbose given
 Asks given (Owed path verbose) = (option_map (λ file. file.now) given.config ≡ Some path.now) × IsNone given.drill
     × AsksOwed verbose given
-Asks given (Feed path funnel verbose) = (option_map (λ file. file.now) given.config ≡ Some path.now) × IsNone given.drill
-    × AsksFeed (option_map (λ file. file.now) funnel) verbose given
+Asks given (Feed path source verbose) = (option_map (λ file. file.now) given.config ≡ Some path.now) × IsNone given.drill
+    × AsksFeed source verbose given
 Asks given (Tell text) = ⊥
 Asks given (Mistake what) = (IsSome given.drill × (IsSome given.config ⊎ HasMore given))
     ⊎ (IsNone given.drill × IsNone given.config)
@@ -64,7 +74,7 @@ IsTold DrillFromInput = ⊥
 IsTold (Drill path) = ⊥
 IsTold (Check path verbose) = ⊥
 IsTold (Owed path verbose) = ⊥
-IsTold (Feed path funnel verbose) = ⊥
+IsTold (Feed path source verbose) = ⊥
 IsTold (Tell text) = Unit {0}
 IsTold (Mistake what) = ⊥
 
@@ -74,7 +84,7 @@ IsMistaken DrillFromInput = ⊥
 IsMistaken (Drill path) = ⊥
 IsMistaken (Check path verbose) = ⊥
 IsMistaken (Owed path verbose) = ⊥
-IsMistaken (Feed path funnel verbose) = ⊥
+IsMistaken (Feed path source verbose) = ⊥
 IsMistaken (Tell text) = ⊥
 IsMistaken (Mistake what) = Unit {0}
 

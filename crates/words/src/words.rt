@@ -6,17 +6,18 @@ ghost use Rattle.words.specs.Words.{Asks, AsksOf, HasMore, IsFlag, IsMistaken, I
 
 use clap::error::ErrorKind;
 use clap::{Arg, ArgAction, ArgMatches, Command, Error};
-use commands::{Order, VERSION};
+use commands::{Order, Source, VERSION};
 use std::alloc::{AllocError, Global};
 
 const USAGE: &str =
-    "innfeed -c FILE [-C] [-x] [-v] [--owed] [FUNNEL]\n       innfeed --drill FILE\n       innfeed < SCRIPT";
+    "innfeed -c FILE [-C] [-x] [-v] [--owed] [--follow] [FUNNEL]\n       innfeed --drill FILE\n       innfeed < SCRIPT";
 
 const ABOUT: &str =
     "The outgoing feeder of a news server: offers its peers the articles of a funnel file and of their backlogs.";
 
 const MORE: &str =
-    "-C takes precedence over --owed, and --owed over -x; with any of them FUNNEL is ignored. Otherwise it is required.
+    "-C takes precedence over --owed, and --owed over -x and --follow. With -C, --owed or -x FUNNEL is ignored;
+otherwise it is required.
 Without arguments a drill script is read from standard input.
 
 Exit status: 0 success; 1 bad configuration, malformed drill script or refused step; 2 usage error;
@@ -46,6 +47,7 @@ struct Given<'a> {
     check: bool,
     owed: bool,
     backlog: bool,
+    follow: bool,
     verbose: bool,
     funnel: Option<&'a str>,
     drill: Option<&'a str>,
@@ -76,6 +78,7 @@ fn command<'a>(alloc: Global) -> Result<Command<'a>, AllocError> {
         .arg(check_flag(alloc))?
         .arg(owed_flag(alloc))?
         .arg(backlog_flag(alloc))?
+        .arg(follow_flag(alloc))?
         .arg(verbose_flag(alloc))?
         .arg(drill)?
         .arg(funnel)
@@ -106,6 +109,15 @@ fn backlog_flag<'a>(alloc: Global) -> Arg<'a> {
         .help("Feed from the backlogs only, without a funnel")
 }
 
+fn follow_flag<'a>(alloc: Global) -> Arg<'a> {
+    Arg::new(alloc, "follow")
+        .long("follow")
+        .action(ArgAction::SetTrue)
+        .help(
+            "Go on after the funnel's last line: feed what is added to it, until the run is ended",
+        )
+}
+
 fn verbose_flag<'a>(alloc: Global) -> Arg<'a> {
     Arg::new(alloc, "verbose")
         .short('v')
@@ -127,6 +139,7 @@ fn given_by<'a>(matches: &ArgMatches<'a>) -> Given<'a>
     ensures check { IsFlag (one_text (found_of matches.now) (codes "check")) result.check }
     ensures owed { IsFlag (one_text (found_of matches.now) (codes "owed")) result.owed }
     ensures backlog { IsFlag (one_text (found_of matches.now) (codes "backlog")) result.backlog }
+    ensures follow { IsFlag (one_text (found_of matches.now) (codes "follow")) result.follow }
     ensures verbose { IsFlag (one_text (found_of matches.now) (codes "verbose")) result.verbose }
 {
     Given {
@@ -134,6 +147,7 @@ fn given_by<'a>(matches: &ArgMatches<'a>) -> Given<'a>
         check: matches.get_flag("check"),
         owed: matches.get_flag("owed"),
         backlog: matches.get_flag("backlog"),
+        follow: matches.get_flag("follow"),
         verbose: matches.get_flag("verbose"),
         funnel: matches.get_str("funnel"),
         drill: matches.get_str("drill"),
@@ -144,7 +158,12 @@ fn given_by<'a>(matches: &ArgMatches<'a>) -> Given<'a>
 fn has_more(given: &Given<'_>) -> bool
     ensures { IsTrue result ↔ HasMore given.now }
 {
-    given.verbose || given.check || given.owed || given.backlog || given.funnel.is_some()
+    given.verbose
+        || given.follow
+        || given.check
+        || given.owed
+        || given.backlog
+        || given.funnel.is_some()
 }
 
 // A drill's file stands alone; all else wants a configuration.
@@ -175,21 +194,19 @@ fn order_on<'a>(alloc: Global, conf: &'a str, given: Given<'a>) -> Result<Order<
             verbose: given.verbose,
         });
     }
-    if given.backlog {
-        return Ok(Order::Feed {
-            conf,
-            funnel: None,
-            verbose: given.verbose,
-        });
-    }
-    match given.funnel {
-        Some(path) => Ok(Order::Feed {
-            conf,
-            funnel: Some(path),
-            verbose: given.verbose,
-        }),
-        None => mistake(alloc, "FUNNEL or '-x' is required"),
-    }
+    let source = match (given.backlog, given.follow, given.funnel) {
+        (true, false, _) => Source::Backlogs,
+        (true, true, _) => return mistake(alloc, "'-x' and '--follow' cannot be used together"),
+        (false, true, Some(path)) => Source::Follow(path),
+        (false, false, Some(path)) => Source::Funnel(path),
+        (false, true, None) => return mistake(alloc, "'--follow' requires FUNNEL"),
+        (false, false, None) => return mistake(alloc, "FUNNEL or '-x' is required"),
+    };
+    Ok(Order::Feed {
+        conf,
+        source,
+        verbose: given.verbose,
+    })
 }
 
 fn mistake<'a>(alloc: Global, what: &str) -> Result<Order<'a>, AllocError>

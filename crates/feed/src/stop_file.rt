@@ -1,0 +1,71 @@
+// The file by which a run that follows its funnel is asked to end.
+use crate::trouble::Trouble;
+use log::Log;
+use std::fs::{self, File};
+use std::io::ErrorKind;
+use std::rt::{Clock, Files};
+use std::time::Instant;
+
+// Its name in the backlog directory: no peer's, and no tape's.
+const NAME: &str = "/~stop";
+
+/// The file `~stop` in the backlog directory. Whoever makes it asks the run to end in good order.
+#[derive(Drop)]
+pub(crate) struct StopFile<'a, F> {
+    files: &'a F,
+    path: String,
+    looked: Instant,
+    has_come: bool,
+}
+
+impl<'a, F: AllocGlobal + Files<File = File>> StopFile<'a, F> {
+    /// The one in the directory at this path. One that is there already asks nothing of this run, and is removed.
+    ///
+    /// # Errors
+    /// Memory; that it cannot be removed.
+    pub fn new<R: Log>(
+        rt: &R,
+        files: &'a F,
+        directory: &str,
+        now: Instant,
+    ) -> Result<Self, Trouble> {
+        let mut path = String::from_str(files.alloc(), directory)?;
+        path.push_str(NAME)?;
+        let file = StopFile {
+            files,
+            path,
+            looked: now,
+            has_come: false,
+        };
+        file.remove(rt)?;
+        Ok(file)
+    }
+
+    /// Whether it has come. It is looked for once a second.
+    pub fn has_come<R: Clock>(&mut self, rt: &R) -> bool {
+        if let Ok(passed) = self.looked.elapsed(rt)
+            && passed.as_secs() >= 1
+        {
+            if let Ok(now) = Instant::now(rt) {
+                self.looked = now;
+            }
+            self.has_come |= fs::exists(self.files, self.path.as_str()).unwrap_or(false);
+        }
+        self.has_come
+    }
+
+    /// Removes it, if it is there.
+    ///
+    /// # Errors
+    /// Memory; that it cannot be removed.
+    pub fn remove<R: Log>(&self, rt: &R) -> Result<(), Trouble> {
+        match fs::remove_file(self.files, self.path.as_str()) {
+            Ok(()) => Ok(()),
+            Err(error) if error.kind() == ErrorKind::NotFound => Ok(()),
+            Err(error) => {
+                let path = self.path.as_bytes();
+                Err(Trouble::unremoved(rt, self.files.alloc(), path, &error))
+            }
+        }
+    }
+}
