@@ -187,9 +187,13 @@ fn print_checked<'a, W: Write>(out: &mut W, checked: Checked) -> Result<Exit, Fa
     ensures { Comes (PrintsBeside (option_map (λ lines. lines.items) checked.advice)
         checked.report.items (W.contents out.old) (W.contents out.new)) result }
 {
-    match (print(out, &checked.report), checked.advice) {
-        (Ok(_), Some(lines)) => Err(Fault::Checked(lines)),
-        (printed, _) => printed,
+    let Checked { report, advice } = checked;
+    match write_whole(out, &report) {
+        Ok(()) => match advice {
+            Some(lines) => Err(Fault::Checked(lines)),
+            None => Ok(Exit::Done),
+        },
+        Err(error) => Err(Fault::of_output(error)),
     }
 }
 
