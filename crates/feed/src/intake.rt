@@ -70,7 +70,7 @@ pub(crate) struct Intake<'a, F, W, N: Naming> {
     pub left: &'a Left,
     /// The file by which it is asked to end, if it follows its funnel.
     pub stop: Option<StopFile<'a, F>>,
-    /// Whether the status file could not be written before: this is told once.
+    /// Whether it is told, and is not to be told again, that the status file could not be written.
     pub has_no_status: bool,
     /// What went wrong.
     pub end: FeedEnd,
@@ -317,10 +317,10 @@ impl<F: AllocGlobal + Files<File = File>, W: Write, N: Naming> Intake<'_, F, W, 
         }
     }
 
-    // The status file could not be written.
+    // The status file could not be written. A run that goes on until it is ended tells it once.
     fn note_status(&mut self, trouble: Trouble) {
         if !self.has_no_status {
-            self.has_no_status = true;
+            self.has_no_status = self.stop.is_some();
             trouble.add_to(&mut self.end);
         }
     }
@@ -381,6 +381,10 @@ impl<D: Disk, F: AllocGlobal + Files<File = File>, W: Write, N: Naming> Work<D, 
                 return;
             }
             self.look_after(rt, post, path);
+            if !signals.is_draining() && self.is_to_end(rt) {
+                signals.begin_draining();
+                self.wake();
+            }
         }
     }
 }

@@ -84,13 +84,13 @@ impl Funnel {
         Ok(Next::End)
     }
 
-    // What its end is.
+    // What its end is: more can be added to a plain file alone.
     fn end(&self) -> io::Result<Next> {
-        if !self.is_followed {
+        if !self.is_followed || self.watch.is_some() {
             return Ok(Next::End);
         }
         let (file, read) = self.lines.reader();
-        if self.watch.is_none() && file.metadata()?.len() < read {
+        if file.metadata()?.len() < read {
             return Err(io::Error::from(ErrorKind::UnexpectedEof));
         }
         Ok(Next::Pause)

@@ -43,7 +43,8 @@ impl Progress {
         Ok(())
     }
 
-    /// Tells, where it is due, what each peer has had, is owed, and answers a second.
+    /// Tells, if it is due, what each peer that is owed something or has answered since has had, is owed, and answers a
+    /// second.
     pub fn tell<D: Disk, N: Naming, R: Wait + Clock + Log>(
         &mut self,
         rt: &R,
@@ -76,8 +77,12 @@ impl Progress {
                 return;
             }
             let totals = post.totals(rt, peer);
-            let rate = totals.answered.saturating_sub(*before) / seconds.max(1);
+            let answered = totals.answered.saturating_sub(*before);
             *before = totals.answered;
+            if answered == 0 && totals.owed == 0 {
+                continue;
+            }
+            let rate = answered / seconds.max(1);
             let name = str::from_utf8(name.bytes()).unwrap_or("");
             info!(
                 rt; "{}: taken {}, answered {}, owed {}, {} a second",

@@ -52,15 +52,15 @@ pub(crate) struct Means<'a, R, F, H, C, L> {
 
 // What stands before the threads start, but for the tapes.
 #[derive(Drop)]
-struct Prepared<S> {
+struct Prepared<'a, S, F> {
     names: Vec<PeerName>,
     plans: (Vec<PeerPlan>, Vec<PeerPlan>),
     hosts: Vec<Host>,
     spools: (Spool<S>, Spool<S>),
     funnel: Option<Funnel>,
     status: Vec<u8>,
-    // The backlog directory's path, if the funnel is followed.
-    followed_in: Option<String>,
+    // What asks the run to end, if it follows its funnel.
+    stop: Option<StopFile<'a, F>>,
     start: Instant,
 }
 
@@ -95,9 +95,9 @@ pub(crate) fn feed<
         peers: stations,
         intake,
     } = open_tapes(means.files, &directory, &peers)?;
+    let stop = stop_file(means, source, &directory)?;
     let funnel = open_funnel(means, source, intake.mark())?;
-    let followed_in = followed_in(alloc, source, &directory)?;
-    let prepared = prepare(means, &peers, &spool, funnel, followed_in, status)?;
+    let prepared = prepare(means, &peers, &spool, funnel, stop, status)?;
     let blanks = Blanks::new(stations.len() as u64);
     work::<Brand, R, F, S, H, C, L, W>(means, prepared, stations, intake, blanks, out, end)?;
     tell_fault(means.rt, &directory, &tapes);
@@ -113,14 +113,14 @@ fn tell_fault<R: Log>(rt: &R, directory: &[u8], tapes: &TapeDirectory) {
 }
 
 // Opens the spool for each feeder, and makes what it has to know of the peers. No host is looked up yet.
-fn prepare<R: Clock + Log, F: AllocGlobal, S: Drop, H: Spools<Store = S>, C, L>(
-    means: &Means<'_, R, F, H, C, L>,
+fn prepare<'a, R: Clock + Log, F: AllocGlobal, S: Drop, H: Spools<Store = S>, C, L>(
+    means: &Means<'a, R, F, H, C, L>,
     peers: &[PeerConf],
     spool: &[u8],
     funnel: Option<Funnel>,
-    followed_in: Option<String>,
+    stop: Option<StopFile<'a, F>>,
     status: Vec<u8>,
-) -> Result<Prepared<S>, Trouble> {
+) -> Result<Prepared<'a, S, F>, Trouble> {
     let alloc = means.files.alloc();
     let Ok(path) = str::from_utf8(spool) else {
         let invalid = io::Error::from(ErrorKind::InvalidInput);
@@ -141,8 +141,8 @@ fn prepare<R: Clock + Log, F: AllocGlobal, S: Drop, H: Spools<Store = S>, C, L>(
         hosts: hosts_of(alloc, peers)?,
         spools: (open_spool(means, path)?, open_spool(means, path)?),
         funnel,
-        followed_in,
         status,
+        stop,
         start,
     })
 }
@@ -171,7 +171,7 @@ fn work<
     W: Write,
 >(
     means: &Means<'_, R, F, H, C, L>,
-    prepared: Prepared<S>,
+    prepared: Prepared<'_, S, F>,
     stations: Vec<Peer<FileDisk<TapeFile>>>,
     intake: Tape<FileDisk<TapeFile>>,
     blanks: Blanks,
@@ -196,11 +196,10 @@ fn work<
         hosts,
         spools,
         funnel,
-        followed_in,
         status,
+        stop,
         start,
     } = prepared;
-    let stop = stop_file(means, followed_in, start)?;
     let resolver = Resolver::start(means.rt, alloc, hosts, means.look_up)?;
     let (first, second) = feeders(
         means,
@@ -254,6 +253,7 @@ fn work<
     let Intake {
         status,
         stop,
+        has_no_status,
         end: told,
         ..
     } = intake;
@@ -266,7 +266,7 @@ fn work<
         }
         Err(NoThread) => Trouble::Lack.add_to(end),
     }
-    close(means.rt, &post, &names, status, end);
+    close(means.rt, &post, &names, (status, has_no_status), end);
     obeyed(means.rt, stop, end);
     Ok(())
 }
@@ -274,26 +274,25 @@ fn work<
 // The file by which the run is asked to end, if it follows its funnel.
 fn stop_file<'a, R: Log, F: AllocGlobal + Files<File = File>, H, C, L>(
     means: &Means<'a, R, F, H, C, L>,
-    followed_in: Option<String>,
-    start: Instant,
+    source: Source<'_>,
+    directory: &[u8],
 ) -> Result<Option<StopFile<'a, F>>, Trouble> {
-    match followed_in {
-        Some(directory) => {
-            let stop = StopFile::new(means.rt, means.files, directory.as_str(), start)?;
-            Ok(Some(stop))
+    match source {
+        Source::Follow(_) => {
+            let directory = str::from_utf8(directory).unwrap_or("");
+            Ok(Some(StopFile::new(means.rt, means.files, directory)?))
         }
-        None => Ok(None),
+        Source::Backlogs | Source::Funnel(_) => Ok(None),
     }
 }
 
-// Removes the file by which the run was asked to end, if it was.
-fn obeyed<R: Clock + Log, F: AllocGlobal + Files<File = File>>(
+// Removes the file by which the run may have been asked to end.
+fn obeyed<R: Log, F: AllocGlobal + Files<File = File>>(
     rt: &R,
     stop: Option<StopFile<'_, F>>,
     end: &mut FeedEnd,
 ) {
-    if let Some(mut stop) = stop
-        && stop.has_come(rt)
+    if let Some(stop) = stop
         && let Err(trouble) = stop.remove(rt)
     {
         trouble.add_to(end);
@@ -308,7 +307,7 @@ fn feeders<N: Naming, R: Log, F: AllocGlobal, S: SpoolDirectory + Drop, H, C: Ne
     spools: (Spool<S>, Spool<S>),
     start: Instant,
     shares: (FeederShare<N>, FeederShare<N>),
-    leaves_idle: bool,
+    is_lasting: bool,
 ) -> Result<(Feeder<S, C, N>, Feeder<S, C, N>), Trouble> {
     let alloc = means.files.alloc();
     let (hosts, others) = (resolver.try_clone()?, resolver.try_clone()?);
@@ -320,8 +319,8 @@ fn feeders<N: Naming, R: Log, F: AllocGlobal, S: SpoolDirectory + Drop, H, C: Ne
         alloc, means.net, others, spools.1, 1, plans.1, start, shares.1,
     )
     .map_err(|error| lacking(means.rt, &error))?;
-    first.leaves_idle = leaves_idle;
-    second.leaves_idle = leaves_idle;
+    first.is_lasting = is_lasting;
+    second.is_lasting = is_lasting;
     Ok((first, second))
 }
 
@@ -376,19 +375,23 @@ fn add_unread(first: UnreadPaths, second: UnreadPaths, end: &mut FeedEnd) {
     }
 }
 
-// Flushes what still pends, writes the status file, and adds what is still owed. After a fault of a tape the others are
+// Flushes what still pends, writes the status file, of which it may be told that this failed before, and adds what is
+// still owed. After a fault of a tape the others are
 // flushed alone, and nothing is acknowledged; what its peer is owed is not known, and not told.
 fn close<D: Disk, N: Naming, R: Wait + Clock + Log, F: AllocGlobal + Files<File = File>>(
     rt: &R,
     post: &Post<D, N>,
     names: &[PeerName],
-    mut status: StatusFile<'_, F>,
+    (status, is_told): (StatusFile<'_, F>, bool),
     end: &mut FeedEnd,
 ) {
+    let mut status = status;
     if let Err(fault) = flush(rt, post, end.tapes.is_empty()) {
         Trouble::post(*end.tapes.allocator(), names, fault).add_to(end);
     }
-    if let Err(trouble) = status.write(rt, post, names) {
+    if let Err(trouble) = status.write(rt, post, names)
+        && !is_told
+    {
         trouble.add_to(end);
     }
     for (peer, name) in names.iter().enumerate() {
@@ -421,21 +424,6 @@ fn add_owing(name: &PeerName, owed: u64, end: &mut FeedEnd) -> Result<(), AllocE
         end.owing.push(Owing { name, owed })?;
     }
     Ok(())
-}
-
-// The path of the backlog directory, if the funnel is followed.
-fn followed_in(
-    alloc: Global,
-    source: Source<'_>,
-    directory: &[u8],
-) -> Result<Option<String>, AllocError> {
-    match source {
-        Source::Follow(_) => {
-            let path = str::from_utf8(directory).unwrap_or("");
-            Ok(Some(String::from_str(alloc, path)?))
-        }
-        Source::Backlogs | Source::Funnel(_) => Ok(None),
-    }
 }
 
 // Opens the funnel, behind the lines that are acknowledged. One that has not all of them is another, and is not read.

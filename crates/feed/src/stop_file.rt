@@ -14,7 +14,8 @@ const NAME: &str = "/~stop";
 pub(crate) struct StopFile<'a, F> {
     files: &'a F,
     path: String,
-    looked: Instant,
+    // When it was looked for last.
+    looked: Option<Instant>,
     has_come: bool,
 }
 
@@ -23,18 +24,13 @@ impl<'a, F: AllocGlobal + Files<File = File>> StopFile<'a, F> {
     ///
     /// # Errors
     /// Memory; that it cannot be removed.
-    pub fn new<R: Log>(
-        rt: &R,
-        files: &'a F,
-        directory: &str,
-        now: Instant,
-    ) -> Result<Self, Trouble> {
+    pub fn new<R: Log>(rt: &R, files: &'a F, directory: &str) -> Result<Self, Trouble> {
         let mut path = String::from_str(files.alloc(), directory)?;
         path.push_str(NAME)?;
         let file = StopFile {
             files,
             path,
-            looked: now,
+            looked: None,
             has_come: false,
         };
         file.remove(rt)?;
@@ -43,12 +39,15 @@ impl<'a, F: AllocGlobal + Files<File = File>> StopFile<'a, F> {
 
     /// Whether it has come. It is looked for once a second.
     pub fn has_come<R: Clock>(&mut self, rt: &R) -> bool {
-        if let Ok(passed) = self.looked.elapsed(rt)
-            && passed.as_secs() >= 1
-        {
-            if let Ok(now) = Instant::now(rt) {
-                self.looked = now;
-            }
+        let is_due = match self.looked {
+            Some(looked) => match looked.elapsed(rt) {
+                Ok(passed) => passed.as_secs() >= 1,
+                Err(_) => false,
+            },
+            None => true,
+        };
+        if is_due {
+            self.looked = Instant::now(rt).ok();
             self.has_come |= fs::exists(self.files, self.path.as_str()).unwrap_or(false);
         }
         self.has_come

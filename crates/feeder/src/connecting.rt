@@ -34,10 +34,13 @@ impl<S: SpoolDirectory + Drop, C: Net + Drop, N: Naming> Feeder<S, C, N> {
         desk: &Desk<'_, D, N, P>,
         last_phase: bool,
     ) {
-        if !self.looks || !desk.claims {
+        if !self.looks {
             return;
         }
         self.looks = false;
+        if !desk.claims {
+            return;
+        }
         for at in 0..self.peers.len() {
             self.hear_of(rt, at);
             self.connect_peer(rt, desk, at, last_phase);

@@ -273,11 +273,12 @@ impl Connection {
     /// many debts it counts no more.
     pub fn leave_idle(&mut self, now: u64) -> u64 {
         let idle = self.idle(now);
-        if idle >= MOST_IDLE + GOODBYE {
-            self.give_up();
-        } else if idle >= MOST_IDLE && !self.is_left {
+        if idle >= MOST_IDLE && !self.is_left {
             self.leave();
             return mem::take(&mut self.place.room);
+        }
+        if idle >= MOST_IDLE + GOODBYE {
+            self.give_up();
         }
         0
     }
@@ -285,7 +286,7 @@ impl Connection {
     /// Whether its end is no failure of its peer's: it had held nothing for some seconds, and was left, or the peer
     /// closed it.
     pub fn is_let_go(&self, now: u64) -> bool {
-        let is_by_peer = matches!(self.ended, Ended::ByPeer)
+        let is_by_peer = matches!(self.ended, Ended::ByPeer | Ended::Fault(_))
             || matches!(self.conn.closed(), Some(Reason::Ended(_)));
         self.idle(now) >= RESTED && (self.is_left || is_by_peer)
     }

@@ -33,9 +33,10 @@ pub struct Feeder<S: SpoolDirectory + Drop, C: Net + Drop, N: Naming> {
     pub fault: Option<FeederFault>,
     /// The files that it could not read.
     pub unread: UnreadPaths,
-    /// Whether it leaves connections that have held nothing for a minute, and takes it for no failure if a peer closes
-    /// one that has held nothing for some seconds.
-    pub leaves_idle: bool,
+    /// Whether the run goes on until it is ended. Then connections that have held nothing for a minute are left, it is
+    /// no failure if a peer closes one that has held nothing for some seconds, and no peer is given up if the articles
+    /// are out of reach.
+    pub is_lasting: bool,
     pub(crate) alloc: Global,
     pub(crate) net: C,
     pub(crate) hosts: Resolver,
@@ -94,7 +95,7 @@ impl<S: SpoolDirectory + Drop, C: Net + Drop, N: Naming> Feeder<S, C, N> {
             share,
             fault: None,
             unread: UnreadPaths::new(alloc),
-            leaves_idle: false,
+            is_lasting: false,
             alloc,
             net,
             hosts,

@@ -32,7 +32,7 @@ struct Setback {
     wait: u64,
 }
 
-/// The debts of a peer at which connections failed in this run, of which 4,096 are remembered at most.
+/// The debts of a peer at which connections failed in this run, of which the 4,096 latest are remembered.
 #[derive(Drop)]
 pub(crate) struct Setbacks {
     debts: BTreeMap<u64, Setback>,
@@ -66,9 +66,11 @@ impl Setbacks {
     {
         let mut setback = Setback::new();
         let wait = setback.wait_after(failure);
-        if self.debts.len() < MOST_DEBTS {
-            let _ = self.debts.insert(number, setback);
+        if self.debts.len() >= MOST_DEBTS {
+            // The oldest: it may have ended without a word to this feeder.
+            let _ = self.debts.pop_first();
         }
+        let _ = self.debts.insert(number, setback);
         wait
     }
 

@@ -157,7 +157,7 @@ impl<S: SpoolDirectory + Drop, C: Net + Drop, N: Naming> Feeder<S, C, N> {
             return;
         };
         connection.tick(desk.now);
-        if self.leaves_idle {
+        if self.is_lasting {
             desk.give_room(connection.peer(), connection.leave_idle(desk.now));
         }
         let deferred = connection.take_deferred();
@@ -204,6 +204,7 @@ impl<S: SpoolDirectory + Drop, C: Net + Drop, N: Naming> Feeder<S, C, N> {
             buffer: &mut self.buffer,
             share: &mut self.share,
             unread: &mut self.unread,
+            gives_up: !self.is_lasting,
         };
         match visit(connection, rt, desk, &mut means) {
             Ok(()) => {}
@@ -324,7 +325,7 @@ impl<S: SpoolDirectory + Drop, C: Net + Drop, N: Naming> Feeder<S, C, N> {
                     .peers
                     .get_mut(slot.plan())
                     .is_some_and(|peer| peer.take_retry());
-            let is_let_go = self.leaves_idle && connection.is_let_go(desk.now);
+            let is_let_go = self.is_lasting && connection.is_let_go(desk.now);
             if is_retried || is_let_go || connection.closed() == Some(Reason::Quit) {
                 slot.left();
             } else {

@@ -31,6 +31,8 @@ pub(crate) struct Means<'a, S, N: Naming> {
     pub buffer: &'a mut [u8],
     pub share: &'a mut FeederShare<N>,
     pub unread: &'a mut UnreadPaths,
+    /// Whether the peer gets no more in this run if the articles are out of reach; else its connection waits.
+    pub gives_up: bool,
 }
 
 /// Does all that can be done on a connection without waiting. What came goes first: it frees the window, so that one
@@ -148,7 +150,7 @@ fn work<D: Disk, N: Naming, S: SpoolDirectory, R: Wait + Log, P: Pace>(
             offer(connection, rt, desk)?;
         }
         if !connection.hand_in(rt, means.spool, means.unread) {
-            means.peer.is_closed = true;
+            means.peer.is_closed = means.gives_up;
         }
         sent = sent.saturating_add(connection.send());
         if !connection.can_go_on() {
