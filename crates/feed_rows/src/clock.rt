@@ -35,11 +35,13 @@ impl Times {
 
     // Whether this many seconds, less the one that is cut off, lie before this time and the one before it.
     fn is_late(&self, index: usize, seconds: u64) -> bool {
-        let (Some(time), Some(before)) = (self.seconds.get(index + 1), self.seconds.get(index))
-        else {
+        let (Some(time), Some(before)) = (
+            self.seconds.get(index.saturating_add(1)),
+            self.seconds.get(index),
+        ) else {
             return false;
         };
-        time.saturating_sub(*before) + 1 >= seconds
+        time.saturating_sub(*before).saturating_add(1) >= seconds
     }
 }
 

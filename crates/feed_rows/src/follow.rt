@@ -200,7 +200,7 @@ fn be_idle(
     };
     for session in 0..3 {
         let (stream, _) = listener.accept().ok()?;
-        seen.connections += 1;
+        seen.connections = seen.connections.saturating_add(1);
         let closes = session == 1;
         let idle = converse(alloc, &stream, system, closes).ok()?;
         if session == 0 {

@@ -1,7 +1,7 @@
 // Rows of several peers.
 use crate::peer::{Heard, Manner, PATIENCE, serve};
 use crate::row::{NOBODY, Row, list_owed, print_lines, print_told};
-use anyhow::Result;
+use anyhow::{Result, anyhow};
 use commands::{Order, Source};
 use std::io::Write;
 use std::net::{TcpListener, TcpStream};
@@ -37,7 +37,10 @@ pub(crate) fn four_peers<R: AllocGlobal + Threads + Wait + Print + Send + Sync +
         ports.push(listener.local_addr()?.port())?;
         peers.push(thread::spawn(rt, move || serve(alloc, listener, manner))?)?;
     }
-    let conf = conf_of(host, ports[0], ports[1], ports[2])?;
+    let &[a, b, d] = ports.as_slice() else {
+        return Err(anyhow!("a peer has no port"));
+    };
+    let conf = conf_of(host, a, b, d)?;
     let told = row.obey_conf(rt, 1, &conf, feed_from_backlogs());
     // These stay open until the peers have heard them.
     let mut last = Vec::new(alloc);
