@@ -1,6 +1,6 @@
 // Rows of funnels that are followed.
 use crate::feeds::Fast;
-use crate::row::{NOBODY, Row, Told, list_owed, print_told};
+use crate::row::{NOBODY, Row, Told, list_owed, print_lines, print_told};
 use anyhow::{Result, anyhow};
 use commands::{Order, Source};
 use feed::System;
@@ -276,7 +276,10 @@ pub(crate) fn closes<R: AllocGlobal + Threads + Wait + Print + Send + Sync + Dro
     let told = row.obey_conf(rt, FAST, &conf, follow(&path))?;
     let waited = peer.join(rt).unwrap_or(0);
     println!(rt; "a connection each 30 s: {}", waited >= 58)?;
-    print_told(rt, &told)
+    // Whether the line is put off, which is logged, hangs on how much was sent before each close.
+    println!(rt; "status {}", told.status)?;
+    print_lines(rt, "", &told.out)?;
+    print_lines(rt, "", &told.err)
 }
 
 // Closes three connections behind 203: the seconds of the clock from the first to the third.
