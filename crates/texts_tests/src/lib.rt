@@ -1,5 +1,5 @@
 //! Tests of the crates that read and write texts: lines and names, blocks, replies, configurations, stores of articles,
-//! status reports.
+//! segments of a funnel, status reports.
 //!
 //! Has no item of its own, and nothing stands on it. Each module asks the public calls of one crate about rows of
 //! texts: one small function a call tells its answer as octets, and a loop compares that with what the row has. The
@@ -10,6 +10,8 @@
 mod articles;
 #[cfg(test)]
 mod blocks;
+#[cfg(test)]
+mod directories;
 #[cfg(test)]
 mod folders;
 #[cfg(test)]

@@ -1,0 +1,29 @@
+-- The segments of a directory as the numbers of their first lines (profile).
+use Rattle.std.specs.Prelude.{◌≡◌, ◌↔◌, ◌⊎◌, ℕ, ◌+◌, ◌<◌, ◌≤◌, ◌^◌, List, Contains, All}
+use Rattle.std.specs.List.Sorted.{IsStrictlyIncreasing}
+use Rattle.segments.specs.declared.place.Place.{Place}
+
+-- they rise, and each is from 1 to the greatest number of 64 bits
+pub record AreFirsts (firsts : List ℕ) : Type 0 where
+  pub rising : IsStrictlyIncreasing firsts
+  pub within : All (λ first. (1 ≤ first) × (first < 2 ^ 64)) firsts
+
+-- new has this one and what old has
+abbrev pub JoinsOne : List ℕ → ℕ → List ℕ → Type 0
+JoinsOne old first new = (other : ℕ) → Contains new other ↔ ((other ≡ first) ⊎ Contains old other)
+
+-- the last segment that begins at or below the line after the mark, and how many lines lie between
+pub record IsPlaceOf (firsts : List ℕ) (mark : ℕ) (place : Place) : Type 0 where
+  pub there : Contains firsts place.first
+  pub last : (other : ℕ) → Contains firsts other → place.first < other → mark + 1 < other
+  pub skipped : place.first + place.skipped ≡ mark + 1
+
+-- the least one above this number
+pub record IsNext (firsts : List ℕ) (first next : ℕ) : Type 0 where
+  pub there : Contains firsts next
+  pub above : first < next
+  pub least : (other : ℕ) → Contains firsts other → first < other → next ≤ other
+
+-- one that begins below this line
+abbrev pub IsBefore : List ℕ → ℕ → ℕ → Type 0
+IsBefore firsts first other = Contains firsts other × (other < first)
