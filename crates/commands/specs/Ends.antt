@@ -135,7 +135,8 @@ Does says feeds holds old new (Drill path) exit line = DrillsFile (says path.now
 Does says feeds holds old new (Check path verbose) exit line =
     Checks (says path.now) path.now verbose old new exit line
 Does says feeds holds old new (Owed path verbose) exit line =
-    Works (says path.now) feeds.listed feeds.unasked path.now verbose old new exit line
+    Works (says path.now) (λ conf end. feeds.listed conf verbose end) feeds.unasked
+    path.now verbose old new exit line
 Does says feeds holds old new (Feed path source verbose) exit line =
     Works (says path.now) (λ conf end. feeds.fed conf (source_view source) verbose end) feeds.unasked
     path.now verbose old new exit line

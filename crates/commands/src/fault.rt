@@ -15,7 +15,8 @@ use std::io::{self, ErrorKind};
 
 // What stands behind what is wrong with the words.
 const USAGE: &[u8] =
-    b"; usage: innfeed -c FILE [-C] [-x] [-v] [--owed] [--follow] [FUNNEL] | innfeed --drill FILE | innfeed < SCRIPT\n";
+    b"; usage: innfeed -c FILE [-C] [-x] [-v] [--owed] [--follow] [--tidy] [FUNNEL] | innfeed --drill FILE \
+    | innfeed < SCRIPT\n";
 
 /// Why an order did not end well, or how a feed ended.
 #[derive(Drop)]

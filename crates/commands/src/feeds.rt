@@ -98,9 +98,10 @@ pub trait Feeds {
     ghost fed: { Self → Option (List ℕ) → Outcome → Source → Bool → FeedEnd → Self
         → Option (List ℕ) → Type 0 } = { λ _ _ _ _ _ _ _ _. Unit {0} };
 
-    /// What a list of what is owed made of it, and of what was written, in the same way.
-    ghost listed: { Self → Option (List ℕ) → Outcome → FeedEnd → Self
-        → Option (List ℕ) → Type 0 } = { λ _ _ _ _ _ _. Unit {0} };
+    /// What a list of what is owed made of it, and of what was written, by these settings, logging or not, in the same
+    /// way.
+    ghost listed: { Self → Option (List ℕ) → Outcome → Bool → FeedEnd → Self
+        → Option (List ℕ) → Type 0 } = { λ _ _ _ _ _ _ _. Unit {0} };
 
     /// Feeds the peers of these settings from this source, and writes `taken N` for each acknowledged batch of lines.
     /// If `verbose`, what becomes of connections is logged.
@@ -117,7 +118,14 @@ pub trait Feeds {
             (W.contents out.new) };
 
     /// Writes a line for each debt of the peers of these settings, `NAME NUMBER TOKEN ID`, by name and rising number.
-    fn list_owed<W: Write>(&mut self, alloc: Global, conf: Conf, out: &mut W) -> FeedEnd
-        ensures { listed self.old (W.contents out.old) (conf_view conf) result self.new
+    /// If `verbose`, the last line that is acknowledged is logged.
+    fn list_owed<W: Write>(
+        &mut self,
+        alloc: Global,
+        conf: Conf,
+        verbose: bool,
+        out: &mut W,
+    ) -> FeedEnd
+        ensures { listed self.old (W.contents out.old) (conf_view conf) verbose result self.new
             (W.contents out.new) };
 }

@@ -5,10 +5,14 @@
 pub enum Source<'a> {
     /// From nowhere: peers are fed from their backlogs alone.
     Backlogs,
-    /// From the funnel at this path, up to its end.
-    Funnel(&'a str),
-    /// From the funnel at this path, and whatever is added to it, until the run is ended.
-    Follow(&'a str),
+    /// From the funnel at this path, a file or a directory of segments.
+    Funnel {
+        path: &'a str,
+        /// Whether what is added to it is read too, until the run is ended.
+        is_followed: bool,
+        /// Whether segments whose lines are all acknowledged are removed.
+        is_tidied: bool,
+    },
 }
 
 /// What the program is to do.
@@ -23,7 +27,8 @@ pub enum Order<'a> {
         conf: &'a str,
         verbose: bool,
     },
-    /// Print what each peer of the configuration in the file `conf` is owed; if `verbose`, explain a bad configuration.
+    /// Print what each peer of the configuration in the file `conf` is owed; if `verbose`, log the last line that is
+    /// acknowledged, and explain a bad configuration.
     Owed {
         conf: &'a str,
         verbose: bool,

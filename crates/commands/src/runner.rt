@@ -97,7 +97,8 @@ fn perform<'a, F: ReadFile, P: Feeds, S: Read, W: Write>(
         Order::Drill(path) => drill_file(alloc, files, path, out),
         Order::Check { conf, verbose } => check_file(alloc, files, conf, verbose, out),
         Order::Owed { conf, verbose } => {
-            serve(alloc, files, feeds, conf, verbose, Errand::List, out)
+            let errand = Errand::List { verbose };
+            serve(alloc, files, feeds, conf, verbose, errand, out)
         }
         Order::Feed {
             conf,
@@ -201,7 +202,7 @@ fn print_checked<'a, W: Write>(out: &mut W, checked: Checked) -> Result<Exit, Fa
 #[derive(Clone, Copy)]
 enum Errand<'a> {
     // Lists what their peers are owed.
-    List,
+    List { verbose: bool },
     // Feeds their peers.
     Feed { source: Source<'a>, verbose: bool },
 }
@@ -244,7 +245,7 @@ fn run_errand<P: Feeds, W: Write>(
         (W.contents out.new) errand.entry (conf_view conf) result }
 {
     match errand {
-        Errand::List => feeds.list_owed(alloc, conf, out),
+        Errand::List { verbose } => feeds.list_owed(alloc, conf, verbose, out),
         Errand::Feed { source, verbose } => feeds.feed(alloc, conf, source, verbose, out),
     }
 }

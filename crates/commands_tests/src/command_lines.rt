@@ -6,7 +6,7 @@ use std::test::Fail;
 use words::read_words;
 
 // The words of a line, with one space between them, and what they ask for: a name, and what it names.
-const ROWS: [(&str, &str); 56] = [
+const ROWS: [(&str, &str); 77] = [
     ("innfeed", "drill input"),
     ("innfeed -c x.conf -C", "check x.conf"),
     ("innfeed -C -c x.conf", "check x.conf"),
@@ -48,6 +48,63 @@ const ROWS: [(&str, &str); 56] = [
     ("innfeed -c x.conf --owed -x --follow", "owed x.conf"),
     ("innfeed --follow funnel", NEEDS_FILE),
     ("innfeed --drill x.drill --follow", DRILL_ALONE),
+    ("innfeed -c x.conf --tidy a/funnel", "tidy x.conf a/funnel"),
+    (
+        "innfeed --tidy -v -c x.conf funnel",
+        "log tidy x.conf funnel",
+    ),
+    (
+        "innfeed -c x.conf --follow --tidy a/funnel",
+        "follow tidy x.conf a/funnel",
+    ),
+    (
+        "innfeed a/funnel --tidy --follow -vc x.conf",
+        "log follow tidy x.conf a/funnel",
+    ),
+    (
+        "innfeed -c x.conf --tidy",
+        "mistake '--tidy' requires FUNNEL",
+    ),
+    (
+        "innfeed -c x.conf --tidy --follow",
+        "mistake '--follow' requires FUNNEL",
+    ),
+    (
+        "innfeed -c x.conf -x --tidy",
+        "mistake '-x' and '--tidy' cannot be used together",
+    ),
+    (
+        "innfeed -c x.conf -x --tidy funnel",
+        "mistake '-x' and '--tidy' cannot be used together",
+    ),
+    (
+        "innfeed -c x.conf -x --tidy --follow",
+        "mistake '-x' and '--follow' cannot be used together",
+    ),
+    (
+        "innfeed -c x.conf -x --tidy --follow funnel",
+        "mistake '-x' and '--follow' cannot be used together",
+    ),
+    ("innfeed -c x.conf -C --tidy", "check x.conf"),
+    (
+        "innfeed -C --owed -x --follow --tidy -c x.conf funnel",
+        "check x.conf",
+    ),
+    ("innfeed -c x.conf --owed --tidy", "owed x.conf"),
+    (
+        "innfeed -c x.conf --owed --follow --tidy funnel",
+        "owed x.conf",
+    ),
+    ("innfeed -c x.conf --owed -x --tidy", "owed x.conf"),
+    ("innfeed --tidy funnel", NEEDS_FILE),
+    ("innfeed --follow --tidy funnel", NEEDS_FILE),
+    ("innfeed --tidy", NEEDS_FILE),
+    ("innfeed --drill x.drill --tidy", DRILL_ALONE),
+    ("innfeed --tidy --follow --drill x.drill", DRILL_ALONE),
+    (
+        "innfeed -c x.conf --tidy --tidy funnel",
+        "mistake the argument '--tidy' cannot be used multiple times",
+    ),
     ("innfeed -v --drill x.drill", DRILL_ALONE),
     ("innfeed --drill x.drill", "drill x.drill"),
     ("innfeed --drill=x.drill", "drill x.drill"),
@@ -124,6 +181,16 @@ fn joined(alloc: Global, first: &str, second: &str) -> Result<String, AllocError
     Ok(text)
 }
 
+// What is done with a funnel.
+fn done_to_funnel(is_followed: bool, is_tidied: bool) -> &'static str {
+    match (is_followed, is_tidied) {
+        (false, false) => "feed ",
+        (false, true) => "tidy ",
+        (true, false) => "follow ",
+        (true, true) => "follow tidy ",
+    }
+}
+
 // What a feed is asked for with.
 fn feed_text(
     alloc: Global,
@@ -137,8 +204,11 @@ fn feed_text(
     }
     let (what, funnel) = match source {
         Source::Backlogs => ("backlog ", None),
-        Source::Funnel(path) => ("feed ", Some(path)),
-        Source::Follow(path) => ("follow ", Some(path)),
+        Source::Funnel {
+            path,
+            is_followed,
+            is_tidied,
+        } => (done_to_funnel(is_followed, is_tidied), Some(path)),
     };
     text.push_str(what)?;
     text.push_str(conf)?;
@@ -191,7 +261,7 @@ fn help(rt: HostRuntime) -> Result<(), Fail> {
     for line in ["innfeed --help", "innfeed -h"] {
         let help = asked(rt.alloc(), line)?;
         for part in [
-            "Usage: innfeed -c FILE [-C] [-x] [-v] [--owed] [--follow] [FUNNEL]\n",
+            "Usage: innfeed -c FILE [-C] [-x] [-v] [--owed] [--follow] [--tidy] [FUNNEL]\n",
             "\n       innfeed --drill FILE\n",
             "-c <FILE>",
             "-C ",
@@ -199,6 +269,7 @@ fn help(rt: HostRuntime) -> Result<(), Fail> {
             "-v ",
             "--owed ",
             "--follow ",
+            "--tidy ",
             "[FUNNEL]",
             "--drill <FILE>",
             "-h, --help",

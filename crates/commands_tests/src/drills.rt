@@ -125,7 +125,7 @@ const ROWS: [(Asked, OneFile, &[u8], &[u8]); 20] = [
         OneFile("x", Ok(b"")),
         b"",
         b"2\n--\ninnfeed: no option is given; \
-            usage: innfeed -c FILE [-C] [-x] [-v] [--owed] [--follow] [FUNNEL] | innfeed --drill FILE \
+            usage: innfeed -c FILE [-C] [-x] [-v] [--owed] [--follow] [--tidy] [FUNNEL] | innfeed --drill FILE \
             | innfeed < SCRIPT\n",
     ),
 ];

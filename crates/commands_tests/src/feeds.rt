@@ -61,27 +61,75 @@ impl Feeds for Ends {
         verbose: bool,
         out: &mut W,
     ) -> FeedEnd {
-        let what = match source {
-            Source::Backlogs => "no funnel",
-            Source::Funnel(path) => path,
-            Source::Follow(_) => "a funnel that it follows",
+        let (what, more) = match source {
+            Source::Backlogs => ("no funnel", ""),
+            Source::Funnel {
+                path,
+                is_followed,
+                is_tidied,
+            } => (path, done_to_funnel(is_followed, is_tidied)),
         };
         let how = if verbose { " and log" } else { "" };
-        let _ = writeln!(out, "feed {} peers from {what}{how}", conf.peers().len());
+        let _ = writeln!(
+            out,
+            "feed {} peers from {what}{more}{how}",
+            conf.peers().len()
+        );
         self.end(alloc)
     }
 
-    fn list_owed<W: Write>(&mut self, alloc: Global, conf: Conf, out: &mut W) -> FeedEnd {
-        let _ = writeln!(out, "list {} peers", conf.peers().len());
+    fn list_owed<W: Write>(
+        &mut self,
+        alloc: Global,
+        conf: Conf,
+        verbose: bool,
+        out: &mut W,
+    ) -> FeedEnd {
+        let how = if verbose { " and log" } else { "" };
+        let _ = writeln!(out, "list {} peers{how}", conf.peers().len());
         self.end(alloc)
+    }
+}
+
+// What else is done to a funnel.
+fn done_to_funnel(is_followed: bool, is_tidied: bool) -> &'static str {
+    match (is_followed, is_tidied) {
+        (false, false) => "",
+        (false, true) => ", tidied",
+        (true, false) => ", followed",
+        (true, true) => ", followed and tidied",
     }
 }
 
 const CONF: &[u8] = b"peer p { } peer q { }";
 
+const PLAIN: Source<'static> = Source::Funnel {
+    path: "f",
+    is_followed: false,
+    is_tidied: false,
+};
+
+const FOLLOWED: Source<'static> = Source::Funnel {
+    path: "f",
+    is_followed: true,
+    is_tidied: false,
+};
+
+const TIDIED: Source<'static> = Source::Funnel {
+    path: "f",
+    is_followed: false,
+    is_tidied: true,
+};
+
+const FOLLOWED_AND_TIDIED: Source<'static> = Source::Funnel {
+    path: "f",
+    is_followed: true,
+    is_tidied: true,
+};
+
 // What is asked for, how the feed ends, the file of the configuration, and what is told: the status, standard output,
 // and standard error.
-const ROWS: [(Asked, &str, OneFile, &[u8]); 15] = [
+const ROWS: [(Asked, &str, OneFile, &[u8]); 19] = [
     (
         Asked::FeedLogged("x", "f"),
         "",
@@ -89,10 +137,28 @@ const ROWS: [(Asked, &str, OneFile, &[u8]); 15] = [
         b"0\nfeed 2 peers from f and log\n--\n",
     ),
     (
-        Asked::Feed("x", Source::Funnel("f")),
+        Asked::Feed("x", PLAIN),
         "",
         OneFile("x", Ok(CONF)),
         b"0\nfeed 2 peers from f\n--\n",
+    ),
+    (
+        Asked::Feed("x", FOLLOWED),
+        "",
+        OneFile("x", Ok(CONF)),
+        b"0\nfeed 2 peers from f, followed\n--\n",
+    ),
+    (
+        Asked::Feed("x", TIDIED),
+        "",
+        OneFile("x", Ok(CONF)),
+        b"0\nfeed 2 peers from f, tidied\n--\n",
+    ),
+    (
+        Asked::Feed("x", FOLLOWED_AND_TIDIED),
+        "",
+        OneFile("x", Ok(CONF)),
+        b"0\nfeed 2 peers from f, followed and tidied\n--\n",
     ),
     (
         Asked::Feed("x", Source::Backlogs),
@@ -105,6 +171,12 @@ const ROWS: [(Asked, &str, OneFile, &[u8]); 15] = [
         "",
         OneFile("x", Ok(CONF)),
         b"0\nlist 2 peers\n--\n",
+    ),
+    (
+        Asked::OwedExplained("x"),
+        "",
+        OneFile("x", Ok(CONF)),
+        b"0\nlist 2 peers and log\n--\n",
     ),
     (
         Asked::Owed("x"),

@@ -98,7 +98,11 @@ pub fn order_of(alloc: Global, asked: Asked) -> Result<Order<'static>, AllocErro
         },
         Asked::FeedLogged(conf, funnel) => Order::Feed {
             conf,
-            source: Source::Funnel(funnel),
+            source: Source::Funnel {
+                path: funnel,
+                is_followed: false,
+                is_tidied: false,
+            },
             verbose: true,
         },
         Asked::Tell(text) => Order::Tell(String::from_str(alloc, text)?),

@@ -1,4 +1,3 @@
 mod Counts
 mod OneEach
-mod Passes
 mod PlanLists

@@ -1,4 +1,3 @@
-pub mod Funnel
 pub mod Nowhere
 pub mod OpenFiles
 pub mod Plans

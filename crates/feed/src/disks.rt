@@ -7,8 +7,9 @@ use recovery::TapeFault;
 use std::alloc::Global;
 use std::fs::File;
 use std::io::{self, ErrorKind};
-use std::rt::Files;
+use std::rt::{Clock, Files};
 use std::str;
+use std::time::Duration;
 
 /// The backlog directory, locked, and the files of the tapes in it, as far as they could be opened: the peers' by name,
 /// and the intake's last.
@@ -23,12 +24,19 @@ pub(crate) struct Disks {
     pub missed: Option<Trouble>,
 }
 
+// How often a lock that is taken is tried again: a list of what is owed holds a shared one for a moment.
+const TRIES: u32 = 20;
+
+// After how many milliseconds it is tried again.
+const PAUSE: u64 = 100;
+
 /// Locks the backlog directory at this path and opens the files of these peers and of the intake, makes those that are
-/// missing, and makes their names durable.
+/// missing, and makes their names durable. It waits for the lock for 2 seconds at most.
 ///
 /// # Errors
 /// The directory's. What is wrong with the directory itself is told of the first tape.
-pub(crate) fn open_disks<F: AllocGlobal + Files<File = File>>(
+pub(crate) fn open_disks<R: Clock, F: AllocGlobal + Files<File = File>>(
+    rt: &R,
     files: &F,
     path: &[u8],
     peers: &[PeerConf],
@@ -40,7 +48,7 @@ pub(crate) fn open_disks<F: AllocGlobal + Files<File = File>>(
         return Err(Trouble::unopened(alloc, first, path, invalid));
     };
     let mut disks = Disks {
-        directory: lock(files, path, first)?,
+        directory: lock(rt, files, path, first)?,
         path: String::from_str(alloc, path)?,
         files: Vec::new(alloc),
         missed: None,
@@ -63,13 +71,14 @@ fn first_name(peers: &[PeerConf]) -> &[u8] {
     }
 }
 
-fn lock<F: AllocGlobal + Files<File = File>>(
+fn lock<R: Clock, F: AllocGlobal + Files<File = File>>(
+    rt: &R,
     files: &F,
     path: &str,
     first: &[u8],
 ) -> Result<TapeDirectory, Trouble> {
     let alloc = files.alloc();
-    match TapeDirectory::lock(files, path) {
+    match lock_soon(rt, files, path) {
         Ok(directory) => Ok(directory),
         Err(DirectoryFault::Taken) => {
             Err(Trouble::Tape(TapeTrouble::Taken(String::from_str(alloc, path)?)))
@@ -78,6 +87,21 @@ fn lock<F: AllocGlobal + Files<File = File>>(
             Err(Trouble::unopened(alloc, first, path.as_bytes(), error))
         }
     }
+}
+
+// Locks the directory at this path, and tries again if it is taken.
+fn lock_soon<R: Clock, F: AllocGlobal + Files<File = File>>(
+    rt: &R,
+    files: &F,
+    path: &str,
+) -> Result<TapeDirectory, DirectoryFault> {
+    for _try in 0..TRIES {
+        match TapeDirectory::lock(files, path) {
+            Err(DirectoryFault::Taken) => rt.sleep(Duration::from_millis(PAUSE)),
+            locked => return locked,
+        }
+    }
+    TapeDirectory::lock(files, path)
 }
 
 // Opens the file of one more tape, unless one was missed before.

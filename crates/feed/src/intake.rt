@@ -2,7 +2,6 @@
 ghost use Rattle.std.specs.Prelude.{◌≤◌};
 
 use crate::leaving::Left;
-use crate::lines::{Funnel, Next};
 use crate::nowhere::Nowhere;
 use crate::progress::Progress;
 use crate::status_file::StatusFile;
@@ -12,6 +11,7 @@ use commands::FeedEnd;
 use disk_model::Disk;
 use flusher::{IntakeShare, Naming, Pace, Post, PostFault, Receipt, Signals, Work};
 use funnel::{FunnelLine, LineFault, PeerName, read_line};
+use funnel_files::{Funnel, Next};
 use log::Log;
 use mio::Waker;
 use peer_queue::StationFault;
@@ -58,13 +58,15 @@ struct Ordered {
 pub(crate) struct Intake<'a, F, W, N: Naming> {
     pub alloc: Global,
     pub share: IntakeShare<N>,
-    pub funnel: Option<Funnel>,
+    pub funnel: Option<Funnel<'a, F>>,
     pub out: &'a mut W,
     pub wakers: (Arc<Waker>, Arc<Waker>),
     pub names: &'a [PeerName],
     pub status: StatusFile<'a, F>,
     pub progress: Progress,
     pub nowhere: Nowhere,
+    /// All lines up to the one of this number are acknowledged: by the intake's tape as it was opened, or by a receipt.
+    pub acknowledged: u64,
     /// When it was told last which lines go nowhere.
     pub told: Instant,
     pub left: &'a Left,
@@ -83,7 +85,7 @@ impl<F: AllocGlobal + Files<File = File>, W: Write, N: Naming> Intake<'_, F, W, 
         rt: &R,
         post: &Post<D, N>,
         signals: &Signals,
-        funnel: &mut Funnel,
+        funnel: &mut Funnel<'_, F>,
     ) -> Result<(), Trouble> {
         let mut ordered = None;
         for _ in rt.forever() {
@@ -92,13 +94,15 @@ impl<F: AllocGlobal + Files<File = File>, W: Write, N: Naming> Intake<'_, F, W, 
                 return Ok(());
             }
             ordered = self.order(signals, &batch);
-            if batch.count < BATCH {
-                // Nothing more is there now.
-                if !self.acknowledge(rt, signals, ordered.take())? || batch.is_last {
-                    return Ok(());
-                }
+            // If it is not full, nothing more is there now.
+            if batch.count < BATCH && !self.acknowledge(rt, signals, ordered.take())? {
+                return Ok(());
             }
-            self.look_after(rt, post, &funnel.path);
+            self.tidy(rt, funnel)?;
+            if batch.is_last {
+                return Ok(());
+            }
+            self.look_after(rt, post, funnel.path());
             if self.is_to_end(rt) {
                 self.acknowledge(rt, signals, ordered)?;
                 return Ok(());
@@ -114,7 +118,7 @@ impl<F: AllocGlobal + Files<File = File>, W: Write, N: Naming> Intake<'_, F, W, 
         rt: &R,
         post: &Post<D, N>,
         signals: &Signals,
-        funnel: &mut Funnel,
+        funnel: &mut Funnel<'_, F>,
     ) -> Result<Batch, Trouble> {
         let mut batch = Batch {
             count: 0,
@@ -151,14 +155,14 @@ impl<F: AllocGlobal + Files<File = File>, W: Write, N: Naming> Intake<'_, F, W, 
 
     // What comes next of the funnel. If it cannot be read on, which is noted, or if no line may be taken any more, that
     // is its end.
-    fn next_line<R: Log>(&mut self, rt: &R, signals: &Signals, funnel: &mut Funnel) -> Next {
+    fn next_line<R: Log>(&mut self, rt: &R, signals: &Signals, funnel: &mut Funnel<'_, F>) -> Next {
         if signals.is_stopped() || signals.has_lost_tape() {
             return Next::End;
         }
         match funnel.next() {
             Ok(next) => next,
-            Err(error) => {
-                Trouble::unread(rt, self.alloc, &funnel.path, &error).add_to(&mut self.end);
+            Err(fault) => {
+                Trouble::funnel(rt, self.alloc, funnel.path(), fault).add_to(&mut self.end);
                 Next::End
             }
         }
@@ -279,11 +283,20 @@ impl<F: AllocGlobal + Files<File = File>, W: Write, N: Naming> Intake<'_, F, W, 
         requires { last ≤ receipt.now.number }
     {
         let _ = receipt;
+        self.acknowledged = last;
         self.out.write_all(b"taken ")?;
         self.out
             .write_all(itoa::Buffer::new().format(last).as_bytes())?;
         self.out.write_all(b"\n")?;
         self.out.flush()
+    }
+
+    // Has the funnel remove the segments all of whose lines are acknowledged, if it is tidied.
+    fn tidy<R: Log>(&self, rt: &R, funnel: &mut Funnel<'_, F>) -> Result<(), Trouble> {
+        match funnel.tidy(self.acknowledged) {
+            Ok(()) => Ok(()),
+            Err(fault) => Err(Trouble::funnel(rt, self.alloc, funnel.path(), fault)),
+        }
     }
 
     // Wakes both feeders.
@@ -332,7 +345,7 @@ impl<F: AllocGlobal + Files<File = File>, W: Write, N: Naming> Intake<'_, F, W, 
         rt: &R,
         post: &Post<D, N>,
         signals: &Signals,
-        funnel: &mut Option<Funnel>,
+        funnel: &mut Option<Funnel<'_, F>>,
     ) {
         if let Some(funnel) = funnel
             && let Err(trouble) = self.take_funnel(rt, post, signals, funnel)
@@ -371,7 +384,7 @@ impl<D: Disk, F: AllocGlobal + Files<File = File>, W: Write, N: Naming> Work<D, 
         let mut funnel = self.funnel.take();
         self.take_all(rt, post, signals, &mut funnel);
         let path: &[u8] = match &funnel {
-            Some(funnel) => &funnel.path,
+            Some(funnel) => funnel.path(),
             None => b"",
         };
         for _ in rt.forever() {

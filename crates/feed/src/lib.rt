@@ -1,5 +1,5 @@
 //! A whole run of the feeder: tapes and funnel are opened, two feeders, the flusher and the intake run in their
-//! threads, and the status file is written; and the list of what is owed.
+//! threads, and the status file is written.
 //!
 //! May touch the backlog directory, the funnel, the status file, sockets, the clock and threads. The crates above give
 //! [`SystemFeeds`] to `commands::run`, which tells what came of it. What is acknowledged, sent and owed is kept by the
@@ -7,11 +7,8 @@
 #![tactic(auto)]
 
 mod disks;
-mod funnel_file;
 mod intake;
 mod leaving;
-mod lines;
-mod list;
 mod machine;
 mod nowhere;
 mod open_files;
@@ -23,7 +20,6 @@ mod stop_file;
 mod system;
 mod tapes;
 mod trouble;
-mod watch;
 
 pub use machine::{Machine, System};
 pub use system::{SystemFeeds, feed_with};

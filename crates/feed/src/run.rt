@@ -4,7 +4,6 @@ ghost use Rattle.flusher.specs.Post.{names_of};
 
 use crate::intake::Intake;
 use crate::leaving::{Leaving, Left};
-use crate::lines::Funnel;
 use crate::nowhere::Nowhere;
 use crate::open_files::most_connections;
 use crate::plans::{by_name, hosts_of, plans_of};
@@ -24,6 +23,7 @@ use flusher::{
     run_threads,
 };
 use funnel::PeerName;
+use funnel_files::Funnel;
 use log::{Log, info};
 use mio::Waker;
 use recovery::Tape;
@@ -57,7 +57,7 @@ struct Prepared<'a, S, F> {
     plans: (Vec<PeerPlan>, Vec<PeerPlan>),
     hosts: Vec<Host>,
     spools: (Spool<S>, Spool<S>),
-    funnel: Option<Funnel>,
+    funnel: Option<Funnel<'a, F>>,
     status: Vec<u8>,
     // What asks the run to end, if it follows its funnel.
     stop: Option<StopFile<'a, F>>,
@@ -94,7 +94,7 @@ pub(crate) fn feed<
         directory: tapes,
         peers: stations,
         intake,
-    } = open_tapes(means.files, &directory, &peers)?;
+    } = open_tapes(means.rt, means.files, &directory, &peers)?;
     let stop = stop_file(means, source, &directory)?;
     let funnel = open_funnel(means, source, intake.mark())?;
     let prepared = prepare(means, &peers, &spool, funnel, stop, status)?;
@@ -117,7 +117,7 @@ fn prepare<'a, R: Clock + Log, F: AllocGlobal, S: Drop, H: Spools<Store = S>, C,
     means: &Means<'a, R, F, H, C, L>,
     peers: &[PeerConf],
     spool: &[u8],
-    funnel: Option<Funnel>,
+    funnel: Option<Funnel<'a, F>>,
     stop: Option<StopFile<'a, F>>,
     status: Vec<u8>,
 ) -> Result<Prepared<'a, S, F>, Trouble> {
@@ -187,6 +187,7 @@ fn work<
         × (blanks.dropped.stations.parts ≡ length stations.items) }
 {
     let alloc = means.files.alloc();
+    let acknowledged = intake.mark();
     let (post, share, one, other, third) = Post::<FileDisk<TapeFile>, N>::new(
         alloc, stations, intake, blanks,
     )?;
@@ -225,6 +226,7 @@ fn work<
         status: StatusFile::new(means.files, status, start),
         progress: Progress::new(alloc, start),
         nowhere: Nowhere::new(alloc),
+        acknowledged,
         told: start,
         left: &left,
         stop,
@@ -278,11 +280,14 @@ fn stop_file<'a, R: Log, F: AllocGlobal + Files<File = File>, H, C, L>(
     directory: &[u8],
 ) -> Result<Option<StopFile<'a, F>>, Trouble> {
     match source {
-        Source::Follow(_) => {
+        Source::Funnel {
+            is_followed: true,
+            ..
+        } => {
             let directory = str::from_utf8(directory).unwrap_or("");
             Ok(Some(StopFile::new(means.rt, means.files, directory)?))
         }
-        Source::Backlogs | Source::Funnel(_) => Ok(None),
+        Source::Backlogs | Source::Funnel { .. } => Ok(None),
     }
 }
 
@@ -427,19 +432,29 @@ fn add_owing(name: &PeerName, owed: u64, end: &mut FeedEnd) -> Result<(), AllocE
 }
 
 // Opens the funnel, behind the lines that are acknowledged. One that has not all of them is another, and is not read.
-fn open_funnel<R: Log, F: AllocGlobal + Files<File = File>, H, C: Net, L>(
-    means: &Means<'_, R, F, H, C, L>,
+fn open_funnel<'a, R: Log, F: AllocGlobal + Files<File = File>, H, C: Net, L>(
+    means: &Means<'a, R, F, H, C, L>,
     source: Source<'_>,
     acknowledged: u64,
-) -> Result<Option<Funnel>, Trouble> {
+) -> Result<Option<Funnel<'a, F>>, Trouble> {
     let alloc = means.files.alloc();
-    let (path, is_followed) = match source {
-        Source::Backlogs => return Ok(None),
-        Source::Funnel(path) => (path, false),
-        Source::Follow(path) => (path, true),
+    let Source::Funnel {
+        path,
+        is_followed,
+        is_tidied,
+    } = source
+    else {
+        return Ok(None);
     };
-    match Funnel::open(means.files, &means.net, path, acknowledged, is_followed) {
+    match Funnel::open(
+        means.files,
+        &means.net,
+        path,
+        acknowledged,
+        is_followed,
+        is_tidied,
+    ) {
         Ok(funnel) => Ok(Some(funnel)),
-        Err(error) => Err(Trouble::unread(means.rt, alloc, path.as_bytes(), &error)),
+        Err(fault) => Err(Trouble::funnel(means.rt, alloc, path.as_bytes(), fault)),
     }
 }

@@ -1,11 +1,12 @@
 // What `commands` has feed peers.
-use crate::list::list_owed;
 use crate::machine::Machine;
+use crate::plans::by_name;
 use crate::run::{Means, feed};
 use article_store::Folder;
 use commands::{FeedEnd, Feeds, Source};
 use feed_conf::Conf;
 use log::Log;
+use owed_list::list_owed;
 use resolver::{LookUp, SystemLookUp};
 use std::alloc::{AllocError, Global};
 use std::fs::File;
@@ -107,11 +108,21 @@ impl<R: Threads + Wait + Send + Sync + 'static, F: AllocGlobal + Files<File = Fi
         feed_with(&rt, self.files, self.host, look_up, conf, source, out)
     }
 
-    fn list_owed<W: Write>(&mut self, alloc: Global, conf: Conf, out: &mut W) -> FeedEnd {
-        let mut end = FeedEnd::well(alloc);
-        if let Err(trouble) = list_owed(self.files, conf, out) {
-            trouble.add_to(&mut end);
+    fn list_owed<W: Write>(
+        &mut self,
+        alloc: Global,
+        conf: Conf,
+        verbose: bool,
+        out: &mut W,
+    ) -> FeedEnd {
+        let rt = Machine::<R, HostRuntime>::new(self.host, self.host, verbose);
+        match Vec::from_slice(alloc, conf.backlog_directory()) {
+            Ok(directory) => list_owed(&rt, self.files, &directory, &by_name(conf), out),
+            Err(_) => {
+                let mut end = FeedEnd::well(alloc);
+                end.lacks = true;
+                end
+            }
         }
-        end
     }
 }

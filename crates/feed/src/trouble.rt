@@ -6,6 +6,7 @@ use commands::{FeedEnd, FileTrouble, TapeTrouble};
 use feeder::FeederFault;
 use flusher::PostFault;
 use funnel::PeerName;
+use funnel_files::FunnelFault;
 use ledger_core::LedgerFault;
 use log::{Log, info};
 use peer_queue::StationFault;
@@ -79,6 +80,21 @@ impl Trouble {
         match (error.kind(), Vec::from_slice(alloc, path)) {
             (ErrorKind::OutOfMemory, _) | (_, Err(_)) => Trouble::Lack,
             (_, Ok(path)) => Trouble::File(FileTrouble::Unread(path)),
+        }
+    }
+
+    /// The funnel at this path was not read on for this fault, which is logged; or a segment of it was not removed.
+    pub fn funnel<R: Log>(rt: &R, alloc: Global, path: &[u8], fault: FunnelFault) -> Self {
+        let fault = match fault {
+            FunnelFault::Unremoved { path, reason } => {
+                return Trouble::unremoved(rt, alloc, path.as_bytes(), &reason);
+            }
+            fault => fault,
+        };
+        info!(rt; "cannot read {}: {}", text_of(path), fault);
+        match (fault.is_no_memory(), Vec::from_slice(alloc, path)) {
+            (true, _) | (_, Err(_)) => Trouble::Lack,
+            (false, Ok(path)) => Trouble::File(FileTrouble::Unread(path)),
         }
     }
 

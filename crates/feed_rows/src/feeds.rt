@@ -78,7 +78,13 @@ impl<R: Threads + Wait + Send + Sync + Drop + 'static> Feeds for FastFeeds<'_, R
         feed_with(&rt, self.files, host, SystemLookUp(host), conf, source, out)
     }
 
-    fn list_owed<W: Write>(&mut self, alloc: Global, conf: Conf, out: &mut W) -> FeedEnd {
-        self.plain.list_owed(alloc, conf, out)
+    fn list_owed<W: Write>(
+        &mut self,
+        alloc: Global,
+        conf: Conf,
+        verbose: bool,
+        out: &mut W,
+    ) -> FeedEnd {
+        self.plain.list_owed(alloc, conf, verbose, out)
     }
 }

@@ -27,7 +27,11 @@ const CLOSES: u64 = 50;
 fn follow(path: &String) -> Order<'_> {
     Order::Feed {
         conf: "conf",
-        source: Source::Follow(path.as_str()),
+        source: Source::Funnel {
+            path: path.as_str(),
+            is_followed: true,
+            is_tidied: false,
+        },
         verbose: false,
     }
 }

@@ -5,6 +5,7 @@
 #![tactic(auto)]
 
 mod clock;
+mod directories;
 mod feeds;
 mod follow;
 mod funnels;
@@ -14,6 +15,7 @@ mod row;
 
 use anyhow::Result;
 use clock::{status, waits};
+use directories::read_directories;
 use follow::{closes, grows, idle};
 use funnels::{long_funnel, nowhere, shed, silent_pipe};
 use peer::Manner;
@@ -83,6 +85,7 @@ fn main(rt: HostRuntime) -> Result<()> {
     grows(&rt, rt)?;
     idle(&rt, rt)?;
     closes(&rt, rt)?;
+    read_directories(&rt, rt)?;
     fs::remove_dir_all(&rt, "rows")?;
     Ok(())
 }

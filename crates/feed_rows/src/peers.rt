@@ -81,7 +81,11 @@ fn conf_of(host: HostRuntime, a: u16, b: u16, d: u16) -> Result<String> {
 pub(crate) fn feed_from(path: &String) -> Order<'_> {
     Order::Feed {
         conf: "conf",
-        source: Source::Funnel(path.as_str()),
+        source: Source::Funnel {
+            path: path.as_str(),
+            is_followed: false,
+            is_tidied: false,
+        },
         verbose: false,
     }
 }

@@ -215,7 +215,11 @@ impl Row {
         let order = Order::Feed {
             conf: "conf",
             source: if funnel {
-                Source::Funnel(path.as_str())
+                Source::Funnel {
+                    path: path.as_str(),
+                    is_followed: false,
+                    is_tidied: false,
+                }
             } else {
                 Source::Backlogs
             },

@@ -3,19 +3,23 @@ use Rattle.std.specs.Prelude.{◌≡◌, ◌⊎◌, List, ℕ, Bool, true, false
 use Rattle.std.specs.Prelude.{option_map}
 use Rattle.commands.specs.declared.order.Order.{Order}
 use Rattle.commands.specs.declared.order.Source.{Source}
-use Rattle.commands.specs.declared.order.Source.TheVariants.{Backlogs, Funnel, Follow}
+use Rattle.commands.specs.declared.order.Source.TheVariants.{Backlogs, Funnel}
 use Rattle.commands.specs.declared.order.Order.TheVariants.{DrillFromInput, Drill, Check, Owed, Feed, Tell, Mistake}
 use Rattle.words.specs.declared.words.Given.{Given}
 
+-- It is said where the lines of a feed come from: `-x` without `--follow` and `--tidy`, or a funnel without `-x`.
+abbrev pub HasSource : Given → Type 0
+HasSource given = ((given.backlog ≡ true) × (given.follow ≡ false) × (given.tidy ≡ false))
+    ⊎ ((given.backlog ≡ false) × IsSome given.funnel)
+
 -- something is asked for on a configuration
 abbrev pub HasOrder : Given → Type 0
-HasOrder given = (given.check ≡ true) ⊎ (given.owed ≡ true) ⊎ ((given.backlog ≡ true) × (given.follow ≡ false))
-    ⊎ ((given.backlog ≡ false) × IsSome given.funnel)
+HasOrder given = (given.check ≡ true) ⊎ (given.owed ≡ true) ⊎ HasSource given
 
 -- something stands there but `-c FILE` and `--drill FILE`
 abbrev pub HasMore : Given → Type 0
-HasMore given = (given.verbose ≡ true) ⊎ (given.follow ≡ true) ⊎ (given.check ≡ true) ⊎ (given.owed ≡ true)
-    ⊎ (given.backlog ≡ true) ⊎ IsSome given.funnel
+HasMore given = (given.verbose ≡ true) ⊎ (given.follow ≡ true) ⊎ (given.tidy ≡ true) ⊎ (given.check ≡ true)
+    ⊎ (given.owed ≡ true) ⊎ (given.backlog ≡ true) ⊎ IsSome given.funnel
 
 -- A drill's file, and nothing beside it.
 abbrev pub AsksDrill : List ℕ → Given → Type 0
@@ -30,13 +34,11 @@ AsksCheck verbose given = (given.check ≡ true) × (verbose ≡ given.verbose)
 abbrev pub AsksOwed : Bool → Given → Type 0
 AsksOwed verbose given = (given.check ≡ false) × (given.owed ≡ true) × (verbose ≡ given.verbose)
 
--- from the backlogs alone with `-x`, else from the funnel, which is followed with `--follow`
+-- from the backlogs alone with `-x`, else from the funnel, which is followed with `--follow` and tidied with `--tidy`
 abbrev pub AsksSource : Source → Given → Type 0
-AsksSource Backlogs given = (given.backlog ≡ true) × (given.follow ≡ false)
-AsksSource (Funnel path) given = (given.backlog ≡ false) × (given.follow ≡ false)
-    × (option_map (λ file. file.now) given.funnel ≡ Some path.now)
-AsksSource (Follow path) given = (given.backlog ≡ false) × (given.follow ≡ true)
-    × (option_map (λ file. file.now) given.funnel ≡ Some path.now)
+AsksSource Backlogs given = (given.backlog ≡ true) × (given.follow ≡ false) × (given.tidy ≡ false)
+AsksSource (Funnel path followed tidied) given = (given.backlog ≡ false) × (followed ≡ given.follow)
+    × (tidied ≡ given.tidy) × (option_map (λ file. file.now) given.funnel ≡ Some path.now)
 
 -- Else the peers are fed; with `-v` it is logged.
 abbrev pub AsksFeed : Source → Bool → Given → Type 0

@@ -1,23 +1,24 @@
 // The words of the command line, and what they ask for (docs/MANUAL.md).
-ghost use Rattle.std.specs.Prelude.{◌≡◌, ◌≢◌, ◌≤◌, ◌↔◌, ◌⊎◌, length, Ok, Err, IfOk};
-ghost use Rattle.std.specs.Prelude.{IsTrue, codes, option_map, alloc_error};
+ghost use Rattle.std.specs.Prelude.{◌≡◌, ◌≢◌, ◌≤◌, ◌↔◌, ◌⊎◌, length};
+ghost use Rattle.std.specs.Prelude.{Ok, Err, IfOk, IsErr, IsTrue, codes, option_map, alloc_error};
 ghost use Rattle.clap.specs.Words.{first_value, found_of, kind_of, one_text};
-ghost use Rattle.words.specs.Words.{Asks, AsksOf, HasMore, IsFlag, IsMistaken, IsTold};
+ghost use Rattle.words.specs.Words.{Asks, AsksOf, AsksSource, HasMore, HasSource, IsFlag, IsMistaken, IsTold};
 
 use clap::error::ErrorKind;
 use clap::{Arg, ArgAction, ArgMatches, Command, Error};
 use commands::{Order, Source, VERSION};
 use std::alloc::{AllocError, Global};
 
-const USAGE: &str =
-    "innfeed -c FILE [-C] [-x] [-v] [--owed] [--follow] [FUNNEL]\n       innfeed --drill FILE\n       innfeed < SCRIPT";
+const USAGE: &str = "innfeed -c FILE [-C] [-x] [-v] [--owed] [--follow] [--tidy] [FUNNEL]
+       innfeed --drill FILE
+       innfeed < SCRIPT";
 
 const ABOUT: &str =
-    "The outgoing feeder of a news server: offers its peers the articles of a funnel file and of their backlogs.";
+    "The outgoing feeder of a news server: offers its peers the articles of a funnel and of their backlogs.";
 
 const MORE: &str =
-    "-C takes precedence over --owed, and --owed over -x and --follow. With -C, --owed or -x FUNNEL is ignored;
-otherwise it is required.
+    "-C takes precedence over --owed, and --owed over -x, --follow and --tidy. With -C, --owed or -x FUNNEL is
+ignored; otherwise it is required.
 Without arguments a drill script is read from standard input.
 
 Exit status: 0 success; 1 bad configuration, malformed drill script or refused step; 2 usage error;
@@ -48,6 +49,7 @@ struct Given<'a> {
     owed: bool,
     backlog: bool,
     follow: bool,
+    tidy: bool,
     verbose: bool,
     funnel: Option<&'a str>,
     drill: Option<&'a str>,
@@ -66,8 +68,8 @@ fn command<'a>(alloc: Global) -> Result<Command<'a>, AllocError> {
             "Run this drill script, and print what each step does and what is queued for each peer",
         );
     let funnel = Arg::new(alloc, "funnel").value_name("FUNNEL").help(
-        "Read articles to feed from this file: lines of a token, a message-id and peers; continue \
-            after the last acknowledged line",
+        "Read articles to feed from this file, or from the segments in this directory: lines of a \
+            token, a message-id and peers; continue after the last acknowledged line",
     );
     Command::new(alloc, "innfeed")
         .version(VERSION)
@@ -79,6 +81,7 @@ fn command<'a>(alloc: Global) -> Result<Command<'a>, AllocError> {
         .arg(owed_flag(alloc))?
         .arg(backlog_flag(alloc))?
         .arg(follow_flag(alloc))?
+        .arg(tidy_flag(alloc))?
         .arg(verbose_flag(alloc))?
         .arg(drill)?
         .arg(funnel)
@@ -118,6 +121,13 @@ fn follow_flag<'a>(alloc: Global) -> Arg<'a> {
         )
 }
 
+fn tidy_flag<'a>(alloc: Global) -> Arg<'a> {
+    Arg::new(alloc, "tidy")
+        .long("tidy")
+        .action(ArgAction::SetTrue)
+        .help("Remove segments of FUNNEL whose lines are all acknowledged; FUNNEL is a directory")
+}
+
 fn verbose_flag<'a>(alloc: Global) -> Arg<'a> {
     Arg::new(alloc, "verbose")
         .short('v')
@@ -140,6 +150,7 @@ fn given_by<'a>(matches: &ArgMatches<'a>) -> Given<'a>
     ensures owed { IsFlag (one_text (found_of matches.now) (codes "owed")) result.owed }
     ensures backlog { IsFlag (one_text (found_of matches.now) (codes "backlog")) result.backlog }
     ensures follow { IsFlag (one_text (found_of matches.now) (codes "follow")) result.follow }
+    ensures tidy { IsFlag (one_text (found_of matches.now) (codes "tidy")) result.tidy }
     ensures verbose { IsFlag (one_text (found_of matches.now) (codes "verbose")) result.verbose }
 {
     Given {
@@ -148,6 +159,7 @@ fn given_by<'a>(matches: &ArgMatches<'a>) -> Given<'a>
         owed: matches.get_flag("owed"),
         backlog: matches.get_flag("backlog"),
         follow: matches.get_flag("follow"),
+        tidy: matches.get_flag("tidy"),
         verbose: matches.get_flag("verbose"),
         funnel: matches.get_str("funnel"),
         drill: matches.get_str("drill"),
@@ -160,6 +172,7 @@ fn has_more(given: &Given<'_>) -> bool
 {
     given.verbose
         || given.follow
+        || given.tidy
         || given.check
         || given.owed
         || given.backlog
@@ -194,19 +207,34 @@ fn order_on<'a>(alloc: Global, conf: &'a str, given: Given<'a>) -> Result<Order<
             verbose: given.verbose,
         });
     }
-    let source = match (given.backlog, given.follow, given.funnel) {
-        (true, false, _) => Source::Backlogs,
-        (true, true, _) => return mistake(alloc, "'-x' and '--follow' cannot be used together"),
-        (false, true, Some(path)) => Source::Follow(path),
-        (false, false, Some(path)) => Source::Funnel(path),
-        (false, true, None) => return mistake(alloc, "'--follow' requires FUNNEL"),
-        (false, false, None) => return mistake(alloc, "FUNNEL or '-x' is required"),
-    };
-    Ok(Order::Feed {
-        conf,
-        source,
-        verbose: given.verbose,
-    })
+    match source_of(&given) {
+        Ok(source) => Ok(Order::Feed {
+            conf,
+            source,
+            verbose: given.verbose,
+        }),
+        Err(what) => mistake(alloc, what),
+    }
+}
+
+// Where the lines of a feed come from, or what is wrong with what is said of it.
+fn source_of<'a>(given: &Given<'a>) -> Result<Source<'a>, &'static str>
+    ensures ok { IfOk result (λ source. AsksSource source given.now) }
+    ensures mistake { IsErr result ↔ (HasSource given.now → ⊥) }
+{
+    match (given.backlog, given.funnel) {
+        (true, _) if given.follow => Err("'-x' and '--follow' cannot be used together"),
+        (true, _) if given.tidy => Err("'-x' and '--tidy' cannot be used together"),
+        (true, _) => Ok(Source::Backlogs),
+        (false, Some(path)) => Ok(Source::Funnel {
+            path,
+            is_followed: given.follow,
+            is_tidied: given.tidy,
+        }),
+        (false, None) if given.follow => Err("'--follow' requires FUNNEL"),
+        (false, None) if given.tidy => Err("'--tidy' requires FUNNEL"),
+        (false, None) => Err("FUNNEL or '-x' is required"),
+    }
 }
 
 fn mistake<'a>(alloc: Global, what: &str) -> Result<Order<'a>, AllocError>

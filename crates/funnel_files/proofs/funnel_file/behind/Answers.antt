@@ -1,5 +1,5 @@
-use Rattle.feed.proofs.Passes.{behind_short}
-use Rattle.feed.proofs.funnel_file.behind.Goals as goal
+use Rattle.funnel_files.proofs.Passes.{behind_short}
+use Rattle.funnel_files.proofs.funnel_file.behind.Goals as goal
 
 pub returns-in-None-clause-missing : goal.returns-in-None-clause-missing
 returns-in-None-clause-missing c =

@@ -1,8 +1,7 @@
-use Rattle.std.specs.Prelude.{◌≡◌, ◌+◌, ◌<◌, ◌⊎◌, [], ℕ, List}
-use Rattle.std.specs.Io.KnownBytes.{Consumes}
-use Rattle.feed.specs.Funnel.{IsPassing}
+use Rattle.std.specs.Prelude.{[]}
+use Rattle.funnel_files.specs.Funnel.{IsPassing}
 use Rattle.funnel.specs.Stream.{StandsFor}
-use Rattle.feed.proofs.funnel_file.FunnelFile.skip.Given as goal
+use Rattle.funnel_files.proofs.funnel_file.FunnelFile.skip.Given as goal
 
 -- what was read so far ends some of the lines
 abbrev pub invariant-loop : goal.invariant-loop

@@ -1,15 +1,50 @@
 // The lines of a funnel, of whatever gives its octets.
 ghost use Rattle.std.specs.Prelude.{◌≡◌, ◌+◌, ◌<◌, ◌≤◌, [], IfErr, IfOk, OnOk, OnErr, length, take};
+ghost use Rattle.std.specs.Prelude.{ℕ, IsErrOf};
 ghost use Rattle.std.specs.Io.KnownBytes.{Consumes, IsAtEnd, Keeps};
-ghost use Rattle.feed.specs.Funnel.{IsBehind, PassesLines, ends_in};
+ghost use Rattle.funnel_files.specs.Funnel.{IsBehind, IsPassing, PassesLines, ends_in};
 ghost use Rattle.funnel.specs.Stream.{StandsFor};
 
 use funnel::{LineCutter, first_line};
 use std::alloc::{AllocError, Global};
 use std::io::{self, ErrorKind, Read};
+use thiserror::Error;
 
 // How many octets are read at a time.
 const PIECE: usize = 65_536;
+
+/// Why lines were not passed over.
+#[derive(Debug, Drop, Error)]
+pub(crate) enum SkipFault {
+    /// There are not so many: these are missing.
+    #[error("{missing} lines are missing")]
+    Short { missing: u64 },
+    /// The system's reason, or that memory was refused.
+    #[error("{0}")]
+    Failed(io::Error),
+}
+
+impl From<io::Error> for SkipFault {
+    ghost use Rattle.std.specs.Prelude.{◌≢◌, ℕ};
+    ghost use Rattle.funnel_files.specs.declared.funnel_file.SkipFault.TheVariants.{Short};
+
+    ghost from_gives = { λ _ fault. (missing : ℕ) → fault ≢ Short missing };
+
+    fn from(reason: io::Error) -> Self {
+        SkipFault::Failed(reason)
+    }
+}
+
+impl From<AllocError> for SkipFault {
+    ghost use Rattle.std.specs.Prelude.{◌≢◌, ℕ};
+    ghost use Rattle.funnel_files.specs.declared.funnel_file.SkipFault.TheVariants.{Short};
+
+    ghost from_gives = { λ _ fault. (missing : ℕ) → fault ≢ Short missing };
+
+    fn from(refused: AllocError) -> Self {
+        SkipFault::Failed(refused.into())
+    }
+}
 
 /// A funnel, read in pieces.
 #[derive(Drop)]
@@ -19,6 +54,8 @@ pub(crate) struct FunnelFile<R: Read + Drop> {
     piece: Vec<u8>,
     // How many octets were read, up to the greatest u64.
     read: u64,
+    // Whether something was read, and does not end in an LF.
+    has_rest: bool,
     ghost room: { 0 < length piece.items },
 }
 
@@ -35,6 +72,7 @@ impl<R: Read + Drop> FunnelFile<R> {
             cutter: LineCutter::new(alloc),
             piece: vec![in alloc; 0u8; PIECE]?,
             read: 0,
+            has_rest: false,
         })
     }
 
@@ -46,6 +84,11 @@ impl<R: Read + Drop> FunnelFile<R> {
     /// What it is read from, and how many octets were, up to the greatest u64.
     pub fn reader(&self) -> (&R, u64) {
         (&self.reader, self.read)
+    }
+
+    /// Whether what was read ends in a rest without LF.
+    pub fn has_rest(&self) -> bool {
+        self.has_rest
     }
 
     /// Reads a piece, and tells whether there was one: at the end there is none. A rest without LF is no line.
@@ -62,12 +105,14 @@ impl<R: Read + Drop> FunnelFile<R> {
     /// of them. Nothing may have been read before.
     ///
     /// # Errors
-    /// The system's; `UnexpectedEof` if there are not so many lines.
+    /// `Short` if there are not so many lines; the system's.
     #[tactic(auto, using(crate::proofs::Passes::passes_none, crate::proofs::Passes::passes_more))]
-    pub fn skip(&mut self, lines: u64) -> io::Result<()>
+    pub fn skip(&mut self, lines: u64) -> Result<(), SkipFault>
         requires { StandsFor self.old.cutter [] [] }
-        ensures { OnOk result (PassesLines lines (R.remaining self.old.reader)
+        ensures passed { OnOk result (PassesLines lines (R.remaining self.old.reader)
             (R.remaining self.new.reader) self.new.cutter) }
+        ensures short { (missing : ℕ) → IsErrOf result (SkipFault.Short missing)
+            → IsPassing lines missing (R.remaining self.old.reader) (R.remaining self.new.reader) }
     {
         let mut left = lines;
         for _ in 0..u64::MAX {
@@ -75,10 +120,10 @@ impl<R: Read + Drop> FunnelFile<R> {
             match behind(&self.piece[..count], left) {
                 Ok(rest) => return Ok(self.cutter.feed(rest)?),
                 Err(missing) if count > 0 => left = missing,
-                Err(_) => return Err(io::Error::from(ErrorKind::UnexpectedEof)),
+                Err(missing) => return Err(SkipFault::Short { missing }),
             }
         }
-        Err(io::Error::from(ErrorKind::UnexpectedEof))
+        Err(SkipFault::Failed(io::Error::from(ErrorKind::TimedOut)))
     }
 
     // Reads a piece, and gives its length: 0 at the end.
@@ -95,6 +140,9 @@ impl<R: Read + Drop> FunnelFile<R> {
             match self.reader.read(&mut self.piece) {
                 Ok(count) => {
                     self.read = self.read.saturating_add(count as u64);
+                    if let Some(last) = self.piece[..count].last() {
+                        self.has_rest = *last != b'\n';
+                    }
                     return Ok(count);
                 }
                 Err(error) if error.kind() == ErrorKind::Interrupted => {}

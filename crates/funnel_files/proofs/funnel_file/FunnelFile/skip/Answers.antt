@@ -1,11 +1,11 @@
 use Rattle.std.proofs.Common.{◌≡◌, [], ap, sym, subst, take}
 use Rattle.funnel.specs.Stream.{StandsFor}
-use Rattle.feed.specs.Funnel.{IsBehind}
-use Rattle.feed.proofs.Passes.{passes_all}
-use Rattle.feed.proofs.funnel_file.FunnelFile.skip.Goals as goal
+use Rattle.funnel_files.specs.Funnel.{IsBehind}
+use Rattle.funnel_files.proofs.Passes.{passes_all}
+use Rattle.funnel_files.proofs.funnel_file.FunnelFile.skip.Goals as goal
 
-pub returns-in-Ok : goal.returns-in-Ok
-returns-in-Ok g c =
+pub returns-in-Ok-clause-passed : goal.returns-in-Ok-clause-passed
+returns-in-Ok-clause-passed g c =
     let start : StandsFor c.read.new.self.cutter [] [] =
     subst (λ cutter. StandsFor cutter [] []) (sym c.in_ok-count.ensures.kept) c.loop.invariant.1 in
     let items : c.deref.result.now ≡ c.read.new.self.piece.items = search c.deref.ensures.value in

@@ -1,5 +1,6 @@
-// The funnel: its lines as they come.
-use crate::funnel_file::FunnelFile;
+// A funnel that is one file, a pipe or the like: its lines as they come.
+use crate::funnel_file::{FunnelFile, SkipFault};
+use crate::lines::Next;
 use crate::watch::Watch;
 use std::fs::File;
 use std::io::{self, ErrorKind};
@@ -9,24 +10,9 @@ use std::rt::Files;
 // How long a silent funnel is waited for at a time, in milliseconds.
 const SILENCE: u64 = 100;
 
-/// What comes next of a funnel.
+/// The lines of a file, a pipe or the like.
 #[derive(Drop)]
-pub(crate) enum Next {
-    /// A line without its LF.
-    Line(Vec<u8>),
-    /// Nothing came for a tenth of a second.
-    Silence,
-    /// It is at its end for now: what may be added to it comes later.
-    Pause,
-    /// Its end; a rest without LF is no line.
-    End,
-}
-
-/// The funnel, and the path that it was opened by.
-#[derive(Drop)]
-pub(crate) struct Funnel {
-    /// The path.
-    pub path: Vec<u8>,
+pub(crate) struct PlainFunnel {
     lines: FunnelFile<File>,
     // None if it can be read at once.
     watch: Option<Watch>,
@@ -34,7 +20,7 @@ pub(crate) struct Funnel {
     is_followed: bool,
 }
 
-impl Funnel {
+impl PlainFunnel {
     /// Opens the file at this path, behind so many lines. If it is followed, more may be added at its end. The first
     /// piece of a plain file is read, so that a path that cannot be read is known at once; what may be silent is read
     /// here only if lines have to be passed over.
@@ -51,14 +37,13 @@ impl Funnel {
         let alloc = files.alloc();
         let file = File::open(files, path)?;
         let watch = Watch::new(alloc, net, &file)?;
-        let mut funnel = Funnel {
-            path: Vec::from_slice(alloc, path.as_bytes())?,
+        let mut funnel = PlainFunnel {
             lines: FunnelFile::new(alloc, file)?,
             watch,
             is_followed,
         };
         if funnel.watch.is_none() || lines > 0 {
-            funnel.lines.skip(lines)?;
+            funnel.lines.skip(lines).map_err(reason_of)?;
         }
         Ok(funnel)
     }
@@ -94,5 +79,13 @@ impl Funnel {
             return Err(io::Error::from(ErrorKind::UnexpectedEof));
         }
         Ok(Next::Pause)
+    }
+}
+
+// Why lines were not passed over, as an error of the system's.
+fn reason_of(fault: SkipFault) -> io::Error {
+    match fault {
+        SkipFault::Short { .. } => io::Error::from(ErrorKind::UnexpectedEof),
+        SkipFault::Failed(reason) => reason,
     }
 }

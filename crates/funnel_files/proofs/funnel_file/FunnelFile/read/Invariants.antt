@@ -1,6 +1,6 @@
 use Rattle.std.specs.Prelude.{◌≡◌}
 use Rattle.std.specs.Io.KnownBytes.{Keeps}
-use Rattle.feed.proofs.funnel_file.FunnelFile.read.Given as goal
+use Rattle.funnel_files.proofs.funnel_file.FunnelFile.read.Given as goal
 
 -- what was interrupted gave nothing
 abbrev pub invariant-loop : goal.invariant-loop

@@ -1,5 +1,5 @@
-use Rattle.feed.specs.Funnel.{IsBehind}
-use Rattle.feed.proofs.funnel_file.behind.Given as goal
+use Rattle.funnel_files.specs.Funnel.{IsBehind}
+use Rattle.funnel_files.proofs.funnel_file.behind.Given as goal
 
 -- the lines so far stand before the rest
 abbrev pub invariant-loop-passed : goal.invariant-loop-passed

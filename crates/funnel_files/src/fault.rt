@@ -1,0 +1,71 @@
+// Why a funnel cannot be read.
+use crate::position::Misfit;
+use std::alloc::AllocError;
+use std::io::{self, ErrorKind};
+use thiserror::Error;
+
+/// Why a funnel cannot be read on, or a segment of it cannot be removed. The text is for a log, behind the funnel's
+/// path. `segment` is the number of a segment's first line, which names it.
+#[derive(Debug, Drop, Error)]
+pub enum FunnelFault {
+    /// The funnel itself is no directory, so that segments cannot be removed from it.
+    #[error("it is not a directory, so no segments can be removed from it")]
+    NotADirectory,
+    /// The directory has no segment.
+    #[error("there is no segment")]
+    NoSegment,
+    /// A name of 20 digits is not the number of a line: it is 0, or 2 ^ 64 or more.
+    #[error("segment {name}: no line has this number")]
+    NoNumber { name: String },
+    /// A segment is not a regular file.
+    #[error("segment {segment:020} is not a regular file")]
+    NoFile { segment: u64 },
+    /// The last segment ends before the mark.
+    #[error("segment {segment:020} ends at line {last}, but lines up to {mark} are acknowledged")]
+    Short { segment: u64, last: u64, mark: u64 },
+    /// A segment that is followed has become shorter than what was read of it.
+    #[error("segment {segment:020} has become shorter")]
+    Shrunk { segment: u64 },
+    /// A segment does not fit to the next one.
+    #[error("{0}")]
+    Misfit(Misfit),
+    /// The system's reason why a segment cannot be read.
+    #[error("segment {segment:020}: {reason}")]
+    Segment { segment: u64, reason: io::Error },
+    /// The system's reason why a segment cannot be removed.
+    #[error("cannot remove {path}: {reason}")]
+    Unremoved { path: String, reason: io::Error },
+    /// The system's reason, or that memory was refused.
+    #[error("{0}")]
+    Failed(io::Error),
+}
+
+impl FunnelFault {
+    /// Whether memory was refused.
+    pub fn is_no_memory(&self) -> bool {
+        match self {
+            FunnelFault::Segment { reason, .. }
+            | FunnelFault::Unremoved { reason, .. }
+            | FunnelFault::Failed(reason) => reason.kind() == ErrorKind::OutOfMemory,
+            _ => false,
+        }
+    }
+}
+
+impl From<io::Error> for FunnelFault {
+    fn from(reason: io::Error) -> Self {
+        FunnelFault::Failed(reason)
+    }
+}
+
+impl From<AllocError> for FunnelFault {
+    fn from(refused: AllocError) -> Self {
+        FunnelFault::Failed(refused.into())
+    }
+}
+
+impl From<Misfit> for FunnelFault {
+    fn from(misfit: Misfit) -> Self {
+        FunnelFault::Misfit(misfit)
+    }
+}

@@ -1,0 +1,22 @@
+//! Reading a funnel, which is a file, a pipe or a directory of segments, line by line.
+//!
+//! May touch the funnel's files: it reads them, makes what it read of segments durable, and removes segments if it is
+//! asked to. The crate above uses [`Funnel`]: `next` gives the lines as they come, and `tidy` removes the segments that
+//! lie below a mark. Proved are which lines are passed over (`specs/Funnel.antt`), when segments do not fit together
+//! (`Position`) and when some may have become removable (`specs/Due.antt`); what the system's files give is tested.
+#![tactic(auto)]
+
+mod directory;
+mod fault;
+mod funnel_file;
+mod lines;
+mod plain;
+mod position;
+mod segment;
+mod segment_reader;
+mod tidying;
+mod watch;
+
+pub use fault::FunnelFault;
+pub use lines::{Funnel, Next};
+pub use position::Misfit;

@@ -1,0 +1,101 @@
+// The funnel: its lines as they come, of whatever it is.
+use crate::directory::Directory;
+use crate::fault::FunnelFault;
+use crate::plain::PlainFunnel;
+use crate::segment_reader::SegmentReader;
+use std::fs::{self, File};
+use std::net::Net;
+use std::rt::Files;
+
+/// What comes next of a funnel.
+#[derive(Drop)]
+pub enum Next {
+    /// A line without its LF.
+    Line(Vec<u8>),
+    /// Nothing came for a tenth of a second.
+    Silence,
+    /// It is at its end for now: what may be added to it comes later.
+    Pause,
+    /// Its end; a rest without LF is no line.
+    End,
+}
+
+/// The funnel, and the path that it was opened by.
+#[derive(Drop)]
+pub struct Funnel<'a, F> {
+    path: Vec<u8>,
+    lines: Lines<'a, F>,
+}
+
+// Where the lines come from.
+#[derive(Drop)]
+enum Lines<'a, F> {
+    File(PlainFunnel),
+    Directory(SegmentReader<'a, F>),
+}
+
+impl<'a, F: AllocGlobal + Files<File = File>> Funnel<'a, F> {
+    /// Opens the funnel at this path, behind so many lines: a file, a pipe or the like, or a directory of segments. If
+    /// it is followed, more may be added at its end. If it is tidied, [`Funnel::tidy`] removes segments.
+    ///
+    /// # Errors
+    /// `NotADirectory` if it is to be tidied and is none; `Failed` with `UnexpectedEof` if a file has not so many
+    /// lines; of a directory, `NoSegment` if it has none and is not followed, and what [`Funnel::next`] has; the
+    /// system's.
+    pub fn open<C: Net>(
+        files: &'a F,
+        net: &C,
+        path: &str,
+        mark: u64,
+        is_followed: bool,
+        is_tidied: bool,
+    ) -> Result<Self, FunnelFault> {
+        let alloc = files.alloc();
+        let lines = if fs::metadata(files, path).is_ok_and(|there| there.is_dir()) {
+            let directory = Directory {
+                files,
+                path: String::from_str(alloc, path)?,
+            };
+            Lines::Directory(SegmentReader::open(directory, mark, is_followed, is_tidied)?)
+        } else {
+            let file = PlainFunnel::open(files, net, path, mark, is_followed)?;
+            if is_tidied {
+                return Err(FunnelFault::NotADirectory);
+            }
+            Lines::File(file)
+        };
+        Ok(Funnel {
+            path: Vec::from_slice(alloc, path.as_bytes())?,
+            lines,
+        })
+    }
+
+    /// The path that it was opened by.
+    pub fn path(&self) -> &[u8] {
+        &self.path
+    }
+
+    /// What comes next. Nothing more is to be read after an error.
+    ///
+    /// # Errors
+    /// `Failed` with `UnexpectedEof` if a file that is followed has become shorter than what was read of it; of a
+    /// directory `NoNumber`, `NoFile`, `Short`, `Shrunk`, `Misfit` and `Segment`; the system's.
+    pub fn next(&mut self) -> Result<Next, FunnelFault> {
+        match &mut self.lines {
+            Lines::File(file) => Ok(file.next()?),
+            Lines::Directory(segments) => segments.next(),
+        }
+    }
+
+    /// Removes the segments of a directory that is tidied which lie wholly at or below this mark and were read, if some
+    /// may have become removable since the last call. The last segment stays.
+    ///
+    /// # Errors
+    /// `Unremoved` if one cannot be removed; the system's; `NoNumber`.
+    pub fn tidy(&mut self, mark: u64) -> Result<(), FunnelFault> {
+        match &mut self.lines {
+            Lines::File(_) => Ok(()),
+            Lines::Directory(segments) => segments.tidy(mark),
+        }
+    }
+}

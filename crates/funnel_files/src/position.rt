@@ -1,0 +1,110 @@
+// Where in its segments a funnel is read, and whether they fit together.
+ghost use Rattle.std.specs.Prelude.{◌≡◌, ◌↔◌, ◌<◌, ◌≤◌, ◌+◌, ◌^◌, ℕ, true, false};
+ghost use Rattle.std.specs.Prelude.{IfOk, IfSome, IsErrOf, None, OnErr, OnOk, Some};
+
+use thiserror::Error;
+
+/// Why segments do not fit together. Each is named by the number of its first line.
+#[derive(Clone, Copy, Debug, PartialEq, Eq, Error)]
+pub enum Misfit {
+    /// `segment` has the line with which `next` begins.
+    #[error("segment {segment:020} has lines of segment {next:020}")]
+    Overlap { segment: u64, next: u64 },
+    /// The last line of `segment`, which is not the last one, has no LF.
+    #[error("segment {segment:020}: its last line has no LF")]
+    NoEnd { segment: u64 },
+    /// No segment has the lines between `after` and the first one of `next`.
+    #[error("lines are missing between line {after} and segment {next:020}")]
+    Gap { after: u64, next: u64 },
+    /// The last line of `segment` has the greatest number of all, and more come.
+    #[error("segment {segment:020} has more lines than there are numbers")]
+    Full { segment: u64 },
+}
+
+/// Where a funnel is read: in which segment, and behind which line.
+#[derive(Clone, Copy, Debug, PartialEq, Eq)]
+pub(crate) struct Position {
+    // The number of the segment's first line.
+    segment: u64,
+    // The number of the last line that was taken.
+    last: u64,
+    // The number of the next segment's first line, if there is one: this one is complete then.
+    following: Option<u64>,
+}
+
+impl Position {
+    /// In this segment, behind this line, with this segment after it, if there is one.
+    pub fn new(segment: u64, last: u64, following: Option<u64>) -> Self
+        ensures { result ≡ record { segment = segment; last = last; following = following } }
+    {
+        Position {
+            segment,
+            last,
+            following,
+        }
+    }
+
+    /// The number of the segment's first line.
+    pub fn segment(&self) -> u64
+        ensures { result ≡ self.now.segment }
+    {
+        self.segment
+    }
+
+    /// The segment is complete, since there is a next one, which begins with this line.
+    pub fn complete(&mut self, next: u64)
+        ensures { self.new ≡ record self.old { following = Some next } }
+    {
+        self.following = Some(next);
+    }
+
+    /// Takes the segment's next line.
+    ///
+    /// # Errors
+    /// `Overlap` if it is the next segment's, or behind that one's first; `Full` if no number is left for it. It counts
+    /// as taken if there is a number for it, so that the fault is found at the segment's end too.
+    pub fn take_line(&mut self) -> Result<(), Misfit>
+        ensures overlap { (next : ℕ) → IsErrOf result (Misfit.Overlap self.old.segment next)
+            ↔ ((self.old.following ≡ Some next) × (next ≤ self.old.last + 1)) }
+        ensures full { IsErrOf result (Misfit.Full self.old.segment)
+            ↔ ((self.old.following ≡ None) × (self.old.last + 1 ≡ 2 ^ 64)) }
+        ensures taken { self.old.last + 1 < 2 ^ 64
+            → self.new ≡ record self.old { last = self.old.last + 1 } }
+        ensures unchanged { self.old.last + 1 ≡ 2 ^ 64 → self.new ≡ self.old }
+    {
+        let segment = self.segment;
+        let before = self.last;
+        self.last = before.saturating_add(1);
+        match self.following {
+            Some(next) if next <= self.last => Err(Misfit::Overlap { segment, next }),
+            None if before == u64::MAX => Err(Misfit::Full { segment }),
+            _ => Ok(()),
+        }
+    }
+
+    /// The segment to go on with at the end of this one, whose last line may have no LF; none if no next one is known.
+    ///
+    /// # Errors
+    /// If there is a next one: `Overlap` if this one has its first line; `NoEnd` if its last line has no LF; `Gap` if
+    /// lines are missing between the two.
+    pub fn next_segment(&self, has_rest: bool) -> Result<Option<u64>, Misfit>
+        ensures ok { IfOk result (λ next. (next ≡ self.now.following)
+            × IfSome next (λ next. (next ≡ self.now.last + 1) × (has_rest ≡ false))) }
+        ensures overlap { (next : ℕ) → IsErrOf result (Misfit.Overlap self.now.segment next)
+            ↔ ((self.now.following ≡ Some next) × (next ≤ self.now.last)) }
+        ensures no_end { IsErrOf result (Misfit.NoEnd self.now.segment)
+            ↔ ((next : ℕ) × (self.now.following ≡ Some next) × (self.now.last < next)
+            × (has_rest ≡ true)) }
+        ensures gap { (next : ℕ) → IsErrOf result (Misfit.Gap self.now.last next)
+            ↔ ((self.now.following ≡ Some next) × (self.now.last + 1 < next)
+            × (has_rest ≡ false)) }
+    {
+        let Position { segment, last, .. } = *self;
+        match self.following {
+            Some(next) if next <= last => Err(Misfit::Overlap { segment, next }),
+            Some(_) if has_rest => Err(Misfit::NoEnd { segment }),
+            Some(next) if last < next - 1 => Err(Misfit::Gap { after: last, next }),
+            following => Ok(following),
+        }
+    }
+}

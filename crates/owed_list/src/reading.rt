@@ -1,0 +1,126 @@
+// Reading the files of a tape while a run may work on them.
+//
+// A run adds records to the segment that lives, and writes the other one in a rotation alone, its first record last of
+// all (docs/FORMATS.md). So if the first records of both are what they were after both files were read, no rotation has
+// ended meanwhile, and what was read of the segment that lives is a prefix that it had.
+use crate::first_record::first_record;
+use log::{Log, info};
+use std::fs::{self, File};
+use std::io::{self, ErrorKind, Read};
+use std::rt::Files;
+
+// So many readings of a tape may be disturbed.
+const MOST_READINGS: u32 = 10;
+
+/// The paths of the two files of a tape.
+#[derive(Drop)]
+pub(crate) struct TapePaths {
+    pub a: String,
+    pub b: String,
+}
+
+/// The octets of the two files of a tape.
+pub(crate) type TapeOctets = (Vec<u8>, Vec<u8>);
+
+/// The octets of the files at these paths; a missing file has none. They are read again if a run has rotated the tape
+/// meanwhile, or made a file shorter.
+///
+/// # Errors
+/// The system's, which is logged; `InvalidInput` if one is no regular file; `TimedOut` if 10 readings were disturbed.
+pub(crate) fn read_files<R: AllocGlobal + Log, F: Files<File = File>>(
+    rt: &R,
+    files: &F,
+    paths: &TapePaths,
+) -> io::Result<TapeOctets> {
+    for _reading in 0..MOST_READINGS {
+        if let Some(both) = read_once(rt, files, paths)? {
+            return Ok(both);
+        }
+    }
+    info!(rt; "tape file {}: it changed during each reading", paths.a);
+    Err(io::Error::from(ErrorKind::TimedOut))
+}
+
+// Reads both files. None if that was disturbed.
+fn read_once<R: AllocGlobal + Log, F: Files<File = File>>(
+    rt: &R,
+    files: &F,
+    paths: &TapePaths,
+) -> io::Result<Option<TapeOctets>> {
+    let a = read_file(rt, files, &paths.a)?;
+    let b = read_file(rt, files, &paths.b)?;
+    if begins_as_read(rt, files, &paths.a, &a)? && begins_as_read(rt, files, &paths.b, &b)? {
+        Ok(Some((a, b)))
+    } else {
+        Ok(None)
+    }
+}
+
+// The octets of a file, which has none if it is missing.
+fn read_file<R: AllocGlobal + Log, F: Files<File = File>>(
+    rt: &R,
+    files: &F,
+    path: &str,
+) -> io::Result<Vec<u8>> {
+    let mut octets = Vec::new(rt.alloc());
+    let Some(mut file) = open_file(rt, files, path)? else {
+        return Ok(octets);
+    };
+    match file.read_to_end(&mut octets) {
+        Ok(_) => Ok(octets),
+        Err(error) => Err(unread(rt, path, error)),
+    }
+}
+
+// Whether a file of which these octets were read still begins with the same first record, and is no shorter.
+fn begins_as_read<R: AllocGlobal + Log, F: Files<File = File>>(
+    rt: &R,
+    files: &F,
+    path: &str,
+    octets: &[u8],
+) -> io::Result<bool> {
+    let first = first_record(octets);
+    let Some(mut file) = open_file(rt, files, path)? else {
+        return Ok(octets.is_empty());
+    };
+    match read_front(rt, &mut file, first.len().max(1)) {
+        Ok((front, len)) => Ok(front.as_slice() == first && len >= octets.len() as u64),
+        Err(error) => Err(unread(rt, path, error)),
+    }
+}
+
+// So many octets of the front of a file, as far as it has them, and its length after they were read.
+fn read_front<R: AllocGlobal>(rt: &R, file: &mut File, count: usize) -> io::Result<(Vec<u8>, u64)> {
+    let mut front = Vec::new(rt.alloc());
+    file.take(count as u64).read_to_end(&mut front)?;
+    Ok((front, file.metadata()?.len()))
+}
+
+// Opens a file to be read, None if it is missing. It is looked at first, since opening a FIFO might never end.
+fn open_file<R: Log, F: Files<File = File>>(
+    rt: &R,
+    files: &F,
+    path: &str,
+) -> io::Result<Option<File>> {
+    match try_open(files, path) {
+        Ok(file) => Ok(Some(file)),
+        Err(error) if error.kind() == ErrorKind::NotFound => Ok(None),
+        Err(error) => {
+            info!(rt; "cannot open {}: {}", path, error);
+            Err(error)
+        }
+    }
+}
+
+fn try_open<F: Files<File = File>>(files: &F, path: &str) -> io::Result<File> {
+    if !fs::metadata(files, path)?.is_file() {
+        return Err(ErrorKind::InvalidInput.into());
+    }
+    File::open(files, path)
+}
+
+// Logs why an open file was not read.
+fn unread<R: Log>(rt: &R, path: &str, error: io::Error) -> io::Error {
+    info!(rt; "tape file {}: {}", path, error);
+    error
+}
