@@ -1,0 +1,111 @@
+// The articles of the batch, one after another.
+use crate::directory::Directory;
+use crate::fault::Fault;
+use rnews::{Waiting, article_length, message_id};
+use std::alloc::Global;
+use std::io::{BufRead, BufReader, ErrorKind, Read, Write};
+use std::rt::Files;
+
+// How many octets are read at once.
+const ROOM: usize = 65_536;
+
+// The most octets that the line before an article has, with its LF.
+const LONGEST_LINE: u64 = 64;
+
+// Under which tokens articles are filed, and where.
+#[derive(Drop)]
+struct Filer<'a> {
+    waiting: Waiting,
+    directory: Directory<'a>,
+}
+
+/// Files each article of standard input that a token waits for, and prints the token.
+///
+/// # Errors
+/// `Line` and `Cut` if standard input is no batch, `Unread` if it cannot be read, `Unwritten` if a file or standard
+/// output cannot be written, `NoMemory`. Each article before that is filed.
+pub fn file_all<R: AllocGlobal + Input + Print + Files<File: Write>>(
+    rt: &R,
+    directory: &str,
+    waiting: Waiting,
+) -> Result<(), Fault> {
+    let alloc = rt.alloc();
+    let Ok(mut reader) = BufReader::with_capacity(alloc, ROOM, rt.reader()) else {
+        return Err(Fault::NoMemory);
+    };
+    let mut filer = Filer {
+        waiting,
+        directory: Directory::new(alloc, directory),
+    };
+    filer.file_each(rt, &mut reader)
+}
+
+impl Filer<'_> {
+    fn file_each<R: AllocGlobal + Print + Files<File: Write>, B: BufRead>(
+        &mut self,
+        rt: &R,
+        reader: &mut B,
+    ) -> Result<(), Fault> {
+        let mut article = Vec::new(rt.alloc());
+        for count in 0..u64::MAX {
+            let Some(length) = next_length(rt.alloc(), reader, count)? else {
+                break;
+            };
+            read_article(rt.alloc(), reader, length, &mut article)?;
+            self.file(rt, &article)?;
+        }
+        Ok(())
+    }
+
+    // Files an article, if one token waits for it.
+    fn file<R: AllocGlobal + Print + Files<File: Write>>(
+        &mut self,
+        rt: &R,
+        article: &[u8],
+    ) -> Result<(), Fault> {
+        let Some(id) = message_id(rt.alloc(), article)? else {
+            return Ok(());
+        };
+        let Some(token) = self.waiting.take(&id) else {
+            return Ok(());
+        };
+        self.directory.file(rt, &token, article)
+    }
+}
+
+// The length of the next article, behind so many; `None` at the end of the batch.
+fn next_length<B: BufRead>(
+    alloc: Global,
+    reader: &mut B,
+    count: u64,
+) -> Result<Option<u64>, Fault> {
+    let mut line = Vec::new(alloc);
+    if let Err(reason) = reader.take(LONGEST_LINE).read_until(b'\n', &mut line) {
+        return Err(Fault::unread(alloc, "standard input", reason));
+    }
+    if line.is_empty() {
+        return Ok(None);
+    }
+    let Some(line) = line.strip_suffix(b"\n") else {
+        return Err(Fault::Line(count));
+    };
+    match article_length(line) {
+        Some(length) => Ok(Some(length)),
+        None => Err(Fault::Line(count)),
+    }
+}
+
+// Reads an article of this length.
+fn read_article<B: BufRead>(
+    alloc: Global,
+    reader: &mut B,
+    length: u64,
+    article: &mut Vec<u8>,
+) -> Result<(), Fault> {
+    article.clear();
+    match reader.take(length).read_to_end(article) {
+        Ok(count) if count as u64 == length => Ok(()),
+        Ok(_) => Err(Fault::Cut),
+        Err(reason) => Err(Fault::unread(alloc, "standard input", reason)),
+    }
+}

@@ -1,0 +1,78 @@
+// The lines, which tell which tokens wait for an article.
+use crate::fault::Fault;
+use funnel::{LineFault, Token, read_line};
+use rnews::Waiting;
+use std::alloc::{AllocError, Global};
+use std::collections::BTreeSet;
+use std::fs::File;
+use std::io::Read;
+use std::os::fd::AsRawFd;
+use std::rt::Files;
+
+// The greatest descriptor of a standard stream.
+const LAST: i32 = 2;
+
+/// The tokens that wait, of the lines in this file. A line that is no funnel line is passed over, and so is one whose
+/// token is no name of a file, or stands in a line before.
+///
+/// # Errors
+/// `Unread`; `NoMemory`; `Closed` if a standard stream is closed: the file has got its descriptor then.
+pub fn read_lines<R: AllocGlobal + Files<File = File>>(
+    rt: &R,
+    path: &str,
+) -> Result<Waiting, Fault> {
+    let alloc = rt.alloc();
+    let mut file = match File::open(rt, path) {
+        Ok(file) => file,
+        Err(reason) => return Err(Fault::unread(alloc, path, reason)),
+    };
+    if file.as_raw_fd() <= LAST {
+        return Err(Fault::Closed);
+    }
+    let mut text = Vec::new(alloc);
+    match file.read_to_end(&mut text) {
+        Ok(_) => waiting_of(alloc, &text),
+        Err(reason) => Err(Fault::unread(alloc, path, reason)),
+    }
+}
+
+// The tokens that wait, of these lines.
+fn waiting_of(alloc: Global, text: &[u8]) -> Result<Waiting, Fault> {
+    let mut waiting = Waiting::new(alloc);
+    let mut known = BTreeSet::new(alloc);
+    for line in text.split(|octet| *octet == b'\n') {
+        add_line(alloc, &mut known, &mut waiting, line)?;
+    }
+    Ok(waiting)
+}
+
+fn add_line(
+    alloc: Global,
+    known: &mut BTreeSet<Vec<u8>>,
+    waiting: &mut Waiting,
+    line: &[u8],
+) -> Result<(), Fault> {
+    match read_line(alloc, line) {
+        Ok(line) if is_file_name(&line.token) => {
+            if is_new(alloc, known, &line.token)? {
+                waiting.add(line.token, &line.id)?;
+            }
+            Ok(())
+        }
+        Err(LineFault::NoMemory) => Err(Fault::NoMemory),
+        _ => Ok(()),
+    }
+}
+
+// Whether the token is not known yet, which it is from now on.
+fn is_new(alloc: Global, known: &mut BTreeSet<Vec<u8>>, token: &Token) -> Result<bool, AllocError> {
+    let name = Vec::from_slice(alloc, token.bytes())?;
+    let is_new = known.insert(name)?;
+    Ok(is_new)
+}
+
+// Whether the token names a file in a directory, and not the directory itself or what is elsewhere.
+fn is_file_name(token: &Token) -> bool {
+    let name = token.bytes();
+    !matches!(name, b"." | b"..") && !name.contains(&b'/')
+}

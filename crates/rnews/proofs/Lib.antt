@@ -1,0 +1,4 @@
+pub mod Bodies
+pub mod Ids
+pub mod Keys
+pub mod Waits

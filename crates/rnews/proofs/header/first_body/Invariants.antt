@@ -1,0 +1,8 @@
+-- The lines so far have no such field.
+use Rattle.std.proofs.Common.{◌≡◌, map, drop}
+use Rattle.rnews.specs.Header.{first_body}
+use Rattle.rnews.proofs.header.first_body.Given as goal
+
+abbrev pub invariant-loop-index : goal.invariant-loop-index
+invariant-loop-index l =
+    first_body (map (λ line. line.now) (drop l.index l.lines)) ≡ first_body (map (λ line. line.now) l.lines)

@@ -1,0 +1,9 @@
+-- What is put out and what is left make up the whole.
+use Rattle.std.proofs.Common.{◌≡◌, ◌++◌, map, drop}
+use Rattle.rnews.specs.Header.{folds}
+use Rattle.rnews.proofs.header.unfolded.Given as goal
+
+abbrev pub invariant-loop-line : goal.invariant-loop-line
+invariant-loop-line l =
+    l.body.items ++ folds (map (λ line. line.now) (drop l.line-index l.others))
+    ≡ l.text ++ folds (map (λ line. line.now) l.others)
