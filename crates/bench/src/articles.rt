@@ -12,7 +12,7 @@ use bytes::Bytes;
 use conn_core::{Conn, Outcome};
 use dot_codec::to_block;
 use funnel::{MsgId, Token};
-use ledger_core::Debt;
+use ledger_core::{Debt, Key};
 use std::alloc::{AllocError, Global};
 use std::time::{Clock, Instant};
 
@@ -155,7 +155,10 @@ fn sent(alloc: Global, feed: &Feed, articles: u64) -> Result<Told> {
 pub fn offer_each(conn: &mut Conn, feed: &Feed, round: u64) -> Result<()> {
     for (place, id) in feed.ids.iter().enumerate() {
         let number = round.saturating_mul(IN_FLIGHT).saturating_add(place as u64);
-        offer(conn, Debt::new(number, feed.token.clone()?, id.clone()?))?;
+        offer(
+            conn,
+            Debt::new(Key::new(0, number), feed.token.clone()?, id.clone()?),
+        )?;
     }
     Ok(())
 }
@@ -163,15 +166,15 @@ pub fn offer_each(conn: &mut Conn, feed: &Feed, round: u64) -> Result<()> {
 /// Hands in each article that is wanted.
 pub fn hand_in_each(conn: &mut Conn, texts: &[Bytes]) -> Result<()> {
     for _ in 0..IN_FLIGHT {
-        let number = conn.need().context("an article is wanted")?;
-        let text = in_turn(texts, number).context("a text")?;
-        hand_in(conn, number, text.clone()?)?;
+        let key = conn.need().context("an article is wanted")?;
+        let text = in_turn(texts, key.number()).context("a text")?;
+        hand_in(conn, key, text.clone()?)?;
     }
     Ok(())
 }
 
-fn hand_in(conn: &mut Conn, number: u64, text: Bytes) -> Result<()> {
-    if conn.article(number, Found::Article(text)).is_err() {
+fn hand_in(conn: &mut Conn, key: Key, text: Bytes) -> Result<()> {
+    if conn.article(key, Found::Article(text)).is_err() {
         bail!("an article was refused");
     }
     Ok(())

@@ -3,7 +3,9 @@
 // `run COUNT` owes so many debts over a disk in memory, and has a peer that wants none of them: each is claimed and
 // settled. `defer COUNT` owes as many, and has a peer that puts off each: all are claimed, deferred, and claimed again
 // once the moment has passed. The time is that of the calls of the station; the connection that answers is not in it.
-// `shed COUNT` owes as many at a station whose backlog may have none of them, and sheds all.
+// `shed COUNT` owes as many at a station whose backlog may have none of them, and sheds all. `claim` stands in a module
+// of its own.
+use crate::claims;
 use crate::peer::{CONNECTION, IN_FLIGHT, answers_of, drain, ids_of, offer, streaming, token_of};
 use crate::time::{number, tell};
 use anyhow::{Context, Result, bail};
@@ -59,8 +61,9 @@ impl Told {
 pub fn run<R: AllocGlobal + Print + Clock>(rt: &R, words: &[String]) -> Result<()> {
     let (time, count) = match words {
         [] => return small(rt),
+        [work, amounts @ ..] if work.as_str() == "claim" => return claims::run(rt, amounts),
         [work, count] => (time_of(rt, work.as_str(), number(count)?)?, number(count)?),
-        _ => bail!("peer_queue [run COUNT | defer COUNT | shed COUNT]"),
+        _ => bail!("peer_queue [run|defer|shed COUNT | claim SOURCES LINES IMPORTED]"),
     };
     tell(rt, count, "debts", time)
 }
@@ -85,7 +88,7 @@ fn small<R: AllocGlobal + Print + Clock>(rt: &R) -> Result<()> {
     )?;
     let told = shed_off(rt, 2000)?;
     println!(rt; "peer_queue: {} debts shed", told.answered)?;
-    Ok(())
+    claims::small(rt)
 }
 
 // Owes so many debts, and works them off.
@@ -117,9 +120,8 @@ fn worked_off_with<R: AllocGlobal + Clock>(
 // Owes so many debts at a station whose backlog may have none of them, and sheds all, with a flush behind each call.
 // What was shed counts as answered.
 fn shed_off<R: AllocGlobal + Clock>(rt: &R, count: u64) -> Result<Told> {
-    let peer = peer_of(rt.alloc(), Work::Settle)?;
     let mut station = limited(rt.alloc(), 1)?;
-    owe_all(&mut station, &peer, count)?;
+    owe_new(rt.alloc(), &mut station, count)?;
     let start = Instant::now(rt)?;
     let answered = all_shed(&mut station, count)?;
     Ok(Told {
@@ -127,6 +129,14 @@ fn shed_off<R: AllocGlobal + Clock>(rt: &R, count: u64) -> Result<Told> {
         claimed_again: 0,
         time: start.elapsed(rt)?,
     })
+}
+
+// Owes so many debts, as `owe_all`.
+//
+// proof: as `worked_off_with`.
+fn owe_new(alloc: Global, station: &mut Station<MemDisk>, count: u64) -> Result<()> {
+    let peer = peer_of(alloc, Work::Settle)?;
+    owe_all(station, &peer, count)
 }
 
 // Sheds until no more is to be shed, and counts what was, with so many calls at most.
@@ -148,7 +158,7 @@ fn all_shed(station: &mut Station<MemDisk>, most: u64) -> Result<u64> {
 fn shed(station: &mut Station<MemDisk>) -> Result<(u64, bool)> {
     let shed = station.shed()?;
     station.flush()?;
-    Ok((shed.numbers.len() as u64, shed.more))
+    Ok((shed.keys.len() as u64, shed.more))
 }
 
 // Claims so many debts in batches, and tells the station what the peer answers.
@@ -293,8 +303,10 @@ pub fn flush(station: &mut Station<MemDisk>) -> Result<()> {
     Ok(())
 }
 
+/// Claims the first debt that is ready at this moment.
+//
 // proof: as `flush`.
-fn claim(station: &mut Station<MemDisk>, now: u64) -> Result<Option<Debt>> {
+pub fn claim(station: &mut Station<MemDisk>, now: u64) -> Result<Option<Debt>> {
     let debt = station.claim(CONNECTION, now)?;
     Ok(debt)
 }

@@ -32,8 +32,7 @@ pub fn run<R: AllocGlobal + Print + Clock + Files<File = File>>(
         [work, path] if work.as_str() == "memory" => tell_memory(rt, &tape_in(rt, path)?),
         [work, path, count] if work.as_str() == "flush" => {
             let count = number(count)?;
-            let time = flushed(rt, &mut emptied(rt, path)?, count)?;
-            tell(rt, count, "flushes", time)
+            tell(rt, count, "flushes", flushed_in(rt, path, count)?)
         }
         [work, path, count] if work.as_str() == "fill" => {
             let mut tape = emptied(rt, path)?;
@@ -42,19 +41,43 @@ pub fn run<R: AllocGlobal + Print + Clock + Files<File = File>>(
         }
         [work, path, count] if work.as_str() == "rotate" => {
             let count = number(count)?;
-            let time = rotated(rt, &mut tape_in(rt, path)?, count)?;
-            tell(rt, count, "rotations", time)
+            tell(rt, count, "rotations", rotated_in(rt, path, count)?)
         }
         _ => bail!("disk_model [flush|fill|rotate DIRECTORY COUNT | open|memory DIRECTORY]"),
     }
 }
 
 fn small<R: AllocGlobal + Print + Clock + Files<File = File>>(rt: &R) -> Result<()> {
-    flushed(rt, &mut emptied(rt, ".")?, 4)?;
-    rotated(rt, &mut tape_in(rt, ".")?, 3)?;
-    let owed = tape_in(rt, ".")?.totals().owed;
+    flushed_in(rt, ".", 4)?;
+    rotated_in(rt, ".", 3)?;
+    let owed = owed_in(rt, ".")?;
     println!(rt; "disk_model: a tape in a file owes {owed}")?;
     remove(rt, ".")
+}
+
+// Flushes so many batches to a new tape in this directory, and gives the time that the flushes took.
+//
+// proof: the tape of each of these in a frame of its own, so that no way out of its caller drops it.
+fn flushed_in<R: AllocGlobal + Clock + Files<File = File>>(
+    rt: &R,
+    path: &str,
+    count: u64,
+) -> Result<Duration> {
+    flushed(rt, &mut emptied(rt, path)?, count)
+}
+
+// Rotates the tape in this directory so many times, and gives the time that it took.
+fn rotated_in<R: AllocGlobal + Clock + Files<File = File>>(
+    rt: &R,
+    path: &str,
+    count: u64,
+) -> Result<Duration> {
+    rotated(rt, &mut tape_in(rt, path)?, count)
+}
+
+// How many debts the tape in this directory owes.
+fn owed_in<R: AllocGlobal + Files<File = File>>(rt: &R, path: &str) -> Result<u64> {
+    Ok(tape_in(rt, path)?.totals().owed)
 }
 
 // The tape in this directory.
@@ -157,7 +180,7 @@ fn flush(tape: &mut Tape<FileDisk<TapeFile>>) -> Result<()> {
 
 fn measured<R: AllocGlobal + Print + Clock + Files<File = File>>(rt: &R, path: &str) -> Result<()> {
     let start = Instant::now(rt)?;
-    let owed = tape_in(rt, path)?.totals().owed;
+    let owed = owed_in(rt, path)?;
     tell(rt, owed, "owed", start.elapsed(rt)?)
 }
 

@@ -54,15 +54,10 @@ pub fn run<R: AllocGlobal + Print + Clock>(rt: &R, words: &[String]) -> Result<(
     match words {
         [] => small(rt),
         [work, articles, octets] => {
-            let texts = texts_of(rt.alloc(), number(octets)?, TEXTS)?;
-            let articles = number(articles)?;
+            let (articles, octets) = (number(articles)?, number(octets)?);
             let told = match work.as_str() {
-                "drive" => driven(rt, &feed_of(rt.alloc(), texts)?, articles)?,
-                "copy" => copied(
-                    rt,
-                    &feed_of(rt.alloc(), blocks_of(rt.alloc(), texts)?)?,
-                    articles,
-                )?,
+                "drive" => articles_driven(rt, articles, octets)?,
+                "copy" => blocks_copied(rt, articles, octets)?,
                 _ => bail!("no work of event_loop: drive and copy are"),
             };
             tell(rt, told.octets, "octets", told.time)
@@ -72,16 +67,28 @@ pub fn run<R: AllocGlobal + Print + Clock>(rt: &R, words: &[String]) -> Result<(
 }
 
 fn small<R: AllocGlobal + Print + Clock>(rt: &R) -> Result<()> {
-    let texts = texts_of(rt.alloc(), 1000, TEXTS)?;
-    let told = driven(rt, &feed_of(rt.alloc(), texts)?, 100)?;
+    let told = articles_driven(rt, 100, 1000)?;
     println!(rt;
         "event_loop: {} articles taken, {} octets sent",
         told.finals, told.octets
     )?;
-    let blocks = blocks_of(rt.alloc(), texts_of(rt.alloc(), 1000, TEXTS)?)?;
-    let told = copied(rt, &feed_of(rt.alloc(), blocks)?, 100)?;
+    let told = blocks_copied(rt, 100, 1000)?;
     println!(rt; "event_loop: {} octets copied", told.octets)?;
     Ok(())
+}
+
+// Sends so many articles of at most so many octets.
+//
+// proof: what is sent in a frame of its own, here and in the next, so that no way out of their callers drops it.
+fn articles_driven<R: AllocGlobal + Clock>(rt: &R, articles: u64, octets: u64) -> Result<Told> {
+    let texts = texts_of(rt.alloc(), octets, TEXTS)?;
+    driven(rt, &feed_of(rt.alloc(), texts)?, articles)
+}
+
+// Sends the blocks of so many articles of at most so many octets.
+fn blocks_copied<R: AllocGlobal + Clock>(rt: &R, articles: u64, octets: u64) -> Result<Told> {
+    let blocks = blocks_of(rt.alloc(), texts_of(rt.alloc(), octets, TEXTS)?)?;
+    copied(rt, &feed_of(rt.alloc(), blocks)?, articles)
 }
 
 // A link that gives these octets.

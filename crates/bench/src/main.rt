@@ -9,6 +9,7 @@
 
 mod articles;
 mod blocks;
+mod claims;
 mod configurations;
 mod counted;
 mod debts;

@@ -7,6 +7,7 @@
 use crate::time::{number, tell};
 use anyhow::{Result, bail};
 use deferral::Later;
+use ledger_core::Key;
 use std::alloc::Global;
 use std::time::{Clock, Instant};
 
@@ -82,12 +83,12 @@ fn worked(alloc: Global, pattern: &str, order: Order, count: u32) -> Result<u64>
     }
 }
 
-// Puts a number in unless it waits, and says whether it was put in.
-fn put_new(later: &mut Later, number: u64, due: u64) -> Result<bool> {
-    if later.contains(number) {
+// Puts a key in unless it waits, and says whether it was put in.
+fn put_new(later: &mut Later, key: Key, due: u64) -> Result<bool> {
+    if later.contains(key) {
         return Ok(false);
     }
-    later.put(number, due)?;
+    later.put(key, due)?;
     Ok(true)
 }
 
@@ -95,7 +96,7 @@ fn put_new(later: &mut Later, number: u64, due: u64) -> Result<bool> {
 fn filled(alloc: Global, order: Order, count: u32) -> Result<Later> {
     let mut later = Later::new(alloc);
     for turn in 0..count {
-        put_new(&mut later, order.number(turn, count), 60)?;
+        put_new(&mut later, Key::new(0, order.number(turn, count)), 60)?;
     }
     Ok(later)
 }
@@ -103,8 +104,8 @@ fn filled(alloc: Global, order: Order, count: u32) -> Result<Later> {
 fn together(later: &mut Later, count: u32) -> u64 {
     let mut worked = 0u64;
     for _turn in 0..count {
-        if let Some(number) = later.due_least(60)
-            && later.remove(number)
+        if let Some(key) = later.due_least(60)
+            && later.remove(key)
         {
             worked = worked.saturating_add(1);
         }
@@ -125,9 +126,9 @@ fn waiting(later: &Later, count: u32) -> u64 {
 fn again(later: &mut Later, count: u32) -> Result<u64> {
     let mut moved = 0u64;
     for _turn in 0..count {
-        if let Some(number) = later.due_least(60) {
-            later.remove(number);
-            if put_new(later, number, 120)? {
+        if let Some(key) = later.due_least(60) {
+            later.remove(key);
+            if put_new(later, key, 120)? {
                 moved = moved.saturating_add(1);
             }
         }
@@ -138,8 +139,8 @@ fn again(later: &mut Later, count: u32) -> Result<u64> {
 fn held(later: &mut Later, order: Order, count: u32) -> u64 {
     let mut found = 0u64;
     for turn in 0..count {
-        let number = order.number(turn, count);
-        if later.set(number, None) && later.due_from(number, 60).is_some() {
+        let key = Key::new(0, order.number(turn, count));
+        if later.set(key, None) && later.due_from(key, 60).is_some() {
             found = found.saturating_add(1);
         }
     }

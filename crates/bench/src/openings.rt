@@ -8,7 +8,7 @@ use crate::time::{number, tell};
 use anyhow::{Context, Result, bail};
 use disk_model::{Disk, MemDisk};
 use funnel::{MsgId, Token};
-use ledger_core::{Note, encode};
+use ledger_core::{Key, Note, encode};
 use recovery::Tape;
 use std::alloc::Global;
 use std::time::{Clock, Instant};
@@ -62,7 +62,11 @@ fn asked<R: AllocGlobal + Print + Clock>(rt: &R, notes: u64, times: u64) -> Resu
 pub fn owe(alloc: Global, number: u64) -> Result<Note> {
     let token = Token::read(alloc, b"default/0001")?.context("a token")?;
     let id = MsgId::read(alloc, b"<article@news.local>")?.context("a message-id")?;
-    Ok(Note::Owe { number, token, id })
+    Ok(Note::Owe {
+        key: Key::new(0, number),
+        token,
+        id,
+    })
 }
 
 // Appends the record of a note.

@@ -263,8 +263,8 @@ fn send_round(
 
 // Hands in the article that came to be wanted first.
 fn hand_in(conn: &mut Conn, text: Bytes) -> Result<()> {
-    let number = conn.need().context("an article is wanted")?;
-    if conn.article(number, Found::Article(text)).is_err() {
+    let key = conn.need().context("an article is wanted")?;
+    if conn.article(key, Found::Article(text)).is_err() {
         bail!("an article was refused");
     }
     Ok(())

@@ -103,12 +103,13 @@ pub trait Feeds {
     ghost listed: { Self → Option (List ℕ) → Outcome → Bool → FeedEnd → Self
         → Option (List ℕ) → Type 0 } = { λ _ _ _ _ _ _ _. Unit {0} };
 
-    /// Feeds the peers of these settings from this source, and writes `taken N` for each acknowledged batch of lines.
-    /// If `verbose`, what becomes of connections is logged.
+    /// Feeds the peers of these settings, which were read from the file at this path, from this source, and writes
+    /// `taken N` for each acknowledged batch of lines. If `verbose`, what becomes of connections is logged.
     fn feed<W: Write>(
         &mut self,
         alloc: Global,
         conf: Conf,
+        path: &str,
         source: Source<'_>,
         verbose: bool,
         out: &mut W,

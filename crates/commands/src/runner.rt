@@ -226,18 +226,19 @@ fn serve<'a, F: ReadFile, P: Feeds, W: Write>(
 {
     match files.read_file(alloc, path) {
         Ok(text) => match settings_of(alloc, path, &text, verbose) {
-            Ok(conf) => Err(Fault::Fed(run_errand(alloc, feeds, conf, errand, out))),
+            Ok(conf) => Err(Fault::Fed(run_errand(alloc, feeds, conf, path, errand, out))),
             Err(fault) => Err(fault),
         },
         Err(error) => Err(Fault::of_file(path, error)),
     }
 }
 
-// Runs an errand with these settings.
+// Runs an errand with these settings, which were read from the file at this path.
 fn run_errand<P: Feeds, W: Write>(
     alloc: Global,
     feeds: &mut P,
     conf: Conf,
+    path: &str,
     errand: Errand<'_>,
     out: &mut W,
 ) -> FeedEnd
@@ -246,7 +247,7 @@ fn run_errand<P: Feeds, W: Write>(
 {
     match errand {
         Errand::List { verbose } => feeds.list_owed(alloc, conf, verbose, out),
-        Errand::Feed { source, verbose } => feeds.feed(alloc, conf, source, verbose, out),
+        Errand::Feed { source, verbose } => feeds.feed(alloc, conf, path, source, verbose, out),
     }
 }
 

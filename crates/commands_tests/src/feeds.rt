@@ -57,6 +57,7 @@ impl Feeds for Ends {
         &mut self,
         alloc: Global,
         conf: Conf,
+        _conf_path: &str,
         source: Source<'_>,
         verbose: bool,
         out: &mut W,

@@ -36,7 +36,7 @@ module _ (options : Options) where
   unfolding story
   wanted-handed h number handing = sym (wanted-step h number (first_want (story options h) number) refl)
 
-  -- the first want of that number is what the value holds of it
+  -- the first want of that key is what the value holds of it
   pub wanted_first : (s : State) (h : List Event) (number : ℕ) → Matches options s h → reason options h ≡ None
       → find (is_of number) s.wanted ≡ option_map (λ (want : ℕ × Want). want.1) (first_want (story options h) number)
   wanted_first s h number st running =

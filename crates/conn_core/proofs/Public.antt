@@ -230,12 +230,12 @@ first_wanted-is options s h st = first_wanted-step options s h (reason options h
 
 number-step : (held : List Held) (wants : List Want) → AllByRecursion (IsWantOfDebt held) wants
     → option_map (λ (debt : Owing). debt.0) (option_map (λ (x : Held). x.debt) (held_for held (slice_get wants 0)))
-    ≡ option_map (λ (want : Want). want.number) (slice_get wants 0)
+    ≡ option_map (λ (want : Want). want.key) (slice_get wants 0)
 number-step held [] all = refl
 number-step held (want ∷ wants) all = twice (find (is_at want.ticket) held) all.0
   where
-    twice : (x : Option Held) → option_map (λ (y : Held). y.debt.0) x ≡ Some want.number
-        → option_map (λ (debt : Owing). debt.0) (option_map (λ (y : Held). y.debt) x) ≡ Some want.number
+    twice : (x : Option Held) → option_map (λ (y : Held). y.debt.0) x ≡ Some want.key
+        → option_map (λ (debt : Owing). debt.0) (option_map (λ (y : Held). y.debt) x) ≡ Some want.key
     twice None e = cc
     twice (Some x) e = e
 
@@ -248,18 +248,18 @@ wanted_number-step options s h None e st =
     rw (e, ← o.held_is, ← o.wanted_is) (number-step s.held s.wanted tied)
 wanted_number-step options s h (Some why) e st = rw e refl
 
--- the debt whose article came to be wanted first has the number that is needed
+-- the debt whose article came to be wanted first has the key that is needed
 pub wanted_number-is : (options : Options) (s : State) (h : List Event) → Matches options s h
     → option_map (λ (debt : Owing). debt.0) (first_wanted options h) ≡ need options h
 wanted_number-is options s h st = wanted_number-step options s h (reason options h) refl st
 
 need-step : (options : Options) (s : State) (h : List Event) (r : Option Reason) → reason options h ≡ r → Matches options s h
-    → (if is_some s.closed then None else option_map (λ (want : Want). want.number) (slice_get s.wanted 0)) ≡ need options h
+    → (if is_some s.closed then None else option_map (λ (want : Want). want.key) (slice_get s.wanted 0)) ≡ need options h
 need-step options s h None e st = let o = st.while_open e in rw (st.closed_is, e, o.wanted_is) refl
 need-step options s h (Some why) e st = rw (st.closed_is, e) refl
 
 pub need-is : (options : Options) (s : State) (h : List Event) → Matches options s h
-    → (if is_some s.closed then None else option_map (λ (want : Want). want.number) (slice_get s.wanted 0)) ≡ need options h
+    → (if is_some s.closed then None else option_map (λ (want : Want). want.key) (slice_get s.wanted 0)) ≡ need options h
 need-is options s h st = need-step options s h (reason options h) refl st
 
 needed-step : (options : Options) (s : State) (h : List Event) (number : ℕ) (r : Option Reason) → reason options h ≡ r → Matches options s h
@@ -267,7 +267,7 @@ needed-step : (options : Options) (s : State) (h : List Event) (number : ℕ) (r
 needed-step options s h number None e st = rw (st.closed_is, e) (wanted_first options s h number st e)
 needed-step options s h number (Some why) e st = rw (st.closed_is, e) refl
 
--- the want of that number, where its article is wanted
+-- the want of that key, where its article is wanted
 pub needed-is : (options : Options) (s : State) (h : List Event) (number : ℕ) → Matches options s h
     → (if is_some s.closed then None else find (is_of number) s.wanted) ≡ option_map (λ (want : ℕ × Want). want.1) (needed options h number)
 needed-is options s h number st = needed-step options s h number (reason options h) refl st

@@ -89,7 +89,7 @@ module _ (options : Options) where
       → first_unanswered options (e ∷ h) ≡ first_unanswered options h
   unanswered-same h e still = unanswered-step h e (reason options h) refl still
 
-  -- the number that is kept at a close
+  -- the key that is kept at a close
   number-same : (s : State) (h : List Event) → MatchesWhileOpen options s h
       → number_awaited s.held (slice_get s.window 0) ≡ number_asked (held options h) (slice_get (window options h) 0)
   number-same s h o =

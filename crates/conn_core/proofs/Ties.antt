@@ -98,8 +98,8 @@ times-one x t =
 abbrev id_of : Held → List ℕ
 id_of x = x.debt.1.1
 
-abbrev number_of : Held → ℕ
-number_of x = x.debt.0
+abbrev key_in : Held → ℕ
+key_in x = x.debt.0
 
 module _ {A : Type 0} (part : Held → A) where
   more-step : (b : Bool) (x : Held) (first more : Option Held) (a : A)
@@ -167,7 +167,7 @@ numbered-gone t held [] all none = tt
 numbered-gone t held (want ∷ wants) all none =
     let apart : want.ticket ≡ t → ⊥ = none-step want.ticket t (times (map (λ (want : Want). want.ticket) wants) t)
     (omega arith) in (
-      ap (option_map number_of) (find-other want.ticket t held apart) ∙ all.0,
+      ap (option_map key_in) (find-other want.ticket t held apart) ∙ all.0,
       numbered-gone t held wants all.1 (omega arith),
     )
 
@@ -189,7 +189,7 @@ module _ (held : List Held) (asks : List Ask) (wants : List Want) (n : ℕ) (tie
     named = All-map (IsOfDebt held) (IsOfDebt (held ++ record { ticket = n; debt = debt } ∷ []))
         (λ ask e. find-more id_of ask.ticket held _ ask.id e) asks tied.named;
     numbered = All-map (IsWantOfDebt held) (IsWantOfDebt (held ++ record { ticket = n; debt = debt } ∷ []))
-        (λ want e. find-more number_of want.ticket held _ want.number e) wants tied.numbered;
+        (λ want e. find-more key_in want.ticket held _ want.key e) wants tied.numbered;
     once = tied.once;
     below = λ t high. tied.below t (omega arith);
   }
@@ -327,4 +327,4 @@ accepted-own held x below = ap (option_map id_of) (find-last x.ticket held x ref
 -- and it is the one that its own want is about
 pub accepted-want : (held : List Held) (x : Held) → AllBelow (tickets held) x.ticket
     → IsWantOfDebt (held ++ x ∷ []) (want_of x)
-accepted-want held x below = ap (option_map number_of) (find-last x.ticket held x refl (below x.ticket (omega arith)))
+accepted-want held x below = ap (option_map key_in) (find-last x.ticket held x refl (below x.ticket (omega arith)))

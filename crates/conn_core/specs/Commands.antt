@@ -53,18 +53,18 @@ pub record Held : Type 0 where
   pub ticket : ℕ
   pub debt : Owing
 
--- an article is wanted for the debt at that ticket, whose number this is (profile)
+-- an article is wanted for the debt at that ticket, whose key this is (profile)
 pub record Want : Type 0 where
   pub ticket : ℕ
-  pub number : ℕ
+  pub key : ℕ
 
 -- whether this is the debt at that ticket (profile)
 abbrev pub is_at : ℕ → Held → Bool
 is_at ticket x = x.ticket == ticket
 
--- whether the want is of this number (profile)
+-- whether the want is of this key (profile)
 abbrev pub is_of : ℕ → Want → Bool
-is_of number want = want.number == number
+is_of key want = want.key == key
 
 -- the debt that a want is about, if it is still held (profile)
 abbrev pub held_for : List Held → Option Want → Option Held
@@ -73,7 +73,7 @@ held_for held (Some want) = find (is_at want.ticket) held
 
 -- the want of a debt's article (profile)
 abbrev pub want_of : Held → Want
-want_of x = record { ticket = x.ticket; number = x.debt.0 }
+want_of x = record { ticket = x.ticket; key = x.debt.0 }
 
 -- a CHECK of the debt at that ticket (RFC 4644, section 2.4)
 abbrev pub check_of : Held → Ask

@@ -25,7 +25,7 @@ pub data Event : Type 0 where
   Put : (command : Command) → Event  -- a command is put out
   Came : (reply : Given) → Event  -- a whole reply line comes in
   Faulted : (fault : ReplyFault) → Event  -- what comes in is no reply line
-  Handed : (number : ℕ) → (handing : Handing) → Event  -- an article is handed in for a wanted number
+  Handed : (number : ℕ) → (handing : Handing) → Event  -- an article is handed in for a wanted key
   Sent : (count : ℕ) → Event  -- so many octets of the output count as sent
   Tick : (now : ℕ) → Event  -- the moment, in seconds
   Broke : Event  -- the connection broke
@@ -274,7 +274,7 @@ abbrev pub ends_at_close : Option Reason → List Held → List End
 ends_at_close None held = []
 ends_at_close (Some reason) held = backs held
 
--- the number of the debt held that this command is about (profile)
+-- the key of the debt held that this command is about (profile)
 abbrev pub number_asked : List Held → Option Ask → Option ℕ
 number_asked held None = None
 number_asked held (Some ask) = option_map (λ (x : Held). x.debt.0) (find (is_at ask.ticket) held)
@@ -309,7 +309,7 @@ pub record Story : Type 0 where
 abbrev pub held_in : List Event → Story → List Held
 held_in h story = held_from 0 (accepted h) (ended_tickets story.ends)
 
--- the first want of that number for which no article was handed in, with its ticket (profile)
+-- the first want of that key for which no article was handed in, with its ticket (profile)
 abbrev pub first_want : Story → ℕ → Option (ℕ × Want)
 first_want story number = first_left (is_of number) story.handed 0 story.wants
 
@@ -405,7 +405,7 @@ module _ (options : Options) where
   abbrev pub wanted : List Event → List Want
   wanted h = left_from 0 (story h).wants (story h).handed
 
-  -- the number of the debt whose command was the first without an answer when it closed: none while it is open, and if
+  -- the key of the debt whose command was the first without an answer when it closed: none while it is open, and if
   -- each command had its answer (profile)
   abbrev pub first_unanswered : List Event → Option ℕ
   first_unanswered [] = None
@@ -444,13 +444,13 @@ module _ (options : Options) where
   abbrev pub output : List Event → List ℕ
   output h = if is_some (reason options h) then [] else drop (sent h) (put_octets h)
 
-  -- the first want of that number, if an article of it is wanted (profile)
+  -- the first want of that key, if an article of it is wanted (profile)
   abbrev pub needed : List Event → ℕ → Option (ℕ × Want)
   needed h number = if is_some (reason options h) then None else first_want (story h) number
 
-  -- the number whose article came to be wanted first: none, once closed (profile)
+  -- the key whose article came to be wanted first: none, once closed (profile)
   abbrev pub need : List Event → Option ℕ
-  need h = if is_some (reason options h) then None else option_map (λ (want : Want). want.number) (slice_get (wanted h) 0)
+  need h = if is_some (reason options h) then None else option_map (λ (want : Want). want.key) (slice_get (wanted h) 0)
 
   -- the debt whose article came to be wanted first: none, once closed (profile)
   abbrev pub first_wanted : List Event → Option Owing

@@ -50,7 +50,7 @@ IsTextAs text (Sendable block) = IsBlockOf text block
 IsTextAs text Gone = ⊥
 IsTextAs text Unsendable = ¬ (IsSendable text)
 
--- the first want of that number is gone
+-- the first want of that key is gone
 abbrev pub without_want : State → ℕ → State
 without_want s number = record s { wanted = remove_key (is_of number) s.wanted }
 

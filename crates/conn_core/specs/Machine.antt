@@ -47,7 +47,7 @@ fresh options = record {
   quiet = None;
 }
 
--- the number of the debt held that this command is about
+-- the key of the debt held that this command is about
 abbrev pub number_awaited : List Held → Option Awaited → Option ℕ
 number_awaited held None = None
 number_awaited held (Some awaited) = option_map (λ (x : Held). x.debt.0) (find (is_at awaited.ticket) held)
@@ -189,7 +189,7 @@ handed_for s (Sendable block) (Some x) = asked s (ask_with (is_streaming s.phase
 handed_for s Gone (Some x) = parted s x.ticket (loss_of Gone x.debt)
 handed_for s Unsendable (Some x) = parted s x.ticket (loss_of Unsendable x.debt)
 
--- and for the first wanted number of these
+-- and for the first wanted key of these
 abbrev pub handed : State → ℕ → Handing → State
 handed s number handing =
     quit_if_due (handed_for (record s { wanted = remove_key (is_of number) s.wanted }) handing (held_for s.held (find (is_of number) s.wanted)))

@@ -69,9 +69,9 @@ pub data Arises (options : Options) : List Event → Type 0 where
 abbrev pub IsOfDebt : List Held → Ask → Type 0
 IsOfDebt held ask = option_map (λ (x : Held). x.debt.1.1) (find (is_at ask.ticket) held) ≡ Some ask.id
 
--- whether the debt held at a want's ticket has the number of the want (profile)
+-- whether the debt held at a want's ticket has the key of the want (profile)
 abbrev pub IsWantOfDebt : List Held → Want → Type 0
-IsWantOfDebt held want = option_map (λ (x : Held). x.debt.0) (find (is_at want.ticket) held) ≡ Some want.number
+IsWantOfDebt held want = option_map (λ (x : Held). x.debt.0) (find (is_at want.ticket) held) ≡ Some want.key
 
 -- how many of these commands and wants are about the debt at a ticket (profile)
 abbrev pub claims : List Ask → List Want → (ticket : ℕ) → ℕ
@@ -79,7 +79,7 @@ claims asks wants ticket = times (map (λ (ask : Ask). ask.ticket) asks) ticket
     + times (map (λ (want : Want). want.ticket) wants) ticket
 
 -- each command without an answer is about a debt held, and names its message-id; each want is about a debt held, and
--- has its number; no debt has two commands without an answer, two wants, or one of each; and none is about a debt that
+-- has its key; no debt has two commands without an answer, two wants, or one of each; and none is about a debt that
 -- is still to be accepted (profile)
 pub record AreTied (held : List Held) (asks : List Ask) (wants : List Want) (accepted : ℕ) : Type 0 where
   pub named : AllByRecursion (IsOfDebt held) asks

@@ -43,7 +43,7 @@ pub record State : Type 0 where
   pub output : List ℕ
   pub found : List Outcome  -- what came out and was not taken
   pub closed : Option Reason
-  pub unanswered : Option ℕ  -- the number of the debt whose command was the first without an answer at the close
+  pub unanswered : Option ℕ  -- the key of the debt whose command was the first without an answer at the close
   pub quitting : Bool
   pub accepted : ℕ
   pub recent : List Bool  -- the last of the counted answers, newest first

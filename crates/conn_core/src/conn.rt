@@ -25,7 +25,7 @@ use crate::outcome::Outcome;
 use crate::ready::Ready;
 use crate::reason::Reason;
 use article_store::Found;
-use ledger_core::Debt;
+use ledger_core::{Debt, Key};
 use reply_reader::{Reply, ReplyFault, ReplyReader};
 use std::alloc::{AllocError, Global};
 use std::marker::Model;
@@ -139,53 +139,53 @@ impl Conn {
         Ok(())
     }
 
-    /// The number whose article came to be wanted first. None where none is wanted, and once closed.
-    pub fn need(&self) -> Option<u64>
+    /// The key whose article came to be wanted first. None where none is wanted, and once closed.
+    pub fn need(&self) -> Option<Key>
         ensures { (options : Options) (unread : List ℕ) (h : List Event)
             → StandsFor options self.now unread h → result ≡ need options h }
     {
         self.machine.need()
     }
 
-    /// The debt whose article came to be wanted first. None if none is wanted, and once closed. Its number is that of
+    /// The debt whose article came to be wanted first. None if none is wanted, and once closed. Its key is that of
     /// [`Conn::need`].
     pub fn wanted(&self) -> Option<&Debt>
         ensures value { (options : Options) (unread : List ℕ) (h : List Event)
             → StandsFor options self.now unread h
             → option_copied result ≡ first_wanted options h }
-        ensures number { (options : Options) (unread : List ℕ) (h : List Event)
+        ensures key { (options : Options) (unread : List ℕ) (h : List Event)
             → StandsFor options self.now unread h
             → option_map (λ (debt : Owing). debt.0) (option_copied result) ≡ need options h }
     {
         self.machine.wanted()
     }
 
-    /// Takes the article for the first want of that number: it goes out, by TAKETHIS or IHAVE, or the debt is lost.
+    /// Takes the article for the first want of that key: it goes out, by TAKETHIS or IHAVE, or the debt is lost.
     ///
     /// # Errors
-    /// What was found comes back, and nothing changes. `NotNeeded` where no article of that number is wanted, also once
+    /// What was found comes back, and nothing changes. `NotNeeded` where no article of that key is wanted, also once
     /// closed, else `NoMemory` where the text can be sent and memory was refused.
-    pub fn article(&mut self, number: u64, found: Found) -> Result<(), (Found, ArticleFault)>
+    pub fn article(&mut self, key: Key, found: Found) -> Result<(), (Found, ArticleFault)>
         ensures ok { OnOk result
             ((options : Options) (unread : List ℕ) (h : List Event)
             → StandsFor options self.old unread h
-            → (is_some (needed options h number) ≡ true)
+            → (is_some (needed options h key) ≡ true)
             × ((handing : Handing) × IsHandedAs found handing
-            × StandsFor options self.new unread (after options h (Handed number handing)))) }
+            × StandsFor options self.new unread (after options h (Handed key handing)))) }
         ensures refuses { IfErr result
             (λ e. (options : Options) (unread : List ℕ) (h : List Event)
             → StandsFor options self.old unread h
-            → RefusesArticle e.1 (needed options h number)) }
+            → RefusesArticle e.1 (needed options h key)) }
         ensures no_memory { IfErr result
             (λ e. e.1 ≡ ArticleFault.NoMemory → IsSendableArticle found) }
         ensures returned { IfErr result (λ e. e.0 ≡ found) }
         ensures unchanged { OnErr result (self.new ≡ self.old) }
         ensures same_id { self.new.id ≡ self.old.id }
     {
-        if !self.machine.needs(number) {
+        if !self.machine.needs(key) {
             return Err((found, ArticleFault::NotNeeded));
         }
-        if let Err(_) = self.machine.on_article(number, &found) {
+        if let Err(_) = self.machine.on_article(key, &found) {
             return Err((found, ArticleFault::NoMemory));
         }
         Ok(())
@@ -363,9 +363,9 @@ impl Conn {
         self.refused.as_ref()
     }
 
-    /// The number of the debt whose command was the first without an answer when it closed. `None` while it is open,
+    /// The key of the debt whose command was the first without an answer when it closed. `None` while it is open,
     /// and if each command had its answer. Outcomes that are taken change nothing of it.
-    pub fn first_unanswered(&self) -> Option<u64>
+    pub fn first_unanswered(&self) -> Option<Key>
         ensures { (options : Options) (unread : List ℕ) (h : List Event)
             → StandsFor options self.now unread h → result ≡ first_unanswered options h }
     {

@@ -8,7 +8,7 @@ ghost use Rattle.conn_core.specs.Commands.{Held, is_at};
 ghost use Rattle.conn_core.specs.Used.{is_empty};
 
 use crate::kept::HeldDebt;
-use ledger_core::Debt;
+use ledger_core::{Debt, Key};
 use std::alloc::{AllocError, Global};
 use std::collections::VecDeque;
 use std::marker::Model;
@@ -127,13 +127,13 @@ impl HeldDebts {
         }
     }
 
-    // The number of the debt at that ticket.
-    pub(crate) fn number_at(&self, ticket: u64) -> Option<u64>
+    // The key of the debt at that ticket.
+    pub(crate) fn key_at(&self, ticket: u64) -> Option<Key>
         ensures { result
             ≡ option_map (λ (x : Held). x.debt.0) (find (is_at ticket) self.now.debts) }
     {
         match self.get(ticket) {
-            Some(x) => Some(x.debt().number()),
+            Some(x) => Some(x.debt().key()),
             None => None,
         }
     }

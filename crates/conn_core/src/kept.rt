@@ -2,7 +2,7 @@
 ghost use Rattle.std.specs.Prelude.{◌≡◌};
 
 use crate::codes::Verb;
-use ledger_core::Debt;
+use ledger_core::{Debt, Key};
 use std::marker::Model;
 
 // A debt held, with its ticket among those accepted.
@@ -86,7 +86,7 @@ impl AwaitedAsk {
 #[derive(Debug, Drop)]
 pub(crate) struct WantedArticle {
     ticket: u64,
-    number: u64,
+    key: Key,
 }
 
 impl Model for WantedArticle {
@@ -94,14 +94,14 @@ impl Model for WantedArticle {
 
     ghost Value = { Want };
 
-    ghost view = { λ want. record { ticket = want.ticket; number = want.number } };
+    ghost view = { λ want. record { ticket = want.ticket; key = want.key } };
 }
 
 impl WantedArticle {
-    pub(crate) fn new(ticket: u64, number: u64) -> Self
-        ensures { result ≡ record { ticket = ticket; number = number } }
+    pub(crate) fn new(ticket: u64, key: Key) -> Self
+        ensures { result ≡ record { ticket = ticket; key = key } }
     {
-        WantedArticle { ticket, number }
+        WantedArticle { ticket, key }
     }
 
     pub(crate) fn ticket(&self) -> u64
@@ -110,9 +110,9 @@ impl WantedArticle {
         self.ticket
     }
 
-    pub(crate) fn number(&self) -> u64
-        ensures { result ≡ self.now.number }
+    pub(crate) fn key(&self) -> Key
+        ensures { result ≡ self.now.key }
     {
-        self.number
+        self.key
     }
 }

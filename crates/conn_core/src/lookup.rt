@@ -13,6 +13,7 @@ use crate::held::HeldDebts;
 use crate::kept::{AwaitedAsk, HeldDebt, WantedArticle};
 use crate::mode::Mode;
 use funnel::MsgId;
+use ledger_core::Key;
 use reply_reader::Reply;
 use std::collections::VecDeque;
 
@@ -52,17 +53,17 @@ fn first_answered(
         .position(|ask| can_answer(reply, ask, held, mode))
 }
 
-fn first_of(wanted: &VecDeque<WantedArticle>, number: u64) -> Option<usize>
-    ensures { result ≡ position (is_of number) wanted.now.items }
+fn first_of(wanted: &VecDeque<WantedArticle>, key: Key) -> Option<usize>
+    ensures { result ≡ position (is_of key) wanted.now.items }
 {
-    wanted.iter().position(|want| want.number() == number)
+    wanted.iter().position(|want| want.key() == key)
 }
 
-// Whether there is a want of that number.
-pub(crate) fn is_wanted(wanted: &VecDeque<WantedArticle>, number: u64) -> bool
-    ensures { result ≡ is_some (find (is_of number) wanted.now.items) }
+// Whether there is a want of that key.
+pub(crate) fn is_wanted(wanted: &VecDeque<WantedArticle>, key: Key) -> bool
+    ensures { result ≡ is_some (find (is_of key) wanted.now.items) }
 {
-    match first_of(wanted, number) {
+    match first_of(wanted, key) {
         Some(_) => true,
         None => false,
     }
@@ -90,42 +91,39 @@ pub(crate) fn take_answered(
     }
 }
 
-// The first want of that number.
-fn wanted_of(wanted: &VecDeque<WantedArticle>, number: u64) -> Option<&WantedArticle>
-    ensures { option_copied result ≡ find (is_of number) wanted.now.items }
+// The first want of that key.
+fn wanted_of(wanted: &VecDeque<WantedArticle>, key: Key) -> Option<&WantedArticle>
+    ensures { option_copied result ≡ find (is_of key) wanted.now.items }
 {
-    match first_of(wanted, number) {
+    match first_of(wanted, key) {
         Some(i) => wanted.get(i),
         None => None,
     }
 }
 
-// The debt that the first want of that number is about.
+// The debt that the first want of that key is about.
 pub(crate) fn debt_wanting<'a>(
     held: &'a HeldDebts,
     wanted: &VecDeque<WantedArticle>,
-    number: u64,
+    key: Key,
 ) -> Option<&'a HeldDebt>
     ensures { option_copied result
-        ≡ held_for held.now.debts (find (is_of number) wanted.now.items) }
+        ≡ held_for held.now.debts (find (is_of key) wanted.now.items) }
 {
-    match wanted_of(wanted, number) {
+    match wanted_of(wanted, key) {
         Some(want) => held.get(want.ticket()),
         None => None,
     }
 }
 
-// Takes out the first want of that number.
-pub(crate) fn take_wanted(
-    wanted: &mut VecDeque<WantedArticle>,
-    number: u64,
-) -> Option<WantedArticle>
-    ensures found { result ≡ find (is_of number) wanted.old.items }
-    ensures rest { wanted.new.items ≡ remove_key (is_of number) wanted.old.items }
+// Takes out the first want of that key.
+pub(crate) fn take_wanted(wanted: &mut VecDeque<WantedArticle>, key: Key) -> Option<WantedArticle>
+    ensures found { result ≡ find (is_of key) wanted.old.items }
+    ensures rest { wanted.new.items ≡ remove_key (is_of key) wanted.old.items }
     ensures unchanged { IfNone result (wanted.new ≡ wanted.old) }
     ensures capacity { deque_capacity wanted.new ≡ deque_capacity wanted.old }
 {
-    match first_of(wanted, number) {
+    match first_of(wanted, key) {
         Some(i) => wanted.remove(i),
         None => None,
     }

@@ -27,7 +27,7 @@ use crate::quiet::Clock;
 use crate::ready::Ready;
 use crate::reason::Reason;
 use bytes::{Bytes, BytesMut};
-use ledger_core::Debt;
+use ledger_core::{Debt, Key};
 use reply_reader::ReplyFault;
 use std::alloc::{AllocError, Global};
 use std::collections::VecDeque;
@@ -53,8 +53,8 @@ pub(crate) struct Machine {
     // There is room for an outcome of each debt held.
     found: VecDeque<Outcome>,
     closed: Option<Reason>,
-    // The number of the debt whose command was the first without an answer when it closed.
-    unanswered: Option<u64>,
+    // The key of the debt whose command was the first without an answer when it closed.
+    unanswered: Option<Key>,
     quitting: bool,
     switch: CheckSwitch,
     // Whether a reply answered a command about a debt.
@@ -233,23 +233,23 @@ impl Machine {
         {
             return Err(debt);
         }
-        let want = WantedArticle::new(self.held.next_ticket(), debt.number());
+        let want = WantedArticle::new(self.held.next_ticket(), debt.key());
         self.wanted.push_back_reserved(want);
         self.held.put(debt);
         Ok(())
     }
 
-    // The number of the first want: none, once closed.
-    pub(crate) fn need(&self) -> Option<u64>
+    // The key of the first want: none, once closed.
+    pub(crate) fn need(&self) -> Option<Key>
         ensures { result
-            ≡ (if is_some self.now.closed then None else option_map (λ (want : Want). want.number)
+            ≡ (if is_some self.now.closed then None else option_map (λ (want : Want). want.key)
             (slice_get self.now.wanted 0)) }
     {
         if self.closed.is_some() {
             return None;
         }
         match self.wanted.front() {
-            Some(want) => Some(want.number()),
+            Some(want) => Some(want.key()),
             None => None,
         }
     }
@@ -269,12 +269,12 @@ impl Machine {
         }
     }
 
-    // Whether it is open and an article of this number is wanted.
-    pub(crate) fn needs(&self, number: u64) -> bool
+    // Whether it is open and an article of this key is wanted.
+    pub(crate) fn needs(&self, key: Key) -> bool
         ensures { result ≡ (is_none self.now.closed
-            && is_some (find (is_of number) self.now.wanted)) }
+            && is_some (find (is_of key) self.now.wanted)) }
     {
-        self.closed.is_none() && is_wanted(&self.wanted, number)
+        self.closed.is_none() && is_wanted(&self.wanted, key)
     }
 
     // Puts QUIT out where it is due (RFC 3977, section 5.4).
@@ -296,18 +296,18 @@ impl Machine {
         empty(&mut self.output);
     }
 
-    // The number of the debt whose command is the first without an answer.
-    fn first_awaited(&self) -> Option<u64>
+    // The key of the debt whose command is the first without an answer.
+    fn first_awaited(&self) -> Option<Key>
         ensures { result ≡ number_awaited self.now.held (slice_get self.now.window 0) }
     {
         match self.window.front() {
-            Some(ask) => self.held.number_at(ask.ticket()),
+            Some(ask) => self.held.key_at(ask.ticket()),
             None => None,
         }
     }
 
-    // The number of the debt whose command was the first without an answer when it closed.
-    pub(crate) fn unanswered(&self) -> Option<u64>
+    // The key of the debt whose command was the first without an answer when it closed.
+    pub(crate) fn unanswered(&self) -> Option<Key>
         ensures { result ≡ self.now.unanswered }
     {
         self.unanswered

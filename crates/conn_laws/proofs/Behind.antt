@@ -4,7 +4,8 @@ use Rattle.std.specs.Prelude.{◌&&◌, if◌then◌else◌}
 use Rattle.reply_reader.specs.Stream.{Given}
 use Rattle.conn_core.specs.Codes.{is_welcome}
 use Rattle.conn_core.specs.Commands.{Ask, Command, ModeStream, Quit, Handing, Sendable, Gone, Unsendable}
-use Rattle.conn_core.specs.History.{Event, Put, after, answered_now, asks, is_quit_due, puts, puts_article, puts_greeting, with_puts}
+use Rattle.conn_core.specs.History.{Event, Put, after, answered_now, asks, is_quit_due, puts, puts_article}
+use Rattle.conn_core.specs.History.{puts_greeting, with_puts}
 use Rattle.conn_core.specs.declared.options.Options.{Options}
 use Rattle.conn_core.specs.declared.phase.Phase.{Phase}
 use Rattle.conn_core.specs.declared.phase.Phase.TheVariants.{Greeting, Asking, Streaming, OneByOne, Leaving}

@@ -1,5 +1,6 @@
 -- While the connection is open, each debt held has one command without an answer or one wanted article, and no other has any.
-use Rattle.std.proofs.Common.{◌≡◌, ℕ, ◌+◌, ◌<◌, ◌≤◌, Bool, true, false, List, [], ◌∷◌, ◌++◌, length, refl, sym, ap, subst, ◌∙◌, arith, find, Option, Some, None, cond, append-nil, length-append, inl, inr}
+use Rattle.std.proofs.Common.{◌≡◌, ℕ, ◌+◌, ◌<◌, ◌≤◌, Bool, true, false, List, [], ◌∷◌, ◌++◌, length, refl, sym, ap}
+use Rattle.std.proofs.Common.{subst, ◌∙◌, arith, find, Option, Some, None, cond, append-nil, length-append, inl, inr}
 use Rattle.std.specs.Prelude.{◌==◌, ◌&&◌, if◌then◌else◌, is_some, nat_lt, option_map}
 use Rattle.std.proofs.lemmas.Bool.{cases_lt, eq-eqb}
 use Rattle.std.proofs.lemmas.Bool.Decides.{nat_tests}
@@ -7,8 +8,14 @@ use Rattle.reply_reader.specs.Stream.{Given}
 use Rattle.ledger_core.specs.State.{Owing}
 use Rattle.conn_core.specs.Codes.{meaning}
 use Rattle.conn_core.specs.Used.{left_from, times}
-use Rattle.conn_core.specs.Commands.{Ask, Command, Asks, Handing, Sendable, Gone, Unsendable, Held, Want, ask_with, block_of, check_of, held_for, is_at, want_of}
-use Rattle.conn_core.specs.History.{Event, Offered, Put, Came, Faulted, Handed, Sent, Tick, Broke, Leave, Taken, accepted, after, answered, answered_ask, asks, closes, ended_tickets, ends, ends_at_close, ends_by_answer, ends_by_loss, first_reason, first_want, held, is_streaming, newcomer, outside, phase, puts_answer, puts_article, puts_block, puts_greeting, reason, story, wanted, wants_at_once, wants_by_answer, window, with_puts}
+use Rattle.conn_core.specs.Commands.{Ask, Command, Asks, Handing, Sendable, Gone, Unsendable, Held, Want, ask_with}
+use Rattle.conn_core.specs.Commands.{block_of, check_of, held_for, is_at, want_of}
+use Rattle.conn_core.specs.History.{Event, Offered, Put, Came, Faulted, Handed, Sent, Tick, Broke, Leave, Taken}
+use Rattle.conn_core.specs.History.{accepted, after, answered, answered_ask, asks, closes, ended_tickets, ends}
+use Rattle.conn_core.specs.History.{ends_at_close, ends_by_answer, ends_by_loss, first_reason, first_want, held}
+use Rattle.conn_core.specs.History.{is_streaming, newcomer, outside, phase, puts_answer, puts_article, puts_block}
+use Rattle.conn_core.specs.History.{puts_greeting, reason, story, wanted, wants_at_once, wants_by_answer, window}
+use Rattle.conn_core.specs.History.{with_puts}
 use Rattle.conn_laws.specs.Laws.{fits_in, open_commands, open_wants, times_held, times_out}
 use Rattle.conn_core.specs.Stands.{Arises, Starts, Goes_on}
 use Rattle.conn_core.specs.declared.codes.Meaning.{Meaning}
@@ -20,7 +27,8 @@ use Rattle.conn_core.specs.UsedLaws.{times-append}
 use Rattle.conn_laws.proofs.Once.{ends_by, held_or_out, neither-beyond, tickets-more}
 use Rattle.conn_core.specs.ClosingLaws.{first_reason-none, needed-open, ready-open, reason-after}
 use Rattle.conn_laws.proofs.Right.{answer_is_first}
-use Rattle.conn_laws.proofs.Tallies.{tally, times-tally, wanted-handed, wanted-more, wanted-none, window-came, window-none, window-put}
+use Rattle.conn_laws.proofs.Tallies.{tally, times-tally, wanted-handed, wanted-more, wanted-none, window-came}
+use Rattle.conn_laws.proofs.Tallies.{window-none, window-put}
 use Rattle.conn_laws.proofs.Behind.{article-none, greeting-none, holds-after, holds-greeted}
 use Rattle.conn_laws.proofs.Twice.{came-nothing, came-wanted, offered-wanted, one_at, wants_at}
 

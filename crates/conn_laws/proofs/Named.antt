@@ -1,12 +1,17 @@
 -- Each command about a debt names the message-id of the debt that was accepted at its ticket.
-use Rattle.std.proofs.Common.{◌≡◌, ℕ, suc, zero, Bool, true, false, List, [], ◌∷◌, ◌++◌, refl, sym, ap, subst, ◌∙◌, Option, Some, None}
+use Rattle.std.proofs.Common.{◌≡◌, ℕ, suc, zero, Bool, true, false, List, [], ◌∷◌, ◌++◌, refl, sym, ap, subst, ◌∙◌}
+use Rattle.std.proofs.Common.{Option, Some, None}
 use Rattle.std.specs.Prelude.{if◌then◌else◌, is_some, option_map, slice_get}
 use Rattle.std.specs.List.{AllByRecursion}
 use Rattle.reply_reader.specs.Stream.{Given}
 use Rattle.ledger_core.specs.State.{Owing}
 use Rattle.conn_core.specs.Codes.{meaning}
-use Rattle.conn_core.specs.Commands.{Ask, Command, Asks, Handing, Sendable, Gone, Unsendable, Held, Want, ask_with, block_of, check_of, held_for}
-use Rattle.conn_core.specs.History.{Event, Offered, Put, Came, Faulted, Handed, Sent, Tick, Broke, Leave, accepted, after, answered, answered_ask, asks, first_want, held, held_wanting, is_streaming, newcomer, phase, puts_answer, puts_article, puts_block, puts_greeting, reason, story, wants_at_once, with_puts, Taken}
+use Rattle.conn_core.specs.Commands.{Ask, Command, Asks, Handing, Sendable, Gone, Unsendable, Held, Want, ask_with}
+use Rattle.conn_core.specs.Commands.{block_of, check_of, held_for}
+use Rattle.conn_core.specs.History.{Event, Offered, Put, Came, Faulted, Handed, Sent, Tick, Broke, Leave, accepted}
+use Rattle.conn_core.specs.History.{after, answered, answered_ask, asks, first_want, held, held_wanting, is_streaming}
+use Rattle.conn_core.specs.History.{newcomer, phase, puts_answer, puts_article, puts_block, puts_greeting, reason}
+use Rattle.conn_core.specs.History.{story, wants_at_once, with_puts, Taken}
 use Rattle.conn_core.specs.Stands.{Arises, Starts, Goes_on}
 use Rattle.conn_core.specs.declared.codes.Meaning.{Meaning}
 use Rattle.conn_core.specs.declared.codes.Meaning.TheVariants.{Wanted, SendBlock, Later, Final}

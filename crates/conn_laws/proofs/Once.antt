@@ -1,5 +1,7 @@
 -- Each debt accepted is held or came out, once, and what came out is the debt that was accepted.
-use Rattle.std.proofs.Common.{◌≡◌, ℕ, suc, zero, ◌+◌, ◌<◌, ◌≤◌, Bool, true, false, List, [], ◌∷◌, ◌++◌, length, refl, sym, ap, subst, ◌∙◌, arith, find, Option, Some, None, cond, append_assoc, append-nil, inl, inr}
+use Rattle.std.proofs.Common.{◌≡◌, ℕ, suc, zero, ◌+◌, ◌<◌, ◌≤◌, Bool, true, false, List, [], ◌∷◌, ◌++◌, length, refl}
+use Rattle.std.proofs.Common.{sym, ap, subst, ◌∙◌, arith, find, Option, Some, None, cond, append_assoc, append-nil, inl}
+use Rattle.std.proofs.Common.{inr}
 use Rattle.std.specs.Prelude.{◌==◌, ◌||◌, if◌then◌else◌, is_some, option_map, slice_get}
 use Rattle.std.specs.List.{AllByRecursion}
 use Rattle.std.proofs.lemmas.Bool.{false≢true, ne_eqb}
@@ -9,7 +11,10 @@ use Rattle.ledger_core.specs.State.{Owing}
 use Rattle.conn_core.specs.Codes.{meaning}
 use Rattle.conn_core.specs.Used.{has, times}
 use Rattle.conn_core.specs.Commands.{Ask, Held, Want, Handing, Sendable, Gone, Unsendable, debt_in, held_for, is_at}
-use Rattle.conn_core.specs.History.{Event, Offered, Put, Came, Faulted, Handed, Sent, Tick, Broke, Leave, Taken, accepted, asks, answered, answered_now, answered_ask, phase, closes, closes_in, reason, story, ends, held, held_from, End, ended_tickets, backs, ends_by_meaning, ends_by_answer, ends_by_loss, held_wanting, ends_at_close, first_want}
+use Rattle.conn_core.specs.History.{Event, Offered, Put, Came, Faulted, Handed, Sent, Tick, Broke, Leave, Taken}
+use Rattle.conn_core.specs.History.{accepted, asks, answered, answered_now, answered_ask, phase, closes, closes_in}
+use Rattle.conn_core.specs.History.{reason, story, ends, held, held_from, End, ended_tickets, backs, ends_by_meaning}
+use Rattle.conn_core.specs.History.{ends_by_answer, ends_by_loss, held_wanting, ends_at_close, first_want}
 use Rattle.conn_core.specs.Stands.{Arises}
 use Rattle.conn_laws.specs.Laws.{AllAreTheirOwn, times_held, times_out}
 use Rattle.conn_core.specs.declared.options.Options.{Options}

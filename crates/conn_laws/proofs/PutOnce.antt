@@ -1,9 +1,14 @@
 -- MODE STREAM and QUIT are put out once at most.
-use Rattle.std.proofs.Common.{◌≡◌, ℕ, ◌+◌, ◌≤◌, Bool, true, false, List, [], ◌∷◌, ◌++◌, refl, sym, subst, arith, Option, Some, None}
+use Rattle.std.proofs.Common.{◌≡◌, ℕ, ◌+◌, ◌≤◌, Bool, true, false, List, [], ◌∷◌, ◌++◌, refl, sym, subst, arith, Option}
+use Rattle.std.proofs.Common.{Some, None}
 use Rattle.std.specs.Prelude.{◌==◌, ◌&&◌, if◌then◌else◌, is_some}
 use Rattle.conn_core.specs.Codes.{is_welcome, meaning}
-use Rattle.conn_core.specs.Commands.{Ask, Command, ModeStream, Asks, Quit, Handing, Sendable, Gone, Unsendable, Held, check_of}
-use Rattle.conn_core.specs.History.{Event, Offered, Put, Came, Faulted, Handed, Sent, Tick, Broke, Leave, after, answered_ask, held_wanting, is_leaving, is_mode, is_quit_due, is_streaming, newcomer, phase, phase_after, put_out, puts, puts_answer, puts_article, puts_block, puts_greeting, reason, story, wants_at_once, with_puts, Taken}
+use Rattle.conn_core.specs.Commands.{Ask, Command, ModeStream, Asks, Quit, Handing, Sendable, Gone, Unsendable, Held}
+use Rattle.conn_core.specs.Commands.{check_of}
+use Rattle.conn_core.specs.History.{Event, Offered, Put, Came, Faulted, Handed, Sent, Tick, Broke, Leave, after}
+use Rattle.conn_core.specs.History.{answered_ask, held_wanting, is_leaving, is_mode, is_quit_due, is_streaming}
+use Rattle.conn_core.specs.History.{newcomer, phase, phase_after, put_out, puts, puts_answer, puts_article, puts_block}
+use Rattle.conn_core.specs.History.{puts_greeting, reason, story, wants_at_once, with_puts, Taken}
 use Rattle.conn_laws.specs.Laws.{is_mode_stream, is_quit, times_put}
 use Rattle.conn_core.specs.Stands.{Arises, Starts, Goes_on}
 use Rattle.conn_core.specs.declared.codes.Meaning.{Meaning}

@@ -1,11 +1,13 @@
 -- Sums over the items of a list of which some are used up, and over the commands and the wants of a transcript.
-use Rattle.std.proofs.Common.{◌≡◌, ℕ, ◌+◌, ◌≤◌, Bool, true, false, List, [], ◌∷◌, ◌++◌, length, refl, sym, ap, subst, ◌∙◌, arith, find, Option, Some, None, cond, map}
+use Rattle.std.proofs.Common.{◌≡◌, ℕ, ◌+◌, ◌≤◌, Bool, true, false, List, [], ◌∷◌, ◌++◌, length, refl, sym, ap, subst}
+use Rattle.std.proofs.Common.{◌∙◌, arith, find, Option, Some, None, cond, map}
 use Rattle.std.specs.Prelude.{◌==◌, ◌&&◌, if◌then◌else◌, option_map}
 use Rattle.std.specs.Set.{remove_key}
 use Rattle.reply_reader.specs.Stream.{Given}
 use Rattle.conn_core.specs.Used.{first_left, left_from, times, with_ticket}
 use Rattle.conn_core.specs.Commands.{Ask, Asks, Handing, Want, is_of}
-use Rattle.conn_core.specs.History.{Event, Came, Handed, Put, answered, answered_ask, asks, first_want, is_streaming, phase, story, wanted, window}
+use Rattle.conn_core.specs.History.{Event, Came, Handed, Put, answered, answered_ask, asks, first_want, is_streaming}
+use Rattle.conn_core.specs.History.{phase, story, wanted, window}
 use Rattle.conn_laws.specs.Laws.{fits_in, times_asked}
 use Rattle.conn_core.specs.declared.codes.Verb.{Verb}
 use Rattle.conn_core.specs.declared.options.Options.{Options}

@@ -1,15 +1,21 @@
 -- Nothing is put out twice: what is still to come of a debt, with what is out, is one of each.
-use Rattle.std.proofs.Common.{◌≡◌, ℕ, ◌+◌, ◌≤◌, Bool, true, false, List, [], ◌∷◌, ◌++◌, length, refl, sym, ap, subst, ◌∙◌, arith, find, Option, Some, None, cond, append-nil, length-append}
+use Rattle.std.proofs.Common.{◌≡◌, ℕ, ◌+◌, ◌≤◌, Bool, true, false, List, [], ◌∷◌, ◌++◌, length, refl, sym, ap, subst}
+use Rattle.std.proofs.Common.{◌∙◌, arith, find, Option, Some, None, cond, append-nil, length-append}
 use Rattle.std.specs.Prelude.{◌==◌, ◌&&◌, if◌then◌else◌, is_some, nat_lt, option_map}
 use Rattle.std.proofs.lemmas.Bool.Decides.{nat_tests}
 use Rattle.reply_reader.specs.Stream.{Given}
 use Rattle.reply_reader.specs.declared.fault.ReplyFault.{ReplyFault}
 use Rattle.ledger_core.specs.State.{Owing}
-use Rattle.ledger_core.specs.declared.note.FinalCode.TheVariants.{IhaveReceived, TakethisReceived, IhaveNotWanted, IhaveRejected, CheckNotWanted, TakethisRejected}
+use Rattle.ledger_core.specs.declared.note.FinalCode.TheVariants.{IhaveReceived, TakethisReceived, IhaveNotWanted}
+use Rattle.ledger_core.specs.declared.note.FinalCode.TheVariants.{IhaveRejected, CheckNotWanted, TakethisRejected}
 use Rattle.conn_core.specs.Codes.{meaning}
 use Rattle.conn_core.specs.Used.{left_from}
-use Rattle.conn_core.specs.Commands.{Ask, Command, Asks, Handing, Sendable, Gone, Unsendable, Held, Want, ask_with, block_of, check_of, held_for, is_at, want_of}
-use Rattle.conn_core.specs.History.{Event, Offered, Put, Came, Faulted, Handed, Sent, Tick, Broke, Leave, Taken, accepted, answered, answered_ask, asks, after, first_want, held, is_streaming, newcomer, phase, puts_answer, puts_article, puts_block, puts_greeting, reason, story, wanted, wants_at_once, wants_by_answer, window, with_puts}
+use Rattle.conn_core.specs.Commands.{Ask, Command, Asks, Handing, Sendable, Gone, Unsendable, Held, Want, ask_with}
+use Rattle.conn_core.specs.Commands.{block_of, check_of, held_for, is_at, want_of}
+use Rattle.conn_core.specs.History.{Event, Offered, Put, Came, Faulted, Handed, Sent, Tick, Broke, Leave, Taken}
+use Rattle.conn_core.specs.History.{accepted, answered, answered_ask, asks, after, first_want, held, is_streaming}
+use Rattle.conn_core.specs.History.{newcomer, phase, puts_answer, puts_article, puts_block, puts_greeting, reason}
+use Rattle.conn_core.specs.History.{story, wanted, wants_at_once, wants_by_answer, window, with_puts}
 use Rattle.conn_laws.specs.Laws.{is_verb, offers_article, sends_block, times_asked}
 use Rattle.conn_core.specs.Stands.{Arises, Starts, Goes_on}
 use Rattle.conn_core.specs.declared.codes.Verb.{Verb}
@@ -19,7 +25,8 @@ use Rattle.conn_core.specs.declared.codes.Meaning.TheVariants.{Wanted, SendBlock
 use Rattle.conn_core.specs.declared.options.Options.{Options}
 use Rattle.conn_laws.proofs.Behind.{article-none, greeting-none, holds-after, holds-greeted}
 use Rattle.conn_core.specs.HeldLaws.{find-is_at}
-use Rattle.conn_laws.proofs.Tallies.{asked, asked-tally, asks-put, tally, tally-least, wanted-handed, wanted-more, wanted-none, window-came, window-none, window-put}
+use Rattle.conn_laws.proofs.Tallies.{asked, asked-tally, asks-put, tally, tally-least, wanted-handed, wanted-more}
+use Rattle.conn_laws.proofs.Tallies.{wanted-none, window-came, window-none, window-put}
 
 -- 1 for this ticket
 abbrev pub one_at : ℕ → ℕ → ℕ

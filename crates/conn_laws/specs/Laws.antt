@@ -1,5 +1,6 @@
 -- What holds over whole transcripts.
-use Rattle.std.specs.Prelude.{◌≡◌, ℕ, ◌+◌, ◌<◌, Bool, true, false, Option, Some, None, is_some, List, [], ◌∷◌, ◌++◌, length, map, option_map, slice_get, if◌then◌else◌, ◌&&◌, ◌==◌, ◌⊎◌}
+use Rattle.std.specs.Prelude.{◌≡◌, ℕ, ◌+◌, ◌<◌, Bool, true, false, Option, Some, None, is_some, List, [], ◌∷◌, ◌++◌}
+use Rattle.std.specs.Prelude.{length, map, option_map, slice_get, if◌then◌else◌, ◌&&◌, ◌==◌, ◌⊎◌}
 use Rattle.std.specs.List.{AllByRecursion}
 use Rattle.std.specs.List.Sorted.{IsStrictlyIncreasing}
 use Rattle.reply_reader.specs.Stream.{Given}
@@ -9,8 +10,11 @@ use Rattle.conn_core.specs.Codes.{meaning}
 use Rattle.conn_core.specs.Used.{has, times}
 use Rattle.ledger_core.specs.declared.note.Cause.{Cause}
 use Rattle.ledger_core.specs.declared.note.Cause.TheVariants.{Missing, Unsendable as Unfit}
-use Rattle.conn_core.specs.Commands.{Ask, Command, ModeStream, Asks, Quit, Handing, Sendable, Gone, Unsendable, Held, Want, block_of, check_of, debt_in, fits_ask, belongs_to}
-use Rattle.conn_core.specs.History.{Event, Offered, Put, Came, Faulted, Handed, Sent, Tick, Broke, Leave, Taken, End, accepted, asks, answered, checks, closes, ends, ended_tickets, held, is_mode, is_streaming, newcomer, phase, reason, wanted, window, story, first_want}
+use Rattle.conn_core.specs.Commands.{Ask, Command, ModeStream, Asks, Quit, Handing, Sendable, Gone, Unsendable, Held}
+use Rattle.conn_core.specs.Commands.{Want, block_of, check_of, debt_in, fits_ask, belongs_to}
+use Rattle.conn_core.specs.History.{Event, Offered, Put, Came, Faulted, Handed, Sent, Tick, Broke, Leave, Taken, End}
+use Rattle.conn_core.specs.History.{accepted, asks, answered, checks, closes, ends, ended_tickets, held, is_mode}
+use Rattle.conn_core.specs.History.{is_streaming, newcomer, phase, reason, wanted, window, story, first_want}
 use Rattle.conn_core.specs.declared.codes.Verb.{Verb}
 use Rattle.conn_core.specs.declared.codes.Verb.TheVariants.{Check, Takethis, Ihave, Block}
 use Rattle.conn_core.specs.declared.codes.Meaning.{Meaning}
@@ -86,8 +90,8 @@ cause_of (Sendable block) = None
 cause_of Gone = Some Missing
 cause_of Unsendable = Some Unfit
 
--- an article of the debt's number was handed in for that very debt, whose want was the first of the number, and this was why
--- it is lost (profile)
+-- an article of the debt's key was handed in for that very debt, whose want was the first of the key, and this was why it is
+-- lost (profile)
 pub record IsLost (options : Options) (h : List Event) (ticket : ℕ) (debt : Owing) (cause : Cause) : Type 0 where
   pub later : List Event
   pub earlier : List Event
@@ -163,8 +167,8 @@ pub record IsCheckOf (options : Options) (h : List Event) (debt : Owing) (ask : 
   pub on : checks options h ≡ true
   pub check : ask ≡ check_of (newcomer h debt)
 
--- a TAKETHIS while streaming, else an IHAVE, with the block that is handed in now for the first want of that number, which is
--- of that very debt (RFC 4644, section 2.5; RFC 3977, section 6.3.2)
+-- a TAKETHIS while streaming, else an IHAVE, with the block that is handed in now for the first want of that key, which is of
+-- that very debt (RFC 4644, section 2.5; RFC 3977, section 6.3.2)
 pub record IsHandedFor (options : Options) (h : List Event) (number : ℕ) (handing : Handing) (ask : Ask) : Type 0 where
   pub want : ℕ × Want
   pub first : first_want (story options h) number ≡ Some want

@@ -52,7 +52,7 @@ pub fn returns_come_last_in_order()
 {}
 
 /// A verdict is a final answer to a command about that very debt which had none, a deferral a later one; for a debt
-/// that is lost an article of its number was handed in, and that was gone or could not be sent; and a debt that comes
+/// that is lost an article of its key was handed in, and that was gone or could not be sent; and a debt that comes
 /// back was held as the connection was closed. A reply answers a command exactly where a mode stands and it is the
 /// first that the reply fits of those without an answer; and in a mode the reply is a stray, and closes the connection
 /// as one, exactly where it fits none.

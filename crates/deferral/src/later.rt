@@ -1,18 +1,18 @@
-// Numbers that wait for a moment.
+// Keys that wait for a moment.
 ghost use Rattle.std.specs.Prelude.{◌≡◌, ℕ, ◌≤◌, ◌↔◌, [], None, Some, IsSome, IsTrue, IfNone};
 ghost use Rattle.std.specs.Prelude.{IfSome, OnErr, OnOk};
 ghost use Rattle.deferral.specs.Due.{IsDue, IsLeastDue, IsLeastDueFrom, IsRising, added, changed, due_of, removed};
 
 use crate::tree::{Entry, Tree};
+use ledger_core::Key;
 use std::alloc::{AllocError, Global};
 use std::marker::Model;
 
-/// Numbers that wait, each for a moment of its own, in seconds of the caller's clock, or for none: such a number is due
-/// at no moment and keeps its room, so that it takes no memory to give it a moment again.
+/// Keys of debts that wait, each for a moment of its own, in seconds of the caller's clock, or for none: such a key is
+/// due at no moment and keeps its room, so that it takes no memory to give it a moment again.
 ///
-/// Contracts see it as the list of its numbers, each with its moment or none, by strictly rising numbers. A call takes
-/// at most a constant times as many steps as a number has bits, whatever numbers wait, and memory is linear in how many
-/// wait.
+/// Contracts see it as the list of its keys, each with its moment or none, by strictly rising keys. A call takes at
+/// most a constant times as many steps as a key has bits, whatever keys wait, and memory is linear in how many wait.
 #[derive(Drop)]
 pub struct Later {
     alloc: Global,
@@ -40,28 +40,28 @@ impl Later {
         Later { alloc, tree: None }
     }
 
-    /// Whether this number waits, for a moment or for none.
-    pub fn contains(&self, number: u64) -> bool
-        ensures found { IsTrue result ↔ IsSome (due_of self.now number) }
+    /// Whether this key waits, for a moment or for none.
+    pub fn contains(&self, key: Key) -> bool
+        ensures found { IsTrue result ↔ IsSome (due_of self.now key) }
         ensures rising { IsRising self.now }
     {
         match &self.tree {
             None => false,
-            Some(tree) => tree.contains(number),
+            Some(tree) => tree.contains(key),
         }
     }
 
-    /// Has a number that does not wait wait for this moment, which may be past.
+    /// Has a key that does not wait wait for this moment, which may be past.
     ///
     /// # Errors
     /// `NoMemory` where memory was refused; what waits stays as it was.
-    pub fn put(&mut self, number: u64, due: u64) -> Result<(), AllocError>
-        requires { due_of self.old number ≡ None }
-        ensures ok { OnOk result (self.new ≡ added self.old number (Some due)) }
+    pub fn put(&mut self, key: Key, due: u64) -> Result<(), AllocError>
+        requires { due_of self.old key ≡ None }
+        ensures ok { OnOk result (self.new ≡ added self.old key (Some due)) }
         ensures unchanged { OnErr result (self.new ≡ self.old) }
     {
         let entry = Entry {
-            number,
+            key,
             due: Some(due),
         };
         match &mut self.tree {
@@ -73,23 +73,23 @@ impl Later {
         }
     }
 
-    /// The least of the numbers whose moment is at or before this one. Moments may be asked in any order.
-    pub fn due_least(&self, now: u64) -> Option<u64>
-        ensures some { IfSome result (λ number. IsLeastDue self.now now number) }
-        ensures none { IfNone result ((number : ℕ) → IsDue self.now now number → ⊥) }
+    /// The least of the keys whose moment is at or before this one. Moments may be asked in any order.
+    pub fn due_least(&self, now: u64) -> Option<Key>
+        ensures some { IfSome result (λ key. IsLeastDue self.now now key) }
+        ensures none { IfNone result ((key : ℕ) → IsDue self.now now key → ⊥) }
         ensures rising { IsRising self.now }
     {
         match &self.tree {
             None => None,
-            Some(tree) => tree.due_from(0, now),
+            Some(tree) => tree.due_from(Key::new(0, 0), now),
         }
     }
 
-    /// The least of the numbers at or above the first whose moment is at or before this one.
-    pub fn due_from(&self, first: u64, now: u64) -> Option<u64>
-        ensures some { IfSome result (λ number. IsLeastDueFrom self.now first now number) }
+    /// The least of the keys at or above the first whose moment is at or before this one.
+    pub fn due_from(&self, first: Key, now: u64) -> Option<Key>
+        ensures some { IfSome result (λ key. IsLeastDueFrom self.now first now key) }
         ensures none { IfNone result
-            ((number : ℕ) → first ≤ number → IsDue self.now now number → ⊥) }
+            ((key : ℕ) → first ≤ key → IsDue self.now now key → ⊥) }
         ensures rising { IsRising self.now }
     {
         match &self.tree {
@@ -98,31 +98,31 @@ impl Later {
         }
     }
 
-    /// Has a number that waits wait for this moment from now on, or for none, and says whether it waits. Takes no
+    /// Has a key that waits wait for this moment from now on, or for none, and says whether it waits. Takes no
     /// memory.
-    pub fn set(&mut self, number: u64, due: Option<u64>) -> bool
-        ensures was { IsTrue result ↔ IsSome (due_of self.old number) }
-        ensures new { self.new ≡ changed self.old number due }
+    pub fn set(&mut self, key: Key, due: Option<u64>) -> bool
+        ensures was { IsTrue result ↔ IsSome (due_of self.old key) }
+        ensures new { self.new ≡ changed self.old key due }
     {
         match &mut self.tree {
             None => false,
-            Some(tree) => tree.set(number, due),
+            Some(tree) => tree.set(key, due),
         }
     }
 
-    /// Has a number wait no more, and says whether it did.
-    pub fn remove(&mut self, number: u64) -> bool
-        ensures was { IsTrue result ↔ IsSome (due_of self.old number) }
-        ensures new { self.new ≡ removed self.old number }
+    /// Has a key wait no more, and says whether it did.
+    pub fn remove(&mut self, key: Key) -> bool
+        ensures was { IsTrue result ↔ IsSome (due_of self.old key) }
+        ensures new { self.new ≡ removed self.old key }
     {
         match &mut self.tree {
             None => false,
             Some(tree) => {
-                if tree.is_only(number) {
+                if tree.is_only(key) {
                     self.tree = None;
                     true
                 } else {
-                    tree.remove(number)
+                    tree.remove(key)
                 }
             }
         }

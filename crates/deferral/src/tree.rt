@@ -1,30 +1,32 @@
-// A binary tree over the bits of the numbers, no deeper than a number has bits, in which a number is found by its value
-// and by its moment. The numbers stand in the leaves. Each fork is over the highest bit in which its numbers differ.
+// A binary tree over the bits of the keys, no deeper than a key has bits, those of its source before those of its
+// number, in which a key is found by its value and by its moment. The keys stand in the leaves. Each fork is over the
+// highest bit in which its keys differ.
 ghost use Rattle.std.specs.Prelude.{◌≡◌, ℕ, [], ◌∷◌, ◌≤◌, ◌<◌, ◌↔◌, ◌++◌, ◌⊎◌};
 ghost use Rattle.std.specs.Prelude.{true, false, IsSome, IsTrue, IfNone, IfSome, OnErr, OnOk, Option};
 ghost use Rattle.deferral.specs.Due.{AllNumbers, IsDue, IsLeastDueFrom, Waiting, added, changed, due_of, removed};
 ghost use Rattle.deferral.specs.Tree.{IsBy, earlier};
 
+use ledger_core::Key;
 use std::alloc::{AllocError, Global};
 use std::marker::Model;
 use std::mem;
 
-/// A number with the moment for which it waits, or none: then it is due at no moment.
+/// A key with the moment for which it waits, or none: then it is due at no moment.
 #[derive(Clone, Copy)]
 pub struct Entry {
-    pub number: u64,
+    pub key: Key,
     pub due: Option<u64>,
 }
 
-/// The first and the last number of a tree, and the earliest of its moments, none where no number has one.
+/// The first and the last key of a tree, and the earliest of its moments, none where no key has one.
 #[derive(Clone, Copy)]
 pub struct Bounds {
-    pub first: u64,
-    pub last: u64,
+    pub first: Key,
+    pub last: Key,
     pub least: Option<u64>,
 }
 
-/// One number, or a fork.
+/// One key, or a fork.
 #[cycle(tree)]
 #[derive(Drop)]
 pub enum Tree {
@@ -32,11 +34,11 @@ pub enum Tree {
     Fork(Box<Fork>),
 }
 
-/// Two trees, of the numbers below the split and of the others.
+/// Two trees, of the keys below the split and of the others.
 #[cycle(tree)]
 #[derive(Drop)]
 pub struct Fork {
-    split: u64,
+    split: Key,
     bounds: Bounds,
     left: Tree,
     right: Tree,
@@ -92,8 +94,8 @@ impl Bounds {
             → IsBoundsOf result (left ++ right) }
     {
         Bounds {
-            first: self.first.min(other.first),
-            last: self.last.max(other.last),
+            first: self.first.lesser(other.first),
+            last: self.last.greater(other.last),
             least: earlier_of(self.least, other.least),
         }
     }
@@ -104,18 +106,43 @@ impl Entry {
 
     /// What it tells where it is alone.
     fn bounds(self) -> Bounds
-        ensures { IsBoundsOf result ((self.number, self.due) ∷ []) }
+        ensures { IsBoundsOf result ((self.key, self.due) ∷ []) }
     {
         Bounds {
-            first: self.number,
-            last: self.number,
+            first: self.key,
+            last: self.key,
             least: self.due,
         }
     }
 }
 
-/// The higher number without the bits below the highest in which the two differ: what is at or above it has that bit.
-fn split_between(low: u64, high: u64) -> u64
+/// Whether a split has the key on one side, and all from the first to the last on the other.
+fn is_apart(key: Key, split: Key, first: Key, last: Key) -> bool
+    ensures { IsTrue result ↔ ((key < split) × (split ≤ first)) ⊎ ((last < split) × (split ≤ key)) }
+{
+    if key.is_below(split) {
+        !first.is_below(split)
+    } else {
+        last.is_below(split)
+    }
+}
+
+/// The higher key without the bits below the highest in which the two differ: what is at or above it has that bit.
+fn split_between(low: Key, high: Key) -> Key
+    requires { low < high }
+    ensures above { low < result }
+    ensures within { result ≤ high }
+{
+    if low.source() == high.source() {
+        Key::new(high.source(), split_of(low.number(), high.number()))
+    } else {
+        let split = split_of(u64::from(low.source()), u64::from(high.source()));
+        Key::new(split as u32, 0)
+    }
+}
+
+/// The higher number without the bits below the highest in which the two differ.
+fn split_of(low: u64, high: u64) -> u64
     requires { low < high }
     ensures above { low < result }
     ensures within { result ≤ high }
@@ -128,9 +155,9 @@ impl Fork {
     ghost use Rattle.deferral.specs.Tree.{both, is_only, waiting_in};
 
     /// A fork of two trees at this split.
-    fn of(split: u64, left: Tree, right: Tree) -> Self
-        requires left { AllNumbers (λ number. number < split) (waiting_in left) }
-        requires right { AllNumbers (λ number. split ≤ number) (waiting_in right) }
+    fn of(split: Key, left: Tree, right: Tree) -> Self
+        requires left { AllNumbers (λ key. key < split) (waiting_in left) }
+        requires right { AllNumbers (λ key. split ≤ key) (waiting_in right) }
         ensures { result ≡ (waiting_in left, waiting_in right) }
     {
         let bounds = left.bounds().joined(right.bounds());
@@ -142,40 +169,40 @@ impl Fork {
         }
     }
 
-    /// Whether it has this number.
+    /// Whether it has this key.
     #[cycle(contains)]
-    fn contains(&self, number: u64) -> bool
-        ensures { IsTrue result ↔ IsSome (due_of (both self.now) number) }
+    fn contains(&self, key: Key) -> bool
+        ensures { IsTrue result ↔ IsSome (due_of (both self.now) key) }
     {
-        if number < self.split {
-            self.left.contains(number)
+        if key.is_below(self.split) {
+            self.left.contains(key)
         } else {
-            self.right.contains(number)
+            self.right.contains(key)
         }
     }
 
-    /// The least number at or above the first whose moment is at or before now.
+    /// The least key at or above the first whose moment is at or before now.
     #[cycle(due_from)]
-    fn due_from(&self, first: u64, now: u64) -> Option<u64>
-        ensures some { IfSome result (λ number. IsLeastDueFrom (both self.now) first now number) }
+    fn due_from(&self, first: Key, now: u64) -> Option<Key>
+        ensures some { IfSome result (λ key. IsLeastDueFrom (both self.now) first now key) }
         ensures none { IfNone result
-            ((number : ℕ) → first ≤ number → IsDue (both self.now) now number → ⊥) }
+            ((key : ℕ) → first ≤ key → IsDue (both self.now) now key → ⊥) }
     {
-        if let Some(number) = self.left.due_from(first, now) {
-            Some(number)
+        if let Some(key) = self.left.due_from(first, now) {
+            Some(key)
         } else {
             self.right.due_from(first, now)
         }
     }
 
-    /// Puts a number in that it has not, on its side of the split.
+    /// Puts a key in that it has not, on its side of the split.
     #[cycle(put)]
     fn put(&mut self, alloc: Global, entry: Entry) -> Result<(), AllocError>
-        requires { due_of (both self.old) entry.number ≡ None }
-        ensures ok { OnOk result (both self.new ≡ added (both self.old) entry.number entry.due) }
+        requires { due_of (both self.old) entry.key ≡ None }
+        ensures ok { OnOk result (both self.new ≡ added (both self.old) entry.key entry.due) }
         ensures unchanged { OnErr result (both self.new ≡ both self.old) }
     {
-        if entry.number < self.split {
+        if entry.key.is_below(self.split) {
             self.left.put(alloc, entry)?;
         } else {
             self.right.put(alloc, entry)?;
@@ -185,45 +212,45 @@ impl Fork {
         Ok(())
     }
 
-    /// Takes a number out that is alone on neither side; says whether it had the number.
+    /// Takes a key out that is alone on neither side; says whether it had the key.
     #[cycle(remove)]
-    fn remove(&mut self, number: u64) -> bool
-        requires left { is_only number self.old.0 ≡ false }
-        requires right { is_only number self.old.1 ≡ false }
-        ensures was { IsTrue result ↔ IsSome (due_of (both self.old) number) }
-        ensures new { both self.new ≡ removed (both self.old) number }
+    fn remove(&mut self, key: Key) -> bool
+        requires left { is_only key self.old.0 ≡ false }
+        requires right { is_only key self.old.1 ≡ false }
+        ensures was { IsTrue result ↔ IsSome (due_of (both self.old) key) }
+        ensures new { both self.new ≡ removed (both self.old) key }
     {
-        let was = if number < self.split {
-            self.left.remove(number)
+        let was = if key.is_below(self.split) {
+            self.left.remove(key)
         } else {
-            self.right.remove(number)
+            self.right.remove(key)
         };
         let rest = self.left.bounds().joined(self.right.bounds());
         self.bounds = rest;
         was
     }
 
-    /// Gives a number another moment, or none, on its side of the split; says whether it has the number.
+    /// Gives a key another moment, or none, on its side of the split; says whether it has the key.
     #[cycle(set)]
-    fn set(&mut self, number: u64, due: Option<u64>) -> bool
-        ensures was { IsTrue result ↔ IsSome (due_of (both self.old) number) }
-        ensures new { both self.new ≡ changed (both self.old) number due }
+    fn set(&mut self, key: Key, due: Option<u64>) -> bool
+        ensures was { IsTrue result ↔ IsSome (due_of (both self.old) key) }
+        ensures new { both self.new ≡ changed (both self.old) key due }
     {
-        let was = if number < self.split {
-            self.left.set(number, due)
+        let was = if key.is_below(self.split) {
+            self.left.set(key, due)
         } else {
-            self.right.set(number, due)
+            self.right.set(key, due)
         };
         let told = self.left.bounds().joined(self.right.bounds());
         self.bounds = told;
         was
     }
 
-    /// What is left of a fork in which this number is alone on one side.
-    fn other_side(self, number: u64) -> Tree
-        requires { (is_only number self.0 ≡ true) ⊎ (is_only number self.1 ≡ true) }
-        ensures had { IsSome (due_of (both self) number) }
-        ensures rest { waiting_in result ≡ removed (both self) number }
+    /// What is left of a fork in which this key is alone on one side.
+    fn other_side(self, key: Key) -> Tree
+        requires { (is_only key self.0 ≡ true) ⊎ (is_only key self.1 ≡ true) }
+        ensures had { IsSome (due_of (both self) key) }
+        ensures rest { waiting_in result ≡ removed (both self) key }
     {
         let Fork {
             split,
@@ -231,14 +258,14 @@ impl Fork {
             right,
             ..
         } = self;
-        if number < split { right } else { left }
+        if key.is_below(split) { right } else { left }
     }
 }
 
 impl Tree {
     ghost use Rattle.deferral.specs.Tree.{IsBeside, IsBoundsOf, IsForked, IsHalf, both, is_only, waiting_in};
 
-    /// What it tells of its numbers.
+    /// What it tells of its keys.
     pub fn bounds(&self) -> Bounds
         ensures { IsBoundsOf result (waiting_in self.now) }
     {
@@ -248,61 +275,61 @@ impl Tree {
         }
     }
 
-    /// Whether it has this number and no other.
-    pub fn is_only(&self, number: u64) -> bool
-        ensures { result ≡ is_only number (waiting_in self.now) }
+    /// Whether it has this key and no other.
+    pub fn is_only(&self, key: Key) -> bool
+        ensures { result ≡ is_only key (waiting_in self.now) }
     {
         match self {
-            Tree::Leaf(entry) => entry.number == number,
+            Tree::Leaf(entry) => entry.key == key,
             Tree::Fork(fork) => {
-                // It has a number on each side.
+                // It has a key on each side.
                 let _ = &fork.left;
                 false
             }
         }
     }
 
-    /// Whether it has this number.
+    /// Whether it has this key.
     #[cycle(contains)]
-    pub fn contains(&self, number: u64) -> bool
-        ensures { IsTrue result ↔ IsSome (due_of (waiting_in self.now) number) }
+    pub fn contains(&self, key: Key) -> bool
+        ensures { IsTrue result ↔ IsSome (due_of (waiting_in self.now) key) }
     {
         match self {
-            Tree::Leaf(entry) => entry.number == number,
-            Tree::Fork(fork) => fork.contains(number),
+            Tree::Leaf(entry) => entry.key == key,
+            Tree::Fork(fork) => fork.contains(key),
         }
     }
 
-    /// The least number at or above the first whose moment is at or before now.
+    /// The least key at or above the first whose moment is at or before now.
     #[cycle(due_from)]
-    pub fn due_from(&self, first: u64, now: u64) -> Option<u64>
+    pub fn due_from(&self, first: Key, now: u64) -> Option<Key>
         ensures some { IfSome result
-            (λ number. IsLeastDueFrom (waiting_in self.now) first now number) }
+            (λ key. IsLeastDueFrom (waiting_in self.now) first now key) }
         ensures none { IfNone result
-            ((number : ℕ) → first ≤ number → IsDue (waiting_in self.now) now number → ⊥) }
+            ((key : ℕ) → first ≤ key → IsDue (waiting_in self.now) now key → ⊥) }
     {
-        // A tree whose bounds rule it out is left at once. Any other has such a number, unless the first is within its
+        // A tree whose bounds rule it out is left at once. Any other has such a key, unless the first is within its
         // bounds, and of those there is one at each depth at most.
         let Bounds { last, least, .. } = self.bounds();
-        if last < first || !is_by(least, now) {
+        if last.is_below(first) || !is_by(least, now) {
             return None;
         }
         match self {
-            Tree::Leaf(entry) => Some(entry.number),
+            Tree::Leaf(entry) => Some(entry.key),
             Tree::Fork(fork) => fork.due_from(first, now),
         }
     }
 
-    /// The split of a fork over the tree and this number beside it; `None` where the number belongs below the tree's
+    /// The split of a fork over the tree and this key beside it; `None` where the key belongs below the tree's
     /// fork.
-    fn split_beside(&self, number: u64) -> Option<u64>
-        requires { due_of (waiting_in self.now) number ≡ None }
-        ensures some { IfSome result (λ split. IsBeside split number (waiting_in self.now)) }
+    fn split_beside(&self, key: Key) -> Option<Key>
+        requires { due_of (waiting_in self.now) key ≡ None }
+        ensures some { IfSome result (λ split. IsBeside split key (waiting_in self.now)) }
         ensures none { IfNone result (IsForked self.now) }
     {
         let Bounds { first, last, .. } = self.bounds();
-        let split = split_between(first.min(number), last.max(number));
-        if number < split && split <= first || last < split && split <= number {
+        let split = split_between(first.lesser(key), last.greater(key));
+        if is_apart(key, split, first, last) {
             Some(split)
         } else {
             None
@@ -310,15 +337,16 @@ impl Tree {
     }
 
     /// Puts a fork in its place, over the tree and a leaf beside it.
-    fn grow(&mut self, alloc: Global, entry: Entry, split: u64) -> Result<(), AllocError>
-        requires { IsBeside split entry.number (waiting_in self.old) }
+    fn grow(&mut self, alloc: Global, entry: Entry, split: Key) -> Result<(), AllocError>
+        requires { IsBeside split entry.key (waiting_in self.old) }
         ensures ok { OnOk result
-            (waiting_in self.new ≡ added (waiting_in self.old) entry.number entry.due) }
+            (waiting_in self.new ≡ added (waiting_in self.old) entry.key entry.due) }
         ensures unchanged { OnErr result (waiting_in self.new ≡ waiting_in self.old) }
     {
-        let leaf = Tree::Leaf(entry);
-        let old = mem::replace(self, Tree::Leaf(entry));
-        let before = entry.number < split;
+        let Entry { key, due } = entry;
+        let leaf = Tree::Leaf(Entry { key, due });
+        let old = mem::replace(self, Tree::Leaf(Entry { key, due }));
+        let before = key.is_below(split);
         let fork = if before {
             Fork::of(split, leaf, old)
         } else {
@@ -337,15 +365,15 @@ impl Tree {
         }
     }
 
-    /// Puts a number in that it has not.
+    /// Puts a key in that it has not.
     #[cycle(put)]
     pub fn put(&mut self, alloc: Global, entry: Entry) -> Result<(), AllocError>
-        requires { due_of (waiting_in self.old) entry.number ≡ None }
+        requires { due_of (waiting_in self.old) entry.key ≡ None }
         ensures ok { OnOk result
-            (waiting_in self.new ≡ added (waiting_in self.old) entry.number entry.due) }
+            (waiting_in self.new ≡ added (waiting_in self.old) entry.key entry.due) }
         ensures unchanged { OnErr result (waiting_in self.new ≡ waiting_in self.old) }
     {
-        if let Some(split) = self.split_beside(entry.number) {
+        if let Some(split) = self.split_beside(entry.key) {
             return self.grow(alloc, entry, split);
         }
         match self {
@@ -354,54 +382,54 @@ impl Tree {
         }
     }
 
-    /// Puts the other side in the place of a fork in which this number is alone on one.
-    fn shrink(&mut self, number: u64)
-        requires { IsHalf number self.old }
-        ensures had { IsSome (due_of (waiting_in self.old) number) }
-        ensures new { waiting_in self.new ≡ removed (waiting_in self.old) number }
+    /// Puts the other side in the place of a fork in which this key is alone on one.
+    fn shrink(&mut self, key: Key)
+        requires { IsHalf key self.old }
+        ensures had { IsSome (due_of (waiting_in self.old) key) }
+        ensures new { waiting_in self.new ≡ removed (waiting_in self.old) key }
     {
-        let placeholder = Tree::Leaf(Entry { number, due: None });
+        let placeholder = Tree::Leaf(Entry { key, due: None });
         match mem::replace(self, placeholder) {
             Tree::Leaf(_) => unreachable!(),
-            Tree::Fork(fork) => *self = Box::into_inner(fork).other_side(number),
+            Tree::Fork(fork) => *self = Box::into_inner(fork).other_side(key),
         }
     }
 
-    /// Takes a number out, where it is not the only one; says whether the tree had it.
+    /// Takes a key out, where it is not the only one; says whether the tree had it.
     #[cycle(remove)]
-    pub fn remove(&mut self, number: u64) -> bool
-        requires { is_only number (waiting_in self.old) ≡ false }
-        ensures was { IsTrue result ↔ IsSome (due_of (waiting_in self.old) number) }
-        ensures new { waiting_in self.new ≡ removed (waiting_in self.old) number }
+    pub fn remove(&mut self, key: Key) -> bool
+        requires { is_only key (waiting_in self.old) ≡ false }
+        ensures was { IsTrue result ↔ IsSome (due_of (waiting_in self.old) key) }
+        ensures new { waiting_in self.new ≡ removed (waiting_in self.old) key }
     {
         match self {
             Tree::Leaf(_) => false,
             Tree::Fork(fork) => {
-                if fork.left.is_only(number) || fork.right.is_only(number) {
-                    self.shrink(number);
+                if fork.left.is_only(key) || fork.right.is_only(key) {
+                    self.shrink(key);
                     true
                 } else {
-                    fork.remove(number)
+                    fork.remove(key)
                 }
             }
         }
     }
 
-    /// Gives a number another moment, or none; says whether the tree has it.
+    /// Gives a key another moment, or none; says whether the tree has it.
     #[cycle(set)]
-    pub fn set(&mut self, number: u64, due: Option<u64>) -> bool
-        ensures was { IsTrue result ↔ IsSome (due_of (waiting_in self.old) number) }
-        ensures new { waiting_in self.new ≡ changed (waiting_in self.old) number due }
+    pub fn set(&mut self, key: Key, due: Option<u64>) -> bool
+        ensures was { IsTrue result ↔ IsSome (due_of (waiting_in self.old) key) }
+        ensures new { waiting_in self.new ≡ changed (waiting_in self.old) key due }
     {
         match self {
             Tree::Leaf(entry) => {
-                let has = entry.number == number;
+                let has = entry.key == key;
                 if has {
                     entry.due = due;
                 }
                 has
             }
-            Tree::Fork(fork) => fork.set(number, due),
+            Tree::Fork(fork) => fork.set(key, due),
         }
     }
 }

@@ -9,7 +9,7 @@
 use anyhow::{Context, Result, bail};
 use disk_model::{FileDisk, RawFile, TapeDirectory, TapeFile};
 use funnel::{MsgId, Token};
-use ledger_core::{FinalCode, Note};
+use ledger_core::{FinalCode, Key, Note};
 use recovery::{RefusedTape, Tape, TapeFault};
 use std::alloc::Global;
 use std::fs::{self, File, OpenOptions, Permissions};
@@ -56,7 +56,7 @@ fn keep_tape<R: AllocGlobal + Files<File = File> + Print>(
     note(rt, directory, owe(rt.alloc(), 1)?)?;
     tell_tape(rt, directory, "peer")?;
     let code = FinalCode::TakethisReceived;
-    note(rt, directory, Note::Final { number: 1, code })?;
+    note(rt, directory, Note::Final { key: line(1), code })?;
     tell_tape(rt, directory, "peer")
 }
 
@@ -102,7 +102,10 @@ fn tell_tape<R: AllocGlobal + Files<File = File> + Print>(
     directory: &TapeDirectory,
     name: &str,
 ) -> Result<()> {
-    let numbers = open_tape(rt, directory, name)?.numbers()?;
+    let mut numbers = Vec::new(rt.alloc());
+    for key in open_tape(rt, directory, name)?.keys()? {
+        numbers.push(key.number())?;
+    }
     println!(rt; "{name}: owes {:?}", numbers.as_slice())?;
     for segment in ["a", "b"] {
         let file = format!(in rt.alloc(); "{name}~{segment}")?;
@@ -112,10 +115,15 @@ fn tell_tape<R: AllocGlobal + Files<File = File> + Print>(
     Ok(())
 }
 
+// The key of a line of the funnel.
+fn line(number: u64) -> Key {
+    Key::new(0, number)
+}
+
 // The note of a debt.
 fn owe(alloc: Global, number: u64) -> Result<Note> {
     Ok(Note::Owe {
-        number,
+        key: line(number),
         token: Token::read(alloc, b"a/1")?.context("a token")?,
         id: MsgId::read(alloc, b"<x@y>")?.context("a message-id")?,
     })

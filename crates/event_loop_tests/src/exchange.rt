@@ -5,7 +5,7 @@ use bytes::Bytes;
 use conn_core::{Conn, CxnId, Options, Outcome};
 use event_loop::{Driven, End, MemLink, drive};
 use funnel::{MsgId, Token};
-use ledger_core::Debt;
+use ledger_core::{Debt, Key};
 use std::alloc::Global;
 use std::process::Abort;
 use std::test::Fail;
@@ -42,8 +42,8 @@ pub(crate) struct Exchange {
     said: usize,
     sends: Vec<u8>,
     // The debts that were taken, and those that were done, with a code or what is told in its place.
-    taken: Vec<u64>,
-    done: Vec<(u64, u16)>,
+    taken: Vec<Key>,
+    done: Vec<(Key, u16)>,
 }
 
 impl Exchange {
@@ -76,7 +76,7 @@ impl Exchange {
             Step::Ends(number, code, line) => {
                 self.say(line)?;
                 if self.is_whole() {
-                    self.done.push((number, code))?;
+                    self.done.push((line_key(number), code))?;
                 }
             }
             Step::Offer(number, id) => self.offer(number, id)?,
@@ -104,10 +104,11 @@ impl Exchange {
     }
 
     fn offer(&mut self, number: u64, id: &[u8]) -> Result<(), Fail> {
+        let key = line_key(number);
         let token = Token::read(self.alloc, b"a/1")?.ok_or("a token")?;
         let id = MsgId::read(self.alloc, id)?.ok_or("a message-id")?;
-        if self.conn.offer(Debt::new(number, token, id)).is_ok() {
-            self.taken.push(number)?;
+        if self.conn.offer(Debt::new(key, token, id)).is_ok() {
+            self.taken.push(key)?;
         }
         Ok(())
     }
@@ -115,7 +116,7 @@ impl Exchange {
     fn hand(&mut self, number: u64, text: &[u8]) -> Result<(), Fail> {
         let found = Found::Article(Bytes::copy_from_slice(self.alloc, text)?);
         // It is refused where the connection broke before.
-        let _ = self.conn.article(number, found);
+        let _ = self.conn.article(line_key(number), found);
         Ok(())
     }
 
@@ -130,9 +131,9 @@ impl Exchange {
         }
         let mut wanted = self.done.clone()?;
         if self.driven == Driven::Shut {
-            for number in &self.taken {
-                if !self.done.iter().any(|done| done.0 == *number) {
-                    wanted.push((*number, BACK))?;
+            for key in &self.taken {
+                if !self.done.iter().any(|done| done.0 == *key) {
+                    wanted.push((*key, BACK))?;
                 }
             }
         }
@@ -170,11 +171,16 @@ fn reaches(end: End, count: usize) -> bool {
     }
 }
 
-fn told_of(outcome: &Outcome) -> (u64, u16) {
+// The key of the line of this number of the funnel.
+fn line_key(number: u64) -> Key {
+    Key::new(0, number)
+}
+
+fn told_of(outcome: &Outcome) -> (Key, u16) {
     match outcome {
-        Outcome::Final(verdict) => (verdict.debt().number(), verdict.code().number()),
-        Outcome::Deferred(deferral) => (deferral.debt().number(), LATER),
-        Outcome::Lost(debt, _) => (debt.number(), 0),
-        Outcome::Back(debt) => (debt.number(), BACK),
+        Outcome::Final(verdict) => (verdict.debt().key(), verdict.code().number()),
+        Outcome::Deferred(deferral) => (deferral.debt().key(), LATER),
+        Outcome::Lost(debt, _) => (debt.key(), 0),
+        Outcome::Back(debt) => (debt.key(), BACK),
     }
 }

@@ -14,7 +14,8 @@ use Rattle.std.proofs.Math.Bool.{or-true}
 use Rattle.std.proofs.lemmas.List.{length-map}
 use Rattle.feed.specs.declared.nowhere.Stray.{Stray}
 use Rattle.feed.specs.declared.nowhere.Strays.{Strays}
-use Rattle.feed.specs.Nowhere.{AddsLine, KeepsAll, KeepsOne, counted, has_all, has_name, is_named, one_more}
+use Rattle.feed.specs.Nowhere.{AddsLine, KeepsAll, KeepsOne, counted, has_all, has_name, is_named}
+use Rattle.funnel.specs.Malformed.{one_more}
 
 -- a name that is kept stays so
 has_more : (named : List Stray) (stray : Stray) (name : List ℕ) → has_name named name ≡ true

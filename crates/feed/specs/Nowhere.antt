@@ -1,10 +1,9 @@
 -- Lines of the funnel that go nowhere, as they are counted.
-use Rattle.std.specs.Prelude.{◌≡◌, ◌≢◌, ◌⊎◌, ◌+◌, ◌-◌, ◌<◌, ◌^◌, ℕ, Bool, List, ◌∷◌, [], ◌++◌, map, min, length, All}
-use Rattle.std.specs.Prelude.{IsTrue, if◌then◌else◌, true, Option, None, Some}
+use Rattle.std.specs.Prelude.{◌≡◌, ◌⊎◌, ◌<◌, ℕ, Bool, List, ◌∷◌, [], ◌++◌, map, length, All}
+use Rattle.std.specs.Prelude.{IsTrue, if◌then◌else◌}
 use Rattle.std.specs.List.{list_all, list_any}
 use Rattle.std.specs.Str.{bytes_eq}
-use Rattle.funnel.specs.declared.line.LineFault.{LineFault}
-use Rattle.feed.specs.declared.nowhere.Malformed.{Malformed}
+use Rattle.funnel.specs.Malformed.{one_more}
 use Rattle.feed.specs.declared.nowhere.Stray.{Stray}
 use Rattle.feed.specs.declared.nowhere.Strays.{Strays}
 
@@ -15,10 +14,6 @@ is_named names name = list_any (λ one. bytes_eq one name) names
 -- whether a peer of this name is among these
 abbrev pub has_name : List Stray → List ℕ → Bool
 has_name named name = list_any (λ stray. bytes_eq stray.name name) named
-
--- one more, up to the greatest u64
-abbrev pub one_more : ℕ → ℕ
-one_more count = min (count + 1) (2 ^ 64 - 1)
 
 -- a peer, where a line that names these is counted
 abbrev pub counted : List (List ℕ) → Stray → Stray
@@ -51,8 +46,3 @@ pub record AddsLine (names : List (List ℕ)) (old new : Strays) : Type 0 where
   pub named : new.named.items ≡ map (counted names) (old.named.items ++ fresh)
   pub others : new.others ≡ (if has_all new.named.items names then old.others else one_more old.others)
   pub room : length new.named.items < 16 → IsTrue (has_all new.named.items names)
-
--- one more malformed line, of this number; the first of them stays
-abbrev pub first_of : Option Malformed → ℕ → LineFault → Malformed
-first_of None number fault = record { lines = 1; number = number; fault = fault }
-first_of (Some before) number fault = record before { lines = one_more before.lines }

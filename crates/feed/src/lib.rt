@@ -6,6 +6,7 @@
 //! crates below; here calls are proved to be safe and to return where none waits.
 #![tactic(auto)]
 
+mod backlogs;
 mod disks;
 mod intake;
 mod leaving;

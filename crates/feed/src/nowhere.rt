@@ -1,9 +1,9 @@
 // Lines of the funnel that go nowhere: those that name unknown peers, and those that are malformed.
 ghost use Rattle.std.specs.Prelude.{◌≡◌, ◌≤◌, [], OnOk, if◌then◌else◌, length, map};
-ghost use Rattle.feed.specs.Nowhere.{AddsLine, KeepsAll, KeepsOne, counted, first_of, has_name};
-ghost use Rattle.feed.specs.Nowhere.{has_all, is_named, one_more};
+ghost use Rattle.feed.specs.Nowhere.{AddsLine, KeepsAll, KeepsOne, counted, has_all, has_name, is_named};
+ghost use Rattle.funnel.specs.Malformed.{one_more};
 
-use funnel::{LineFault, PeerName};
+use funnel::{LineFault, Malformed, PeerName};
 use log::{Log, warn};
 use std::alloc::{AllocError, Global};
 use std::str;
@@ -136,36 +136,6 @@ fn is_named(names: &[PeerName], name: &PeerName) -> bool
     ensures { result ≡ is_named names.now name.now }
 {
     names.iter().any(|one| one.bytes() == name.bytes())
-}
-
-/// Lines that are malformed, at least one.
-#[derive(Clone, Copy)]
-pub(crate) struct Malformed {
-    /// How many there are, up to the greatest u64.
-    pub lines: u64,
-    /// The number of the first of them.
-    pub number: u64,
-    /// What is wrong with it.
-    pub fault: LineFault,
-}
-
-impl Malformed {
-    /// With one line more, of this number, behind these.
-    pub fn add(before: Option<Self>, number: u64, fault: LineFault) -> Self
-        ensures { result ≡ first_of before number fault }
-    {
-        match before {
-            None => Malformed {
-                lines: 1,
-                number,
-                fault,
-            },
-            Some(before) => Malformed {
-                lines: before.lines.saturating_add(1),
-                ..before
-            },
-        }
-    }
 }
 
 /// The lines of a run's funnel that go nowhere.

@@ -2,6 +2,7 @@
 ghost use Rattle.std.specs.Prelude.{◌≡◌, length};
 ghost use Rattle.flusher.specs.Post.{names_of};
 
+use crate::backlogs::{Others, take_backlogs};
 use crate::intake::Intake;
 use crate::leaving::{Leaving, Left};
 use crate::nowhere::Nowhere;
@@ -64,8 +65,8 @@ struct Prepared<'a, S, F> {
     start: Instant,
 }
 
-/// Feeds the peers of these settings from this source, and adds to `end` what went wrong at work, and what is still
-/// owed.
+/// Feeds the peers of these settings, which were read from the file at this path, from this source, and adds to `end`
+/// what went wrong at work, and what is still owed.
 ///
 /// # Errors
 /// The first thing that went wrong before the work.
@@ -80,6 +81,7 @@ pub(crate) fn feed<
 >(
     means: &Means<'_, R, F, H, C, L>,
     conf: Conf,
+    path: &str,
     source: Source<'_>,
     out: &mut W,
     end: &mut FeedEnd,
@@ -92,10 +94,25 @@ pub(crate) fn feed<
     // The directory is locked until the end.
     let Tapes {
         directory: tapes,
-        peers: stations,
+        peers: mut stations,
         intake,
     } = open_tapes(means.rt, means.files, &directory, &peers)?;
+    // One that is asked to end while backlog files are taken in ends after them.
     let stop = stop_file(means, source, &directory)?;
+    let others = Others {
+        conf: path,
+        status: text_of(&status),
+        source,
+    };
+    take_backlogs(
+        means.rt,
+        means.files,
+        &tapes,
+        text_of(&directory),
+        others,
+        &mut stations,
+    )
+    .inspect_err(|_| tell_fault(means.rt, &directory, &tapes))?;
     let funnel = open_funnel(means, source, intake.mark())?;
     let prepared = prepare(means, &peers, &spool, funnel, stop, status)?;
     let blanks = Blanks::new(stations.len() as u64);
@@ -107,9 +124,13 @@ pub(crate) fn feed<
 // Logs why the system refused a call of a tape's file, if it did: of several the first is told.
 fn tell_fault<R: Log>(rt: &R, directory: &[u8], tapes: &TapeDirectory) {
     if let Some(fault) = tapes.first_fault() {
-        let directory = str::from_utf8(directory).unwrap_or("");
-        info!(rt; "tape file {}/{}: {}", directory, fault.name, fault.reason);
+        info!(rt; "tape file {}/{}: {}", text_of(directory), fault.name, fault.reason);
     }
+}
+
+// A path, as text.
+fn text_of(path: &[u8]) -> &str {
+    str::from_utf8(path).unwrap_or("")
 }
 
 // Opens the spool for each feeder, and makes what it has to know of the peers. No host is looked up yet.
@@ -284,8 +305,8 @@ fn stop_file<'a, R: Log, F: AllocGlobal + Files<File = File>, H, C, L>(
             is_followed: true,
             ..
         } => {
-            let directory = str::from_utf8(directory).unwrap_or("");
-            Ok(Some(StopFile::new(means.rt, means.files, directory)?))
+            let stop = StopFile::new(means.rt, means.files, text_of(directory))?;
+            Ok(Some(stop))
         }
         Source::Backlogs | Source::Funnel { .. } => Ok(None),
     }

@@ -42,8 +42,8 @@ impl Spools for HostSpools {
     }
 }
 
-/// Feeds the peers of these settings as [`commands::Feeds`] says: with this runtime of its threads, the files of
-/// `files`, the articles and the sockets of `host`, and what looks hosts up.
+/// Feeds the peers of these settings, which were read from the file at this path, as [`commands::Feeds`] says: with
+/// this runtime of its threads, the files of `files`, the articles and the sockets of `host`, and what looks hosts up.
 pub fn feed_with<
     M: AllocGlobal + Threads + Wait + Clock + Log + Send + Sync + 'static,
     F: AllocGlobal + Files<File = File>,
@@ -55,6 +55,7 @@ pub fn feed_with<
     host: HostRuntime,
     look_up: L,
     conf: Conf,
+    path: &str,
     source: Source<'_>,
     out: &mut W,
 ) -> FeedEnd {
@@ -66,7 +67,7 @@ pub fn feed_with<
         look_up,
     };
     let mut end = FeedEnd::well(files.alloc());
-    if let Err(trouble) = feed(&means, conf, source, out, &mut end) {
+    if let Err(trouble) = feed(&means, conf, path, source, out, &mut end) {
         trouble.tell(rt);
         trouble.add_to(&mut end);
     }
@@ -99,13 +100,14 @@ impl<R: Threads + Wait + Send + Sync + 'static, F: AllocGlobal + Files<File = Fi
         &mut self,
         _alloc: Global,
         conf: Conf,
+        path: &str,
         source: Source<'_>,
         verbose: bool,
         out: &mut W,
     ) -> FeedEnd {
         let rt = Machine::<R, HostRuntime>::new(self.host, self.host, verbose);
         let look_up = SystemLookUp(self.host);
-        feed_with(&rt, self.files, self.host, look_up, conf, source, out)
+        feed_with(&rt, self.files, self.host, look_up, conf, path, source, out)
     }
 
     fn list_owed<W: Write>(

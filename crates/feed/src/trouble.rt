@@ -2,6 +2,7 @@
 ghost use Rattle.std.specs.Prelude.{◌≡◌};
 ghost use Rattle.feed.specs.declared.trouble.Trouble.TheVariants.{Lack};
 
+use backlog_files::BacklogFault;
 use commands::{FeedEnd, FileTrouble, TapeTrouble};
 use feeder::FeederFault;
 use flusher::PostFault;
@@ -113,6 +114,21 @@ impl Trouble {
         match (error.kind(), Vec::from_slice(alloc, path)) {
             (ErrorKind::OutOfMemory, _) | (_, Err(_)) => Trouble::Lack,
             (_, Ok(path)) => Trouble::File(FileTrouble::Unremoved(path)),
+        }
+    }
+
+    /// The backlog file of the peer of this name was not taken in, or not removed, for this fault. The system's reason
+    /// is logged.
+    pub fn backlog<R: Log>(rt: &R, alloc: Global, name: &[u8], fault: BacklogFault) -> Self {
+        match fault {
+            BacklogFault::Unread { path, reason } => {
+                Trouble::unread(rt, alloc, path.as_bytes(), &reason)
+            }
+            BacklogFault::Unremoved { path, reason } => {
+                Trouble::unremoved(rt, alloc, path.as_bytes(), &reason)
+            }
+            BacklogFault::Station(fault) => Trouble::tape(alloc, name, tape_fault(fault)),
+            BacklogFault::NoMemory => Trouble::Lack,
         }
     }
 

@@ -69,13 +69,23 @@ impl<R: Threads + Wait + Send + Sync + Drop + 'static> Feeds for FastFeeds<'_, R
         &mut self,
         _alloc: Global,
         conf: Conf,
+        path: &str,
         source: Source<'_>,
         verbose: bool,
         out: &mut W,
     ) -> FeedEnd {
         let host = self.system.host;
         let rt = Machine::<R, Fast>::new(host, self.system, verbose);
-        feed_with(&rt, self.files, host, SystemLookUp(host), conf, source, out)
+        feed_with(
+            &rt,
+            self.files,
+            host,
+            SystemLookUp(host),
+            conf,
+            path,
+            source,
+            out,
+        )
     }
 
     fn list_owed<W: Write>(

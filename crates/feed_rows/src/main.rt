@@ -4,6 +4,7 @@
 //! It may start threads, listen on and connect to 127.0.0.1, make files, and print. Nothing stands above this crate.
 #![tactic(auto)]
 
+mod backlogs;
 mod clock;
 mod directories;
 mod feeds;
@@ -14,6 +15,7 @@ mod peers;
 mod row;
 
 use anyhow::Result;
+use backlogs::backlog_files;
 use clock::{status, waits};
 use directories::read_directories;
 use follow::{closes, grows, idle};
@@ -86,6 +88,7 @@ fn main(rt: HostRuntime) -> Result<()> {
     idle(&rt, rt)?;
     closes(&rt, rt)?;
     read_directories(&rt, rt)?;
+    backlog_files(&rt, rt)?;
     fs::remove_dir_all(&rt, "rows")?;
     Ok(())
 }

@@ -91,7 +91,7 @@ pub(crate) fn feed_from(path: &String) -> Order<'_> {
 }
 
 /// The order to feed from the backlogs alone.
-fn feed_from_backlogs<'a>() -> Order<'a> {
+pub(crate) fn feed_from_backlogs<'a>() -> Order<'a> {
     Order::Feed {
         conf: "conf",
         source: Source::Backlogs,

@@ -8,10 +8,10 @@ use crate::unread::UnreadPaths;
 use article_store::{Found, SpoolDirectory, StoreFault};
 use conn_core::{Conn, CxnId, Mode, Outcome, Ready, Reason};
 use event_loop::{Moved, SocketLink, put_out, take_in};
-use ledger_core::Debt;
+use ledger_core::{Debt, Key};
 use log::Log;
 use mio::event::Event;
-use peer_queue::number_in;
+use peer_queue::key_in;
 use std::alloc::Global;
 use std::io::{self, ErrorKind};
 use std::mem;
@@ -49,7 +49,7 @@ pub(crate) struct Place {
 // A debt that is put off once it comes back.
 #[derive(Clone, Copy)]
 struct Postponed {
-    number: u64,
+    key: Key,
     until: u64,
 }
 
@@ -75,8 +75,8 @@ pub(crate) struct Connection {
     is_left: bool,
     // What the feeder saw of its end, besides the reason for which it closed.
     ended: Ended,
-    // The number of the debt whose article could not be read.
-    unread: Option<u64>,
+    // The key of the debt whose article could not be read.
+    unread: Option<Key>,
     // The debt to be put off was looked for.
     is_judged: bool,
     postponed: Option<Postponed>,
@@ -443,36 +443,36 @@ impl Connection {
             return;
         }
         self.is_judged = true;
-        if let Some((number, failure)) = self.suspect()
-            && let Some(wait) = peer.setbacks.wait_after(number, failure)
+        if let Some((key, failure)) = self.suspect()
+            && let Some(wait) = peer.setbacks.wait_after(key, failure)
         {
             let until = now.saturating_add(wait);
-            self.postponed = Some(Postponed { number, until });
+            self.postponed = Some(Postponed { key, until });
         }
     }
 
-    // The number of the debt at which it failed, and how. None if it failed at none, or was left.
-    fn suspect(&self) -> Option<(u64, Failure)> {
+    // The key of the debt at which it failed, and how. None if it failed at none, or was left.
+    fn suspect(&self) -> Option<(Key, Failure)> {
         if self.is_left || self.ended.is_of_system() {
             return None;
         }
-        if let Some(number) = self.unread {
-            return Some((number, Failure::AtDebt));
+        if let Some(key) = self.unread {
+            return Some((key, Failure::AtDebt));
         }
         let failure = match self.conn.closed()? {
             Reason::Unmatched => Failure::AtDebt,
             Reason::Broken | Reason::Reader(_) | Reason::Timeout => Failure::Broke,
             Reason::Greeting(_) | Reason::Ended(_) | Reason::Quit => return None,
         };
-        let number = self.conn.first_unanswered()?;
-        Some((number, failure))
+        let key = self.conn.first_unanswered()?;
+        Some((key, failure))
     }
 
     /// Until when the debt of this outcome is to be put off, if it is the one at which it failed.
     pub fn postponed(&self, outcome: &Outcome) -> Option<u64> {
         let postponed = self.postponed?;
         let is_back = matches!(outcome, Outcome::Back(_));
-        if is_back && postponed.number == number_in(outcome) {
+        if is_back && postponed.key == key_in(outcome) {
             Some(postponed.until)
         } else {
             None
@@ -535,7 +535,7 @@ impl Connection {
         let Some(debt) = self.conn.wanted() else {
             return Handed::None;
         };
-        let number = debt.number();
+        let key = debt.key();
         match spool.store.fetch(debt.token()) {
             Ok(Found::Gone) if !spool.store.is_there() => {
                 unread.add(self.alloc, &spool.path, None);
@@ -557,7 +557,7 @@ impl Connection {
                         )
                     }
                 }
-                if self.conn.article(number, found).is_ok() {
+                if self.conn.article(key, found).is_ok() {
                     return Handed::One;
                 }
             }
@@ -565,7 +565,7 @@ impl Connection {
                 let reason = spool.store.take_reason();
                 tell_unread(rt, &spool.path, debt.token(), reason.as_ref());
                 unread.add(self.alloc, &spool.path, Some(debt.token()));
-                self.unread = Some(number);
+                self.unread = Some(key);
                 self.end(Ended::Unread(reason));
             }
             Err(StoreFault::NoMemory) => {}

@@ -1,6 +1,7 @@
 // The debts of a peer at which its connections failed.
 ghost use Rattle.std.specs.Prelude.{◌≡◌, ◌≤◌, ◌↔◌, IfSome, IsNone, IsSome, false, true};
 
+use ledger_core::Key;
 use std::alloc::Global;
 use std::collections::BTreeMap;
 
@@ -35,7 +36,7 @@ struct Setback {
 /// The debts of a peer at which connections failed in this run, of which the 4,096 latest are remembered.
 #[derive(Drop)]
 pub(crate) struct Setbacks {
-    debts: BTreeMap<u64, Setback>,
+    debts: BTreeMap<Key, Setback>,
 }
 
 impl Setbacks {
@@ -46,20 +47,20 @@ impl Setbacks {
         }
     }
 
-    /// A connection failed so at the debt of this number: for how many seconds the debt is to be put off, twice as long
+    /// A connection failed so at the debt of this key: for how many seconds the debt is to be put off, twice as long
     /// each time, or None if it is not. If a debt cannot be remembered, each failure counts as its first.
-    pub fn wait_after(&mut self, number: u64, failure: Failure) -> Option<u64>
+    pub fn wait_after(&mut self, key: Key, failure: Failure) -> Option<u64>
         ensures at_debt { failure ≡ Failure.AtDebt → IsSome result }
         ensures within { IfSome result (λ wait. (60 ≤ wait) × (wait ≤ 3600)) }
     {
-        match self.debts.get_mut(&number) {
+        match self.debts.get_mut(&key) {
             Some(setback) => setback.wait_after(failure),
-            None => self.first_wait(number, failure),
+            None => self.first_wait(key, failure),
         }
     }
 
     // The first failure at a debt.
-    fn first_wait(&mut self, number: u64, failure: Failure) -> Option<u64>
+    fn first_wait(&mut self, key: Key, failure: Failure) -> Option<u64>
         ensures at_debt { failure ≡ Failure.AtDebt → IsSome result }
         ensures broke { failure ≡ Failure.Broke → IsNone result }
         ensures within { IfSome result (λ wait. (60 ≤ wait) × (wait ≤ 3600)) }
@@ -70,13 +71,13 @@ impl Setbacks {
             // The oldest: it may have ended without a word to this feeder.
             let _ = self.debts.pop_first();
         }
-        let _ = self.debts.insert(number, setback);
+        let _ = self.debts.insert(key, setback);
         wait
     }
 
-    /// The debt of this number has ended.
-    pub fn forget(&mut self, number: u64) {
-        let _ = self.debts.remove(&number);
+    /// The debt of this key has ended.
+    pub fn forget(&mut self, key: Key) {
+        let _ = self.debts.remove(&key);
     }
 }
 

@@ -12,7 +12,7 @@ use flusher::{FeederShare, Naming, Pace};
 use funnel::Token;
 use ledger_core::Debt;
 use log::Log;
-use peer_queue::number_in;
+use peer_queue::key_in;
 use std::alloc::AllocError;
 use std::sync::Wait;
 
@@ -96,11 +96,11 @@ fn take<D: Disk, N: Naming, R: Wait + Log, P: Pace>(
     match (outcome, postponed) {
         (Outcome::Back(debt), Some(until)) => put_off(connection, rt, desk, peer, debt, until),
         (outcome, _) => {
-            let number = number_in(&outcome);
+            let key = key_in(&outcome);
             let is_end = matches!(outcome, Outcome::Final(_) | Outcome::Lost(_, _));
             desk.finish(rt, connection.peer(), connection.id(), outcome, share)?;
             if is_end {
-                peer.setbacks.forget(number);
+                peer.setbacks.forget(key);
             }
             Ok(())
         }

@@ -5,6 +5,7 @@ use Rattle.std.proofs.Crossing.{crosses}
 use Rattle.std.proofs.MapsCrossing as maps
 use Rattle.std.proofs.MapsCrossingOver as sets
 use Rattle.std.proofs.sync.ledger.Share.TheSendSync as share
+use Rattle.ledger_core.proofs.key.Key.TheSendSync as key
 use Rattle.ledger_core.proofs.spot.Spot.TheSendSync as spot
 use Rattle.ledger_core.specs.contracts.ledger.Ledger as Ledger
 use Rattle.recovery.proofs.segments.Segments.TheSendSync as segments
@@ -41,7 +42,8 @@ module _ (D : RattleType) (g : disk.Ghosts D.Denot) where
   Intake-send s = let a = Tape-send s in search (sendable, crosses, maps.crosses, sets.crosses) depth 20
 
   Station-send : IsSend D → IsSend (Station.the_field D g).row
-  Station-send s = let a = Tape-send s in search (Later-send, sendable, crosses, maps.crosses, sets.crosses) depth 20
+  Station-send s =
+      let a = Tape-send s in search (Later-send, key.the_send, sendable, crosses, maps.crosses, sets.crosses) depth 20
 
 module _ (D N : RattleType) (g : disk.Ghosts D.Denot) (n : naming.Ghosts N.Denot) where
   Desk-send : IsSend D → IsSend N → IsSync N → IsSend (Desk.the_field D N g n).row

@@ -1,10 +1,10 @@
 -- What a station's lock keeps is kept by the station's calls.
-use Rattle.std.proofs.Common.{◌≡◌, ℕ, ◌+◌, List, [], ◌∷◌, length, sym, ap, subst, arith}
-use Rattle.std.specs.Prelude.{Result, OnOk, OnErr, Ok, Err, ◌↔◌}
+use Rattle.std.proofs.Common.{◌≡◌, ℕ, ◌+◌, List, [], ◌∷◌, length, refl, sym, ◌∙◌, ap, subst, arith}
+use Rattle.std.specs.Prelude.{Result, IfErr, IfOk, ◌≢◌, OnOk, OnErr, Ok, Err, ◌↔◌}
 use Rattle.std.proofs.Math.Logic.{∥∥₁_map}
 use Rattle.disk_model.specs.declared.Disk.{Ghosts}
 use Rattle.ledger_core.specs.declared.note.Note.{Note}
-use Rattle.ledger_core.specs.declared.note.Note.TheVariants.{Owe, Final, Drop}
+use Rattle.ledger_core.specs.declared.note.Note.TheVariants.{Owe, Final, Drop, Closed}
 use Rattle.ledger_core.specs.declared.note.FinalCode.{FinalCode}
 use Rattle.ledger_core.specs.declared.note.Cause.{Cause}
 use Rattle.ledger_core.specs.declared.note.Cause.TheVariants.{Limit}
@@ -18,10 +18,18 @@ use Rattle.recovery.specs.declared.tape.Tape.{Tape}
 use Rattle.peer_queue.specs.declared.station.Station.{Station}
 use Rattle.peer_queue.specs.Words.{AreHonest, IsRead, IsSame, IsSameTape, Notes, StandsFor, disks_of, ledger_of, tape_of}
 use Rattle.peer_queue.specs.Settled.{Settles}
+use Rattle.peer_queue.specs.declared.fault.StationFault.{StationFault}
+use Rattle.peer_queue.specs.declared.fault.StationFault.TheVariants.{Tape as OfTape}
+use Rattle.recovery.specs.declared.fault.TapeFault.TheVariants.{Disk, TapeFull}
+use Rattle.peer_queue.specs.declared.limits.Owed.{Owed}
+use Rattle.peer_queue.specs.declared.limits.Owed.TheVariants.{Already, New}
 use Rattle.peer_queue.specs.declared.settled.Settled.{Settled}
 use Rattle.peer_queue.specs.declared.settled.Settled.TheVariants.{Answered, Dropped, Later, Ready}
 use Rattle.flusher.specs.Counted.{answered_by, dropped_by}
 use Rattle.flusher.specs.Kept.{IsKept}
+
+full_or_disk : OfTape TapeFull ≡ OfTape Disk → ⊥
+full_or_disk same = cc
 
 module _ {D : Type 0} {g : Ghosts D} where
   noted_kept : (old new : Station D g) (note : Note) → Notes old new note → IsKept old → IsKept new
@@ -49,6 +57,26 @@ module _ {D : Type 0} {g : Ghosts D} where
 
   pub keeps_same : (old new : Station D g) → IsSame old new → ∥ IsKept old ∥₁ → ∥ IsKept new ∥₁
   keeps_same old new same kept = ∥∥₁_map kept (same_kept old new same)
+
+  -- a line was owed, or was before, or was refused
+  pub keeps_owed : {E : Type 0} (old new : Station D g) (note : Note) (result : Result Owed E)
+      → (result ≡ Ok New → Notes old new note) → (result ≡ Ok Already → new ≡ old) → OnErr result (IsSame old new)
+      → ∥ IsKept old ∥₁ → ∥ IsKept new ∥₁
+  keeps_owed old new note (Ok New) took same refused kept = keeps_noted old new note (took refl) kept
+  keeps_owed old new note (Ok Already) took same refused kept = subst (λ s. ∥ IsKept s ∥₁) (sym (same refl)) kept
+  keeps_owed old new note (Err e) took same refused kept = keeps_same old new refused kept
+
+  -- a source was closed, or that was refused
+  pub keeps_closed : {E : Type 0} (old new : Station D g) (result : Result ℕ E)
+      → IfOk result (λ source. (source ≡ (ledger_of old).closed + 1) × Notes old new (Closed source))
+      → OnErr result (IsSame old new) → ∥ IsKept old ∥₁ → ∥ IsKept new ∥₁
+  keeps_closed old new (Ok source) took refused kept = keeps_noted old new (Closed source) took.1 kept
+  keeps_closed old new (Err e) took refused kept = keeps_same old new refused kept
+
+  -- a flush for which there is no room changes nothing
+  pub same_if_full : (old new : Station D g) (fault : StationFault) → (fault ≢ OfTape Disk → IsSame old new)
+      → fault ≡ OfTape TapeFull → IsSame old new
+  same_if_full old new fault unchanged full = unchanged (λ disk. full_or_disk (sym full ∙ disk))
 
   pub keeps_tape : (old new : Station D g) → IsSameTape old new → ∥ IsKept old ∥₁ → ∥ IsKept new ∥₁
   keeps_tape old new same kept = ∥∥₁_map kept (tape_kept old new same)

@@ -224,7 +224,7 @@ impl<D: Disk, N: Naming> Post<D, N> {
     ) -> Result<Shed, PostFault>
         requires { peer < length self.now.names }
         ensures counted { IfOk result
-            (λ shed. (mine.new.dropped ≡ mine.old.dropped + length shed.numbers.items)
+            (λ shed. (mine.new.dropped ≡ mine.old.dropped + length shed.keys.items)
             × (mine.new.answered ≡ mine.old.answered)) }
         ensures kinds { IfErr result
             (λ e. (e ≡ PostFault.CountFull) ⊎ IsOfStation peer IsShedFault e) }
@@ -531,7 +531,7 @@ fn shed_in<D: Disk, N: Naming>(
     mine: &mut FeederShare<N>,
 ) -> Result<Shed, PostFault>
     ensures counted { IfOk result
-        (λ shed. (mine.new.dropped ≡ mine.old.dropped + length shed.numbers.items)
+        (λ shed. (mine.new.dropped ≡ mine.old.dropped + length shed.keys.items)
         × (mine.new.answered ≡ mine.old.answered)) }
     ensures count_full { IsErrOf result PostFault.CountFull ↔ IsCountFull tally.old.dropped }
     ensures kinds { IfErr result

@@ -1,7 +1,7 @@
 // What a station's lock keeps.
 ghost use Rattle.std.specs.Prelude.{◌≡◌, ◌+◌, ◌<◌, ◌≤◌, ◌^◌, IfOk, IfErr, OnOk, OnErr, true};
 ghost use Rattle.std.specs.Prelude.{false, if◌then◌else◌, max, length, nat_lt, ◌-◌, ◌≢◌, ◌↔◌};
-ghost use Rattle.std.specs.Prelude.{◌⊎◌, IsErrOf};
+ghost use Rattle.std.specs.Prelude.{IsErrOf};
 ghost use Rattle.peer_queue.specs.Settled.{Finishes};
 ghost use Rattle.peer_queue.specs.Words.{IsRead, IsSame, IsSameTape, ledger_of};
 ghost use Rattle.peer_queue.specs.Words.{places_of};
@@ -15,13 +15,14 @@ ghost use Rattle.flusher.specs.Faults.{IsPutOffFault, IsShedFault, IsTakeFault};
 ghost use Rattle.flusher.specs.Room.{HasNoRoom};
 ghost use Rattle.peer_queue.specs.Faults.{IsClaimFault, IsEndFault, IsFlushFault, IsRotateFault};
 ghost use Rattle.peer_queue.specs.Words.{generation_of, tape_of};
-ghost use Rattle.recovery.specs.Words.{IsFull, RotatesTooLong};
+ghost use Rattle.recovery.specs.Words.{RotatesTooLong};
 
 use crate::fault::TakeFault;
 use crate::naming::{
     AnsweredAtStations, DroppedAtStations, DroppedByFeeders, TakenAtStations, TakenByIntake,
 };
 use crate::peer::{counted_at, noted_in};
+use crate::room::flush_or_rotate;
 use crate::share::FeederShare;
 use crate::tally::{Books, Tally};
 use crate::{Naming, Reported};
@@ -165,7 +166,7 @@ impl<D: Disk, N: Naming> Desk<D, N> {
         requires part { mine.old.parts ≡ 1 }
         requires room { books.old + 65536 < 2 ^ 64 }
         ensures counted { IfOk result
-            (λ shed. mine.new.amount ≡ mine.old.amount + length shed.numbers.items) }
+            (λ shed. mine.new.amount ≡ mine.old.amount + length shed.keys.items) }
         ensures unchanged { OnErr result
             (IsSame self.old.station self.new.station × (mine.new.amount ≡ mine.old.amount)) }
         ensures kinds { IfErr result IsShedFault }
@@ -177,31 +178,8 @@ impl<D: Disk, N: Naming> Desk<D, N> {
             ..
         } = self;
         let shed = station.shed()?;
-        books.count(mine, dropped, shed.numbers.len() as u64);
+        books.count(mine, dropped, shed.keys.len() as u64);
         Ok(shed)
-    }
-
-    /// Puts the notes that pend on the disks.
-    pub fn flush(&mut self) -> Result<u64, StationFault>
-        ensures ledger { ledger_of self.new.station ≡ ledger_of self.old.station }
-        ensures places { places_of self.new.station ≡ places_of self.old.station }
-        ensures flushed { OnOk result (IsFlushed self.new.station) }
-        ensures reports { Reports (ledger_of self.new.station) self.old.acknowledged
-            self.new.acknowledged self.new.has_failed result }
-        ensures full { IsErrOf result (StationFault.Tape TapeFault.TapeFull)
-            → IsFull (tape_of self.old.station) × IsSame self.old.station self.new.station }
-        ensures kinds { IfErr result IsFlushFault }
-    {
-        match self.station.flush() {
-            Ok(count) => {
-                self.acknowledge();
-                Ok(count)
-            }
-            Err(fault) => {
-                self.has_failed = true;
-                Err(fault)
-            }
-        }
     }
 
     // All that it counts is acknowledged.
@@ -245,31 +223,15 @@ impl<D: Disk, N: Naming> Desk<D, N> {
             → HasNoRoom self.old.station }
         ensures kinds { IfErr result IsFlushFault }
     {
-        match self.flush() {
-            Ok(_) => Ok(()),
-            Err(StationFault::Tape(TapeFault::TapeFull)) => self.rotate_full(),
-            Err(fault) => Err(fault),
-        }
-    }
-
-    // Writes its tape anew, in place of a flush for which there is no room. The faults are those of a flush.
-    fn rotate_full(&mut self) -> Result<(), StationFault>
-        ensures ledger { ledger_of self.new.station ≡ ledger_of self.old.station }
-        ensures places { places_of self.new.station ≡ places_of self.old.station }
-        ensures flushed { OnOk result (IsFlushed self.new.station) }
-        ensures reports { Reports (ledger_of self.new.station) self.old.acknowledged
-            self.new.acknowledged self.new.has_failed result }
-        ensures full { IsErrOf result (StationFault.Tape TapeFault.TapeFull)
-            → (generation_of self.old.station ≡ 2 ^ 64 - 1)
-            ⊎ RotatesTooLong (tape_of self.old.station) }
-        ensures kinds { IfErr result IsFlushFault }
-    {
-        match self.rotate() {
-            Ok(_) => Ok(()),
-            Err(StationFault::Tape(TapeFault::GenerationFull)) => {
-                Err(StationFault::Tape(TapeFault::TapeFull))
+        match flush_or_rotate(&mut self.station) {
+            Ok(()) => {
+                self.acknowledge();
+                Ok(())
             }
-            Err(fault) => Err(fault),
+            Err(fault) => {
+                self.has_failed = true;
+                Err(fault)
+            }
         }
     }
 

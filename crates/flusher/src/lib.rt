@@ -14,6 +14,7 @@ mod pace;
 mod peer;
 mod post;
 mod reported;
+mod room;
 mod rooms;
 mod sealing;
 mod share;

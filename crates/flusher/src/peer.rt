@@ -1,18 +1,27 @@
 // The peers of a post, before and after.
-ghost use Rattle.std.specs.Prelude.{◌≡◌, ◌↔◌, ◌≤◌, ℕ, IfOk, IfErr, MatchResult};
+ghost use Rattle.std.specs.Prelude.{◌≡◌, ◌↔◌, ◌+◌, ◌≤◌, ℕ, IfOk};
+ghost use Rattle.std.specs.Prelude.{IfErr, IsErrOf};
+ghost use Rattle.std.specs.Prelude.{MatchResult, Ok, OnOk};
 ghost use Rattle.flusher.specs.Kept.{IsKept};
-ghost use Rattle.peer_queue.specs.Calls.{IsFresh};
-ghost use Rattle.peer_queue.specs.Words.{AreHonest, ledger_of, tape_of, told_of};
+ghost use Rattle.flusher.specs.Room.{HasNoRoom};
+ghost use Rattle.flusher.specs.Sealed.{IsFlushed};
+ghost use Rattle.ledger_core.specs.declared.note.Note.{Note};
+ghost use Rattle.peer_queue.specs.Calls.{IsFresh, RefusesClose, RefusesOwe};
+ghost use Rattle.peer_queue.specs.Faults.{IsFlushFault};
+ghost use Rattle.peer_queue.specs.Place.{Ready, with_place};
+ghost use Rattle.peer_queue.specs.Words.{AreHonest, IsBroken, Notes, ledger_of, open_key, places_of};
+ghost use Rattle.peer_queue.specs.Words.{tape_of, told_of};
 ghost use Rattle.recovery.specs.Image.{EachTape, Survives};
 ghost use Rattle.recovery.specs.Notes.{History};
 ghost use Rattle.recovery.specs.Opens.{HasCause, Opens, OpensWhatSurvives};
 ghost use Rattle.recovery.specs.Words.{IsOpenFault, refused_log};
 ghost use Rattle.recovery.specs.declared.fault.TapeFault.TheVariants.{Damaged};
 
+use crate::room::flush_or_rotate;
 use disk_model::Disk;
-use funnel::PeerName;
-use peer_queue::{Limits, Station};
-use recovery::RefusedTape;
+use funnel::{MsgId, PeerName, Token};
+use peer_queue::{Limits, Owed, Station, StationFault};
+use recovery::{RefusedTape, TapeFault};
 use std::alloc::Global;
 
 /// How many debts were taken, answered and dropped.
@@ -73,6 +82,59 @@ impl<D: Disk> Peer<D> {
             Err(refused) => return Err(refused),
         };
         Ok(Peer { name, station })
+    }
+
+    /// Owes it the line of this number of the source that is open (a backlog file), which is ready from now on.
+    ///
+    /// # Errors
+    /// Those of [`Station::import`], in their order. Nothing changes then.
+    pub fn import(&mut self, number: u64, token: &Token, id: &MsgId) -> Result<Owed, StationFault>
+        ensures already { (result ≡ Ok Owed.Already) ↔ ((IsBroken self.old.station → ⊥)
+            × (number ≤ (ledger_of self.old.station).import_mark)) }
+        ensures unchanged { result ≡ Ok Owed.Already → self.new.station ≡ self.old.station }
+        ensures new { result ≡ Ok Owed.New → Notes self.old.station self.new.station
+            (Note.Owe (open_key self.old.station number) token.now id.now) }
+        ensures places { result ≡ Ok Owed.New → places_of self.new.station
+            ≡ with_place (places_of self.old.station) (open_key self.old.station number) Ready }
+        ensures refuses { RefusesOwe (ledger_of self.old.station).import_mark number
+            (Note.Owe (open_key self.old.station number) token.now id.now) self.old.station
+            self.new.station result }
+        ensures name { self.new.name ≡ self.old.name }
+    {
+        self.station.import(number, token, id)
+    }
+
+    /// Closes the source that is open, and gives it: the next one is open from now on.
+    ///
+    /// # Errors
+    /// Those of [`Station::close_import`], in their order. Nothing changes then.
+    pub fn close_import(&mut self) -> Result<u32, StationFault>
+        ensures closed { IfOk result (λ source.
+            (source ≡ (ledger_of self.old.station).closed + 1)
+            × Notes self.old.station self.new.station (Note.Closed source)) }
+        ensures places { places_of self.new.station ≡ places_of self.old.station }
+        ensures refuses { RefusesClose self.old.station self.new.station result }
+        ensures name { self.new.name ≡ self.old.name }
+    {
+        self.station.close_import()
+    }
+
+    /// Puts the notes that pend on the disks. If there is no room for them behind what lies there, its tape is written
+    /// anew, with what pends.
+    ///
+    /// # Errors
+    /// `Broken`; `NoMemory`; `Tape(TapeFull)` if what it owes is too long to be written anew too, or if its tape has
+    /// the greatest generation; `Tape(Disk)`: the station is broken from now on.
+    pub fn flush_or_rotate(&mut self) -> Result<(), StationFault>
+        ensures ledger { ledger_of self.new.station ≡ ledger_of self.old.station }
+        ensures places { places_of self.new.station ≡ places_of self.old.station }
+        ensures flushed { OnOk result (IsFlushed self.new.station) }
+        ensures full { IsErrOf result (StationFault.Tape TapeFault.TapeFull)
+            → HasNoRoom self.old.station }
+        ensures kinds { IfErr result IsFlushFault }
+        ensures name { self.new.name ≡ self.old.name }
+    {
+        flush_or_rotate(&mut self.station)
     }
 }
 

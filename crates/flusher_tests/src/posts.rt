@@ -2,11 +2,11 @@
 ghost use Rattle.std.specs.Prelude.{◌≡◌, ◌<◌, length};
 ghost use Rattle.flusher.specs.Post.{names_of};
 
-use crate::shared::{Ending, intake, outcome, peer};
+use crate::shared::{Ending, closed_sums, intake, outcome, peer};
 use conn_core::CxnId;
 use disk_model::{Disk, MemDisk};
-use flusher::{Blanks, Closed, FeederShare, Free, IntakeShare, Naming, Peer, Post, PostFault};
-use ledger_core::Debt;
+use flusher::{Blanks, FeederShare, Free, IntakeShare, Naming, Peer, Post, PostFault};
+use ledger_core::{Debt, Key};
 use peer_queue::{Limits, Settled, StationFault};
 use recovery::{Tape, TapeFault};
 use std::alloc::Global;
@@ -44,7 +44,7 @@ fn finish<D: Disk, N: Naming, R: Wait>(
     requires { 0 < length post.now.names }
 {
     let debt = claim(rt, post, connection, 0)?;
-    let number = debt.number();
+    let number = debt.key().number();
     let outcome = outcome(alloc, connection, debt, ending)?;
     match post.finish(rt, 0, connection, outcome, 0, share) {
         Ok(settled) => Ok((number, settled)),
@@ -52,17 +52,93 @@ fn finish<D: Disk, N: Naming, R: Wait>(
     }
 }
 
+// The number of the debt that a connection claims of the first peer at this moment.
+fn claim_number<D: Disk, N: Naming, R: Wait>(
+    rt: &R,
+    post: &Post<D, N>,
+    connection: CxnId,
+    now: u64,
+) -> Result<u64, Fail>
+    requires { 0 < length post.now.names }
+{
+    Ok(claim(rt, post, connection, now)?.key().number())
+}
+
 // What is told of twelve debts of ten octets, of which at most a hundred octets are kept.
 #[derive(Debug, PartialEq, Eq, Drop)]
 struct Told {
-    shed: Vec<u64>,
+    shed: Vec<Key>,
+    again: Again,
+    dropped: u64,
+}
+
+// What is told of the debts that come again.
+#[derive(Clone, Copy, Debug, PartialEq, Eq)]
+struct Again {
     back: (u64, Settled),
     claimed: u64,
     released: u64,
     later: (u64, Settled),
     at_59: u64,
     at_60: u64,
-    dropped: u64,
+}
+
+// Takes the lines of twelve debts, and sheds what is not kept.
+fn take_and_shed<D: Disk, N: Naming, R: Wait>(
+    rt: &R,
+    post: &Post<D, N>,
+    lines: &mut IntakeShare<N>,
+    share: &mut FeederShare<N>,
+) -> Result<Vec<Key>, Fail>
+    requires { 0 < length post.now.names }
+{
+    for _ in 0..12u8 {
+        post.take_line(rt, b"a/1 <x@y> p", lines)?;
+    }
+    Ok(post.shed(rt, 0, share)?.keys)
+}
+
+// Claims debts that come again: one that is given back, one that is released, and one that is put off.
+fn claim_again<D: Disk, N: Naming, R: Wait>(
+    rt: &R,
+    alloc: Global,
+    post: &Post<D, N>,
+    share: &mut FeederShare<N>,
+) -> Result<Again, Fail>
+    requires { 0 < length post.now.names }
+{
+    let back = finish(rt, alloc, post, CxnId(1), Ending::Broken, share)?;
+    let claimed = claim_number(rt, post, CxnId(2), 0)?;
+    let released = post.release(rt, 0, CxnId(2));
+    let later = finish(rt, alloc, post, CxnId(3), Ending::WantedLater, share)?;
+    Ok(Again {
+        back,
+        claimed,
+        released,
+        later,
+        at_59: claim_number(rt, post, CxnId(4), 59)?,
+        at_60: claim_number(rt, post, CxnId(4), 60)?,
+    })
+}
+
+// What is told before the post is closed.
+//
+// proof: over a borrowed post, so that no way out of a step drops the post and its shares.
+fn steps_told<D: Disk, N: Naming, R: Wait>(
+    rt: &R,
+    alloc: Global,
+    post: &Post<D, N>,
+    lines: &mut IntakeShare<N>,
+    share: &mut FeederShare<N>,
+) -> Result<Told, Fail> {
+    if post.peers() == 0 {
+        return Err(Fail::from("a peer"));
+    }
+    Ok(Told {
+        shed: take_and_shed(rt, post, lines, share)?,
+        again: claim_again(rt, alloc, post, share)?,
+        dropped: 0,
+    })
 }
 
 fn run_steps<D: Disk + Drop, N: Naming, R: Wait>(
@@ -83,32 +159,11 @@ fn run_steps<D: Disk + Drop, N: Naming, R: Wait>(
     let (post, mut lines, mut share, second, third) = Post::<D, N>::new(
         alloc, peers, intake, blanks,
     )?;
-    if post.peers() == 0 {
-        return Err(Fail::from("a peer"));
-    }
-    for _ in 0..12u8 {
-        post.take_line(rt, b"a/1 <x@y> p", &mut lines)?;
-    }
-    let shed = post.shed(rt, 0, &mut share)?.numbers;
-    let back = finish(rt, alloc, &post, CxnId(1), Ending::Broken, &mut share)?;
-    let claimed = claim(rt, &post, CxnId(2), 0)?.number();
-    let released = post.release(rt, 0, CxnId(2));
-    let later = finish(rt, alloc, &post, CxnId(3), Ending::WantedLater, &mut share)?;
-    let at_59 = claim(rt, &post, CxnId(4), 59)?.number();
-    let at_60 = claim(rt, &post, CxnId(4), 60)?.number();
-    let dropped = match post.close(lines, share, second, third) {
-        Ok(Closed { sums, .. }) => sums.dropped,
-        Err(_) => return Err(Fail::from("memory")),
-    };
+    let told = steps_told(rt, alloc, &post, &mut lines, &mut share)?;
+    let sums = closed_sums(post, lines, share, second, third)?;
     Ok(Told {
-        shed,
-        back,
-        claimed,
-        released,
-        later,
-        at_59,
-        at_60,
-        dropped,
+        dropped: sums.dropped,
+        ..told
     })
 }
 
@@ -127,13 +182,15 @@ fn what_is_not_sent_comes_again(rt: HostRuntime) -> Result<(), Fail> {
     let alloc = rt.alloc();
     let told = on_disks(&rt, alloc, peer(alloc, b"p", LIMITED)?, intake(alloc)?)?;
     let want = Told {
-        shed: vec![in alloc; 1, 2]?,
-        back: (3, Settled::Ready),
-        claimed: 3,
-        released: 1,
-        later: (3, Settled::Later(60)),
-        at_59: 4,
-        at_60: 3,
+        shed: vec![in alloc; Key::new(0, 1), Key::new(0, 2)]?,
+        again: Again {
+            back: (3, Settled::Ready),
+            claimed: 3,
+            released: 1,
+            later: (3, Settled::Later(60)),
+            at_59: 4,
+            at_60: 3,
+        },
         dropped: 2,
     };
     assert_eq!(rt; told, want);
@@ -210,15 +267,13 @@ fn fill<D: Disk + Drop, N: Naming, R: Wait>(
     };
     post.flush_all(rt, &Free)?;
     let number = take(rt, &post, b"a/1 <x@y> p q", &mut lines)?;
-    match post.close(lines, first, second, third) {
-        Ok(Closed { sums, .. }) => Ok(Filled {
-            half,
-            refused,
-            number,
-            taken: sums.taken,
-        }),
-        Err(_) => Err(Fail::from("memory")),
-    }
+    let sums = closed_sums(post, lines, first, second, third)?;
+    Ok(Filled {
+        half,
+        refused,
+        number,
+        taken: sums.taken,
+    })
 }
 
 fn fill_disks<R: Wait>(

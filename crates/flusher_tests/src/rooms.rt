@@ -2,10 +2,10 @@
 ghost use Rattle.std.specs.Prelude.{◌≡◌, ◌<◌, length};
 ghost use Rattle.flusher.specs.Post.{names_of};
 
-use crate::shared::{intake, peer};
+use crate::shared::{closed_sums, intake, peer};
 use conn_core::CxnId;
 use disk_model::{Disk, MemDisk};
-use flusher::{Blanks, Closed, Naming, Peer, Post, PostFault, Sums};
+use flusher::{Blanks, Naming, Peer, Post, PostFault, Sums};
 use peer_queue::{Limits, StationFault};
 use recovery::Tape;
 use std::alloc::Global;
@@ -53,13 +53,20 @@ fn play<D: Disk, N: Naming, A: Abort>(rt: &A, post: &Post<D, N>, steps: &[Step])
     requires { 0 < length post.now.names }
 {
     for (at, step) in steps.iter().enumerate() {
-        match step {
-            Step::Take(room, want) => {
-                assert_eq!(rt; post.try_take_room(0, *room), Some(*want), "step {at}");
-            }
-            Step::Give(room) => post.give_room(0, *room),
-            Step::Fail(is_failing) => post.set_failing(0, *is_failing),
+        take_step(rt, post, at, *step);
+    }
+}
+
+// Takes the step at this place.
+fn take_step<D: Disk, N: Naming, A: Abort>(rt: &A, post: &Post<D, N>, at: usize, step: Step)
+    requires { 0 < length post.now.names }
+{
+    match step {
+        Step::Take(room, want) => {
+            assert_eq!(rt; post.try_take_room(0, room), Some(want), "step {at}");
         }
+        Step::Give(room) => post.give_room(0, room),
+        Step::Fail(is_failing) => post.set_failing(0, is_failing),
     }
 }
 
@@ -82,7 +89,7 @@ fn claimed<D: Disk, N: Naming, R: Wait>(
     requires { 0 < length post.now.names }
 {
     match post.claim(rt, 0, connection, now)? {
-        Some(debt) => Ok(debt.number()),
+        Some(debt) => Ok(debt.key().number()),
         None => Ok(0),
     }
 }
@@ -95,7 +102,7 @@ fn put_off<D: Disk, N: Naming, R: Wait>(rt: &R, post: &Post<D, N>) -> Result<(u6
     let Err((debt, fault)) = post.try_put_off(0, CxnId(2), debt, 30) else {
         return Err(Fail::from("a refusal"));
     };
-    let number = debt.number();
+    let number = debt.key().number();
     match post.put_off(rt, 0, CxnId(1), debt, 60) {
         Ok(()) => Ok((number, fault)),
         Err((_, fault)) => Err(Fail::from(fault)),
@@ -127,15 +134,12 @@ fn run_steps<D: Disk + Drop, N: Naming, R: Abort + Wait>(
     let refused = put_off(rt, &post)?;
     let before = claimed(rt, &post, CxnId(3), 59)?;
     let then = claimed(rt, &post, CxnId(3), 60)?;
-    match post.close(lines, first, second, third) {
-        Ok(Closed { sums, .. }) => Ok(Told {
-            before,
-            then,
-            refused,
-            sums,
-        }),
-        Err(_) => Err(Fail::from("memory")),
-    }
+    Ok(Told {
+        before,
+        then,
+        refused,
+        sums: closed_sums(post, lines, first, second, third)?,
+    })
 }
 
 fn on_disks<R: Abort + Wait>(

@@ -1,7 +1,7 @@
 // Peers of a post, and debts that their peers answer.
 use conn_core::{Conn, CxnId, Options, Outcome};
 use disk_model::{Disk, FuseDisk, MemDisk};
-use flusher::Peer;
+use flusher::{FeederShare, IntakeShare, Naming, Peer, Post, Sums};
 use funnel::PeerName;
 use ledger_core::{Debt, Totals};
 use peer_queue::{Limits, Station};
@@ -36,17 +36,40 @@ pub(crate) fn outcome(
     debt: Debt,
     ending: Ending,
 ) -> Result<Outcome, Fail> {
-    let mut conn = Conn::new(alloc, connection, STREAMING)?;
-    conn.input(b"200 ready\r\n203 ok\r\n")?;
-    if let Err(back) = conn.offer(debt) {
-        return Err(Fail::from(back.fault));
-    }
-    match ending {
-        Ending::NotWanted => conn.input(b"438 <x@y>\r\n")?,
-        Ending::WantedLater => conn.input(b"431 <x@y>\r\n")?,
-        Ending::Broken => conn.broken(),
-    }
+    let mut conn = holding(alloc, connection, debt)?;
+    come_to(&mut conn, ending)?;
     Ok(conn.outcome().ok_or("an outcome")?)
+}
+
+// A connection that was handed this debt.
+//
+// proof: here and in the functions below what the calls of a connection ensure is left behind, so that `outcome`
+// carries none of it.
+fn holding(alloc: Global, connection: CxnId, debt: Debt) -> Result<Conn, Fail> {
+    let mut conn = Conn::new(alloc, connection, STREAMING)?;
+    hear(&mut conn, b"200 ready\r\n203 ok\r\n")?;
+    match conn.offer(debt) {
+        Ok(()) => Ok(conn),
+        Err(back) => Err(Fail::from(back.fault)),
+    }
+}
+
+// Has a connection come to an end of its debt.
+fn come_to(conn: &mut Conn, ending: Ending) -> Result<(), Fail> {
+    match ending {
+        Ending::NotWanted => hear(conn, b"438 <x@y>\r\n"),
+        Ending::WantedLater => hear(conn, b"431 <x@y>\r\n"),
+        Ending::Broken => {
+            conn.broken();
+            Ok(())
+        }
+    }
+}
+
+// Has a connection read what its peer writes.
+fn hear(conn: &mut Conn, octets: &[u8]) -> Result<(), Fail> {
+    conn.input(octets)?;
+    Ok(())
 }
 
 // A peer that is owed nothing.
@@ -115,5 +138,19 @@ pub(crate) fn counted_on_disks(
     match Station::open(alloc, a.into_inner(), b.into_inner(), limits) {
         Ok(station) => Ok(station.totals()),
         Err(refused) => Err(Fail::from(refused.fault)),
+    }
+}
+
+// What all workers of a post counted, which is closed.
+pub(crate) fn closed_sums<D: Disk + Drop, N: Naming>(
+    post: Post<D, N>,
+    lines: IntakeShare<N>,
+    first: FeederShare<N>,
+    second: FeederShare<N>,
+    third: FeederShare<N>,
+) -> Result<Sums, Fail> {
+    match post.close(lines, first, second, third) {
+        Ok(closed) => Ok(closed.sums),
+        Err(_) => Err(Fail::from("memory")),
     }
 }

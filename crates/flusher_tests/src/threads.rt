@@ -98,7 +98,7 @@ impl<N: Naming> Hand<N> {
                     self.is_refused = matches!(asked, Err(PostFault::Busy { .. }));
                 }
                 let debt = post.claim(rt, self.peer, self.connection, 0).ok()??;
-                self.number = debt.number();
+                self.number = debt.key().number();
                 if self.peer > 0 {
                     let asked = post.try_put_off(0, self.connection, debt, 30);
                     self.is_refused &= matches!(asked, Err((_, PostFault::Busy { .. })));

@@ -1,5 +1,6 @@
 -- How octets split into lines, what is kept of a line, and what a cutter stands for after each call.
-use Rattle.std.proofs.Common.{◌≡◌, ◌≢◌, ◌-◌, ℕ, zero, suc, min, List, [], ◌∷◌, ◌++◌, map, length, take, Option, None, Some, Result, Ok, Err, sym, ◌∙◌, ap, refl, arith, subst, append_assoc}
+use Rattle.std.proofs.Common.{◌≡◌, ◌≢◌, ◌-◌, ℕ, zero, suc, min, List, [], ◌∷◌, ◌++◌, map, length, take, Option, None}
+use Rattle.std.proofs.Common.{Some, Result, Ok, Err, sym, ◌∙◌, ap, refl, arith, subst, append_assoc}
 use Rattle.std.specs.Prelude.{IfSome, IfNone, MatchOption, OnOk, is_ok, if◌then◌else◌}
 use Rattle.std.specs.List.{All}
 use Rattle.std.specs.Option.{option_to_list}

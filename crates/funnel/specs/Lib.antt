@@ -1,5 +1,6 @@
 pub mod Line
 pub mod LineLaws
+pub mod Malformed
 pub mod Names
 pub mod Stream
 pub mod StreamLaws

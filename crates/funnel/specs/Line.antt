@@ -1,5 +1,6 @@
 -- Funnel lines (innfeed(8); the rules of names and lengths are this profile's).
-use Rattle.std.specs.Prelude.{◌≡◌, ◌==◌, ◌-◌, ◌<◌, ◌≤◌, ◌&&◌, ℕ, false, if◌then◌else◌, List, [], ◌∷◌, length, nat_lt, slice_index, take, filter, IsTrue}
+use Rattle.std.specs.Prelude.{◌≡◌, ◌==◌, ◌-◌, ◌<◌, ◌≤◌, ◌&&◌, ℕ, false, if◌then◌else◌, List, [], ◌∷◌, length, nat_lt}
+use Rattle.std.specs.Prelude.{slice_index, take, filter, IsTrue}
 use Rattle.funnel.specs.declared.line.LineFault.{LineFault}
 use Rattle.funnel.specs.declared.line.LineFault.TheVariants.{NoToken, BadToken, BadId, TooLong, NoMemory}
 use Rattle.funnel.specs.Names.{is_msg_id, is_token, is_peer_name}
@@ -22,6 +23,14 @@ pub record IsFunnelLine (line token id : List ℕ) (peers : List (List ℕ)) : T
   pub token_form : IsTrue (is_token token)
   pub id_form : IsTrue (is_msg_id id)
   pub named : peers ≡ filter is_peer_name others
+
+-- The octets before the LF are a good line of a backlog file: a token, a message-id, and then any words.
+pub record IsBacklogLine (line token id : List ℕ) : Type 0 where
+  pub others : List (List ℕ)
+  pub short : length line ≤ longest_line
+  pub words : HasWords (without_cr line) (token ∷ id ∷ others)
+  pub token_form : IsTrue (is_token token)
+  pub id_form : IsTrue (is_msg_id id)
 
 -- no message-id stands first among these words
 abbrev pub LacksId : List (List ℕ) → Type 0

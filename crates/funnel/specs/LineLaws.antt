@@ -1,9 +1,10 @@
 -- The laws of funnel lines: a line has one reading, or else one fault.
-use Rattle.std.specs.Prelude.{◌≡◌, ◌≢◌, ◌<◌, ◌≤◌, ◌⊎◌, ◌↔◌, ℕ, true, false, cond, List, [], ◌∷◌, length, Option, Some, None, Result, Err, refl, IsTrue, IsErrOf, filter}
+use Rattle.std.specs.Prelude.{◌≡◌, ◌≢◌, ◌<◌, ◌≤◌, ◌⊎◌, ◌↔◌, ℕ, true, false, cond, List, [], ◌∷◌, length, Option, Some}
+use Rattle.std.specs.Prelude.{None, Result, Err, refl, IsTrue, IsErrOf, filter}
 use Rattle.std.proofs.Common.{sym, ◌∙◌, ap, subst, arith, inl, inr}
 use Rattle.funnel.specs.declared.line.LineFault.{LineFault}
 use Rattle.funnel.specs.declared.line.LineFault.TheVariants.{NoToken, BadToken, BadId, TooLong, NoMemory}
-use Rattle.funnel.specs.Line.{IsFunnelLine, HasFault, LacksId, longest_line, without_cr}
+use Rattle.funnel.specs.Line.{IsBacklogLine, IsFunnelLine, HasFault, LacksId, longest_line, without_cr}
 use Rattle.funnel.specs.Names.{is_msg_id, is_token, is_peer_name}
 use Rattle.funnel.specs.Words.{HasWords, IsFirstWord, IsGap}
 use Rattle.funnel.specs.WordLaws.{has_words, words_from_first, words_once}
@@ -100,6 +101,41 @@ line_once line token id token' id' peers peers' g h =
     let others : g.others ≡ h.others = cc in
     (cc, cc, g.named ∙ ap (filter is_peer_name) others ∙ sym h.named)
 
+-- a funnel line is a backlog file's line too, of the same article
+pub backlog_from_funnel : (line token id : List ℕ) (peers : List (List ℕ)) → IsFunnelLine line token id peers
+    → IsBacklogLine line token id
+backlog_from_funnel line token id peers g = record {
+  others = g.others;
+  short = g.short;
+  words = g.words;
+  token_form = g.token_form;
+  id_form = g.id_form;
+}
+
+-- and so is each of a backlog file a funnel line, of some peers
+pub funnel_from_backlog : (line token id : List ℕ) → IsBacklogLine line token id
+    → (peers : List (List ℕ)) × IsFunnelLine line token id peers
+funnel_from_backlog line token id g = (
+  filter is_peer_name g.others,
+  record {
+    others = g.others;
+    short = g.short;
+    words = g.words;
+    token_form = g.token_form;
+    id_form = g.id_form;
+    named = refl;
+  },
+)
+
+-- which has one reading
+pub backlog_once : (line token id token' id' : List ℕ) → IsBacklogLine line token id → IsBacklogLine line token' id'
+    → (token ≡ token') × (id ≡ id')
+backlog_once line token id token' id' g h =
+    let one = funnel_from_backlog line token id g in
+    let other = funnel_from_backlog line token' id' h in
+    let same = line_once line token id token' id' one.0 other.0 one.1 other.1 in
+    (same.0, same.1)
+
 -- A call that answers the line's own fault says so of no other, and says so of each that the line has.
 pub refused : {T : Type 0} (line : List ℕ) (r : Result T LineFault) (a b : LineFault) → r ≡ Err a → IsFaultOf line a → b ≢ NoMemory → IsErrOf r b ↔ HasFault line b
 refused {T} line r a b is f own = (
@@ -150,6 +186,11 @@ pub parts_read : (line token id others : List ℕ) → HasParts line token id ot
 parts_read line token id others p =
     let words = has_words others in
     (filter is_peer_name words.0, parts_good line token id others _ p (record { words = words.0; has = words.1; named = refl }))
+
+pub parts_backlog : (line token id others : List ℕ) → HasParts line token id others → IsBacklogLine line token id
+parts_backlog line token id others p =
+    let read = parts_read line token id others p in
+    backlog_from_funnel line token id read.0 read.1
 
 pub peers_first : (text word rest : List ℕ) (peers : List (List ℕ)) → IsFirstWord text word rest → is_peer_name word ≡ true → HasPeers rest peers → HasPeers text (word ∷ peers)
 peers_first text word rest peers first form h = record {

@@ -1,5 +1,6 @@
 -- The laws of words: a text has one first word, and a line has one list of words.
-use Rattle.std.specs.Prelude.{◌≡◌, ◌<◌, ◌≤◌, ◌+◌, ℕ, Bool, true, false, not, cond, List, [], ◌∷◌, ◌++◌, length, take, drop, refl}
+use Rattle.std.specs.Prelude.{◌≡◌, ◌<◌, ◌≤◌, ◌+◌, ℕ, Bool, true, false, not, cond, List, [], ◌∷◌, ◌++◌, length, take}
+use Rattle.std.specs.Prelude.{drop, refl}
 use Rattle.std.specs.List.{list_all, prefix_len}
 use Rattle.std.proofs.Common.{zero, suc, sym, inl, inr, ◌∙◌, ap, subst, arith, one-add, length-append, append-nil}
 use Rattle.std.proofs.lemmas.Bool.{cases_lt, and_parts, and_from, not_from_true}

@@ -102,7 +102,7 @@ pub const LONGEST_LINE: usize = 8192;
 
 // A good line, cut where its parts end.
 #[derive(Clone, Copy)]
-struct Parts<'a> {
+pub(crate) struct Parts<'a> {
     token: &'a [u8],
     id: &'a [u8],
     others: &'a [u8],
@@ -110,7 +110,7 @@ struct Parts<'a> {
 
 impl<'a> Parts<'a> {
     // Cuts a line, or tells its first fault. Allocates nothing.
-    fn cut(line: &'a [u8]) -> Result<Self, LineFault>
+    pub(crate) fn cut(line: &'a [u8]) -> Result<Self, LineFault>
         ensures { MatchResult result (λ p. HasParts line.now p.token.now p.id.now p.others.now)
             (λ fault. IsFaultOf line.now fault) }
     {
@@ -132,6 +132,18 @@ impl<'a> Parts<'a> {
         Ok(Parts { token, id, others })
     }
 
+    // Copies the token and the message-id.
+    pub(crate) fn article(&self, alloc: Global) -> Result<(Token, MsgId), AllocError>
+        requires token { IsTrue (is_token self.now.token.now) }
+        requires id { IsTrue (is_msg_id self.now.id.now) }
+        ensures token { IfOk result (λ a. a.0 ≡ self.now.token.now) }
+        ensures id { IfOk result (λ a. a.1 ≡ self.now.id.now) }
+    {
+        let token = Token::from_octets(alloc, self.token)?;
+        let id = MsgId::from_octets(alloc, self.id)?;
+        Ok((token, id))
+    }
+
     // Copies the parts; of the other words it keeps those that are names of peers.
     fn keep(&self, alloc: Global) -> Result<FunnelLine, AllocError>
         requires token { IsTrue (is_token self.now.token.now) }
@@ -140,8 +152,7 @@ impl<'a> Parts<'a> {
         ensures id { IfOk result (λ l. l.id ≡ self.now.id.now) }
         ensures peers { IfOk result (λ l. HasPeers self.now.others.now l.peers.items) }
     {
-        let token = Token::from_octets(alloc, self.token)?;
-        let id = MsgId::from_octets(alloc, self.id)?;
+        let (token, id) = self.article(alloc)?;
         let peers = read_peers(alloc, self.others)?;
         Ok(FunnelLine { token, id, peers })
     }

@@ -1,1 +1,2 @@
 mod Passes
+mod Rests

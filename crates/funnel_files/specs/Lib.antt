@@ -1,2 +1,4 @@
 pub mod Due
 pub mod Funnel
+pub mod Lines
+pub mod Rest

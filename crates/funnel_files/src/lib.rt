@@ -8,7 +8,7 @@
 
 mod directory;
 mod fault;
-mod funnel_file;
+mod line_file;
 mod lines;
 mod plain;
 mod position;
@@ -18,5 +18,6 @@ mod tidying;
 mod watch;
 
 pub use fault::FunnelFault;
+pub use line_file::LineFile;
 pub use lines::{Funnel, Next};
 pub use position::Misfit;

@@ -1,5 +1,5 @@
 // A funnel that is one file, a pipe or the like: its lines as they come.
-use crate::funnel_file::{FunnelFile, SkipFault};
+use crate::line_file::{LineFile, SkipFault};
 use crate::lines::Next;
 use crate::watch::Watch;
 use std::fs::File;
@@ -13,7 +13,7 @@ const SILENCE: u64 = 100;
 /// The lines of a file, a pipe or the like.
 #[derive(Drop)]
 pub(crate) struct PlainFunnel {
-    lines: FunnelFile<File>,
+    lines: LineFile<File>,
     // None if it can be read at once.
     watch: Option<Watch>,
     // Whether something may be added at its end.
@@ -38,7 +38,7 @@ impl PlainFunnel {
         let file = File::open(files, path)?;
         let watch = Watch::new(alloc, net, &file)?;
         let mut funnel = PlainFunnel {
-            lines: FunnelFile::new(alloc, file)?,
+            lines: LineFile::new(alloc, file)?,
             watch,
             is_followed,
         };

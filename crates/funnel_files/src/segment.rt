@@ -1,7 +1,7 @@
 // A segment that is open.
 use crate::directory::Directory;
 use crate::fault::FunnelFault;
-use crate::funnel_file::{FunnelFile, SkipFault};
+use crate::line_file::{LineFile, SkipFault};
 use crate::position::{Misfit, Position};
 use segments::{Place, Segments};
 use std::fs::File;
@@ -13,7 +13,7 @@ use std::rt::Files;
 #[derive(Drop)]
 pub(crate) struct OpenSegment {
     pub position: Position,
-    lines: FunnelFile<File>,
+    lines: LineFile<File>,
 }
 
 impl OpenSegment {
@@ -29,7 +29,7 @@ impl OpenSegment {
     ) -> Result<Self, FunnelFault> {
         let segment = place.first;
         let next = segments.after(segment);
-        let mut lines = FunnelFile::new(directory.files.alloc(), directory.open(segment)?)?;
+        let mut lines = LineFile::new(directory.files.alloc(), directory.open(segment)?)?;
         directory.sync()?;
         match lines.skip(place.skipped) {
             Ok(()) => {}

@@ -1,11 +1,13 @@
 -- Where the debts of a ledger stand.
-use Rattle.std.proofs.Common.{◌≡◌, ℕ, ◌+◌, ◌-◌, ◌<◌, ◌≤◌, ◌^◌, List, [], ◌∷◌, ◌++◌, length, get_or, take, drop, min, Result, Ok, Err, sym, ap, ◌∙◌, subst, arith, length-append, length-take, take-append-drop}
+use Rattle.std.proofs.Common.{◌≡◌, ℕ, ◌+◌, ◌-◌, ◌<◌, ◌≤◌, ◌^◌, List, [], ◌∷◌, ◌++◌, length, get_or, take, drop, min}
+use Rattle.std.proofs.Common.{Result, Ok, Err, refl, sym, ap, ◌∙◌, subst, arith, length-append, length-take}
+use Rattle.std.proofs.Common.{take-append-drop}
 use Rattle.std.proofs.lemmas.List.{append_assoc, take_more}
-use Rattle.std.specs.Prelude.{OnErr}
+use Rattle.std.specs.Prelude.{OnErr, OnOk, Bool, true, false, if◌then◌else◌}
 use Rattle.std.specs.List.{All}
-use Rattle.std.specs.Int.{to_be_bytes, w64}
+use Rattle.std.specs.Int.{to_be_bytes, w32, w64}
 use Rattle.ledger_core.specs.declared.base.Base.{Base}
-use Rattle.ledger_core.specs.Base.{base_spelling, owe}
+use Rattle.ledger_core.specs.Base.{base_spelling, has_imports, is_told, owe, told_imports}
 use Rattle.ledger_core.specs.Spelling.{spelling}
 use Rattle.ledger_core.specs.Spots.{PointsAt, StandsAt, debt_of, records_length}
 use Rattle.ledger_core.specs.declared.note.Note.TheVariants.{Owe}
@@ -24,6 +26,10 @@ points-new kept payloads number at slot entry token id a s t i stands =
 pub on-err : {T E : Type 0} (r : Result T E) {P : Type 0} → P → OnErr r P
 on-err (Ok value) p = tt
 on-err (Err fault) p = p
+
+pub on-ok : {T E : Type 0} (r : Result T E) {P : Type 0} → P → OnOk r P
+on-ok (Ok value) p = p
+on-ok (Err fault) p = tt
 
 -- ---- records, one behind another
 
@@ -79,7 +85,16 @@ next-here front payloads index at next within is step =
 pub all-none : {X : Type 0} (P : X → Type 0) (xs : List X) → xs ≡ [] → All P xs
 all-none P xs none = subst (All P) (sym none) (λ k d within. absurd (omega arith))
 
-base-length : (base : Base) → length (base_spelling base) ≡ 49
+told-length : (closed import_mark : ℕ) → length (told_imports closed import_mark)
+    ≡ (if is_told closed import_mark then 12 else 0)
+told-length closed import_mark = by-flag (is_told closed import_mark)
+  where
+    by-flag : (b : Bool) → length (if b then to_be_bytes w32 closed ++ to_be_bytes w64 import_mark else [])
+        ≡ (if b then 12 else 0)
+    by-flag true = omega (arith, length-append (to_be_bytes w32 closed) (to_be_bytes w64 import_mark))
+    by-flag false = refl
+
+pub base-length : (base : Base) → length (base_spelling base) ≡ 49 + (if has_imports base then 12 else 0)
 base-length base =
     let dropped = to_be_bytes w64 base.dropped in
     let answered = to_be_bytes w64 base.answered in
@@ -87,15 +102,24 @@ base-length base =
     let mark = to_be_bytes w64 base.mark in
     let generation = to_be_bytes w64 base.generation in
     let live = to_be_bytes w64 base.live in
+    let told = told_imports base.closed base.import_mark in
     omega (
       arith,
-      length-append generation (mark ++ (taken ++ (answered ++ (dropped ++ live)))),
-      length-append mark (taken ++ (answered ++ (dropped ++ live))),
-      length-append taken (answered ++ (dropped ++ live)),
-      length-append answered (dropped ++ live),
-      length-append dropped live,
+      told-length base.closed base.import_mark,
+      length-append generation (mark ++ (taken ++ (answered ++ (dropped ++ (live ++ told))))),
+      length-append mark (taken ++ (answered ++ (dropped ++ (live ++ told)))),
+      length-append taken (answered ++ (dropped ++ (live ++ told))),
+      length-append answered (dropped ++ (live ++ told)),
+      length-append dropped (live ++ told),
+      length-append live told,
     )
 
 -- where the first record behind a Base stands
-pub behind-base : (base : Base) → 54 ≡ min (records_length (base_spelling base ∷ [])) (2 ^ 64 - 1)
-behind-base base = omega (arith, base-length base)
+pub behind-base : (base : Base) (len : ℕ) → len ≡ 5 + length (base_spelling base)
+    → len ≡ min (records_length (base_spelling base ∷ [])) (2 ^ 64 - 1)
+behind-base base len is = by-flag (has_imports base) (base-length base)
+  where
+    by-flag : (b : Bool) → length (base_spelling base) ≡ 49 + (if b then 12 else 0)
+        → len ≡ min (records_length (base_spelling base ∷ [])) (2 ^ 64 - 1)
+    by-flag true e = omega (arith, is, e)
+    by-flag false e = omega (arith, is, e)

@@ -1,26 +1,30 @@
 -- Laws of Bases and of what stands behind them, for this crate and those above.
-use Rattle.std.specs.Prelude.{◌≡◌, ℕ, zero, suc, ◌+◌, ◌<◌, ◌≤◌, ◌^◌, List, [], ◌∷◌, ◌++◌, length}
-use Rattle.std.specs.Prelude.{take, drop, refl}
+use Rattle.std.specs.Prelude.{◌≡◌, ℕ, zero, suc, ◌+◌, ◌<◌, ◌^◌, List, [], ◌∷◌, ◌++◌, length}
+use Rattle.std.specs.Prelude.{◌==◌, Bool, true, false, not, if◌then◌else◌, take, drop, refl}
 use Rattle.std.proofs.Common.{inl, inr, sym, ◌∙◌, ap, subst, arith, length-append}
+use Rattle.std.proofs.lemmas.Bool.{eqb-true}
 use Rattle.std.proofs.lemmas.List.{get_or_append_left, length-map, map-append, take-take, take_at}
 use Rattle.std.proofs.lemmas.List.Elements.{All-take}
 use Rattle.std.proofs.lemmas.List.Sums.{sum_by-append}
 use Rattle.std.proofs.lemmas.Nat.{from_be_bytes-to_be_bytes_8}
-use Rattle.std.specs.Int.{to_be_bytes, from_be_bytes, w64}
+use Rattle.std.specs.Int.{to_be_bytes, from_be_bytes, w32, w64}
 use Rattle.std.specs.List.{All}
 use Rattle.std.specs.List.Sorted.{IsStrictlyIncreasing}
 use Rattle.ledger_core.specs.declared.base.Base.{Base}
 use Rattle.ledger_core.specs.declared.note.Note.{Note}
-use Rattle.ledger_core.specs.declared.note.Note.TheVariants.{Owe, Final, Drop, Seen}
-use Rattle.ledger_core.specs.Base.{IsBase, base_spelling, owe, owes, AreDebts, HasDebts}
+use Rattle.ledger_core.specs.declared.note.Note.TheVariants.{Owe, Final, Drop, Seen, Closed}
+use Rattle.ledger_core.specs.declared.marks.Marks.{Marks}
+use Rattle.ledger_core.specs.Base.{IsBase, base_spelling, imports_tag, is_told, marks_in, told_imports, owe, owes}
+use Rattle.ledger_core.specs.Base.{AreDebts, HasDebts}
 use Rattle.ledger_core.specs.Base.{LeavesBehind, BeginsWith, HasNoBase, Restores, DebtsEnd}
 use Rattle.ledger_core.specs.Base.{StopsBehind, RestoreStopsAt, based_on}
 use Rattle.ledger_core.specs.Note.{AreNotes}
 use Rattle.ledger_core.specs.Replay.{LeavesFrom, StopsFrom}
 use Rattle.ledger_core.specs.ReplayLaws.{never, never_from}
 use Rattle.ledger_core.specs.Spelling.{spelling, spellings}
-use Rattle.ledger_core.specs.SpellingLaws.{AreNotes-front, head-apart, same-notes, spellings-append}
-use Rattle.ledger_core.specs.State.{Owing, State, line_octets, numbers_of, after, start}
+use Rattle.ledger_core.specs.SpellingLaws.{AreNotes-front, IsTagOf, head-apart, same-notes, source-apart}
+use Rattle.ledger_core.specs.SpellingLaws.{spellings-append, tag-told}
+use Rattle.ledger_core.specs.State.{IsPast, Owing, State, line_octets, keys_in, after, start}
 
 -- ---- one spelling a Base
 
@@ -29,37 +33,83 @@ number-apart : (m n : ℕ) (xs ys : List ℕ) → m < 2 ^ 64 → n < 2 ^ 64
 number-apart m n xs ys fits other e = head-apart 0 0 m n xs ys fits other
     (ap (λ (l : List ℕ). 0 ∷ l) e)
 
+-- what is told of imports is told by its tag
+same-flag : (a b : Bool) → ◌≡◌ {A = ℕ} (if a then 10 else 4) (if b then 10 else 4) → a ≡ b
+same-flag true true e = refl
+same-flag false false e = refl
+same-flag true false e = absurd (cc e)
+same-flag false true e = absurd (cc e)
+
+untold : (closed import_mark : ℕ) → is_told closed import_mark ≡ false → (closed ≡ 0) × (import_mark ≡ 0)
+untold closed import_mark e = by-flags (closed == 0) (import_mark == 0) refl refl e
+  where
+    by-flags : (a b : Bool) → (closed == 0) ≡ a → (import_mark == 0) ≡ b → (if a then not b else true) ≡ false
+        → (closed ≡ 0) × (import_mark ≡ 0)
+    by-flags true true one other e = (eqb-true closed 0 one, eqb-true import_mark 0 other)
+    by-flags true false one other e = absurd (cc e)
+    by-flags false b one other e = absurd (cc e)
+
+told-apart : (a b : Bool) (c n d m : ℕ) → a ≡ b → c < 2 ^ 32 → d < 2 ^ 32 → n < 2 ^ 64 → m < 2 ^ 64
+    → (a ≡ false → (c ≡ 0) × (n ≡ 0)) → (b ≡ false → (d ≡ 0) × (m ≡ 0))
+    → ◌≡◌ {A = List ℕ} (if a then to_be_bytes w32 c ++ to_be_bytes w64 n else [])
+    (if b then to_be_bytes w32 d ++ to_be_bytes w64 m else []) → (c ≡ d) × (n ≡ m)
+told-apart true true c n d m same fc fd fn fm none none' e =
+    let sources = source-apart c d (to_be_bytes w64 n) (to_be_bytes w64 m) fc fd e in
+    let marks : n ≡ m = sym (from_be_bytes-to_be_bytes_8 n fn) ∙ ap (from_be_bytes w64) sources.1
+    ∙ from_be_bytes-to_be_bytes_8 m fm in
+    (sources.0, marks)
+told-apart false false c n d m same fc fd fn fm none none' e =
+    ((none refl).0 ∙ sym (none' refl).0, (none refl).1 ∙ sym (none' refl).1)
+told-apart true false c n d m same fc fd fn fm none none' e = absurd (cc same)
+told-apart false true c n d m same fc fd fn fm none none' e = absurd (cc same)
+
+-- so much of imports is told in one way
+pub same-told : (c n d m : ℕ) → c < 2 ^ 32 → d < 2 ^ 32 → n < 2 ^ 64 → m < 2 ^ 64 → imports_tag c n ≡ imports_tag d m
+    → told_imports c n ≡ told_imports d m → (c ≡ d) × (n ≡ m)
+same-told c n d m fc fd fn fm tags octets =
+    told-apart (is_told c n) (is_told d m) c n d m (same-flag (is_told c n) (is_told d m) tags) fc fd fn fm
+    (untold c n) (untold d m) octets
+
 -- a Base has one spelling, and no other Base has it
 pub same-base : (one other : Base) → IsBase one → IsBase other
     → base_spelling one ≡ base_spelling other → one ≡ other
 same-base one other is is' e =
-    let first = head-apart 4 4 one.generation other.generation _ _ is.generation is'.generation e in
+    let tags : imports_tag one.closed one.import_mark ≡ imports_tag other.closed other.import_mark = cc e in
+    let first = head-apart (imports_tag one.closed one.import_mark) (imports_tag other.closed other.import_mark)
+    one.generation other.generation _ _ is.generation is'.generation e in
     let second = number-apart one.mark other.mark _ _ is.mark is'.mark first.1 in
     let third = number-apart one.taken other.taken _ _ is.taken is'.taken second.1 in
     let fourth = number-apart one.answered other.answered _ _ is.answered is'.answered third.1 in
     let fifth = number-apart one.dropped other.dropped _ _ is.dropped is'.dropped fourth.1 in
-    let live : one.live ≡ other.live =
-    sym (from_be_bytes-to_be_bytes_8 one.live is.live) ∙ ap (from_be_bytes w64) fifth.1
-    ∙ from_be_bytes-to_be_bytes_8 other.live is'.live in
+    let sixth = number-apart one.live other.live _ _ is.live is'.live fifth.1 in
+    let told = same-told one.closed one.import_mark other.closed other.import_mark is.closed is'.closed is.import_mark
+    is'.import_mark tags sixth.1 in
     ap (λ n. record one { generation = n }) first.0
     ∙ ap (λ n. record one { generation = other.generation; mark = n }) second.0
-    ∙ ap (λ n. record other {
-      taken = n;
-      answered = one.answered;
-      dropped = one.dropped;
-      live =
-          one.live;
-    }) third.0
-    ∙ ap (λ n. record other { answered = n; dropped = one.dropped; live = one.live }) fourth.0
-    ∙ ap (λ n. record other { dropped = n; live = one.live }) fifth.0
-    ∙ ap (λ n. record other { live = n }) live
+    ∙ ap (λ n. record other { taken = n; answered = one.answered; dropped = one.dropped; live = one.live; closed = one.closed; import_mark = one.import_mark }) third.0
+    ∙ ap (λ n. record other { answered = n; dropped = one.dropped; live = one.live; closed = one.closed; import_mark = one.import_mark }) fourth.0
+    ∙ ap (λ n. record other { dropped = n; live = one.live; closed = one.closed; import_mark = one.import_mark }) fifth.0
+    ∙ ap (λ n. record other { live = n; closed = one.closed; import_mark = one.import_mark }) sixth.0
+    ∙ ap (λ n. record other { closed = n; import_mark = one.import_mark }) told.0
+    ∙ ap (λ n. record other { import_mark = n }) told.1
 
 -- no note has a Base's spelling
 pub base-no-note : (base : Base) (note : Note) → base_spelling base ≡ spelling note → ⊥
-base-no-note base (Owe number token id) e = cc e
-base-no-note base (Final number code) e = cc e
-base-no-note base (Drop number cause) e = cc e
-base-no-note base (Seen number) e = cc e
+base-no-note base note e =
+    by-tag note (imports_tag base.closed base.import_mark) (is_told base.closed base.import_mark) refl
+    (tag-told note (imports_tag base.closed base.import_mark) _ (sym e))
+  where
+    by-tag : (note : Note) (tag : ℕ) (b : Bool) → tag ≡ (if b then 10 else 4) → IsTagOf note tag → ⊥
+    by-tag (Owe key token id) tag true is told = grind (arith, is, told)
+    by-tag (Final key code) tag true is told = grind (arith, is, told)
+    by-tag (Drop key cause) tag true is told = grind (arith, is, told)
+    by-tag (Seen number) tag true is told = omega (arith, is, told)
+    by-tag (Closed source) tag true is told = omega (arith, is, told)
+    by-tag (Owe key token id) tag false is told = grind (arith, is, told)
+    by-tag (Final key code) tag false is told = grind (arith, is, told)
+    by-tag (Drop key cause) tag false is told = grind (arith, is, told)
+    by-tag (Seen number) tag false is told = omega (arith, is, told)
+    by-tag (Closed source) tag false is told = omega (arith, is, told)
 
 -- ---- a front of debts
 
@@ -69,16 +119,16 @@ rising-front ns ms rising k within =
     rw (← get_or_append_left ns ms 0 k here, ← get_or_append_left ns ms 0 (k + 1) within)
     (rising k (omega (arith, length-append ns ms)))
 
-marked-front : (mark : ℕ) (ns ms : List ℕ) → All (λ n. n ≤ mark) (ns ++ ms) → All (λ n. n ≤ mark) ns
-marked-front mark ns ms marked = subst (All (λ n. n ≤ mark)) (take_at ns ms (length ns) refl)
-    (All-take (λ n. n ≤ mark) (length ns) (ns ++ ms) marked)
+past-front : (marks : Marks) (ns ms : List ℕ) → All (IsPast marks) (ns ++ ms) → All (IsPast marks) ns
+past-front marks ns ms past = subst (All (IsPast marks)) (take_at ns ms (length ns) refl)
+    (All-take (IsPast marks) (length ns) (ns ++ ms) past)
 
 pub owes-append : (debts more : List Owing) → owes (debts ++ more) ≡ owes debts ++ owes more
 owes-append debts more = map-append owe debts more
 
-pub numbers-append : (debts more : List Owing) → numbers_of (debts ++ more) ≡ numbers_of
-    debts ++ numbers_of more
-numbers-append debts more = map-append (λ (debt : Owing). debt.0) debts more
+pub keys-append : (debts more : List Owing) → keys_in (debts ++ more) ≡ keys_in
+    debts ++ keys_in more
+keys-append debts more = map-append (λ (debt : Owing). debt.0) debts more
 
 pub length-spellings : (notes : List Note) → length (spellings notes) ≡ length notes
 length-spellings [] = refl
@@ -88,15 +138,15 @@ length-spellings (note ∷ notes) = omega (arith, length-spellings notes)
 pub length-owes : (debts : List Owing) → length (spellings (owes debts)) ≡ length debts
 length-owes debts = length-spellings (owes debts) ∙ length-map debts owe
 
-pub AreDebts-front : (mark : ℕ) (debts more : List Owing) → AreDebts mark (debts ++ more)
-    → AreDebts mark debts
-AreDebts-front mark debts more are = record {
+pub AreDebts-front : (marks : Marks) (debts more : List Owing) → AreDebts marks (debts ++ more)
+    → AreDebts marks debts
+AreDebts-front marks debts more are = record {
   valid = AreNotes-front (owes debts) (owes more) (subst AreNotes (owes-append debts more)
       are.valid);
-  rising = rising-front (0 ∷ numbers_of debts) (numbers_of more)
-      (subst (λ ns. IsStrictlyIncreasing (0 ∷ ns)) (numbers-append debts more) are.rising);
-  marked = marked-front mark (numbers_of debts) (numbers_of more)
-      (subst (All (λ n. n ≤ mark)) (numbers-append debts more) are.marked);
+  rising = rising-front (0 ∷ keys_in debts) (keys_in more)
+      (subst (λ ns. IsStrictlyIncreasing (0 ∷ ns)) (keys-append debts more) are.rising);
+  past = past-front marks (keys_in debts) (keys_in more)
+      (subst (All (IsPast marks)) (keys-append debts more) are.past);
   octets = omega (
     arith,
     are.octets,
@@ -105,10 +155,10 @@ AreDebts-front mark debts more are = record {
   );
 }
 
-pub HasDebts-front : (mark : ℕ) (behind : List (List ℕ)) (debts more : List Owing)
-    → HasDebts mark behind (debts ++ more) → HasDebts mark behind debts
-HasDebts-front mark behind debts more has = record {
-  are = AreDebts-front mark debts more has.are;
+pub HasDebts-front : (marks : Marks) (behind : List (List ℕ)) (debts more : List Owing)
+    → HasDebts marks behind (debts ++ more) → HasDebts marks behind debts
+HasDebts-front marks behind debts more has = record {
+  are = AreDebts-front marks debts more has.are;
   spelled =
       sym (take-take (length debts) (length (debts ++ more)) behind
       (omega (arith, length-append debts more)))
@@ -132,10 +182,10 @@ same-owes (debt ∷ debts) (other ∷ others) e =
     ∙ ap (λ i. (other.0, (other.1.0, i)) ∷ debts) id ∙ ap (λ ds. other ∷ ds) inner
 
 -- as many debts are the same ones
-pub HasDebts-once : (mark : ℕ) (behind : List (List ℕ)) (debts others : List Owing)
-    → length debts ≡ length others → HasDebts mark behind debts → HasDebts mark behind others
+pub HasDebts-once : (marks : Marks) (behind : List (List ℕ)) (debts others : List Owing)
+    → length debts ≡ length others → HasDebts marks behind debts → HasDebts marks behind others
     → debts ≡ others
-HasDebts-once mark behind debts others same has has' =
+HasDebts-once marks behind debts others same has has' =
     same-owes debts others
     (same-notes (owes debts) (owes others) has.are.valid has'.are.valid (sym has.spelled
     ∙ ap (λ n. take n behind) same ∙ has'.spelled))
@@ -169,15 +219,15 @@ parts (debt ∷ debts) (suc place) within =
     }
 
 -- where the debts end there are no more
-pub ended : (mark : ℕ) (behind : List (List ℕ)) (debts others : List Owing)
-    → DebtsEnd mark behind debts → length debts < length others → HasDebts mark behind others → ⊥
-ended mark behind debts others end few has =
+pub ended : (marks : Marks) (behind : List (List ℕ)) (debts others : List Owing)
+    → DebtsEnd marks behind debts → length debts < length others → HasDebts marks behind others → ⊥
+ended marks behind debts others end few has =
     let split = parts others (length debts) few in
-    let more = HasDebts-front mark behind (split.front ++ split.debt ∷ []) split.back
-    (subst (HasDebts mark behind) split.whole has) in
-    let same : split.front ≡ debts = HasDebts-once mark behind split.front debts split.count
-    (HasDebts-front mark behind split.front (split.debt ∷ []) more) end.has in
-    end.no_more split.debt (subst (λ ds. HasDebts mark behind (ds ++ split.debt ∷ [])) same more)
+    let more = HasDebts-front marks behind (split.front ++ split.debt ∷ []) split.back
+    (subst (HasDebts marks behind) split.whole has) in
+    let same : split.front ≡ debts = HasDebts-once marks behind split.front debts split.count
+    (HasDebts-front marks behind split.front (split.debt ∷ []) more) end.has in
+    end.no_more split.debt (subst (λ ds. HasDebts marks behind (ds ++ split.debt ∷ [])) same more)
 
 -- ---- payloads leave one ledger, or reading stops, and never both
 
@@ -189,7 +239,7 @@ from-once first payloads state other a b = a.4
 behind-once : (base : Base) (behind : List (List ℕ)) (state other : State)
     → LeavesBehind base behind state → LeavesBehind base behind other → state ≡ other
 behind-once base behind state other a b =
-    let same : b.debts ≡ a.debts = HasDebts-once base.mark behind b.debts a.debts (b.live
+    let same : b.debts ≡ a.debts = HasDebts-once (marks_in base) behind b.debts a.debts (b.live
     ∙ sym a.live) b.has a.has in
     from-once (based_on base a.debts) (drop (length a.debts) behind) state other a.notes
     (subst (λ ds. LeavesFrom (based_on base ds) (drop (length ds) behind) other) same b.notes)
@@ -198,10 +248,10 @@ behind-never : (base : Base) (behind : List (List ℕ)) (index : ℕ) (state : S
     → StopsBehind base behind index → LeavesBehind base behind state → ⊥
 behind-never base behind index state (inl stop) whole = stop.0 whole.sound
 behind-never base behind index state (inr (inl (sound, (debts, end, few, place)))) whole =
-    ended base.mark behind debts whole.debts end (omega (arith, whole.live)) whole.has
+    ended (marks_in base) behind debts whole.debts end (omega (arith, whole.live)) whole.has
 behind-never base behind index state (inr (inr (sound, (debts, has, live, (place, is, stop)))))
     whole =
-    let same : debts ≡ whole.debts = HasDebts-once base.mark behind debts whole.debts (live
+    let same : debts ≡ whole.debts = HasDebts-once (marks_in base) behind debts whole.debts (live
     ∙ sym whole.live) has whole.has in
     never_from (based_on base whole.debts) (drop (length whole.debts) behind) place state
     (subst (λ ds. StopsFrom (based_on base ds) (drop (length ds) behind) place) same stop)

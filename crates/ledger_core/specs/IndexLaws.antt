@@ -1,5 +1,6 @@
 -- Laws of ledgers as indexes, for this crate and those above.
-use Rattle.std.specs.Prelude.{◌≡◌, ◌==◌, ℕ, zero, suc, ◌+◌, ◌-◌, ◌<◌, ◌^◌, min, Bool, true, false, cond, Option, Some, find, List, [], ◌∷◌, ◌++◌, length, refl}
+use Rattle.std.specs.Prelude.{◌≡◌, ◌==◌, ℕ, zero, suc, ◌+◌, ◌-◌, ◌<◌, ◌^◌, min, Bool, true, false, cond, Option, Some}
+use Rattle.std.specs.Prelude.{find, List, [], ◌∷◌, ◌++◌, length, refl}
 use Rattle.std.proofs.Common.{sym, ap, ◌∙◌, arith, get_or, length-append, subst}
 use Rattle.std.proofs.lemmas.Bool.Decides.{nat_tests}
 use Rattle.std.proofs.lemmas.List.{append_assoc, get_or-map, length-map}
@@ -9,14 +10,14 @@ use Rattle.std.specs.Ordering.{nat_cmp}
 use Rattle.std.proofs.lemmas.List.Elements.{All-weaker}
 use Rattle.ledger_core.specs.declared.ledger.Ledger.{Ledger}
 use Rattle.ledger_core.specs.declared.note.Note.{Note}
-use Rattle.ledger_core.specs.declared.note.Note.TheVariants.{Owe, Final, Drop, Seen}
+use Rattle.ledger_core.specs.declared.note.Note.TheVariants.{Owe, Final, Drop, Seen, Closed}
 use Rattle.ledger_core.specs.declared.spot.Entry.{Entry}
 use Rattle.ledger_core.specs.Base.{owe}
 use Rattle.ledger_core.specs.Index.{Indexes, IsSpotOf, debt_at, spots_of}
 use Rattle.ledger_core.specs.Ledger.{state_of}
 use Rattle.ledger_core.specs.Spelling.{spelling}
 use Rattle.ledger_core.specs.Spots.{IsPlaced, PointsAt, StandsAt, Entries, debt_of, debts_of, records_length}
-use Rattle.ledger_core.specs.State.{Owing, numbers, numbers_of}
+use Rattle.ledger_core.specs.State.{Owing, keys, keys_in}
 use Rattle.ledger_core.specs.declared.spot.Spot.{Spot}
 
 -- what stands among payloads stands there when more stand behind them
@@ -67,6 +68,7 @@ placed kept payloads at slot (Owe number token id) stands = stands
 placed kept payloads at slot (Final number code) stands = tt
 placed kept payloads at slot (Drop number cause) stands = tt
 placed kept payloads at slot (Seen number) stands = tt
+placed kept payloads at slot (Closed source) stands = tt
 
 -- what comes behind all payloads stands there, and pends
 pub stands-last : (kept : ℕ) (front : List (List ℕ)) (at slot : ℕ) (payload : List ℕ)
@@ -88,22 +90,22 @@ find-step : (b : Bool) (first other : Owing) (rest : Option Owing) → b ≡ fal
 find-step b first other rest apart found = ap (λ (x : Bool). cond x (Some first) rest) apart ∙ found
 
 -- where numbers rise, each debt is found by its own
-found-at : (debts : List Owing) (k : ℕ) (e : Owing) → IsStrictlySortedBy nat_cmp (numbers_of debts) → k < length debts
+found-at : (debts : List Owing) (k : ℕ) (e : Owing) → IsStrictlySortedBy nat_cmp (keys_in debts) → k < length debts
     → find (λ (debt : Owing). debt.0 == (get_or debts k e).0) debts ≡ Some (get_or debts k e)
 found-at [] k e sorted within = absurd (omega arith)
 found-at (debt ∷ debts) zero e sorted within =
     let same : (debt.0 == debt.0) ≡ true = grind (arith, nat_tests) in
     ap (λ (b : Bool). cond b (Some debt) (find (λ (d : Owing). d.0 == debt.0) debts)) same
 found-at (debt ∷ debts) (suc k) e sorted within =
-    let numbers = numbers_of (debt ∷ debts) in
+    let keys = keys_in (debt ∷ debts) in
     let inside : k < length debts = omega arith in
-    let up : get_or numbers 0 0 < get_or numbers (suc k) 0 =
-    below_from_sorted numbers 0 (suc k) 0 sorted (omega arith) (omega (arith, length-map debts (λ (d : Owing). d.0))) in
+    let up : get_or keys 0 0 < get_or keys (suc k) 0 =
+    below_from_sorted keys 0 (suc k) 0 sorted (omega arith) (omega (arith, length-map debts (λ (d : Owing). d.0))) in
     let below : debt.0 < (get_or debts k e).0 = omega (arith, up, get_or-map (λ (d : Owing). d.0) debts k e 0 inside) in
     let apart : (debt.0 == (get_or debts k e).0) ≡ false = grind (arith, nat_tests) in
     find-step (debt.0 == (get_or debts k e).0) debt (get_or debts k e)
     (find (λ (d : Owing). d.0 == (get_or debts k e).0) debts) apart
-    (found-at debts k e (sorted_tail nat_cmp debt.0 (numbers_of debts) sorted) inside)
+    (found-at debts k e (sorted_tail nat_cmp debt.0 (keys_in debts) sorted) inside)
 
 -- what is kept of the debt at a place
 record At (entries : Entries) (k : ℕ) : Type 0 where
@@ -118,7 +120,7 @@ at-of (entry ∷ entries) (suc k) within =
     record { entry = there.entry; at = there.at }
 
 -- where numbers rise, each of the spots is that of the debt in its place
-pub spots-at : (ledger : Ledger) (k : ℕ) (d : ℕ × Spot) (e : Owing) → IsStrictlyIncreasing (numbers (state_of ledger))
+pub spots-at : (ledger : Ledger) (k : ℕ) (d : ℕ × Spot) (e : Owing) → IsStrictlyIncreasing (keys (state_of ledger))
     → k < length (spots_of ledger)
     → IsSpotOf ledger (get_or (spots_of ledger) k d).0 (get_or (spots_of ledger) k d).1
     × (debt_at (state_of ledger) (get_or (spots_of ledger) k d).0 ≡ Some (get_or (state_of ledger).debts k e))
@@ -137,7 +139,7 @@ spots-at ledger k d e rising within =
     ∙ ap (λ (x : ℕ × Entry). (x.0, x.1.spot)) (there.at entry) in
     let debt : get_or (debts_of entries) k e ≡ debt_of entry =
     get_or-map debt_of entries k entry e inside ∙ ap debt_of (there.at entry) in
-    let sorted = sorted_from_strictly_increasing (numbers (state_of ledger)) rising in
+    let sorted = sorted_from_strictly_increasing (keys (state_of ledger)) rising in
     let found : debt_at (state_of ledger) entry.0 ≡ Some (debt_of entry) =
     subst (λ (x : Owing). find (λ (o : Owing). o.0 == x.0) (debts_of entries) ≡ Some x) debt
     (found-at (debts_of entries) k e sorted (omega (arith, inside, length-map entries debt_of))) in

@@ -1,14 +1,15 @@
 -- Where the notes of debts stand, from which their texts are read.
 use Rattle.std.specs.Prelude.{◌≡◌, ◌==◌, ℕ, ◌+◌, ◌-◌, ◌^◌, ◌≤◌, min, not, List, [], ◌∷◌, ◌++◌, length, map, filter}
+use Rattle.std.specs.Prelude.{nat_lt, if◌then◌else◌}
 use Rattle.ledger_core.specs.declared.note.Note.{Note}
-use Rattle.ledger_core.specs.declared.note.Note.TheVariants.{Owe, Final, Drop, Seen}
+use Rattle.ledger_core.specs.declared.note.Note.TheVariants.{Owe, Final, Drop, Seen, Closed}
 use Rattle.ledger_core.specs.declared.spot.Entry.{Entry}
 use Rattle.ledger_core.specs.declared.spot.Spot.{Spot}
 use Rattle.ledger_core.specs.Base.{owe}
 use Rattle.ledger_core.specs.Spelling.{spelling}
 use Rattle.ledger_core.specs.State.{Owing}
 
--- what is kept of debts, by their numbers
+-- what is kept of debts, by their keys
 abbrev pub Entries : Type 0
 Entries = List (ℕ × Entry)
 
@@ -19,9 +20,9 @@ debt_of entry = (entry.0, (entry.1.token.value, entry.1.id.value))
 abbrev pub debts_of : Entries → List Owing
 debts_of entries = map debt_of entries
 
--- all but the one of this number
+-- all but the one of this key
 abbrev pub lacking : ℕ → Entries → Entries
-lacking number entries = filter (λ (entry : ℕ × Entry). not (entry.0 == number)) entries
+lacking key entries = filter (λ (entry : ℕ × Entry). not (entry.0 == key)) entries
 
 -- how many octets the records of these payloads have on a tape: each has a gate and a length in four octets before it
 abbrev pub records_length : List (List ℕ) → ℕ
@@ -45,10 +46,11 @@ pub record Follows (kept : ℕ) (front payloads : List (List ℕ)) (at : ℕ) : 
 
 -- where the note stands; of a note that owes nothing nothing is asked
 abbrev pub IsPlaced : ℕ → List (List ℕ) → ℕ → ℕ → Note → Type 0
-IsPlaced kept payloads at slot (Owe number token id) = StandsAt kept payloads at slot (spelling (Owe number token id))
-IsPlaced kept payloads at slot (Final number code) = Unit {0}
-IsPlaced kept payloads at slot (Drop number cause) = Unit {0}
+IsPlaced kept payloads at slot (Owe key token id) = StandsAt kept payloads at slot (spelling (Owe key token id))
+IsPlaced kept payloads at slot (Final key code) = Unit {0}
+IsPlaced kept payloads at slot (Drop key cause) = Unit {0}
 IsPlaced kept payloads at slot (Seen number) = Unit {0}
+IsPlaced kept payloads at slot (Closed source) = Unit {0}
 
 -- the note that owes this debt stands at this spot
 abbrev pub PointsAt : ℕ → List (List ℕ) → ℕ × Entry → Type 0
@@ -58,6 +60,10 @@ PointsAt kept payloads entry = StandsAt kept payloads entry.1.spot.at entry.1.sp
 abbrev pub moved_to : ℕ → Spot → Spot
 moved_to at spot = record spot { at = at; slot = 0 }
 
+-- how many octets the note of a debt of this key has on a tape beside its texts, with its record's gate and length
+abbrev pub owe_octets : ℕ → ℕ
+owe_octets key = if nat_lt key (2 ^ 64) then 16 else 20
+
 -- where the record behind it stands then
-abbrev pub beyond : ℕ → Spot → ℕ
-beyond at spot = min (at + (16 + spot.token_len + spot.id_len)) (2 ^ 64 - 1)
+abbrev pub beyond : ℕ → ℕ × Spot → ℕ
+beyond at debt = min (at + (owe_octets debt.0 + debt.1.token_len + debt.1.id_len)) (2 ^ 64 - 1)

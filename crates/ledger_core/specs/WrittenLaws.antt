@@ -2,26 +2,32 @@
 use Rattle.std.specs.Prelude.{◌≡◌, ◌==◌, ℕ, zero, suc, ◌+◌, ◌<◌, ◌≤◌, ◌^◌, Bool, true, false, cond}
 use Rattle.std.specs.Prelude.{not, List, [], ◌∷◌, ◌++◌, length, filter, refl}
 use Rattle.std.proofs.Common.{inl, inr, sym, ◌∙◌, ap, subst, arith, get_or, add-one, length-take}
+use Rattle.std.proofs.lemmas.Bool.{cases_lt, lt-ltb, le-ltb}
 use Rattle.std.proofs.lemmas.Bool.Decides.{nat_tests}
-use Rattle.std.proofs.lemmas.List.{drop_all, drop-append-le, get_or_default, length_push, map_push, take_all}
+use Rattle.std.specs.Prelude.{if◌then◌else◌}
+use Rattle.std.proofs.lemmas.List.{drop_all, drop-append-le, get_or_default, take_all}
 use Rattle.std.proofs.lemmas.List.{take-append-le}
-use Rattle.std.proofs.lemmas.List.Elements.{All-push, All-weaker}
+use Rattle.std.proofs.lemmas.List.Elements.{All-weaker}
 use Rattle.std.proofs.lemmas.List.Filters.{sum_by-filter_both}
 use Rattle.std.proofs.lemmas.List.Kept.{IsStrictlyIncreasing-filter}
-use Rattle.std.proofs.lemmas.List.Sums.{sum_by_push}
 use Rattle.std.specs.List.{All, Contains}
 use Rattle.std.specs.List.Sorted.{IsStrictlyIncreasing}
-use Rattle.ledger_core.specs.declared.base.Base.{Base}
 use Rattle.ledger_core.specs.declared.note.Note.{Note}
-use Rattle.ledger_core.specs.declared.note.Note.TheVariants.{Owe, Final, Drop, Seen}
-use Rattle.ledger_core.specs.Base.{AreDebts, HasNoBase, Restores, base_spelling, based_on, owe, owes}
-use Rattle.ledger_core.specs.BaseLaws.{base-no-note, length-owes}
-use Rattle.ledger_core.specs.StateLaws.{AllLegal-append, after-append, length-without, marked-without, numbers-without, rising-push}
+use Rattle.ledger_core.specs.declared.note.Note.TheVariants.{Owe, Final, Drop, Seen, Closed}
+use Rattle.ledger_core.specs.declared.marks.Marks.{Marks}
+use Rattle.ledger_core.specs.Base.{AreDebts, HasNoBase, Restores, based_on, owe, owes}
+use Rattle.ledger_core.specs.BaseLaws.{base-no-note, length-owes, owes-append}
+use Rattle.ledger_core.specs.KeyLaws.{key-is}
+use Rattle.ledger_core.specs.Keys.{number_of}
+use Rattle.ledger_core.specs.StateLaws.{AllLegal-append, after-append, all-with, all-without, import-fits, keys-without}
+use Rattle.ledger_core.specs.StateLaws.{length-with, length-without, next-apart, octets-with, past-closed, past-kept}
+use Rattle.ledger_core.specs.StateLaws.{past-more, past-new, put, rising-with, step-marks}
 use Rattle.ledger_core.specs.Note.{AreNotes, IsNote, IsNumber}
 use Rattle.ledger_core.specs.Spelling.{spellings}
-use Rattle.ledger_core.specs.SpellingLaws.{AreNotes-append, spellings-append}
-use Rattle.ledger_core.specs.State.{Owing, State, AllLegal, IsLegal, after, line_octets, numbers}
-use Rattle.ledger_core.specs.State.{numbers_of, octets_of_debts, start, step, without}
+use Rattle.ledger_core.specs.SpellingLaws.{AreNotes-append, AreNotes-back, AreNotes-front, spellings-append}
+use Rattle.ledger_core.specs.State.{Owing, State, AllLegal, IsLegal, IsNext, IsPast, after, line_octets, keys, marks_of}
+use Rattle.ledger_core.specs.State.{with_debt}
+use Rattle.ledger_core.specs.State.{keys_in, octets_of_debts, start, step, without}
 use Rattle.ledger_core.specs.Written.{IsWhole, base_of, written}
 
 -- it is restored from what it writes
@@ -41,12 +47,14 @@ written-restores generation state some number whole =
           answered = omega (arith, whole.taken, whole.counted);
           dropped = omega (arith, whole.taken, whole.counted);
           live = omega (arith, whole.taken, whole.counted);
+          closed = omega (arith, whole.closed);
+          import_mark = whole.import_mark;
         };
         split = refl;
       },
       refl,
       record {
-        sound = record { generation = some; counted = whole.counted };
+        sound = record { generation = some; closed = whole.closed; counted = whole.counted };
         debts = state.debts;
         live = refl;
         has = record {
@@ -71,41 +79,65 @@ whole-start = record {
   debts = record {
     valid = tt;
     rising = λ k within. absurd (omega arith);
-    marked = λ k d within. absurd (omega arith);
+    past = λ k d within. absurd (omega arith);
     octets = omega arith;
   };
   counted = refl;
   mark = omega arith;
   taken = omega arith;
+  closed = omega arith;
+  import_mark = omega arith;
 }
 
-from-zero : (mark : ℕ) (ns : List ℕ) → All (λ n. n ≤ mark) ns → All (λ n. n ≤ mark) (0 ∷ ns)
-from-zero mark ns marked zero d within = omega arith
-from-zero mark ns marked (suc k) d within = marked k d (omega arith)
+-- one debt more is a note more, among the others
+owes-with : (debts : List Owing) (key : ℕ) (token id : List ℕ) → AreNotes (owes debts) → IsNote (Owe key token id)
+    → All (λ n. key ≡ n → ⊥) (keys_in debts) → AreNotes (owes (with_debt debts key token id))
+owes-with debts key token id valid is_note apart =
+    let here = put debts key token id apart in
+    let were = subst AreNotes (ap owes here.was ∙ owes-append here.front here.behind) valid in
+    subst AreNotes (sym (ap owes here.is ∙ owes-append here.front ((key, (token, id)) ∷ here.behind)))
+    (AreNotes-append (owes here.front) (Owe key token id ∷ owes here.behind)
+    (AreNotes-front (owes here.front) (owes here.behind) were)
+    (is_note, AreNotes-back (owes here.front) (owes here.behind) were))
 
-debts-push : (mark number : ℕ) (debts : List Owing) (token id : List ℕ) → AreDebts mark debts
-    → mark < number → IsNote (Owe number token id)
-    → octets_of_debts debts + line_octets token id < 2 ^ 64
-    → AreDebts number (debts ++ (number, (token, id)) ∷ [])
-debts-push mark number debts token id are above is_note octets =
-    let debt : Owing = (number, (token, id)) in
-    let pushed = map_push (λ (d : Owing). d.0) debts debt in
+rising-behind : (ns : List ℕ) → IsStrictlyIncreasing (0 ∷ ns) → IsStrictlyIncreasing ns
+rising-behind ns rising = λ k within.
+    let next : suc k + 1 ≡ suc (k + 1) = omega arith in
+    subst (λ n. get_or ns k 0 < get_or (0 ∷ ns) n 0) next (rising (suc k) (omega arith))
+
+-- numbers from 1 up that rise, behind 0
+rising-zero : (ns : List ℕ) → IsStrictlyIncreasing ns → All (λ n. 0 < n) ns → IsStrictlyIncreasing (0 ∷ ns)
+rising-zero ns rising some zero within = some 0 0 (omega (arith, within))
+rising-zero ns rising some (suc k) within =
+    let next : suc k + 1 ≡ suc (k + 1) = omega arith in
+    subst (λ n. get_or ns k 0 < get_or (0 ∷ ns) n 0) (sym next) (rising k (omega (arith, within)))
+
+-- a key that may be owed is above 0
+past-some : (marks : Marks) (ns : List ℕ) → All (IsPast marks) ns → All (λ n. 0 < n) ns
+past-some marks ns past = All-weaker (IsPast marks) (λ n. 0 < n) (λ n here. some n here.some) ns past
+  where
+    some : (n : ℕ) → 1 ≤ number_of n → 0 < n
+    some n one = omega (arith, one, key-is n)
+
+debts-with : (state : State) (key : ℕ) (token id : List ℕ) → AreDebts (marks_of state) state.debts
+    → IsNext (marks_of state) key → IsNote (Owe key token id)
+    → octets_of_debts state.debts + line_octets token id < 2 ^ 64
+    → AreDebts (marks_of (step state (Owe key token id))) (with_debt state.debts key token id)
+debts-with state key token id are next is_note octets =
+    let marks = marks_of state in
+    let new = marks_of (step state (Owe key token id)) in
+    let with = step-marks state key token id in
+    let apart = next-apart marks key (keys state) next are.past in
+    let past = all-with (IsPast new) state.debts key token id
+    (All-weaker (IsPast marks) (IsPast new) (λ n past. past-kept marks new key n next with past) (keys state) are.past)
+    (past-new marks new key next with) in
     record {
-      valid = subst AreNotes (sym (map_push owe debts debt))
-          (AreNotes-append (owes debts) (owe debt ∷ []) are.valid (is_note, tt));
-      rising = subst (λ ns. IsStrictlyIncreasing (0 ∷ ns)) (sym pushed)
-          (rising-push (0 ∷ numbers_of debts) number mark are.rising
-          (from-zero mark (numbers_of debts) are.marked) above);
-      marked = subst (All (λ n. n ≤ number)) (sym pushed)
-          (All-push (λ n. n ≤ number) (numbers_of debts) number
-          (All-weaker (λ n. n ≤ mark) (λ n. n ≤ number) (λ n h. omega (arith, above))
-          (numbers_of debts) are.marked) (omega arith));
-      octets = omega (
-        arith,
-        octets,
-        sum_by_push (λ (d : Owing). line_octets d.1.0 d.1.1) debts
-            debt,
-      );
+      valid = owes-with state.debts key token id are.valid is_note apart;
+      rising = rising-zero (keys_in (with_debt state.debts key token id))
+          (rising-with state.debts key token id apart (rising-behind (keys state) are.rising))
+          (past-some new (keys_in (with_debt state.debts key token id)) past);
+      past = past;
+      octets = omega (arith, octets, octets-with state.debts key token id apart);
     }
 
 valid-step : (b : Bool) (debt : Owing) (debts : List Owing) → IsNote (owe debt)
@@ -136,16 +168,16 @@ owed-above number ns rising (place, within, found) =
     (rising place (omega arith)) in
     omega (arith, up, at)
 
-debts-without : (mark number : ℕ) (debts : List Owing) → AreDebts mark debts
-    → Contains (numbers_of debts) number → AreDebts mark (without number debts)
-debts-without mark number debts are owed =
-    let above = owed-above number (numbers_of debts) are.rising owed in
+debts-without : (marks : Marks) (number : ℕ) (debts : List Owing) → AreDebts marks debts
+    → Contains (keys_in debts) number → AreDebts marks (without number debts)
+debts-without marks number debts are owed =
+    let above = owed-above number (keys_in debts) are.rising owed in
     record {
       valid = valid-without number debts are.valid;
-      rising = subst IsStrictlyIncreasing (kept-zero number (numbers_of debts) above
-          ∙ ap (λ (ns : List ℕ). 0 ∷ ns) (sym (numbers-without number debts)))
-          (IsStrictlyIncreasing-filter (λ n. not (n == number)) (0 ∷ numbers_of debts) are.rising);
-      marked = marked-without number mark debts are.marked;
+      rising = subst IsStrictlyIncreasing (kept-zero number (keys_in debts) above
+          ∙ ap (λ (ns : List ℕ). 0 ∷ ns) (sym (keys-without number debts)))
+          (IsStrictlyIncreasing-filter (λ n. not (n == number)) (0 ∷ keys_in debts) are.rising);
+      past = all-without (IsPast marks) number debts are.past;
       octets = omega (
         arith,
         are.octets,
@@ -159,52 +191,81 @@ debts-without mark number debts are owed =
     not-not true = refl
     not-not false = refl
 
-rising-behind : (ns : List ℕ) → IsStrictlyIncreasing (0 ∷ ns) → IsStrictlyIncreasing ns
-rising-behind ns rising = λ k within.
-    let next : suc k + 1 ≡ suc (k + 1) = omega arith in
-    subst (λ n. get_or ns k 0 < get_or (0 ∷ ns) n 0) next (rising (suc k) (omega arith))
+-- the same debts under later marks
+debts-later : (marks new : Marks) (debts : List Owing) → ((key : ℕ) → IsPast marks key → IsPast new key)
+    → AreDebts marks debts → AreDebts new debts
+debts-later marks new debts later are = record {
+  valid = are.valid;
+  rising = are.rising;
+  past = All-weaker (IsPast marks) (IsPast new) later (keys_in debts) are.past;
+  octets = are.octets;
+}
+
+mark-fits : (state : State) (key : ℕ) (token id : List ℕ) → IsNumber state.mark
+    → IsNumber (step state (Owe key token id)).mark
+mark-fits state key token id fits = elim (cases_lt key (2 ^ 64)) [
+  | inl low ↦ omega (arith, low, ap (λ (b : Bool). if b then key else state.mark) (lt-ltb key (2 ^ 64) low))
+  | inr high ↦ omega (arith, fits, ap (λ (b : Bool). if b then key else state.mark) (le-ltb key (2 ^ 64) high))
+]
 
 pub whole-step : (state : State) (note : Note) → IsNote note → IsLegal state note → IsWhole state
     → IsWhole (step state note)
-whole-step state (Owe number token id) is_note legal whole = record {
-  debts = debts-push state.mark number state.debts token id whole.debts legal.1 is_note legal.3;
-  counted = omega (arith, length_push state.debts (number, (token, id)), whole.counted);
-  mark = is_note.0;
-  taken = legal.2;
-}
+whole-step state (Owe key token id) is_note legal whole =
+    let apart = next-apart (marks_of state) key (keys state) legal.0 whole.debts.past in
+    record {
+      debts = debts-with state key token id whole.debts legal.0 is_note legal.2;
+      counted = omega (arith, length-with state.debts key token id apart, whole.counted);
+      mark = mark-fits state key token id whole.mark;
+      taken = legal.1;
+      closed = whole.closed;
+      import_mark = import-fits (marks_of state) (marks_of (step state (Owe key token id))) key
+          (step-marks state key token id) whole.import_mark;
+    }
 whole-step state (Final number code) is_note legal whole = record {
-  debts = debts-without state.mark number state.debts whole.debts legal.0;
+  debts = debts-without (marks_of state) number state.debts whole.debts legal.0;
   counted = omega (
     arith,
     length-without number state.debts
-        (rising-behind (numbers state) whole.debts.rising) legal.0,
+        (rising-behind (keys state) whole.debts.rising) legal.0,
     whole.counted,
   );
   mark = whole.mark;
   taken = whole.taken;
+  closed = whole.closed;
+  import_mark = whole.import_mark;
 }
 whole-step state (Drop number cause) is_note legal whole = record {
-  debts = debts-without state.mark number state.debts whole.debts legal.0;
+  debts = debts-without (marks_of state) number state.debts whole.debts legal.0;
   counted = omega (
     arith,
     length-without number state.debts
-        (rising-behind (numbers state) whole.debts.rising) legal.0,
+        (rising-behind (keys state) whole.debts.rising) legal.0,
     whole.counted,
   );
   mark = whole.mark;
   taken = whole.taken;
+  closed = whole.closed;
+  import_mark = whole.import_mark;
 }
 whole-step state (Seen number) is_note legal whole = record {
-  debts = record {
-    valid = whole.debts.valid;
-    rising = whole.debts.rising;
-    marked = All-weaker (λ n. n ≤ state.mark) (λ n. n ≤ number) (λ n h. omega (arith, legal.1))
-        (numbers state) whole.debts.marked;
-    octets = whole.debts.octets;
-  };
+  debts = debts-later (marks_of state) (marks_of (step state (Seen number))) state.debts
+      (λ n past. past-more (marks_of state) (marks_of (step state (Seen number))) n past (omega (arith, legal.1)) (omega arith))
+      whole.debts;
   counted = whole.counted;
   mark = is_note;
   taken = whole.taken;
+  closed = whole.closed;
+  import_mark = whole.import_mark;
+}
+whole-step state (Closed source) is_note legal whole = record {
+  debts = debts-later (marks_of state) (marks_of (step state (Closed source))) state.debts
+      (λ n past. past-closed (marks_of state) (marks_of (step state (Closed source))) n past refl legal.0 whole.import_mark)
+      whole.debts;
+  counted = whole.counted;
+  mark = whole.mark;
+  taken = whole.taken;
+  closed = legal.1;
+  import_mark = omega arith;
 }
 
 pub whole-after : (state : State) (notes : List Note) → AreNotes notes → AllLegal state notes
@@ -225,6 +286,8 @@ restored-whole payloads generation state (inr (base, behind, begins, is, leaves)
       counted = leaves.sound.counted ∙ ap (λ n. base.answered + base.dropped + n) (sym leaves.live);
       mark = begins.is.mark;
       taken = begins.is.taken;
+      closed = leaves.sound.closed;
+      import_mark = begins.is.import_mark;
     }
     in
     subst IsWhole (sym notes.4) (whole-after (based_on base leaves.debts) notes.0 notes.1 notes.3

@@ -1,12 +1,16 @@
 // How a note is spelled on a tape, and how it is read from there.
-ghost use Rattle.std.specs.Prelude.{◌≡◌, ◌↔◌, ◌<◌, ◌≤◌, ◌++◌, List, ℕ, IfNone, IfOk};
+ghost use Rattle.std.specs.Prelude.{◌≡◌, ◌≢◌, ◌↔◌, ◌<◌, ◌≤◌, ◌^◌, ◌++◌, List};
+ghost use Rattle.std.specs.Prelude.{ℕ, IfNone, IfOk};
 ghost use Rattle.std.specs.Prelude.{IfSome, IsTrue, OnOk, length};
-ghost use Rattle.std.specs.Int.{to_be_bytes, w64};
+ghost use Rattle.std.specs.Int.{to_be_bytes, w32, w64};
 ghost use Rattle.ledger_core.specs.declared.note.Note.{Note};
-ghost use Rattle.ledger_core.specs.Note.{IsNote};
-ghost use Rattle.ledger_core.specs.Spelling.{SpellsNothing, SpellsOwe, head, sized_text, spelling};
-ghost use Rattle.ledger_core.specs.Reading.{Reads};
+ghost use Rattle.ledger_core.specs.declared.note.Cause.{Cause};
+ghost use Rattle.ledger_core.specs.declared.note.FinalCode.{FinalCode};
+ghost use Rattle.ledger_core.specs.Note.{IsNote, IsNumber};
+ghost use Rattle.ledger_core.specs.Keys.{IsKey, key_of};
+ghost use Rattle.ledger_core.specs.Spelling.{SpellsNothing, SpellsOwe, head, key_head, sized_text, spelling};
 
+use crate::key::Key;
 use crate::note::{Cause, FinalCode, Note};
 use funnel::{MsgId, Token};
 use std::alloc::{AllocError, Global};
@@ -33,29 +37,28 @@ pub fn decode(alloc: Global, octets: &[u8]) -> Result<Option<Note>, AllocError>
         (λ o. IfSome o (λ note. IsNote note × (octets.now ≡ spelling note))) }
     ensures none { IfOk result (λ o. IfNone o (SpellsNothing octets.now)) }
 {
-    let Some((tag, number, rest)) = head_at(octets) else {
+    let Some((tag, _)) = octets.split_first() else {
         return Ok(None);
     };
-    match tag {
-        1 => owe_of(alloc, number, rest),
-        2 => Ok(final_of(number, rest)),
-        3 => Ok(drop_of(number, rest)),
-        5 => Ok(seen_of(number, rest)),
+    match *tag {
+        1 | 6 => owe_of(alloc, octets),
+        2 | 7 => Ok(final_of(octets)),
+        3 | 8 => Ok(drop_of(octets)),
+        5 => Ok(seen_of(octets)),
+        9 => Ok(closed_of(octets)),
         _ => Ok(None),
     }
 }
 
-/// Whether these octets spell a note that owes a debt of this number, of texts of these lengths.
-pub fn spells_owe(octets: &[u8], number: u64, token_len: u8, id_len: u8) -> bool
-    ensures { IsTrue result ↔ SpellsOwe octets.now number token_len id_len }
+/// Whether these octets spell a note that owes a debt of this key, of texts of these lengths.
+pub fn spells_owe(octets: &[u8], key: Key, token_len: u8, id_len: u8) -> bool
+    ensures { IsTrue result ↔ SpellsOwe octets.now key token_len id_len }
 {
-    let Some((tag, read, rest)) = head_at(octets) else {
+    key.fits();
+    let Some((source, number, rest)) = key_at(octets, 1, 6) else {
         return false;
     };
-    if tag != 1 {
-        return false;
-    }
-    if read != number {
+    if !is_key(key, source, number) {
         return false;
     }
     let Some((token, rest)) = sized_at(rest) else {
@@ -83,25 +86,28 @@ pub fn one_spelling()
 ///
 /// # Errors
 /// `NoMemory` where memory was refused.
-pub fn encode_owe(
-    alloc: Global,
-    number: u64,
-    token: &Token,
-    id: &MsgId,
-) -> Result<Vec<u8>, AllocError>
-    ensures octets { IfOk result (λ v. v.items ≡ spelling (Note.Owe number token.now id.now)) }
-    ensures note { OnOk result (IsNote (Note.Owe number token.now id.now)) }
+pub fn encode_owe(alloc: Global, key: Key, token: &Token, id: &MsgId) -> Result<Vec<u8>, AllocError>
+    ensures octets { IfOk result (λ v. v.items ≡ spelling (Note.Owe key token.now id.now)) }
+    ensures note { OnOk result (IsNote (Note.Owe key token.now id.now)) }
 {
-    let mut octets = Vec::with_capacity(alloc, owe_len(token, id))?;
-    push_owe(&mut octets, number, token, id)?;
+    let mut octets = Vec::with_capacity(alloc, owe_len(key, token, id))?;
+    push_owe(&mut octets, key, token, id)?;
     Ok(octets)
 }
 
 // The length of the spelling of a note that owes these texts.
-fn owe_len(token: &Token, id: &MsgId) -> usize
-    ensures { (number : ℕ) → result ≡ length (spelling (Note.Owe number token.now id.now)) }
+fn owe_len(key: Key, token: &Token, id: &MsgId) -> usize
+    ensures { result ≡ length (spelling (Note.Owe key token.now id.now)) }
 {
-    11 + token.bytes().len() + id.bytes().len()
+    key_len(key) + 2 + token.bytes().len() + id.bytes().len()
+}
+
+// The length of a tag and a key.
+fn key_len(key: Key) -> usize
+    ensures len { (line imported : ℕ) → result ≡ length (key_head line imported key) }
+    ensures short { result ≤ 13 }
+{
+    if key.source() == 0 { 9 } else { 13 }
 }
 
 // The length of a note's spelling.
@@ -109,10 +115,11 @@ fn spelled_len(note: &Note) -> usize
     ensures { result ≡ length (spelling note.now) }
 {
     match note {
-        Note::Owe { token, id, .. } => owe_len(token, id),
-        Note::Final { .. } => 11,
-        Note::Drop { .. } => 10,
+        Note::Owe { key, token, id } => owe_len(*key, token, id),
+        Note::Final { key, .. } => key_len(*key) + 2,
+        Note::Drop { key, .. } => key_len(*key) + 1,
         Note::Seen { .. } => 9,
+        Note::Closed { .. } => 5,
     }
 }
 
@@ -121,28 +128,47 @@ fn push_note(octets: &mut Vec<u8>, note: &Note) -> Result<(), AllocError>
     ensures note { OnOk result (IsNote note.now) }
 {
     match note {
-        Note::Owe { number, token, id } => push_owe(octets, *number, token, id),
-        Note::Final { number, code } => {
-            push_head(octets, 2, *number)?;
+        Note::Owe { key, token, id } => push_owe(octets, *key, token, id),
+        Note::Final { key, code } => {
+            push_key(octets, 2, 7, *key)?;
             octets.extend_from_slice(&code.number().to_be_bytes())
         }
-        Note::Drop { number, cause } => {
-            push_head(octets, 3, *number)?;
+        Note::Drop { key, cause } => {
+            push_key(octets, 3, 8, *key)?;
             Ok(octets.push(cause.number())?)
         }
         Note::Seen { number } => push_head(octets, 5, *number),
+        Note::Closed { source } => {
+            octets.push(9)?;
+            octets.extend_from_slice(&source.to_be_bytes())
+        }
     }
 }
 
 // Appends the spelling of the note that owes a debt.
-fn push_owe(octets: &mut Vec<u8>, number: u64, token: &Token, id: &MsgId) -> Result<(), AllocError>
+fn push_owe(octets: &mut Vec<u8>, key: Key, token: &Token, id: &MsgId) -> Result<(), AllocError>
     ensures octets { OnOk result
-        (octets.new.items ≡ octets.old.items ++ spelling (Note.Owe number token.now id.now)) }
-    ensures note { OnOk result (IsNote (Note.Owe number token.now id.now)) }
+        (octets.new.items ≡ octets.old.items ++ spelling (Note.Owe key token.now id.now)) }
+    ensures note { OnOk result (IsNote (Note.Owe key token.now id.now)) }
 {
-    push_head(octets, 1, number)?;
+    push_key(octets, 1, 6, key)?;
     push_sized(octets, token.bytes())?;
     push_sized(octets, id.bytes())
+}
+
+// Appends a key: behind the first tag where it is a line's of the funnel, else behind the second.
+fn push_key(octets: &mut Vec<u8>, line: u8, imported: u8, key: Key) -> Result<(), AllocError>
+    ensures octets { OnOk result
+        (octets.new.items ≡ octets.old.items ++ key_head line imported key) }
+    ensures is_key { IsKey key }
+{
+    if key.source() == 0 {
+        push_head(octets, line, key.number())
+    } else {
+        octets.push(imported)?;
+        octets.extend_from_slice(&key.source().to_be_bytes())?;
+        push_number(octets, key.number())
+    }
 }
 
 // Appends a tag and a number.
@@ -179,6 +205,50 @@ pub(crate) fn head_at(octets: &[u8]) -> Option<(u8, u64, &[u8])>
     Some((*tag, number, rest))
 }
 
+// The source and the number of the key at the front, behind the first of these tags or the second, and what is behind
+// it.
+fn key_at(octets: &[u8], line: u8, imported: u8) -> Option<(u32, u64, &[u8])>
+    requires { line ≢ imported }
+    ensures some { IfSome result
+        (λ found. (octets.now ≡ key_head line imported (key_of found.0 found.1) ++ found.2.now)
+        × IsKey (key_of found.0 found.1)) }
+    ensures none { IfNone result ((key : ℕ) (rest : List ℕ) → IsKey key
+        → octets.now ≡ key_head line imported key ++ rest → ⊥) }
+{
+    let (tag, rest) = octets.split_first()?;
+    if *tag == line {
+        let (number, rest) = number_at(rest)?;
+        return Some((0, number, rest));
+    }
+    if *tag != imported {
+        return None;
+    }
+    let (source, rest) = source_at(rest)?;
+    let (number, rest) = number_at(rest)?;
+    if source == 0 {
+        return None;
+    }
+    Key::new(source, number).fits();
+    Some((source, number, rest))
+}
+
+// Whether a key is this one.
+fn is_key(key: Key, source: u32, number: u64) -> bool
+    ensures { IsTrue result ↔ key ≡ key_of source number }
+{
+    key == Key::new(source, number)
+}
+
+// The source at the front, and what is behind it.
+pub(crate) fn source_at(octets: &[u8]) -> Option<(u32, &[u8])>
+    ensures some { IfSome result
+        (λ found. octets.now ≡ to_be_bytes w32 found.0 ++ found.1.now) }
+    ensures none { IfNone result (length octets.now < 4) }
+{
+    let (source, rest) = octets.split_first_chunk::<4>()?;
+    Some((u32::from_be_bytes(*source), rest))
+}
+
 // The number at the front, and what is behind it.
 pub(crate) fn number_at(octets: &[u8]) -> Option<(u64, &[u8])>
     ensures some { IfSome result
@@ -198,10 +268,17 @@ fn sized_at(octets: &[u8]) -> Option<(&[u8], &[u8])>
     rest.split_at_checked(usize::from(*len))
 }
 
-fn owe_of(alloc: Global, number: u64, octets: &[u8]) -> Result<Option<Note>, AllocError>
-    ensures { IfOk result (Reads (head 1 number ++ octets.now)) }
+fn owe_of(alloc: Global, octets: &[u8]) -> Result<Option<Note>, AllocError>
+    ensures some { IfOk result
+        (λ o. IfSome o (λ note. IsNote note × (octets.now ≡ spelling note))) }
+    ensures none { IfOk result (λ o. IfNone o ((key : ℕ) (token id : List ℕ)
+        → IsNote (Note.Owe key token id) → spelling (Note.Owe key token id) ≡ octets.now → ⊥)) }
 {
-    let Some((token, rest)) = sized_at(octets) else {
+    let Some((source, number, rest)) = key_at(octets, 1, 6) else {
+        return Ok(None);
+    };
+    let key = Key::new(source, number);
+    let Some((token, rest)) = sized_at(rest) else {
         return Ok(None);
     };
     let Some((id, rest)) = sized_at(rest) else {
@@ -216,35 +293,68 @@ fn owe_of(alloc: Global, number: u64, octets: &[u8]) -> Result<Option<Note>, All
     let Some(id) = MsgId::read(alloc, id)? else {
         return Ok(None);
     };
-    Ok(Some(Note::Owe { number, token, id }))
+    Ok(Some(Note::Owe { key, token, id }))
 }
 
-fn final_of(number: u64, octets: &[u8]) -> Option<Note>
-    ensures { Reads (head 2 number ++ octets.now) result }
+fn final_of(octets: &[u8]) -> Option<Note>
+    ensures some { IfSome result (λ note. IsNote note × (octets.now ≡ spelling note)) }
+    ensures none { IfNone result ((key : ℕ) (code : FinalCode) → IsKey key
+        → spelling (Note.Final key code) ≡ octets.now → ⊥) }
 {
-    let [high, low] = octets else {
+    let Some((source, number, rest)) = key_at(octets, 2, 7) else {
+        return None;
+    };
+    let key = Key::new(source, number);
+    let [high, low] = rest else {
         return None;
     };
     let code = FinalCode::from_number(u16::from_be_bytes([*high, *low]))?;
-    Some(Note::Final { number, code })
+    Some(Note::Final { key, code })
 }
 
-fn drop_of(number: u64, octets: &[u8]) -> Option<Note>
-    ensures { Reads (head 3 number ++ octets.now) result }
+fn drop_of(octets: &[u8]) -> Option<Note>
+    ensures some { IfSome result (λ note. IsNote note × (octets.now ≡ spelling note)) }
+    ensures none { IfNone result ((key : ℕ) (cause : Cause) → IsKey key
+        → spelling (Note.Drop key cause) ≡ octets.now → ⊥) }
 {
-    let [cause] = octets else {
+    let Some((source, number, rest)) = key_at(octets, 3, 8) else {
+        return None;
+    };
+    let key = Key::new(source, number);
+    let [cause] = rest else {
         return None;
     };
     let cause = Cause::from_number(*cause)?;
-    Some(Note::Drop { number, cause })
+    Some(Note::Drop { key, cause })
 }
 
-fn seen_of(number: u64, octets: &[u8]) -> Option<Note>
-    ensures { Reads (head 5 number ++ octets.now) result }
+fn seen_of(octets: &[u8]) -> Option<Note>
+    ensures some { IfSome result (λ note. IsNote note × (octets.now ≡ spelling note)) }
+    ensures none { IfNone result ((number : ℕ) → IsNumber number
+        → spelling (Note.Seen number) ≡ octets.now → ⊥) }
 {
-    if octets.is_empty() {
-        Some(Note::Seen { number })
-    } else {
-        None
+    let (tag, number, rest) = head_at(octets)?;
+    if tag != 5 {
+        return None;
     }
+    if !rest.is_empty() {
+        return None;
+    }
+    Some(Note::Seen { number })
+}
+
+fn closed_of(octets: &[u8]) -> Option<Note>
+    ensures some { IfSome result (λ note. IsNote note × (octets.now ≡ spelling note)) }
+    ensures none { IfNone result ((source : ℕ) → source < 2 ^ 32
+        → spelling (Note.Closed source) ≡ octets.now → ⊥) }
+{
+    let (tag, rest) = octets.split_first()?;
+    if *tag != 9 {
+        return None;
+    }
+    let (source, rest) = source_at(rest)?;
+    if !rest.is_empty() {
+        return None;
+    }
+    Some(Note::Closed { source })
 }

@@ -6,9 +6,11 @@ ghost use Rattle.std.specs.List.{All, Contains};
 ghost use Rattle.std.specs.List.Sorted.{IsStrictlyIncreasing};
 ghost use Rattle.ledger_core.specs.Faults.{ledger_fault_name};
 ghost use Rattle.ledger_core.specs.Spots.{debts_of, lacking};
-ghost use Rattle.ledger_core.specs.State.{line_octets, numbers_of, octets_of_debts};
+ghost use Rattle.ledger_core.specs.State.{IsPast, import_count, imports_in, keys_in, line_octets, octets_of_debts};
 
 use crate::codec::decode;
+use crate::key::Key;
+use crate::marks::Marks;
 use crate::note::Note;
 use crate::spot::{Entry, Spot};
 use funnel::{MsgId, Token};
@@ -23,11 +25,12 @@ const RECORD_HEAD: u64 = 5;
 #[derive(Clone, Copy, Debug, PartialEq, Eq, Error)]
 #[error("{}", self.name())]
 pub enum LedgerFault {
-    /// An Owe or a Seen of a number at or below the mark.
+    /// An Owe of a line that may not be noted next: of the funnel at or below the mark, or of another source than the
+    /// one that is open, or of that at or below its mark. A Seen at or below the mark, or a Closed of another source.
     OldNumber,
-    /// A Final or a Drop of a number that is not owed.
+    /// A Final or a Drop of a key that is not owed.
     NotOwed,
-    /// A count, or the octets that are owed, would pass the greatest u64.
+    /// A count, or the octets that are owed, would pass the greatest u64; or the last source would be closed.
     CountFull,
     /// Memory was refused.
     NoMemory,
@@ -113,15 +116,19 @@ pub struct Totals {
 /// The cost of a call is logarithmic in what is owed, memory is linear in it.
 #[derive(Drop)]
 pub struct Ledger {
-    pub(crate) debts: BTreeMap<u64, Entry>,
-    pub(crate) mark: u64,
+    pub(crate) debts: BTreeMap<Key, Entry>,
+    pub(crate) marks: Marks,
     pub(crate) taken: u64,
     pub(crate) answered: u64,
     pub(crate) dropped: u64,
     pub(crate) owed_bytes: u64,
+    // How many of its debts are of no line of the funnel.
+    pub(crate) imported: u64,
     ghost counted: { taken ≡ answered + dropped + length debts.entries },
     ghost summed: { owed_bytes ≡ octets_of_debts (debts_of debts.entries) },
-    ghost marked: { All (λ number. number ≤ mark) (numbers_of (debts_of debts.entries)) },
+    ghost imports: { imported ≡ imports_in (debts_of debts.entries) },
+    ghost past: { All (IsPast marks) (keys_in (debts_of debts.entries)) },
+    ghost openable: { marks.closed + 1 < 2 ^ 32 },
 }
 
 impl Ledger {
@@ -132,10 +139,10 @@ impl Ledger {
     ghost use Rattle.ledger_core.specs.Replay.{Leaves, LeavesFrom, SpellsNoLegal, StopsAt};
     ghost use Rattle.ledger_core.specs.Replay.{StopsFrom};
     ghost use Rattle.ledger_core.specs.Spelling.{spelling};
-    ghost use Rattle.ledger_core.specs.State.{State, IsLegal, IsOld, IsOwed, LacksDebt, Overflows, Owing, numbers};
-    ghost use Rattle.ledger_core.specs.State.{start, step};
+    ghost use Rattle.ledger_core.specs.State.{State, IsLegal, IsOld, IsOwed, LacksDebt, Overflows, Owing, keys};
+    ghost use Rattle.ledger_core.specs.State.{marks_of, start, step};
     ghost use Rattle.ledger_core.specs.Index.{Indexes, IsSpotOf, debt_at};
-    ghost use Rattle.ledger_core.specs.Ledger.{IsApplied, IsJudged, state_of, totals_of};
+    ghost use Rattle.ledger_core.specs.Ledger.{IsApplied, IsJudged, Puts, state_of, totals_of};
     ghost use Rattle.ledger_core.specs.Spots.{Follows, IsPlaced, StandsAt};
     ghost use Rattle.std.specs.Prelude.{◌++◌, List, None, map, vec_items};
 
@@ -146,19 +153,39 @@ impl Ledger {
     {
         Ledger {
             debts: BTreeMap::new(alloc),
-            mark: 0,
+            marks: Marks {
+                mark: 0,
+                closed: 0,
+                import_mark: 0,
+            },
             taken: 0,
             answered: 0,
             dropped: 0,
             owed_bytes: 0,
+            imported: 0,
         }
     }
 
-    /// The greatest number that was noted, 0 at first.
+    /// The greatest number of the funnel that was noted, 0 at first.
     pub fn mark(&self) -> u64
         ensures { result ≡ (state_of self.now).mark }
     {
-        self.mark
+        self.marks.mark
+    }
+
+    /// The source that was closed last, 0 at first.
+    pub fn closed(&self) -> u32
+        ensures closed { result ≡ (state_of self.now).closed }
+        ensures fits { result + 1 < 2 ^ 32 }
+    {
+        self.marks.closed
+    }
+
+    /// The greatest number that was noted of the source that is open, the one behind that which was closed last.
+    pub fn import_mark(&self) -> u64
+        ensures { result ≡ (state_of self.now).import_mark }
+    {
+        self.marks.import_mark
     }
 
     /// What was taken, answered and dropped, and what is owed.
@@ -175,32 +202,30 @@ impl Ledger {
         }
     }
 
-    /// Whether the debt of this number is owed.
-    pub fn owes(&self, number: u64) -> bool
-        ensures { IsTrue result ↔ IsOwed (state_of self.now) number }
+    /// Whether the debt of this key is owed.
+    pub fn owes(&self, key: Key) -> bool
+        ensures { IsTrue result ↔ IsOwed (state_of self.now) key }
     {
-        self.debts.contains_key(&number)
+        self.debts.contains_key(&key)
     }
 
-    /// Where the debt of this number stands, where it is owed.
-    pub fn spot(&self, number: u64) -> Option<Spot>
-        ensures spot { IfSome result (IsSpotOf self.now number) }
-        ensures owed { IsSome result ↔ IsOwed (state_of self.now) number }
-        ensures none { IfNone result (debt_at (state_of self.now) number ≡ None) }
+    /// Where the debt of this key stands, where it is owed.
+    pub fn spot(&self, key: Key) -> Option<Spot>
+        ensures spot { IfSome result (IsSpotOf self.now key) }
+        ensures owed { IsSome result ↔ IsOwed (state_of self.now) key }
+        ensures none { IfNone result (debt_at (state_of self.now) key ≡ None) }
     {
-        let entry = self.debts.get(&number)?;
+        let entry = self.debts.get(&key)?;
         Some(entry.spot)
     }
 
-    /// The numbers that are owed, rising.
+    /// The keys that are owed, rising.
     ///
     /// # Errors
     /// `NoMemory` where memory was refused.
-    pub fn numbers(&self, alloc: Global) -> Result<Vec<u64>, AllocError>
-        ensures items { IfOk result (λ v. v.items ≡ numbers (state_of self.now)) }
+    pub fn keys(&self, alloc: Global) -> Result<Vec<Key>, AllocError>
+        ensures items { IfOk result (λ v. v.items ≡ keys (state_of self.now)) }
         ensures rising { IfOk result (λ v. IsStrictlyIncreasing v.items) }
-        ensures marked { IfOk result
-            (λ v. All (λ number. number ≤ (state_of self.now).mark) v.items) }
     {
         self.debts.keys().copied().collect(alloc)
     }
@@ -209,10 +234,12 @@ impl Ledger {
     ///
     /// # Errors
     /// Tried in this order; the ledger stays as it was after each.
-    /// - `OldNumber` for an Owe or a Seen of a number at or below the mark.
-    /// - `NotOwed` for a Final or a Drop of a number that is not owed.
-    /// - `CountFull` where a count, or the octets that are owed, would pass the greatest u64.
-    /// - `NoMemory` for an Owe where memory was refused. Final, Drop and Seen take none.
+    /// - `OldNumber` for an Owe of a line that may not be noted next, a Seen at or below the mark, or a Closed of
+    ///   another source than the one that is open.
+    /// - `NotOwed` for a Final or a Drop of a key that is not owed.
+    /// - `CountFull` where a count, or the octets that are owed, would pass the greatest u64, or the last source would
+    ///   be closed.
+    /// - `NoMemory` for an Owe where memory was refused. The others take none.
     pub fn apply(&mut self, note: &Note) -> Result<(), LedgerFault>
         ensures ok { OnOk result
             (IsLegal (state_of self.old) note.now
@@ -253,10 +280,11 @@ impl Ledger {
             → OnErr result (Indexes kept payloads self.new) }
     {
         match note {
-            Note::Owe { number, token, id } => self.owe_at(*number, token, id, at, slot),
-            Note::Final { number, .. } => self.answer(*number),
-            Note::Drop { number, .. } => self.discard(*number),
+            Note::Owe { key, token, id } => self.owe_at(*key, token, id, at, slot),
+            Note::Final { key, .. } => self.answer(*key),
+            Note::Drop { key, .. } => self.discard(*key),
             Note::Seen { number } => self.see(*number),
+            Note::Closed { source } => self.close(*source),
         }
     }
 
@@ -275,10 +303,11 @@ impl Ledger {
         ensures no_memory { IsErrOf result LedgerFault.NoMemory → ⊥ }
     {
         match note {
-            Note::Owe { number, token, id } => self.check_owe(*number, token, id),
-            Note::Final { number, .. } => self.check_owed(*number),
-            Note::Drop { number, .. } => self.check_owed(*number),
+            Note::Owe { key, token, id } => self.check_owe(*key, token, id),
+            Note::Final { key, .. } => self.check_owed(*key),
+            Note::Drop { key, .. } => self.check_owed(*key),
             Note::Seen { number } => self.check_above(*number),
+            Note::Closed { source } => self.check_open(*source),
         }
     }
 
@@ -387,10 +416,10 @@ impl Ledger {
     ///
     /// # Errors
     /// As `check` tells them of the note that owes it: `OldNumber` or `CountFull`.
-    pub fn check_owe(&self, number: u64, token: &Token, id: &MsgId) -> Result<(), LedgerFault>
-        ensures { IsJudged result (state_of self.now) (Note.Owe number token.now id.now) }
+    pub fn check_owe(&self, key: Key, token: &Token, id: &MsgId) -> Result<(), LedgerFault>
+        ensures { IsJudged result (state_of self.now) (Note.Owe key token.now id.now) }
     {
-        if self.mark >= number {
+        if !self.marks.is_next(key) {
             return Err(LedgerFault::OldNumber);
         }
         if self.taken == u64::MAX {
@@ -404,14 +433,14 @@ impl Ledger {
 
     // A debt that is owed was taken, and the count of those fits. So does the count of those that have ended, with this
     // one.
-    fn check_owed(&self, number: u64) -> Result<(), LedgerFault>
+    fn check_owed(&self, key: Key) -> Result<(), LedgerFault>
         ensures answered { (code : FinalCode)
-            → IsJudged result (state_of self.now) (Note.Final number code) }
+            → IsJudged result (state_of self.now) (Note.Final key code) }
         ensures dropped { (cause : Cause)
-            → IsJudged result (state_of self.now) (Note.Drop number cause) }
+            → IsJudged result (state_of self.now) (Note.Drop key cause) }
     {
         let _taken = self.taken;
-        if self.owes(number) {
+        if self.owes(key) {
             Ok(())
         } else {
             Err(LedgerFault::NotOwed)
@@ -421,8 +450,20 @@ impl Ledger {
     fn check_above(&self, last: u64) -> Result<(), LedgerFault>
         ensures { IsJudged result (state_of self.now) (Note.Seen last) }
     {
-        if self.mark >= last {
+        if self.marks.mark >= last {
             return Err(LedgerFault::OldNumber);
+        }
+        Ok(())
+    }
+
+    fn check_open(&self, source: u32) -> Result<(), LedgerFault>
+        ensures { IsJudged result (state_of self.now) (Note.Closed source) }
+    {
+        if source != self.marks.closed + 1 {
+            return Err(LedgerFault::OldNumber);
+        }
+        if source == u32::MAX {
+            return Err(LedgerFault::CountFull);
         }
         Ok(())
     }
@@ -434,60 +475,89 @@ impl Ledger {
     /// Those of `apply` for that note: `OldNumber`, `CountFull`, `NoMemory`.
     pub fn owe_at(
         &mut self,
-        number: u64,
+        key: Key,
         token: &Token,
         id: &MsgId,
         at: u64,
         slot: u32,
     ) -> Result<(), LedgerFault>
         ensures applied { IsApplied result (state_of self.old) (state_of self.new)
-            (Note.Owe number token.now id.now) }
+            (Note.Owe key token.now id.now) }
         ensures indexes { (kept : ℕ) (payloads : List (List ℕ)) → Indexes kept payloads self.old
-            → IsPlaced kept payloads at slot (Note.Owe number token.now id.now)
+            → IsPlaced kept payloads at slot (Note.Owe key token.now id.now)
             → Indexes kept payloads self.new }
         ensures stays { (kept : ℕ) (payloads : List (List ℕ)) → Indexes kept payloads self.old
             → OnErr result (Indexes kept payloads self.new) }
     {
-        if number <= self.mark {
+        if !self.marks.is_next(key) {
             return Err(LedgerFault::OldNumber);
         }
+        let marks = self.marks.with(key);
+        self.put(marks, key, token, id, at, slot)
+    }
+
+    // Puts a debt in that is not owed, whose record is at this offset, or pends in this slot; the marks are these then.
+    pub(crate) fn put(
+        &mut self,
+        marks: Marks,
+        key: Key,
+        token: &Token,
+        id: &MsgId,
+        at: u64,
+        slot: u32,
+    ) -> Result<(), LedgerFault>
+        requires absent { IsOwed (state_of self.old) key → ⊥ }
+        requires past { IsPast marks key }
+        requires others { (other : ℕ) → IsPast self.old.marks other → IsPast marks other }
+        requires closed { marks.closed ≡ self.old.marks.closed }
+        ensures puts { Puts result (state_of self.old) (state_of self.new) marks
+            (key, (token.now, id.now)) }
+        ensures indexes { (kept : ℕ) (payloads : List (List ℕ)) → Indexes kept payloads self.old
+            → IsPlaced kept payloads at slot (Note.Owe key token.now id.now)
+            → Indexes kept payloads self.new }
+        ensures stays { (kept : ℕ) (payloads : List (List ℕ)) → Indexes kept payloads self.old
+            → OnErr result (Indexes kept payloads self.new) }
+    {
         let Some(taken) = self.taken.checked_add(1) else {
             return Err(LedgerFault::CountFull);
         };
         let Some(owed_bytes) = self.owed_bytes.checked_add(line_octets(token, id)) else {
             return Err(LedgerFault::CountFull);
         };
-        self.debts.insert(number, Entry::of(at, slot, token, id))?;
-        self.mark = number;
+        self.debts.insert(key, Entry::of(at, slot, token, id))?;
+        self.marks = marks;
         self.taken = taken;
         self.owed_bytes = owed_bytes;
+        self.imported += import_count(key);
         Ok(())
     }
 
-    fn answer(&mut self, number: u64) -> Result<(), LedgerFault>
+    fn answer(&mut self, key: Key) -> Result<(), LedgerFault>
         ensures applied { (code : FinalCode)
-            → IsApplied result (state_of self.old) (state_of self.new) (Note.Final number code) }
+            → IsApplied result (state_of self.old) (state_of self.new) (Note.Final key code) }
         ensures indexes { (kept : ℕ) (payloads : List (List ℕ)) → Indexes kept payloads self.old
             → Indexes kept payloads self.new }
     {
-        let Some(octets) = remove_debt(&mut self.debts, number) else {
+        let Some(octets) = remove_debt(&mut self.debts, key) else {
             return Err(LedgerFault::NotOwed);
         };
         self.owed_bytes -= octets;
+        self.imported -= import_count(key);
         self.answered += 1;
         Ok(())
     }
 
-    fn discard(&mut self, number: u64) -> Result<(), LedgerFault>
+    fn discard(&mut self, key: Key) -> Result<(), LedgerFault>
         ensures applied { (cause : Cause)
-            → IsApplied result (state_of self.old) (state_of self.new) (Note.Drop number cause) }
+            → IsApplied result (state_of self.old) (state_of self.new) (Note.Drop key cause) }
         ensures indexes { (kept : ℕ) (payloads : List (List ℕ)) → Indexes kept payloads self.old
             → Indexes kept payloads self.new }
     {
-        let Some(octets) = remove_debt(&mut self.debts, number) else {
+        let Some(octets) = remove_debt(&mut self.debts, key) else {
             return Err(LedgerFault::NotOwed);
         };
         self.owed_bytes -= octets;
+        self.imported -= import_count(key);
         self.dropped += 1;
         Ok(())
     }
@@ -498,10 +568,29 @@ impl Ledger {
         ensures indexes { (kept : ℕ) (payloads : List (List ℕ)) → Indexes kept payloads self.old
             → Indexes kept payloads self.new }
     {
-        if last <= self.mark {
+        if last <= self.marks.mark {
             return Err(LedgerFault::OldNumber);
         }
-        self.mark = last;
+        self.marks.mark = last;
+        Ok(())
+    }
+
+    fn close(&mut self, source: u32) -> Result<(), LedgerFault>
+        ensures applied { IsApplied result (state_of self.old) (state_of self.new)
+            (Note.Closed source) }
+        ensures indexes { (kept : ℕ) (payloads : List (List ℕ)) → Indexes kept payloads self.old
+            → Indexes kept payloads self.new }
+    {
+        if source != self.marks.closed + 1 {
+            return Err(LedgerFault::OldNumber);
+        }
+        if source == u32::MAX {
+            return Err(LedgerFault::CountFull);
+        }
+        // It has 64 bits, so that all that was owed is below what comes next.
+        let _import_mark = self.marks.import_mark;
+        self.marks.closed = source;
+        self.marks.import_mark = 0;
         Ok(())
     }
 }
@@ -513,6 +602,13 @@ fn line_octets(token: &Token, id: &MsgId) -> u64
     token.bytes().len() as u64 + id.bytes().len() as u64 + 2
 }
 
+// How a debt of this key counts among those of no line of the funnel.
+fn import_count(key: Key) -> u64
+    ensures { result ≡ import_count key }
+{
+    if key.source() == 0 { 0 } else { 1 }
+}
+
 /// Where the record behind one of this payload begins, in octets from the segment's start, or the greatest u64; `at` is
 /// where that one begins.
 pub fn offset_behind(at: u64, payload: &[u8]) -> u64
@@ -522,21 +618,24 @@ pub fn offset_behind(at: u64, payload: &[u8]) -> u64
         .saturating_add(payload.len() as u64)
 }
 
-// Takes out the debt of this number, and gives its octets.
-fn remove_debt(debts: &mut BTreeMap<u64, Entry>, number: u64) -> Option<u64>
+// Takes out the debt of this key, and gives its octets.
+fn remove_debt(debts: &mut BTreeMap<Key, Entry>, key: Key) -> Option<u64>
     ensures none { IfNone result
-        ((Contains (numbers_of (debts_of debts.old.entries)) number → ⊥)
+        ((Contains (keys_in (debts_of debts.old.entries)) key → ⊥)
         × (debts.new.entries ≡ debts.old.entries)) }
     ensures owed { IfSome result
-        (λ octets. Contains (numbers_of (debts_of debts.old.entries)) number) }
-    ensures left { IfSome result (λ octets. debts.new.entries ≡ lacking number debts.old.entries) }
+        (λ octets. Contains (keys_in (debts_of debts.old.entries)) key) }
+    ensures left { IfSome result (λ octets. debts.new.entries ≡ lacking key debts.old.entries) }
     ensures octets { IfSome result
         (λ octets. octets_of_debts (debts_of debts.new.entries) + octets
         ≡ octets_of_debts (debts_of debts.old.entries)) }
+    ensures imports { IfSome result
+        (λ octets. imports_in (debts_of debts.new.entries) + import_count key
+        ≡ imports_in (debts_of debts.old.entries)) }
     ensures count { IfSome result
         (λ octets. length debts.new.entries + 1 ≡ length debts.old.entries) }
 {
-    let entry = debts.remove(&number)?;
+    let entry = debts.remove(&key)?;
     Some(octets_of(&entry))
 }
 

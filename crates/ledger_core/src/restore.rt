@@ -2,18 +2,25 @@
 ghost use Rattle.std.specs.Prelude.{◌≡◌, ◌+◌, ◌<◌, ◌≤◌, ◌^◌, ◌↔◌, ℕ, IfNone, IfOk};
 ghost use Rattle.std.specs.Prelude.{IfSome, IsErrOf, IsTrue, MatchResult, OnOk, drop, length, map, vec_items};
 ghost use Rattle.ledger_core.specs.Base.{BeginsWith, HasNoBase, IsSound, LeavesBehind, Restores};
-ghost use Rattle.ledger_core.specs.Base.{RestoreStopsAt, StopsBehind};
+ghost use Rattle.ledger_core.specs.Base.{RestoreStopsAt, StopsBehind, base_spelling};
 
 use crate::base::{Base, decode_base};
 use crate::codec::decode;
-use crate::ledger::offset_behind;
+use crate::key::Key;
+use crate::ledger::{LedgerFault, offset_behind};
+use crate::marks::Marks;
 use crate::note::Note;
 use crate::{Ledger, ReplayFault};
+use funnel::{MsgId, Token};
 use std::alloc::Global;
 use std::collections::BTreeMap;
 
 // How many octets the record of a Base has on a tape.
-pub(crate) const BASE_RECORD_LEN: u64 = 54;
+pub(crate) fn base_record_len(base: &Base) -> u64
+    ensures { result ≡ 5 + length (base_spelling base.now) }
+{
+    if base.has_imports() { 66 } else { 54 }
+}
 
 /// What a tape's payloads leave.
 #[derive(Drop)]
@@ -28,7 +35,7 @@ pub struct Restored {
 fn is_sound(base: &Base) -> bool
     ensures { IsTrue result ↔ IsSound base.now }
 {
-    if base.generation == 0 || base.answered > base.taken {
+    if base.generation == 0 || base.closed == u32::MAX || base.answered > base.taken {
         return false;
     }
     let left = base.taken - base.answered;
@@ -45,21 +52,23 @@ fn base_of(payloads: &[Vec<u8>]) -> Option<Base>
 }
 
 impl Ledger {
-    ghost use Rattle.ledger_core.specs.State.{State};
+    ghost use Rattle.ledger_core.specs.State.{IsOwed, IsPast, State, keys, line_octets, owed_bytes};
+    ghost use Rattle.std.specs.List.{All};
     ghost use Rattle.std.specs.Prelude.{◌-◌, ◌∷◌, List, min};
+    ghost use Rattle.ledger_core.specs.declared.note.Note.{Note};
     ghost use Rattle.ledger_core.specs.Base.{base_spelling};
     ghost use Rattle.ledger_core.specs.Index.{Indexes};
     ghost use Rattle.ledger_core.specs.Ledger.{state_of};
-    ghost use Rattle.ledger_core.specs.Spots.{StandsAt, records_length};
-    ghost use Rattle.ledger_core.specs.Owing.{OwesAll, OwesSome, SpellsNoNext, TakesDebt};
+    ghost use Rattle.ledger_core.specs.Spots.{IsPlaced, StandsAt, records_length};
+    ghost use Rattle.ledger_core.specs.Owing.{OwesAll, OwesSome, SpellsNoFurther, Fits, TakesDebt, owing_more};
 
     /// The ledger that a tape's payloads leave: each the spelling of a note that is legal in its
     /// turn, or a Base first, then its debts, and then such notes.
     ///
     /// # Errors
     /// - `Refused` with the index of the first payload at which no reading goes on: 0 for a Base of
-    ///   generation 0 or whose counts don't add up, the number of payloads where a debt of the Base
-    ///   is missing.
+    ///   generation 0, of the last source, behind which none can be open, or whose counts don't add
+    ///   up; the number of payloads if a debt of the Base is missing.
     /// - `NoMemory` where memory was refused.
     pub fn restore(alloc: Global, payloads: &[Vec<u8>]) -> Result<Restored, ReplayFault>
         // What is read is such a tape.
@@ -108,7 +117,6 @@ impl Ledger {
         if (count as u64) < base.live {
             return Err(ReplayFault::Refused { index: 1 + count });
         }
-        ledger.mark = base.mark;
         ledger.apply_payloads(alloc, 1 + count, offset, &behind[count..])?;
         Ok(ledger)
     }
@@ -119,7 +127,8 @@ impl Ledger {
         base: &Base,
         payloads: &[Vec<u8>],
     ) -> Result<(Ledger, u64), ReplayFault>
-        requires { base.now.answered + base.now.dropped + length payloads.now < 2 ^ 64 }
+        requires few { base.now.answered + base.now.dropped + length payloads.now < 2 ^ 64 }
+        requires open { base.now.closed + 1 < 2 ^ 32 }
         ensures ok { IfOk result
             (λ r. OwesAll base.now (map vec_items payloads.now) (state_of r.0)) }
         ensures indexes { IfOk result (λ r.
@@ -128,37 +137,46 @@ impl Ledger {
             × ((kept : ℕ) → 1 + length payloads.now ≤ kept
             → Indexes kept (base_spelling base.now ∷ map vec_items payloads.now) r.0)) }
         ensures refused { (index : ℕ) → IsErrOf result (ReplayFault.Refused index)
-            → OwesSome base.now.mark (map vec_items payloads.now) index }
+            → OwesSome base.now (map vec_items payloads.now) index }
     {
         let mut ledger = Ledger {
             debts: BTreeMap::new(alloc),
-            mark: 0,
+            marks: Marks {
+                mark: base.mark,
+                closed: base.closed,
+                import_mark: base.import_mark,
+            },
             taken: base.answered + base.dropped,
             answered: base.answered,
             dropped: base.dropped,
             owed_bytes: 0,
+            imported: 0,
         };
-        let mut at = BASE_RECORD_LEN;
+        let mut at = base_record_len(base);
+        let mut last = Key::new(0, 0);
         for (index, payload) in payloads.iter().enumerate() {
-            ledger.apply_debt(alloc, base.mark, 1 + index, at, payload)?;
+            last = ledger.take_debt(alloc, last, 1 + index, at, payload)?;
             at = offset_behind(at, payload);
         }
         Ok((ledger, at))
     }
 
-    // Takes the debt that the payload at this index spells, where it is not above a mark. Its record is at this offset.
-    fn apply_debt(
+    // Takes the debt that the payload at this index spells, behind one of this key, and tells its own. Its record is at
+    // this offset.
+    fn take_debt(
         &mut self,
         alloc: Global,
-        mark: u64,
+        last: Key,
         index: usize,
         at: u64,
         payload: &[u8],
-    ) -> Result<(), ReplayFault>
-        ensures ok { OnOk result
-            (TakesDebt mark payload.now (state_of self.old) (state_of self.new)) }
+    ) -> Result<Key, ReplayFault>
+        requires few { self.old.taken + 1 < 2 ^ 64 }
+        requires behind { All (λ key. key ≤ last) (keys (state_of self.old)) }
+        ensures ok { IfOk result
+            (TakesDebt last payload.now (state_of self.old) (state_of self.new)) }
         ensures refused { (told : ℕ) → IsErrOf result (ReplayFault.Refused told)
-            → (told ≡ index) × SpellsNoNext mark payload.now (state_of self.old) }
+            → (told ≡ index) × SpellsNoFurther last payload.now (state_of self.old) }
         ensures indexes { (kept : ℕ) (payloads : List (List ℕ)) → Indexes kept payloads self.old
             → StandsAt kept payloads at 0 payload.now
             → OnOk result (Indexes kept payloads self.new) }
@@ -167,8 +185,71 @@ impl Ledger {
             return Err(ReplayFault::Refused { index });
         };
         match &note {
-            Note::Owe { number, .. } if *number <= mark => self.apply_note(index, at, &note),
-            _ => Err(ReplayFault::Refused { index }),
+            Note::Owe { key, token, id } => self.take_owed(last, *key, token, id, index, at),
+            Note::Final { .. } => Err(ReplayFault::Refused { index }),
+            Note::Drop { .. } => Err(ReplayFault::Refused { index }),
+            Note::Seen { .. } => Err(ReplayFault::Refused { index }),
+            Note::Closed { .. } => Err(ReplayFault::Refused { index }),
+        }
+    }
+
+    // Takes the debt that was read at this index, behind one of this key, and tells its own. Its record is at this
+    // offset.
+    fn take_owed(
+        &mut self,
+        last: Key,
+        key: Key,
+        token: &Token,
+        id: &MsgId,
+        index: usize,
+        at: u64,
+    ) -> Result<Key, ReplayFault>
+        requires few { self.old.taken + 1 < 2 ^ 64 }
+        requires behind { All (λ other. other ≤ last) (keys (state_of self.old)) }
+        ensures ok { IfOk result (λ told. (told ≡ key)
+            × Fits last (state_of self.old) (key, (token.now, id.now))
+            × (state_of self.new ≡ owing_more (state_of self.old) (key, (token.now, id.now)))) }
+        ensures refused { (told : ℕ) → IsErrOf result (ReplayFault.Refused told) → (told ≡ index)
+            × (Fits last (state_of self.old) (key, (token.now, id.now)) → ⊥) }
+        ensures indexes { (kept : ℕ) (payloads : List (List ℕ)) → Indexes kept payloads self.old
+            → IsPlaced kept payloads at 0 (Note.Owe key token.now id.now)
+            → Indexes kept payloads self.new }
+    {
+        if key <= last {
+            return Err(ReplayFault::Refused { index });
+        }
+        if !self.marks.is_past(key) {
+            return Err(ReplayFault::Refused { index });
+        }
+        self.put_read(key, token, id, index, at)
+    }
+
+    // Puts in a debt that was read at this index, whose record is at this offset, and tells its key.
+    fn put_read(
+        &mut self,
+        key: Key,
+        token: &Token,
+        id: &MsgId,
+        index: usize,
+        at: u64,
+    ) -> Result<Key, ReplayFault>
+        requires few { self.old.taken + 1 < 2 ^ 64 }
+        requires absent { IsOwed (state_of self.old) key → ⊥ }
+        requires past { IsPast self.old.marks key }
+        ensures ok { IfOk result (λ told. (told ≡ key)
+            × (owed_bytes (state_of self.old) + line_octets token.now id.now < 2 ^ 64)
+            × (state_of self.new ≡ owing_more (state_of self.old) (key, (token.now, id.now)))) }
+        ensures refused { (told : ℕ) → IsErrOf result (ReplayFault.Refused told) → (told ≡ index)
+            × (owed_bytes (state_of self.old) + line_octets token.now id.now < 2 ^ 64 → ⊥) }
+        ensures indexes { (kept : ℕ) (payloads : List (List ℕ)) → Indexes kept payloads self.old
+            → IsPlaced kept payloads at 0 (Note.Owe key token.now id.now)
+            → Indexes kept payloads self.new }
+    {
+        let marks = self.marks;
+        match self.put(marks, key, token, id, at, 0) {
+            Ok(()) => Ok(key),
+            Err(LedgerFault::NoMemory) => Err(ReplayFault::NoMemory),
+            Err(_) => Err(ReplayFault::Refused { index }),
         }
     }
 }

@@ -5,6 +5,7 @@ use crate::snapshot::Snapshot;
 use commands::FeedEnd;
 use disk_model::FileDisk;
 use feed_conf::PeerConf;
+use ledger_core::Key;
 use log::{Log, info, warn};
 use recovery::{Tape, TapeFault};
 use std::alloc::Global;
@@ -19,7 +20,7 @@ const INTAKE: &[u8] = b"~intake";
 // A tape as it was read.
 type ReadTape = Tape<FileDisk<Snapshot>>;
 
-/// Writes a line for each debt of these peers, in their order and by rising number, as the tapes in the backlog
+/// Writes a line for each debt of these peers, in their order and by rising key, as the tapes in the backlog
 /// directory at this path have them. Nothing is written there, and what is missing is not made. The octets of one
 /// peer's tape are in memory at a time, and its ledger.
 ///
@@ -141,11 +142,11 @@ fn list_peer<W: Write>(
     tape: &mut ReadTape,
     out: &mut W,
 ) -> Result<(), ListFault> {
-    let numbers = tape.numbers()?;
+    let keys = tape.keys()?;
     let mut line = Vec::new(alloc);
-    for number in &numbers {
+    for key in &keys {
         line.clear();
-        add_debt(&mut line, name, tape, *number)?;
+        add_debt(&mut line, name, tape, *key)?;
         if let Err(error) = out.write_all(&line) {
             return Err(ListFault::output(alloc, &error));
         }
@@ -153,21 +154,21 @@ fn list_peer<W: Write>(
     Ok(())
 }
 
-// `NAME NUMBER TOKEN ID`.
+// `NAME KEY TOKEN ID`.
 fn add_debt(
     line: &mut Vec<u8>,
     name: &[u8],
     tape: &mut ReadTape,
-    number: u64,
+    key: Key,
 ) -> Result<(), ListFault> {
-    let debt = match tape.debt(number) {
+    let debt = match tape.debt(key) {
         Ok(Some(debt)) => debt,
         Ok(None) | Err(TapeFault::NoMemory) => return Err(ListFault::Lack),
         Err(fault) => return Err(ListFault::tape(*line.allocator(), name, fault)),
     };
     line.extend_from_slice(name)?;
     line.push(b' ')?;
-    line.extend_from_slice(itoa::Buffer::new().format(number).as_bytes())?;
+    key.add_text(line)?;
     line.push(b' ')?;
     line.extend_from_slice(debt.token().bytes())?;
     line.push(b' ')?;

@@ -5,7 +5,7 @@ use Rattle.std.specs.List.{Contains}
 use Rattle.std.proofs.lemmas.Bool.{eqb-true, eqb-false}
 use Rattle.std.proofs.lemmas.List.Elements.{Contains-append_right, Contains-append_cases}
 use Rattle.ledger_core.specs.Index.{debt_at}
-use Rattle.ledger_core.specs.State.{Owing, State, numbers_of}
+use Rattle.ledger_core.specs.State.{Owing, State, keys_in}
 use Rattle.recovery.specs.Texts.{HasLengths, lengths_of}
 use Rattle.peer_queue.specs.Place.{Held, Place, Places, is_candidate, least_candidate, moved, placed}
 use Rattle.peer_queue.proofs.Ends.{placed-moved}
@@ -32,10 +32,10 @@ pub found_debt : (n : ℕ) (debts : List Owing) (d : Owing) → find (λ (owing 
 found_debt n [] d is = absurd (cc)
 found_debt n (debt ∷ debts) d is = find_step n debt d debts (debt.0 == n) refl (λ there. found_debt n debts d there) is
 
-missing_step : (n : ℕ) (debt : Owing) (debts : List Owing) (b : Bool) → (debt.0 == n) ≡ b → (find (λ (owing : Owing). owing.0 == n) debts ≡ None → Contains (numbers_of debts) n → ⊥)
-    → cond b (Some debt) (find (λ (owing : Owing). owing.0 == n) debts) ≡ None → Contains (debt.0 ∷ numbers_of debts) n → ⊥
+missing_step : (n : ℕ) (debt : Owing) (debts : List Owing) (b : Bool) → (debt.0 == n) ≡ b → (find (λ (owing : Owing). owing.0 == n) debts ≡ None → Contains (keys_in debts) n → ⊥)
+    → cond b (Some debt) (find (λ (owing : Owing). owing.0 == n) debts) ≡ None → Contains (debt.0 ∷ keys_in debts) n → ⊥
 missing_step n debt debts true e rest is has = cc
-missing_step n debt debts false e rest is has = elim (Contains-append_cases (debt.0 ∷ []) (numbers_of debts) n has) [
+missing_step n debt debts false e rest is has = elim (Contains-append_cases (debt.0 ∷ []) (keys_in debts) n has) [
   | inl here ↦ eqb-false debt.0 n e (only debt.0 n here)
   | inr there ↦ rest is there
 ]
@@ -44,7 +44,7 @@ missing_step n debt debts false e rest is has = elim (Contains-append_cases (deb
     only x y (k, inside, at) = let first : k ≡ 0 = omega (arith, inside) in subst (λ (j : ℕ). get_or (x ∷ []) j y ≡ y) first at
 
 -- where none is found, the number is not owed
-pub missing_debt : (n : ℕ) (debts : List Owing) → find (λ (owing : Owing). owing.0 == n) debts ≡ None → Contains (numbers_of debts) n → ⊥
+pub missing_debt : (n : ℕ) (debts : List Owing) → find (λ (owing : Owing). owing.0 == n) debts ≡ None → Contains (keys_in debts) n → ⊥
 missing_debt n [] is (k, inside, at) = omega (arith, inside)
 missing_debt n (debt ∷ debts) is has = missing_step n debt debts (debt.0 == n) refl (λ none there. missing_debt n debts none there) is has
 

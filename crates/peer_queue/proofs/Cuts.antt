@@ -103,12 +103,12 @@ cut_again room found set is = ap (λ (l : List ℕ). take room l) is ∙ take-ta
 pub cut_shed : (limits : Limits) (state : State) (places : Places) (pending room : ℕ) (found : List ℕ) → {shed : Shed}
     → room + pending ≡ most_pending
     → (set : List ℕ) × IsShedSet limits state places set × (found ≡ take (room + 1) set)
-    → shed.numbers.items ≡ take room found → shed.more ≡ nat_lt room (length found)
+    → shed.keys.items ≡ take room found → shed.more ≡ nat_lt room (length found)
     → IsShed limits state places pending shed
-cut_shed limits state places pending room found {shed} all begins numbers more = record {
+cut_shed limits state places pending room found {shed} all begins keys more = record {
   set = begins.0;
   is_set = begins.1;
-  numbers = numbers ∙ (cut_again room found begins.0 begins.2 ∙ ap (λ (n : ℕ). take n begins.0) as_many);
+  keys = keys ∙ (cut_again room found begins.0 begins.2 ∙ ap (λ (n : ℕ). take n begins.0) as_many);
   more = (
     λ told.
         let over : room < length found = ltb-true room (length found) (sym more ∙ told) in

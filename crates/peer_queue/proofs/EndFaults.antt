@@ -9,10 +9,10 @@ use Rattle.ledger_core.specs.declared.ledger.LedgerFault.{LedgerFault}
 use Rattle.ledger_core.specs.declared.ledger.LedgerFault.TheVariants.{OldNumber, NotOwed, CountFull}
 use Rattle.ledger_core.specs.declared.ledger.LedgerFault.TheVariants.{NoMemory as NoLedgerMemory}
 use Rattle.ledger_core.specs.declared.note.Note.{Note}
-use Rattle.ledger_core.specs.declared.note.Note.TheVariants.{Owe, Final, Drop, Seen}
+use Rattle.ledger_core.specs.declared.note.Note.TheVariants.{Owe, Final, Drop, Seen, Closed}
 use Rattle.ledger_core.specs.StateLaws.{old-legal, lacks-legal, full-legal}
 use Rattle.ledger_core.specs.Ledger.{totals_of}
-use Rattle.ledger_core.specs.State.{State, IsLegal, IsOwed, Owing, numbers, numbers_of}
+use Rattle.ledger_core.specs.State.{State, IsLegal, IsOwed, Owing, keys, keys_in}
 use Rattle.ledger_core.specs.declared.ledger.Totals.{Totals}
 use Rattle.recovery.specs.Words.{IsNoteFault, RefusesNote}
 use Rattle.recovery.specs.declared.fault.TapeFault.{TapeFault}
@@ -39,10 +39,10 @@ held_placed [] c n held = absurd (cc)
 held_placed (e ∷ p) c n held = held_step p c n e (e.0 == n) refl held (λ there. held_placed p c n there)
 
 -- it is owed
-pub held_owed : (p : Places) (state : State) (c n : ℕ) → placed p ≡ numbers state → IsHeldBy p c n → IsOwed state n
+pub held_owed : (p : Places) (state : State) (c n : ℕ) → placed p ≡ keys state → IsHeldBy p c n → IsOwed state n
 held_owed p state c n same held = subst (λ (l : List ℕ). Contains l n) same (held_placed p c n held)
 
-some_owed : (debts : List Owing) (n : ℕ) → Contains (numbers_of debts) n → 0 < length debts
+some_owed : (debts : List Owing) (n : ℕ) → Contains (keys_in debts) n → 0 < length debts
 some_owed debts n has = omega (arith, has.1, length-map debts (λ (debt : Owing). debt.0))
 
 -- where a debt is owed, less than all that was taken has ended
@@ -51,9 +51,10 @@ end_legal state (Owe other token id) n end owed sum fits = absurd end
 end_legal state (Final other code) n end owed sum fits = (subst (λ (m : ℕ). IsOwed state m) (sym end) owed, omega (arith, sum, fits, some_owed state.debts n owed))
 end_legal state (Drop other cause) n end owed sum fits = (subst (λ (m : ℕ). IsOwed state m) (sym end) owed, omega (arith, sum, fits, some_owed state.debts n owed))
 end_legal state (Seen other) n end owed sum fits = absurd end
+end_legal state (Closed source) n end owed sum fits = absurd end
 
 -- by what is counted where a connection holds the debt
-pub held_legal : (p : Places) (state : State) (note : Note) (c n : ℕ) (totals : Totals) → IsEnd note n → placed p ≡ numbers state → IsHeldBy p c n → totals ≡ totals_of state → totals.taken ≡ totals.owed + totals.answered + totals.dropped → totals.taken < 2 ^ 64 → IsLegal state note
+pub held_legal : (p : Places) (state : State) (note : Note) (c n : ℕ) (totals : Totals) → IsEnd note n → placed p ≡ keys state → IsHeldBy p c n → totals ≡ totals_of state → totals.taken ≡ totals.owed + totals.answered + totals.dropped → totals.taken < 2 ^ 64 → IsLegal state note
 held_legal p state note c n totals end same held counts sum fits =
     let both : (state.taken ≡ length state.debts + state.answered + state.dropped) × (state.taken < 2 ^ 64) =
     subst (λ (t : Totals). (t.taken ≡ t.owed + t.answered + t.dropped) × (t.taken < 2 ^ 64)) counts (sum, fits) in

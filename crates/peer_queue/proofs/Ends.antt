@@ -1,13 +1,11 @@
 -- The numbers that have a place, and the ledger's, where one changes.
-use Rattle.std.proofs.Common.{◌≡◌, ◌==◌, ℕ, ◌≤◌, Bool, true, false, cond, not, List, [], ◌∷◌, refl, sym, ap, ◌∙◌, subst}
+use Rattle.std.proofs.Common.{◌≡◌, ◌==◌, ℕ, Bool, true, false, cond, not, List, [], ◌∷◌, refl, sym, ap, ◌∙◌}
 use Rattle.std.specs.Prelude.{filter}
-use Rattle.std.specs.List.{All}
 use Rattle.std.proofs.lemmas.Bool.{eqb-true}
-use Rattle.std.proofs.lemmas.List.Elements.{All-filter}
 use Rattle.ledger_core.specs.declared.note.Note.{Note}
-use Rattle.ledger_core.specs.declared.note.Note.TheVariants.{Owe, Final, Drop, Seen}
-use Rattle.ledger_core.specs.StateLaws.{numbers-without}
-use Rattle.ledger_core.specs.State.{State, numbers, step}
+use Rattle.ledger_core.specs.declared.note.Note.TheVariants.{Owe, Final, Drop, Seen, Closed}
+use Rattle.ledger_core.specs.StateLaws.{keys-without}
+use Rattle.ledger_core.specs.State.{State, keys, step}
 use Rattle.peer_queue.specs.Place.{Place, Places, gone, moved, placed}
 use Rattle.peer_queue.specs.Words.{IsEnd}
 
@@ -29,23 +27,12 @@ placed-gone [] n = refl
 placed-gone (e ∷ p) n = gone_number e (e.0 == n) (gone p n) (filter (λ m. not (m == n)) (placed p)) (placed-gone p n)
 
 -- the end of a debt takes its number from the ledger
-pub ended : (state : State) (note : Note) (n : ℕ) → IsEnd note n → numbers (step state note) ≡ filter (λ m. not (m == n)) (numbers state)
+pub ended : (state : State) (note : Note) (n : ℕ) → IsEnd note n → keys (step state note) ≡ filter (λ m. not (m == n)) (keys state)
 ended state (Owe other token id) n end = absurd end
-ended state (Final other code) n end = numbers-without other state.debts ∙ ap (λ (k : ℕ). filter (λ m. not (m == k)) (numbers state)) end
-ended state (Drop other cause) n end = numbers-without other state.debts ∙ ap (λ (k : ℕ). filter (λ m. not (m == k)) (numbers state)) end
+ended state (Final other code) n end = keys-without other state.debts ∙ ap (λ (k : ℕ). filter (λ m. not (m == k)) (keys state)) end
+ended state (Drop other cause) n end = keys-without other state.debts ∙ ap (λ (k : ℕ). filter (λ m. not (m == k)) (keys state)) end
 ended state (Seen other) n end = absurd end
+ended state (Closed source) n end = absurd end
 
-pub end_mark : (state : State) (note : Note) (n : ℕ) → IsEnd note n → (step state note).mark ≡ state.mark
-end_mark state (Owe other token id) n end = absurd end
-end_mark state (Final other code) n end = refl
-end_mark state (Drop other cause) n end = refl
-end_mark state (Seen other) n end = absurd end
-
-pub placed_ended : (p : Places) (state : State) (note : Note) (n : ℕ) → IsEnd note n → placed p ≡ numbers state → placed (gone p n) ≡ numbers (step state note)
+pub placed_ended : (p : Places) (state : State) (note : Note) (n : ℕ) → IsEnd note n → placed p ≡ keys state → placed (gone p n) ≡ keys (step state note)
 placed_ended p state note n end same = placed-gone p n ∙ (ap (λ (l : List ℕ). filter (λ m. not (m == n)) l) same ∙ sym (ended state note n end))
-
-pub marked_ended : (state : State) (note : Note) (n : ℕ) → IsEnd note n → All (λ m. m ≤ state.mark) (numbers state) → All (λ m. m ≤ (step state note).mark) (numbers (step state note))
-marked_ended state note n end marked =
-    subst (λ (l : List ℕ). All (λ m. m ≤ (step state note).mark) l) (sym (ended state note n end))
-    (subst (λ (k : ℕ). All (λ m. m ≤ k) (filter (λ m. not (m == n)) (numbers state))) (sym (end_mark state note n end))
-    (All-filter (λ m. not (m == n)) (λ m. m ≤ state.mark) (numbers state) marked))

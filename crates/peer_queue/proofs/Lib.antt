@@ -1,9 +1,11 @@
 pub mod AllLater
 pub mod Claims
+pub mod Closes
 pub mod Cuts
 pub mod EndFaults
 pub mod Ends
 pub mod Fronts
+pub mod Inserted
 pub mod Kept
 pub mod Moves
 pub mod Owes

@@ -1,12 +1,13 @@
 -- The places of an index, where its numbers change.
-use Rattle.std.proofs.Common.{◌≡◌, ◌==◌, ◌⊎◌, inl, inr, ℕ, zero, suc, ◌<◌, ◌≤◌, Bool, true, false, cond, Option, Some, None, [], ◌∷◌, ◌++◌, refl, sym, ap, ◌∙◌, subst, arith}
+use Rattle.std.proofs.Common.{◌≡◌, ◌==◌, ◌⊎◌, inl, inr, ℕ, zero, suc, ◌<◌, ◌≤◌, Bool, true, false, cond, Option, Some, None, [], ◌∷◌, refl, sym, ap, ◌∙◌, subst, arith}
 use Rattle.std.specs.Prelude.{IfNone, IfSome, IsSome, option_map, find, Result, Ok, Err, OnOk}
-use Rattle.std.specs.Ordering.{nat_cmp}
-use Rattle.std.specs.declared.cmp.Ordering.TheVariants.{Greater}
-use Rattle.std.proofs.lemmas.Bool.{eqb-true, eqb-false, eq-eqb, ne_eqb, le-ltb}
+use Rattle.std.specs.Ordering.{match_ordering, nat_cmp}
+use Rattle.std.specs.declared.cmp.Ordering.{Ordering}
+use Rattle.std.specs.declared.cmp.Ordering.TheVariants.{Less, Equal, Greater}
+use Rattle.std.proofs.lemmas.Bool.{eqb-true, eqb-false, eq-eqb, ne_eqb}
 use Rattle.std.proofs.lemmas.Bool.Decides.{nat_tests}
 use Rattle.deferral.specs.Due.{Waiting, AllNumbers, IsDue, IsLeastDue, IsRising, added, changed, due_of, removed}
-use Rattle.peer_queue.specs.Place.{AreBelow, Place, Places, Ready, gone, is_candidate, least_candidate, moved}
+use Rattle.peer_queue.specs.Place.{Place, Places, Ready, gone, is_candidate, least_candidate, moved, place_at, with_place}
 use Rattle.peer_queue.specs.Index.{Holders, due_at, place_by, place_for, places_by}
 use Rattle.peer_queue.specs.declared.wait.Wait.{Wait}
 use Rattle.peer_queue.specs.declared.wait.Wait.TheVariants.{Ready as ReadyNow, Until}
@@ -63,26 +64,34 @@ gone_by k h (x ∷ xs) n rising same =
     (λ e. same x.0 (eqb-false x.0 n e))
     (gone_by k h xs n rising.1 same)
 
--- ---- put in above all others
+-- ---- put in
 
-pub below_by : (h : Holders) (agenda : Waiting) (n : ℕ) → AreBelow n (places_by h agenda) → AllNumbers (λ m. m < n) agenda
-below_by h [] n below = tt
-below_by h (x ∷ xs) n below = (below.0, below_by h xs n below.1)
+-- what has no place does not wait
+pub absent_due : (h : Holders) (agenda : Waiting) (n : ℕ) → place_at (places_by h agenda) n ≡ None
+    → due_of agenda n ≡ None
+absent_due h [] n none = refl
+absent_due h (x ∷ xs) n none = on (x.0 == n) none (absent_due h xs n)
+  where
+    on : (b : Bool) → cond b (Some (place_by (h x.0) x.1)) (place_at (places_by h xs) n) ≡ None
+        → (place_at (places_by h xs) n ≡ None → due_of xs n ≡ None) → cond b (Some x.1) (due_of xs n) ≡ None
+    on true is rest = cc
+    on false is rest = rest is
 
-cmp_above : (n m : ℕ) → m < n → nat_cmp n m ≡ Greater
-cmp_above n m h = rw (le-ltb n m (omega arith), ne_eqb n m (omega arith))
+added_step : (h : Holders) (n : ℕ) (x : ℕ × Option ℕ) (xs ys : Waiting) (p : Places) (order : Ordering)
+    → places_by h ys ≡ p
+    → places_by h (match_ordering order ((n, Some 0) ∷ x ∷ xs) ((x.0, Some 0) ∷ xs) (x ∷ ys))
+    ≡ match_ordering order ((n, Ready) ∷ (x.0, place_by (h x.0) x.1) ∷ places_by h xs) ((x.0, Ready) ∷ places_by h xs)
+    ((x.0, place_by (h x.0) x.1) ∷ p)
+added_step h n x xs ys p Less rest = refl
+added_step h n x xs ys p Equal rest = refl
+added_step h n x xs ys p Greater rest = ap (λ (l : Places). (x.0, place_by (h x.0) x.1) ∷ l) rest
 
-pub added_last : (n : ℕ) (d : Option ℕ) (xs : Waiting) → AllNumbers (λ m. m < n) xs → added xs n d ≡ xs ++ (n, d) ∷ []
-added_last n d [] below = refl
-added_last n d (x ∷ xs) below = rw (cmp_above n x.0 below.0) (ap (λ (z : Waiting). x ∷ z) (added_last n d xs below.1))
-
-pub absent_last : (n : ℕ) (xs : Waiting) → AllNumbers (λ m. m < n) xs → due_of xs n ≡ None
-absent_last n [] below = refl
-absent_last n (x ∷ xs) below = rw (ne_eqb x.0 n (omega arith)) (absent_last n xs below.1)
-
-pub places-append : (h : Holders) (xs ys : Waiting) → places_by h (xs ++ ys) ≡ places_by h xs ++ places_by h ys
-places-append h [] ys = refl
-places-append h (x ∷ xs) ys = ap (λ (l : Places). (x.0, place_by (h x.0) x.1) ∷ l) (places-append h xs ys)
+-- a number that is put in, due at once, is ready in its place
+added_by : (h : Holders) (agenda : Waiting) (n : ℕ)
+    → places_by h (added agenda n (Some 0)) ≡ with_place (places_by h agenda) n Ready
+added_by h [] n = refl
+added_by h (x ∷ xs) n =
+    added_step h n x xs (added xs n (Some 0)) (with_place (places_by h xs) n Ready) (nat_cmp n x.0) (added_by h xs n)
 
 -- ---- the least number that may be claimed
 
@@ -165,8 +174,9 @@ pub ready_put : {T E : Type 0} (result : Result T E) (agenda agenda' : Waiting) 
     → OnOk result (agenda' ≡ added agenda n (Some d)) → OnOk result (agenda' ≡ added agenda n (Some 0))
 ready_put result agenda agenda' n d ready = subst (λ (m : ℕ). OnOk result (agenda' ≡ added agenda n (Some m))) ready
 
--- a number is put in above all others, or memory is refused
-pub places_put : {T E : Type 0} (result : Result T E) (agenda agenda' : Waiting) (h : Holders) (n : ℕ) → AreBelow n (places_by h agenda) → OnOk result (agenda' ≡ added agenda n (Some 0)) → OnOk result (places_by h agenda' ≡ places_by h agenda ++ (n, Ready) ∷ [])
-places_put (Ok t) agenda agenda' h n below ok =
-    ap (places_by h) ok ∙ (ap (places_by h) (added_last n (Some 0) agenda (below_by h agenda n below)) ∙ places-append h agenda ((n, Some 0) ∷ []))
-places_put (Err e) agenda agenda' h n below ok = tt
+-- a number is put in, or memory is refused
+pub places_put : {T E : Type 0} (result : Result T E) (agenda agenda' : Waiting) (h : Holders) (n : ℕ)
+    → OnOk result (agenda' ≡ added agenda n (Some 0))
+    → OnOk result (places_by h agenda' ≡ with_place (places_by h agenda) n Ready)
+places_put (Ok t) agenda agenda' h n ok = ap (places_by h) ok ∙ added_by h agenda n
+places_put (Err e) agenda agenda' h n ok = tt

@@ -1,14 +1,15 @@
 -- Places and the ledger, where a debt is owed anew, and where one may be claimed.
-use Rattle.std.proofs.Common.{◌≡◌, ◌==◌, ℕ, ◌<◌, ◌≤◌, Bool, true, false, cond, Some, None, List, [], ◌∷◌, ◌++◌, length, map, refl, sym, ap, ◌∙◌, subst, arith}
-use Rattle.std.specs.Prelude.{option_map}
+use Rattle.std.proofs.Common.{◌≡◌, ℕ, ◌+◌, ◌<◌, ◌^◌, List, [], ◌∷◌, length, map, None}
+use Rattle.std.proofs.Common.{refl, inl, inr, sym, ap, ◌∙◌, subst, arith}
 use Rattle.std.specs.List.{All}
-use Rattle.std.proofs.lemmas.Bool.{eq-eqb, ne_eqb}
-use Rattle.std.proofs.lemmas.List.{map-append}
-use Rattle.std.proofs.lemmas.List.Elements.{All-head, All-push, All-tail, All-weaker}
 use Rattle.ledger_core.specs.declared.ledger.LedgerFault.{LedgerFault}
 use Rattle.ledger_core.specs.declared.ledger.LedgerFault.TheVariants.{OldNumber, NotOwed, CountFull, NoMemory as NoLedgerMemory}
+use Rattle.ledger_core.specs.declared.marks.Marks.{Marks}
+use Rattle.ledger_core.specs.declared.note.Note.{Note}
 use Rattle.ledger_core.specs.declared.note.Note.TheVariants.{Owe}
-use Rattle.ledger_core.specs.State.{State, Owing, numbers, step}
+use Rattle.ledger_core.specs.Keys.{key_of}
+use Rattle.ledger_core.specs.State.{State, IsNext, IsOld, IsPast, LacksDebt, keys, marks_of, step}
+use Rattle.ledger_core.specs.StateLaws.{next-apart}
 use Rattle.recovery.specs.declared.fault.TapeFault.{TapeFault}
 use Rattle.recovery.specs.declared.fault.TapeFault.TheVariants.{Damaged, Disk, Broken, TapeFull, GenerationFull, PendingFull, NoMemory, Note as RefusedNote}
 use Rattle.recovery.specs.Words.{IsNoteFault, RefusesNote}
@@ -17,78 +18,60 @@ use Rattle.std.specs.Prelude.{Vec}
 use Rattle.std.specs.declared.alloc.Global.{Global}
 use Rattle.peer_queue.specs.Faults.{IsOweFault, station_fault}
 use Rattle.peer_queue.specs.declared.fault.StationFault.TheVariants.{Tape as TapeRefused}
-use Rattle.peer_queue.specs.Place.{AreBelow, IsUnheld, Place, Places, Ready, all_ready, gone, is_held, place_at, placed}
+use Rattle.peer_queue.specs.Place.{Places, Ready, all_ready, place_at, placed, with_place}
+use Rattle.peer_queue.proofs.Inserted.{absent_of, same_with}
 
 -- all of these have a place where all of them are ready
 pub placed-all_ready : (ns : List ℕ) → placed (all_ready ns) ≡ ns
 placed-all_ready [] = refl
 placed-all_ready (n ∷ ns) = ap (λ (l : List ℕ). n ∷ l) (placed-all_ready ns)
 
--- ---- a number above all others
+-- ---- a key that may be noted next
 
-below_of : (p : Places) (n : ℕ) → All (λ m. m < n) (placed p) → AreBelow n p
-below_of [] n all = tt
-below_of (e ∷ p) n all = (All-head (λ m. m < n) e.0 (placed p) all, below_of p n (All-tail (λ m. m < n) e.0 (placed p) all))
+-- a line of the funnel above the mark
+pub line_next : (marks : Marks) (n : ℕ) → n < 2 ^ 64 → marks.mark < n → IsNext marks n
+line_next marks n fits above = inl (fits, above)
 
--- what is owed is below a number above the mark
-pub owed_below : (p : Places) (state : State) (n : ℕ) → placed p ≡ numbers state → All (λ m. m ≤ state.mark) (numbers state) → state.mark < n → AreBelow n p
-owed_below p state n same marked above =
-    below_of p n (subst (λ (l : List ℕ). All (λ m. m < n) l) (sym same)
-    (All-weaker (λ m. m ≤ state.mark) (λ m. m < n) (λ m h. omega arith) (numbers state) marked))
+-- a line of the source that is open, above its own
+pub import_next : (marks : Marks) (n : ℕ) → n < 2 ^ 64 → marks.import_mark < n
+    → IsNext marks (key_of (marks.closed + 1) n)
+import_next marks n fits above = inr (omega (arith, fits, above), omega (arith, fits))
 
--- no connection holds it once it is ready
-pub unheld_new : (p : Places) (n : ℕ) → AreBelow n p → IsUnheld (p ++ (n, Ready) ∷ []) n
-unheld_new [] n below = ap (λ (b : Bool). option_map is_held (cond b (Some Ready) None)) (eq-eqb n n refl)
-unheld_new (e ∷ p) n below =
-    let apart : (e.0 == n) ≡ false = ne_eqb e.0 n (omega (arith, below.0)) in
-    ap (λ (b : Bool). option_map is_held (cond b (Some e.1) (place_at (p ++ (n, Ready) ∷ []) n))) apart ∙ unheld_new p n below.1
-
--- taken out again it leaves the others
-pub gone_new : (p : Places) (n : ℕ) → AreBelow n p → gone (p ++ (n, Ready) ∷ []) n ≡ p
-gone_new [] n below = ap (λ (b : Bool). cond (cond b false true) ((n, Ready) ∷ []) []) (eq-eqb n n refl)
-gone_new (e ∷ p) n below =
-    let apart : (e.0 == n) ≡ false = ne_eqb e.0 n (omega (arith, below.0)) in
-    ap (λ (b : Bool). cond (cond b false true) (e ∷ gone (p ++ (n, Ready) ∷ []) n) (gone (p ++ (n, Ready) ∷ []) n)) apart ∙ ap (λ (l : Places). e ∷ l) (gone_new p n below.1)
+-- has no place yet
+pub absent_next : (p : Places) (state : State) (n : ℕ) → placed p ≡ keys state
+    → All (IsPast (marks_of state)) (keys state) → IsNext (marks_of state) n → place_at p n ≡ None
+absent_next p state n same past next =
+    absent_of p n (subst (λ (l : List ℕ). All (λ m. n ≡ m → ⊥) l) (sym same)
+    (next-apart (marks_of state) n (keys state) next past))
 
 -- ---- the ledger after the note that owes it
 
-pub placed_owed : (p : Places) (state : State) (n : ℕ) (token id : List ℕ) → placed p ≡ numbers state
-    → placed (p ++ (n, Ready) ∷ []) ≡ numbers (step state (Owe n token id))
-placed_owed p state n token id same =
-    map-append (λ (entry : ℕ × Place). entry.0) p ((n, Ready) ∷ [])
-    ∙ (ap (λ (l : List ℕ). l ++ n ∷ []) same
-    ∙ sym (map-append (λ (debt : Owing). debt.0) state.debts ((n, (token, id)) ∷ [])))
+pub placed_owed : (p : Places) (state : State) (n : ℕ) (token id : List ℕ) → placed p ≡ keys state
+    → placed (with_place p n Ready) ≡ keys (step state (Owe n token id))
+placed_owed p state n token id same = same_with p state.debts n Ready (token, id) same
 
-pub marked_owed : (state : State) (n : ℕ) (token id : List ℕ) → state.mark < n
-    → All (λ m. m ≤ state.mark) (numbers state)
-    → All (λ m. m ≤ (step state (Owe n token id)).mark) (numbers (step state (Owe n token id)))
-marked_owed state n token id above marked =
-    subst (λ (l : List ℕ). All (λ m. m ≤ n) l)
-    (sym (map-append (λ (debt : Owing). debt.0) state.debts ((n, (token, id)) ∷ [])))
-    (All-push (λ m. m ≤ n) (numbers state) n
-    (All-weaker (λ m. m ≤ state.mark) (λ m. m ≤ n) (λ m h. omega arith) (numbers state) marked) (omega arith))
+-- ---- why a ledger refuses a note
 
--- ---- why a ledger refuses it
+refused_note : (state : State) (note : Note) → (IsOld state note → ⊥) → (LacksDebt state note → ⊥)
+    → (fault : LedgerFault) → RefusesNote state note fault → fault ≡ CountFull
+refused_note state note new owed OldNumber refused = absurd (new refused)
+refused_note state note new owed NotOwed refused = absurd (owed refused)
+refused_note state note new owed CountFull refused = refl
+refused_note state note new owed NoLedgerMemory refused = absurd refused
 
-refused_owe : (state : State) (n : ℕ) (token id : List ℕ) → state.mark < n
-    → (fault : LedgerFault) → RefusesNote state (Owe n token id) fault → fault ≡ CountFull
-refused_owe state n token id above OldNumber refused = absurd (omega (arith, refused))
-refused_owe state n token id above NotOwed refused = absurd refused
-refused_owe state n token id above CountFull refused = refl
-refused_owe state n token id above NoLedgerMemory refused = absurd refused
-
-pub owe_fault : (state : State) (n : ℕ) (token id : List ℕ) → state.mark < n → (fault : TapeFault) → IsNoteFault fault
-    → ((other : LedgerFault) → fault ≡ RefusedNote other → RefusesNote state (Owe n token id) other)
+-- one that is not old, and lacks no debt, is refused for a count alone
+pub note_fault : (state : State) (note : Note) → (IsOld state note → ⊥) → (LacksDebt state note → ⊥)
+    → (fault : TapeFault) → IsNoteFault fault
+    → ((other : LedgerFault) → fault ≡ RefusedNote other → RefusesNote state note other)
     → IsOweFault (station_fault fault)
-owe_fault state n token id above (Damaged segment at) kind why = kind
-owe_fault state n token id above Disk kind why = kind
-owe_fault state n token id above Broken kind why = tt
-owe_fault state n token id above TapeFull kind why = kind
-owe_fault state n token id above GenerationFull kind why = kind
-owe_fault state n token id above PendingFull kind why = tt
-owe_fault state n token id above NoMemory kind why = tt
-owe_fault state n token id above (RefusedNote other) kind why =
-    refused_owe state n token id above other (why other refl)
+note_fault state note new owed (Damaged segment at) kind why = kind
+note_fault state note new owed Disk kind why = kind
+note_fault state note new owed Broken kind why = tt
+note_fault state note new owed TapeFull kind why = kind
+note_fault state note new owed GenerationFull kind why = kind
+note_fault state note new owed PendingFull kind why = tt
+note_fault state note new owed NoMemory kind why = tt
+note_fault state note new owed (RefusedNote other) kind why = refused_note state note new owed other (why other refl)
 
 -- what a station tells as the tape's is the tape's
 pub told_fault : (fault other : TapeFault) → station_fault fault ≡ TapeRefused other → fault ≡ other

@@ -1,11 +1,11 @@
 -- What is shed: the octets of what stays, and the numbers that are owed.
 use Rattle.std.proofs.Common.{◌≡◌, ◌==◌, ℕ, ◌+◌, ◌-◌, ◌<◌, ◌≤◌, Bool, true, false, cond, Option, Some, None, List, [], ◌∷◌, ◌++◌, length, take, refl, sym, ap, ◌∙◌, subst, inl, inr, arith}
 use Rattle.std.specs.Prelude.{◌⊎◌, find, filter, nat_le, nat_lt, option_map, unwrap_or, ◌||◌}
-use Rattle.std.specs.List.{All, Contains, list_any, slice_get}
+use Rattle.std.specs.List.{Contains, list_any, slice_get}
 use Rattle.std.proofs.lemmas.Bool.{cases_lt, eqb-true, eqb-false, eq-eqb, ne_eqb}
 use Rattle.std.proofs.lemmas.List.{length_push, take_all, take_more}
 use Rattle.std.proofs.lemmas.List.Sums.{sum_by-cons}
-use Rattle.ledger_core.specs.State.{State, IsOwed, Owing, after, line_octets, numbers, numbers_of, octets_of_debts, owed_bytes, step}
+use Rattle.ledger_core.specs.State.{State, IsOwed, Owing, after, line_octets, keys, keys_in, octets_of_debts, owed_bytes, step}
 use Rattle.ledger_core.specs.declared.note.Cause.TheVariants.{Limit}
 use Rattle.ledger_core.specs.declared.note.Note.TheVariants.{Drop}
 use Rattle.ledger_core.specs.declared.ledger.LedgerFault.TheVariants.{NotOwed}
@@ -19,7 +19,7 @@ use Rattle.peer_queue.specs.Place.{AreRising, Places, all_gone, gone, placed, un
 use Rattle.peer_queue.specs.Shed.{IsShedSet, IsWithin, dropped, owed_without}
 use Rattle.peer_queue.specs.ShedLaws.{front_of}
 use Rattle.peer_queue.specs.declared.limits.Limits.{Limits}
-use Rattle.peer_queue.proofs.Ends.{marked_ended, placed_ended}
+use Rattle.peer_queue.proofs.Ends.{placed_ended}
 use Rattle.peer_queue.proofs.Fronts.{Each, Rise, are_owed_all, at_none, at_some, each_contained, each_take, each_unheld, found_first, found_next, none_before, rise_placed, rise_take, rise_unheld}
 
 -- ---- the octets of what stays
@@ -49,7 +49,7 @@ stays_other : (set : List ℕ) (n : ℕ) (debt : Owing) → (n == debt.0) ≡ fa
 stays_other set n debt apart =
     ap (λ (b : Bool). cond b false true) (any_push (λ (m : ℕ). m == debt.0) set n ∙ ap (λ (b : Bool). cond b true (list_any (λ (m : ℕ). m == debt.0) set)) apart)
 
-absent : (debts : List Owing) (set : List ℕ) (n : ℕ) → Each (λ m. n < m) (numbers_of debts) → filter (stays (set ++ n ∷ [])) debts ≡ filter (stays set) debts
+absent : (debts : List Owing) (set : List ℕ) (n : ℕ) → Each (λ m. n < m) (keys_in debts) → filter (stays (set ++ n ∷ [])) debts ≡ filter (stays set) debts
 absent [] set n above = refl
 absent (d ∷ debts) set n above =
     ap (λ (b : Bool). cond b (d ∷ filter (stays (set ++ n ∷ [])) debts) (filter (stays (set ++ n ∷ [])) debts)) (stays_other set n d (ne_eqb n d.0 (omega (arith, above.0))))
@@ -64,7 +64,7 @@ kept_step true d xs ys v h = omega (arith, h, sum_by-cons octets_of d xs, sum_by
 kept_step false d xs ys v h = h
 
 -- the octets that stay fall by those of the debt of one more number
-octets_fall : (debts : List Owing) (set : List ℕ) (n : ℕ) → Rise (numbers_of debts) → list_any (λ (m : ℕ). m == n) set ≡ false
+octets_fall : (debts : List Owing) (set : List ℕ) (n : ℕ) → Rise (keys_in debts) → list_any (λ (m : ℕ). m == n) set ≡ false
     → octets_of_debts (filter (stays set) debts) ≡ octets_of_debts (filter (stays (set ++ n ∷ [])) debts) + octets_at debts n
 octets_fall [] set n rise new = refl
 octets_fall (d ∷ debts) set n rise new = on (octets_fall debts set n rise.1 new) (d.0 == n) refl
@@ -85,7 +85,7 @@ octets_fall (d ∷ debts) set n rise new = on (octets_fall debts set n rise.1 ne
         let found : octets_at (d ∷ debts) n ≡ octets_of d = ap (λ (b : Bool). unwrap_or (option_map octets_of (cond b (Some d) (find (λ (debt : Owing). debt.0 == n) debts))) 0) e in
         let left : octets_of_debts (cond (stays set d) (d ∷ xs) xs) ≡ octets_of_debts (d ∷ xs) = ap (λ (b : Bool). octets_of_debts (cond b (d ∷ xs) xs)) here in
         let right : octets_of_debts (cond (stays (set ++ n ∷ []) d) (d ∷ ys) ys) ≡ octets_of_debts ys = ap (λ (b : Bool). octets_of_debts (cond b (d ∷ ys) ys)) out in
-        let same : ys ≡ xs = absent debts set n (subst (λ (k : ℕ). Each (λ m. k < m) (numbers_of debts)) number rise.0) in
+        let same : ys ≡ xs = absent debts set n (subst (λ (k : ℕ). Each (λ m. k < m) (keys_in debts)) number rise.0) in
         omega (arith, left, right, found, sum_by-cons octets_of d xs, ap (λ (l : List Owing). octets_of_debts l) same)
     on later false e =
         let apart : (n == d.0) ≡ false = ne_eqb n d.0 (λ same. eqb-false d.0 n e (sym same)) in
@@ -118,7 +118,7 @@ front_none limit state places next owed found is = record {
   shortest = λ fewer less. absurd (omega arith);
 }
 
-pub front_more : (limit : ℕ) (state : State) (places : Places) (set : List ℕ) (n : ℕ) (next : Option ℕ) (owed owed' : ℕ) → AreRising places → placed places ≡ numbers state → IsFront limit state places set (Some n) owed → limit < owed
+pub front_more : (limit : ℕ) (state : State) (places : Places) (set : List ℕ) (n : ℕ) (next : Option ℕ) (owed owed' : ℕ) → AreRising places → placed places ≡ keys state → IsFront limit state places set (Some n) owed → limit < owed
     → next ≡ find (λ m. nat_lt n m) (unheld places) → owed' ≡ owed - octets_at state.debts n → IsFront limit state places (set ++ n ∷ []) next owed'
 front_more limit state places set n next owed owed' rising same is above found fall =
     let U = unheld places in
@@ -158,21 +158,17 @@ front_all limits state places set next owed over is ends = inr (
 -- ---- dropped
 
 -- the numbers that have a place stay the ledger's
-pub placed_dropped : (p : Places) (state : State) (l : List ℕ) → placed p ≡ numbers state → placed (all_gone p l) ≡ numbers (after state (dropped l))
+pub placed_dropped : (p : Places) (state : State) (l : List ℕ) → placed p ≡ keys state → placed (all_gone p l) ≡ keys (after state (dropped l))
 placed_dropped p state [] same = same
 placed_dropped p state (n ∷ l) same = placed_dropped (gone p n) (step state (Drop n Limit)) l (placed_ended p state (Drop n Limit) n refl same)
 
-pub marked_dropped : (state : State) (l : List ℕ) → All (λ m. m ≤ state.mark) (numbers state) → All (λ m. m ≤ (after state (dropped l)).mark) (numbers (after state (dropped l)))
-marked_dropped state [] marked = marked
-marked_dropped state (n ∷ l) marked = marked_dropped (step state (Drop n Limit)) l (marked_ended state (Drop n Limit) n refl marked)
-
 -- a front of them is owed, each once
-front_owed : (p : Places) (state : State) (k : ℕ) → AreRising p → placed p ≡ numbers state → AreOwed state [] (take k (unheld p))
+front_owed : (p : Places) (state : State) (k : ℕ) → AreRising p → placed p ≡ keys state → AreOwed state [] (take k (unheld p))
 front_owed p state k rising same =
     are_owed_all state (take k (unheld p)) (rise_take k (unheld p) (rise_unheld p rising))
     (each_take (IsOwed state) k (unheld p) (subst (λ (l : List ℕ). Each (λ n. Contains l n) (unheld p)) same (each_unheld (Contains (placed p)) p (each_contained (placed p)))))
 
-pub shed_owed : (limits : Limits) (state : State) (places : Places) (set : List ℕ) (k : ℕ) → AreRising places → placed places ≡ numbers state → IsShedSet limits state places set → AreOwed state [] (take k set)
+pub shed_owed : (limits : Limits) (state : State) (places : Places) (set : List ℕ) (k : ℕ) → AreRising places → placed places ≡ keys state → IsShedSet limits state places set → AreOwed state [] (take k set)
 shed_owed limits state places set k rising same is =
     let front = front_of limits state places set k is in
     subst (λ (l : List ℕ). AreOwed state [] l) (sym front.1) (front_owed places state front.0 rising same)

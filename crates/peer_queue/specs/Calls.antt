@@ -1,7 +1,7 @@
 -- What the calls of a station do, and when they are refused.
 use Rattle.std.specs.Prelude.{◌≡◌, ◌≢◌, ◌⊎◌, ◌+◌, ◌-◌, ◌^◌, ◌<◌, ◌↔◌, ℕ, true, false, length, IsErr, IsErrOf, IsSome, IfErr, OnErr, OnOk, Result}
 use Rattle.disk_model.specs.declared.Disk.{Ghosts}
-use Rattle.ledger_core.specs.State.{IsOwed, Overflows, after, numbers}
+use Rattle.ledger_core.specs.State.{IsLegal, IsOwed, Overflows, after, keys}
 use Rattle.ledger_core.specs.declared.ledger.LedgerFault.TheVariants.{CountFull}
 use Rattle.ledger_core.specs.declared.note.Cause.TheVariants.{Deferred}
 use Rattle.ledger_core.specs.declared.note.Note.{Note}
@@ -14,7 +14,8 @@ use Rattle.peer_queue.specs.Faults.{IsClaimFault, IsFlushFault, IsOweFault, IsRo
 use Rattle.peer_queue.specs.Place.{IsHeldBy, Later, all_gone, all_ready, deferred_until, gone, least_candidate, moved}
 use Rattle.peer_queue.specs.Shed.{dropped}
 use Rattle.peer_queue.specs.Station.{IsShed}
-use Rattle.peer_queue.specs.Words.{IsBroken, IsRead, IsSame, IsSameTape, Notes, StandsFor, deferred_number, generation_of, ledger_of, limits_of, pending_of, places_of}
+use Rattle.peer_queue.specs.Words.{IsBroken, IsRead, IsSame, IsSameTape, Notes, StandsFor}
+use Rattle.peer_queue.specs.Words.{closing, deferred_key, generation_of, ledger_of, limits_of, pending_of, places_of}
 use Rattle.peer_queue.specs.declared.fault.StationFault.{StationFault}
 use Rattle.peer_queue.specs.declared.fault.StationFault.TheVariants.{Broken, NoMemory, Tape}
 use Rattle.peer_queue.specs.declared.limits.Limits.{Limits}
@@ -24,7 +25,7 @@ use Rattle.peer_queue.specs.declared.station.Station.{Station}
 module _ {D : Type 0} {g : Ghosts D} where
   -- a station as it is opened: all that it owes is ready, it works, nothing pends, and it has the limits that were given
   pub record IsFresh (given : Limits) (station : Station D g) : Type 0 where
-    pub ready : places_of station ≡ all_ready (numbers (ledger_of station))
+    pub ready : places_of station ≡ all_ready (keys (ledger_of station))
     pub works : IsBroken station → ⊥
     pub none_pends : pending_of station ≡ 0
     pub limits : limits_of station ≡ given
@@ -58,18 +59,31 @@ module _ {D : Type 0} {g : Ghosts D} where
     pub works : OnOk result (IsBroken new → ⊥)
     pub kinds : IfErr result IsRotateFault
 
-  -- When it is refused to owe this number by this note, in the order in which it is tried; then nothing has changed.
-  pub record RefusesOwe {T : Type 0} (number : ℕ) (note : Note) (old new : Station D g) (result : Result T StationFault)
-      : Type 0 where
+  -- When it is refused to owe the line of this number, of a source that was noted up to this mark, by this note, in the
+  -- order in which it is tried; then nothing has changed.
+  pub record RefusesOwe {T : Type 0} (mark number : ℕ) (note : Note) (old new : Station D g)
+      (result : Result T StationFault) : Type 0 where
     pub broken : IsErrOf result Broken ↔ IsBroken old
     -- these two one way, since the station itself may be refused memory before either is looked at
     pub count_full : IsErrOf result (Tape (RefusedNote CountFull)) → Overflows (ledger_of old) note
     pub pending_full : IsErrOf result (Tape PendingFull)
-        → ((ledger_of old).mark < number) × (pending_of old ≡ most_pending) × (Overflows (ledger_of old) note → ⊥)
-    pub no_memory : IsErrOf result NoMemory → (IsBroken old → ⊥) × ((ledger_of old).mark < number)
+        → (mark < number) × (pending_of old ≡ most_pending) × (Overflows (ledger_of old) note → ⊥)
+    pub no_memory : IsErrOf result NoMemory → (IsBroken old → ⊥) × (mark < number)
     -- where a count would overflow, or no more may pend of a number that is new, it is never Ok
-    pub never : Overflows (ledger_of old) note ⊎ ((ledger_of old).mark < number) × (pending_of old ≡ most_pending)
+    pub never : Overflows (ledger_of old) note ⊎ (mark < number) × (pending_of old ≡ most_pending)
         → IsErr result
+    pub kinds : IfErr result IsOweFault
+    pub unchanged : OnErr result (IsSame old new)
+
+  -- When it is refused to close the source that is open, in the order in which it is tried; then nothing has changed.
+  pub record RefusesClose (old new : Station D g) (result : Result ℕ StationFault) : Type 0 where
+    pub broken : IsErrOf result Broken ↔ IsBroken old
+    pub count_full : IsErrOf result (Tape (RefusedNote CountFull))
+        ↔ ((IsBroken old → ⊥) × Overflows (ledger_of old) (closing old))
+    pub pending_full : IsErrOf result (Tape PendingFull)
+        ↔ ((IsBroken old → ⊥) × (Overflows (ledger_of old) (closing old) → ⊥) × (pending_of old ≡ most_pending))
+    pub no_memory : IsErrOf result NoMemory
+        → (IsBroken old → ⊥) × IsLegal (ledger_of old) (closing old) × (pending_of old < most_pending)
     pub kinds : IfErr result IsOweFault
     pub unchanged : OnErr result (IsSame old new)
 
@@ -90,16 +104,16 @@ module _ {D : Type 0} {g : Ghosts D} where
 
   -- a debt that the connection held was deferred at this moment: it waits, or is dropped where deferred debts are
   pub record Defers (connection : ℕ) (deferral : Deferral) (now : ℕ) (old new : Station D g) : Type 0 where
-    pub held : IsHeldBy (places_of old) connection (deferred_number deferral)
+    pub held : IsHeldBy (places_of old) connection (deferred_key deferral)
     pub later : (limits_of old).drop_deferred ≡ false → IsSameTape old new
-        × (places_of new ≡ moved (places_of old) (deferred_number deferral) (Later (deferred_until now)))
-    pub dropped : (limits_of old).drop_deferred ≡ true → Notes old new (Drop (deferred_number deferral) Deferred)
-        × (places_of new ≡ gone (places_of old) (deferred_number deferral))
+        × (places_of new ≡ moved (places_of old) (deferred_key deferral) (Later (deferred_until now)))
+    pub dropped : (limits_of old).drop_deferred ≡ true → Notes old new (Drop (deferred_key deferral) Deferred)
+        × (places_of new ≡ gone (places_of old) (deferred_key deferral))
 
   -- these debts were shed: each is dropped by a note, which pends, and has no place any more
   pub record Sheds (old new : Station D g) (shed : Shed) : Type 0 where
     pub set : IsShed (limits_of old) (ledger_of old) (places_of old) (pending_of old) shed
-    pub notes : (h : History) → StandsFor old h → StandsFor new (noted_all h (dropped shed.numbers.items))
-    pub ledger : ledger_of new ≡ after (ledger_of old) (dropped shed.numbers.items)
-    pub places : places_of new ≡ all_gone (places_of old) shed.numbers.items
-    pub pends : pending_of new ≡ pending_of old + length shed.numbers.items
+    pub notes : (h : History) → StandsFor old h → StandsFor new (noted_all h (dropped shed.keys.items))
+    pub ledger : ledger_of new ≡ after (ledger_of old) (dropped shed.keys.items)
+    pub places : places_of new ≡ all_gone (places_of old) shed.keys.items
+    pub pends : pending_of new ≡ pending_of old + length shed.keys.items

@@ -1,6 +1,9 @@
--- Where the debts of a peer are (profile). Moments are seconds of the caller's clock, connections are told by their numbers.
+-- Where the debts of a peer are (profile). Moments are seconds of the caller's clock, connections are told by their
+-- numbers. A debt is told by its key, which is one number (`ledger_core`, `specs/Keys.antt`).
 use Rattle.std.specs.Prelude.{◌≡◌, ◌==◌, ◌+◌, ◌<◌, ◌^◌, ◌-◌, ℕ, zero, suc, Bool, true, false, nat_le, min, Option, Some, option_map, if◌then◌else◌, List, [], ◌∷◌, length, map, find, filter}
+use Rattle.std.specs.BTreeMap.{insert_entry}
 use Rattle.std.specs.Map.{lookup}
+use Rattle.std.specs.Ordering.{nat_cmp}
 
 -- a debt waits to be claimed, is held by one connection, or waits until a moment
 pub data Place : Type 0 where
@@ -32,6 +35,10 @@ IsHeldBy places connection number = place_at places number ≡ Some (Held connec
 -- all of these are ready
 abbrev pub all_ready : List ℕ → Places
 all_ready numbers = map (λ (number : ℕ). (number, Ready)) numbers
+
+-- the places and one more, in its place by its key
+abbrev pub with_place : Places → ℕ → Place → Places
+with_place places key place = insert_entry nat_cmp places key place
 
 -- the number has this place now, and every other keeps its own
 abbrev pub moved : Places → ℕ → Place → Places
@@ -98,11 +105,6 @@ AreUnheld places (number ∷ numbers) = IsUnheld places number × AreUnheld (gon
 -- the numbers that no connection holds, rising
 abbrev pub unheld : Places → List ℕ
 unheld places = map (λ (entry : ℕ × Place). entry.0) (filter (λ (entry : ℕ × Place). if is_held entry.1 then false else true) places)
-
--- each number is below this one
-abbrev pub AreBelow : ℕ → Places → Type 0
-AreBelow number [] = Unit {0}
-AreBelow number (entry ∷ rest) = (entry.0 < number) × AreBelow number rest
 
 -- each number is above this one
 abbrev pub AreAbove : ℕ → Places → Type 0

@@ -15,9 +15,9 @@ use Rattle.peer_queue.specs.declared.settled.Settled.{Settled}
 use Rattle.peer_queue.specs.declared.settled.Settled.TheVariants.{Answered, Dropped, Later, Ready}
 use Rattle.peer_queue.specs.declared.station.Station.{Station}
 
--- the number of the debt that an outcome is about
-abbrev pub number_in : Outcome → ℕ
-number_in outcome = (debt_in outcome).0
+-- the key of the debt that an outcome is about
+abbrev pub key_in : Outcome → ℕ
+key_in outcome = (debt_in outcome).0
 
 -- what becomes of a deferred debt: it is dropped, where deferred debts are, and waits else
 abbrev pub deferred_as : Bool → ℕ → Settled
@@ -61,4 +61,4 @@ module _ {D : Type 0} {g : Ghosts D} where
   -- what an outcome, told at this moment, makes of a station
   abbrev pub Finishes : ℕ → ℕ → Outcome → Station D g → Station D g → Type 0
   Finishes connection now outcome old new =
-      Settles connection (number_in outcome) (settled_by (limits_of old) now outcome) old new
+      Settles connection (key_in outcome) (settled_by (limits_of old) now outcome) old new

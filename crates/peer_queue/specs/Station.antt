@@ -11,5 +11,5 @@ use Rattle.peer_queue.specs.declared.limits.Shed.{Shed}
 pub record IsShed (limits : Limits) (state : State) (places : Places) (pending : ℕ) (shed : Shed) : Type 0 where
   pub set : List ℕ
   pub is_set : IsShedSet limits state places set
-  pub numbers : shed.numbers.items ≡ take (most_pending - pending) set
+  pub keys : shed.keys.items ≡ take (most_pending - pending) set
   pub more : (shed.more ≡ true) ↔ (most_pending < pending + length set)

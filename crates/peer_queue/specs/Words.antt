@@ -2,8 +2,9 @@
 use Rattle.std.specs.Prelude.{◌≡◌, ◌+◌, ◌↔◌, ℕ, Result, IsErrAnd}
 use Rattle.disk_model.specs.declared.Disk.{Ghosts}
 use Rattle.ledger_core.specs.declared.note.Note.{Note}
-use Rattle.ledger_core.specs.declared.note.Note.TheVariants.{Owe, Final, Drop, Seen}
+use Rattle.ledger_core.specs.declared.note.Note.TheVariants.{Owe, Final, Drop, Seen, Closed}
 use Rattle.ledger_core.specs.declared.note.FinalCode.{FinalCode}
+use Rattle.ledger_core.specs.Keys.{key_of}
 use Rattle.ledger_core.specs.State.{State, IsLegal, step}
 use Rattle.recovery.specs.Notes.{History, most_pending, noted}
 use Rattle.recovery.specs.Image.{Log}
@@ -18,17 +19,17 @@ use Rattle.peer_queue.specs.declared.fault.StationFault.TheVariants.{NotHeld, Br
 use Rattle.peer_queue.specs.declared.station.Station.{Station}
 use Rattle.peer_queue.specs.declared.limits.Limits.{Limits}
 
--- the number that a verdict answers
-abbrev pub number_of : Verdict → ℕ
-number_of verdict = verdict.debt.0
+-- the key of the debt that a verdict answers
+abbrev pub answered_key : Verdict → ℕ
+answered_key verdict = verdict.debt.0
 
 -- the final answer of a verdict
 abbrev pub code_of : Verdict → FinalCode
 code_of verdict = verdict.code
 
--- the number that is deferred
-abbrev pub deferred_number : Deferral → ℕ
-deferred_number deferral = deferral.debt.0
+-- the key of the debt that is deferred
+abbrev pub deferred_key : Deferral → ℕ
+deferred_key deferral = deferral.debt.0
 
 -- the call was refused for this fault, and handed something back with it
 abbrev pub Tells : {A B : Type 0} → Result A (B × StationFault) → StationFault → Type 0
@@ -40,6 +41,7 @@ IsEnd (Owe other token id) number = ⊥
 IsEnd (Final other code) number = other ≡ number
 IsEnd (Drop other cause) number = other ≡ number
 IsEnd (Seen other) number = ⊥
+IsEnd (Closed source) number = ⊥
 
 module _ {D : Type 0} {g : Ghosts D} where
   -- the tape of a station
@@ -77,6 +79,14 @@ module _ {D : Type 0} {g : Ghosts D} where
   -- the ledger, pending notes included
   abbrev pub ledger_of : Station D g → State
   ledger_of station = tape_ledger station.tape
+
+  -- the key of the line of this number of the source that is open
+  abbrev pub open_key : Station D g → ℕ → ℕ
+  open_key station number = key_of ((ledger_of station).closed + 1) number
+
+  -- the note that closes the source that is open
+  abbrev pub closing : Station D g → Note
+  closing station = Closed ((ledger_of station).closed + 1)
 
   -- how many notes pend
   abbrev pub pending_of : Station D g → ℕ

@@ -11,7 +11,7 @@ use thiserror::Error;
 /// station; one of `claim` or `debt` does not.
 #[derive(Clone, Copy, Debug, PartialEq, Eq, Error)]
 pub enum StationFault {
-    /// That connection does not hold that number.
+    /// That connection does not hold that debt.
     #[error("NotHeld")]
     NotHeld,
     /// A `flush` or a `rotate` failed on a disk before.

@@ -1,7 +1,7 @@
 //! Laws of stations, each the contract of a function that does what it is about.
 ghost use Rattle.std.specs.Prelude.{◌≡◌, ◌≢◌, ◌↔◌, ◌≤◌, ◌+◌, ◌-◌, ◌^◌, ℕ, length};
 ghost use Rattle.std.specs.Prelude.{IfErr, IfOk};
-ghost use Rattle.ledger_core.specs.State.{numbers};
+ghost use Rattle.ledger_core.specs.State.{keys};
 ghost use Rattle.recovery.specs.Image.{EachTape, Survives};
 ghost use Rattle.recovery.specs.Notes.{History, recovered};
 ghost use Rattle.recovery.specs.Words.{OneHasRisen};
@@ -12,15 +12,16 @@ ghost use Rattle.peer_queue.specs.Words.{places_of};
 use crate::fault::station_fault;
 use crate::{Station, StationFault};
 use disk_model::Disk;
+use ledger_core::Key;
 use recovery::{RefusedTape, TapeFault};
 use std::alloc::Global;
 
-/// Each owed number has one place, and no other number has any.
+/// Each key that is owed has one place, and no other key has any.
 pub fn each_number_has_one_place<D: Disk>(station: &Station<D>)
-    ensures placed { placed (places_of station.now) ≡ numbers (ledger_of station.now) }
+    ensures placed { placed (places_of station.now) ≡ keys (ledger_of station.now) }
     ensures rising { AreRising (places_of station.now) }
 {
-    let _ = station.index.unheld_from(0);
+    let _ = station.index.unheld_from(Key::new(0, 0));
 }
 
 /// A station whose flush answered Ok owes the same once its disks are opened again, and all of it is ready.
@@ -37,7 +38,7 @@ pub fn reopened<D: Disk>(
     ensures ledger { (h : History) → StandsFor station h
         → IfOk result (λ opened. ledger_of opened ≡ ledger_of station) }
     ensures ready { (h : History) → StandsFor station h
-        → IfOk result (λ opened. places_of opened ≡ all_ready (numbers (ledger_of station))) }
+        → IfOk result (λ opened. places_of opened ≡ all_ready (keys (ledger_of station))) }
     ensures fresh { IfOk result (λ opened. (IsBroken opened → ⊥) × (pending_of opened ≡ 0)
         × (limits_of opened ≡ limits_of station)) }
     ensures broken { Tells result StationFault.Broken ↔ IsBroken station }

@@ -19,7 +19,7 @@ mod wait;
 pub use fault::StationFault;
 pub use laws::{each_number_has_one_place, reopened};
 pub use limits::{Limits, Owed, Shed};
-pub use settled::{Settled, deferred_until, number_in};
+pub use settled::{Settled, deferred_until, key_in};
 pub use station::Station;
 /// Memory was refused.
 pub use std::alloc::AllocError as NoMemory;

@@ -1,4 +1,5 @@
 // The limits of a peer's backlog.
+use ledger_core::Key;
 
 /// The limits of a peer's backlog (innfeed.conf(5): backlog-limit, backlog-limit-highwater, drop-deferred). Octets
 /// count as in [`ledger_core::Totals::owed_bytes`].
@@ -15,8 +16,8 @@ pub struct Limits {
 /// What was shed.
 #[derive(Debug, Drop)]
 pub struct Shed {
-    /// The numbers that were dropped, rising.
-    pub numbers: Vec<u64>,
+    /// The keys that were dropped, rising.
+    pub keys: Vec<Key>,
     /// Whether more is to be shed, for which there was no room among the notes that pend.
     pub more: bool,
 }
@@ -26,6 +27,6 @@ pub struct Shed {
 pub enum Owed {
     /// It is owed from now on.
     New,
-    /// Its number is not above the station's mark: it is owed, or was.
+    /// Its number is not above the mark of its source: it is owed, or was.
     Already,
 }

@@ -1,31 +1,32 @@
 // Where each debt is.
-ghost use Rattle.std.specs.Prelude.{◌≡◌, ◌↔◌, ◌++◌, [], ◌∷◌, ℕ, IfNone, IfOk, IfSome, IsTrue};
+ghost use Rattle.std.specs.Prelude.{◌≡◌, ◌↔◌, [], ℕ, None, IfNone, IfOk, IfSome, IsTrue};
 ghost use Rattle.std.specs.Prelude.{OnErr, OnOk, ◌<◌, ◌^◌, nat_le, find, length};
 ghost use Rattle.std.specs.List.{All};
 ghost use Rattle.std.specs.List.Sorted.{IsStrictlyIncreasing};
-ghost use Rattle.peer_queue.specs.Place.{AreBelow, AreRising, AreUnheld, Held, IsHeldBy, IsLater, IsUnheld, Ready};
-ghost use Rattle.peer_queue.specs.Place.{all_gone, all_ready, gone, held_count, least_candidate, moved, released};
-ghost use Rattle.peer_queue.specs.Place.{unheld};
+ghost use Rattle.peer_queue.specs.Place.{AreRising, AreUnheld, Held, IsHeldBy, IsLater, IsUnheld, Ready};
+ghost use Rattle.peer_queue.specs.Place.{all_gone, all_ready, gone, held_count, least_candidate, moved, place_at};
+ghost use Rattle.peer_queue.specs.Place.{released, unheld, with_place};
 ghost use Rattle.peer_queue.specs.Index.{place_for};
 
 use crate::wait::Wait;
 use conn_core::CxnId;
 use deferral::{Later, after_put, after_remove, after_set};
+use ledger_core::Key;
 use std::alloc::{AllocError, Global};
 use std::collections::{BTreeMap, BTreeSet};
 use std::marker::Model;
 
-/// The place of each number, found by the number, by its moment, and by who holds it.
+/// The place of each key, found by the key, by its moment, and by who holds it.
 ///
-/// Contracts see it as the list of the numbers with their places, by rising numbers.
+/// Contracts see it as the list of the keys with their places, by rising keys.
 #[derive(Drop)]
 pub(crate) struct PlaceIndex {
-    // Each number, with the moment that it is due at: that of its wait, and none where a connection holds it.
+    // Each key, with the moment that it is due at: that of its wait, and none where a connection holds it.
     agenda: Later,
-    // The connection that holds a number.
-    holders: BTreeMap<u64, u64>,
-    // What a connection holds: pairs of connection and number.
-    held: BTreeSet<(u64, u64)>,
+    // The connection that holds a key.
+    holders: BTreeMap<Key, u64>,
+    // What a connection holds: pairs of connection and key.
+    held: BTreeSet<(u64, Key)>,
 }
 
 impl Model for PlaceIndex {
@@ -41,11 +42,11 @@ impl Model for PlaceIndex {
     ghost view = { λ index. places_by (get nat_cmp index.holders) index.agenda };
 
     ghost invariant = { λ index. IsKept index.agenda (get nat_cmp index.holders)
-        (λ connection number. contains pair_cmp index.held (connection, number)) };
+        (λ connection key. contains pair_cmp index.held (connection, key)) };
 }
 
 impl PlaceIndex {
-    /// No number has a place.
+    /// No key has a place.
     pub fn new(alloc: Global) -> Self
         ensures { result ≡ [] }
     {
@@ -56,108 +57,108 @@ impl PlaceIndex {
         }
     }
 
-    /// A number above all others is ready.
+    /// A key that has no place is ready.
     ///
     /// # Errors
     /// `NoMemory` where memory was refused; nothing changes.
-    pub fn add(&mut self, number: u64) -> Result<(), AllocError>
-        requires { AreBelow number self.old }
-        ensures ok { OnOk result (self.new ≡ self.old ++ (number, Ready) ∷ []) }
+    pub fn add(&mut self, key: Key) -> Result<(), AllocError>
+        requires { place_at self.old key ≡ None }
+        ensures ok { OnOk result (self.new ≡ with_place self.old key Ready) }
         ensures unchanged { OnErr result (self.new ≡ self.old) }
     {
-        // The numbers still rise.
+        // The keys still rise.
         after_put();
-        self.agenda.put(number, Wait::Ready.due_at())
+        self.agenda.put(key, Wait::Ready.due_at())
     }
 
-    /// The least number that is ready, or later until a moment at or before now.
-    pub fn candidate(&self, now: u64) -> Option<u64>
+    /// The least key that is ready, or later until a moment at or before now.
+    pub fn candidate(&self, now: u64) -> Option<Key>
         ensures least { result ≡ least_candidate now self.now }
-        ensures unheld { IfSome result (λ number. IsUnheld self.now number) }
+        ensures unheld { IfSome result (λ key. IsUnheld self.now key) }
     {
         let _ = &self.agenda;
         self.agenda.due_least(now)
     }
 
-    /// Whether this connection holds this number.
-    pub fn is_held_by(&self, connection: CxnId, number: u64) -> bool
-        ensures { IsTrue result ↔ IsHeldBy self.now connection.0 number }
+    /// Whether this connection holds this key.
+    pub fn is_held_by(&self, connection: CxnId, key: Key) -> bool
+        ensures { IsTrue result ↔ IsHeldBy self.now connection.0 key }
     {
-        match self.holders.get(&number) {
+        match self.holders.get(&key) {
             Some(holder) => *holder == connection.0,
             None => false,
         }
     }
 
-    /// Has a connection hold a number that none holds.
+    /// Has a connection hold a key that none holds.
     ///
     /// # Errors
     /// `NoMemory` where memory was refused; nothing changes.
-    pub fn hold(&mut self, connection: CxnId, number: u64) -> Result<(), AllocError>
-        requires { IsUnheld self.old number }
-        ensures ok { OnOk result (self.new ≡ moved self.old number (Held connection.0)) }
+    pub fn hold(&mut self, connection: CxnId, key: Key) -> Result<(), AllocError>
+        requires { IsUnheld self.old key }
+        ensures ok { OnOk result (self.new ≡ moved self.old key (Held connection.0)) }
         ensures unchanged { OnErr result (self.new ≡ self.old) }
     {
-        // The same numbers wait, and they rise.
+        // The same keys wait, and they rise.
         after_set();
-        self.held.insert((connection.0, number))?;
-        if self.holders.insert(number, connection.0).is_err() {
-            self.held.remove(&(connection.0, number));
+        self.held.insert((connection.0, key))?;
+        if self.holders.insert(key, connection.0).is_err() {
+            self.held.remove(&(connection.0, key));
             return Err(AllocError);
         }
-        self.agenda.set(number, None);
+        self.agenda.set(key, None);
         Ok(())
     }
 
-    /// Has a number that this connection holds wait for this. Takes no memory.
-    pub fn give_up(&mut self, connection: CxnId, number: u64, wait: Wait)
-        requires { IsHeldBy self.old connection.0 number }
-        ensures { self.new ≡ moved self.old number (place_for wait) }
+    /// Has a key that this connection holds wait for this. Takes no memory.
+    pub fn give_up(&mut self, connection: CxnId, key: Key, wait: Wait)
+        requires { IsHeldBy self.old connection.0 key }
+        ensures { self.new ≡ moved self.old key (place_for wait) }
     {
-        self.held.remove(&(connection.0, number));
-        self.holders.remove(&number);
-        // The same numbers wait, and they rise.
+        self.held.remove(&(connection.0, key));
+        self.holders.remove(&key);
+        // The same keys wait, and they rise.
         after_set();
-        self.agenda.set(number, Some(wait.due_at()));
+        self.agenda.set(key, Some(wait.due_at()));
     }
 
-    /// Takes out a number that no connection holds.
-    pub fn remove(&mut self, number: u64)
-        requires { IsUnheld self.old number }
-        ensures { self.new ≡ gone self.old number }
+    /// Takes out a key that no connection holds.
+    pub fn remove(&mut self, key: Key)
+        requires { IsUnheld self.old key }
+        ensures { self.new ≡ gone self.old key }
     {
         // The others wait as before, and they rise.
         after_remove();
-        self.agenda.remove(number);
+        self.agenda.remove(key);
     }
 
-    /// Takes out a number that this connection holds.
-    pub fn end(&mut self, connection: CxnId, number: u64)
-        requires { IsHeldBy self.old connection.0 number }
-        ensures { self.new ≡ gone self.old number }
+    /// Takes out a key that this connection holds.
+    pub fn end(&mut self, connection: CxnId, key: Key)
+        requires { IsHeldBy self.old connection.0 key }
+        ensures { self.new ≡ gone self.old key }
     {
-        self.held.remove(&(connection.0, number));
-        self.holders.remove(&number);
+        self.held.remove(&(connection.0, key));
+        self.holders.remove(&key);
         // The others wait as before, and they rise.
         after_remove();
-        self.agenda.remove(number);
+        self.agenda.remove(key);
     }
 
-    // A number that this connection holds, where it holds one.
-    fn first_held_by(&self, connection: CxnId) -> Option<u64>
-        ensures some { IfSome result (λ number. IsHeldBy self.now connection.0 number) }
-        ensures none { IfNone result ((number : ℕ) → IsHeldBy self.now connection.0 number → ⊥) }
+    // A key that this connection holds, where it holds one.
+    fn first_held_by(&self, connection: CxnId) -> Option<Key>
+        ensures some { IfSome result (λ key. IsHeldBy self.now connection.0 key) }
+        ensures none { IfNone result ((key : ℕ) → IsHeldBy self.now connection.0 key → ⊥) }
         ensures rising { AreRising self.now }
     {
-        let (holder, number) = self.held.range((connection.0, 0)..).next()?;
+        let (holder, key) = self.held.range((connection.0, Key::new(0, 0))..).next()?;
         if *holder == connection.0 {
-            Some(*number)
+            Some(*key)
         } else {
             None
         }
     }
 
-    /// Makes all that this connection holds ready, and counts it. Takes no memory. Logarithmic for each number that it
+    /// Makes all that this connection holds ready, and counts it. Takes no memory. Logarithmic for each key that it
     /// holds.
     pub fn release(&mut self, connection: CxnId) -> u64
         requires { length self.old < 2 ^ 64 }
@@ -165,22 +166,22 @@ impl PlaceIndex {
         ensures places { self.new ≡ released connection.0 self.old }
     {
         let mut count = 0;
-        while let Some(number) = self.first_held_by(connection) {
-            self.give_up(connection, number, Wait::Ready);
+        while let Some(key) = self.first_held_by(connection) {
+            self.give_up(connection, key, Wait::Ready);
             count += 1;
         }
         count
     }
 
-    /// The least number at or above the first that no connection holds.
-    pub fn unheld_from(&self, first: u64) -> Option<u64>
-        ensures first { result ≡ find (λ number. nat_le first number) (unheld self.now) }
+    /// The least key at or above the first that no connection holds.
+    pub fn unheld_from(&self, first: Key) -> Option<Key>
+        ensures first { result ≡ find (λ key. nat_le first key) (unheld self.now) }
         ensures rising { AreRising self.now }
     {
         self.agenda.due_from(first, u64::MAX)
     }
 
-    /// Whether each number waits for a moment.
+    /// Whether each key waits for a moment.
     pub fn all_later(&self) -> bool
         ensures { IsTrue result ↔ All (λ entry. IsLater entry.1) self.now }
     {
@@ -190,25 +191,25 @@ impl PlaceIndex {
         }
     }
 
-    /// Takes out numbers that no connection holds.
-    pub fn remove_all(&mut self, numbers: &[u64])
-        requires { AreUnheld self.old numbers.now }
-        ensures { self.new ≡ all_gone self.old numbers.now }
+    /// Takes out keys that no connection holds.
+    pub fn remove_all(&mut self, keys: &[Key])
+        requires { AreUnheld self.old keys.now }
+        ensures { self.new ≡ all_gone self.old keys.now }
     {
-        for number in numbers {
-            self.remove(*number);
+        for key in keys {
+            self.remove(*key);
         }
     }
 }
 
-// The index in which all of these numbers are ready.
-pub(crate) fn all_ready_of(alloc: Global, numbers: &[u64]) -> Result<PlaceIndex, AllocError>
-    requires { IsStrictlyIncreasing numbers.now }
-    ensures { IfOk result (λ index. index ≡ all_ready numbers.now) }
+// The index in which all of these keys are ready.
+pub(crate) fn all_ready_of(alloc: Global, keys: &[Key]) -> Result<PlaceIndex, AllocError>
+    requires { IsStrictlyIncreasing keys.now }
+    ensures { IfOk result (λ index. index ≡ all_ready keys.now) }
 {
     let mut index = PlaceIndex::new(alloc);
-    for number in numbers {
-        index.add(*number)?;
+    for key in keys {
+        index.add(*key)?;
     }
     Ok(index)
 }

@@ -1,11 +1,11 @@
 // What becomes of a debt that a connection held.
 ghost use Rattle.std.specs.Prelude.{◌≡◌, ℕ};
 ghost use Rattle.peer_queue.specs.Place.{deferred_until};
-ghost use Rattle.peer_queue.specs.Settled.{deferred_as, number_in, settled_by};
+ghost use Rattle.peer_queue.specs.Settled.{deferred_as, key_in, settled_by};
 
 use crate::Limits;
 use conn_core::Outcome;
-use ledger_core::{Cause, FinalCode};
+use ledger_core::{Cause, FinalCode, Key};
 
 /// What became of a debt by the outcome that its connection told.
 #[derive(Clone, Copy, Debug, PartialEq, Eq)]
@@ -45,15 +45,15 @@ impl Settled {
     }
 }
 
-/// The number of the debt that an outcome is about.
-pub fn number_in(outcome: &Outcome) -> u64
-    ensures { result ≡ number_in outcome.now }
+/// The key of the debt that an outcome is about.
+pub fn key_in(outcome: &Outcome) -> Key
+    ensures { result ≡ key_in outcome.now }
 {
     match outcome {
-        Outcome::Final(verdict) => verdict.debt().number(),
-        Outcome::Deferred(deferral) => deferral.debt().number(),
-        Outcome::Lost(debt, _) => debt.number(),
-        Outcome::Back(debt) => debt.number(),
+        Outcome::Final(verdict) => verdict.debt().key(),
+        Outcome::Deferred(deferral) => deferral.debt().key(),
+        Outcome::Lost(debt, _) => debt.key(),
+        Outcome::Back(debt) => debt.key(),
     }
 }
 

@@ -1,49 +1,48 @@
 // Stations.
-ghost use Rattle.std.specs.Prelude.{◌≡◌, ◌≢◌, ◌+◌, ◌≤◌, ◌<◌, ℕ};
+ghost use Rattle.std.specs.Prelude.{◌≡◌, ◌≢◌, ◌+◌, ◌≤◌, ◌<◌, ◌^◌, ℕ};
 ghost use Rattle.std.specs.List.{All};
 ghost use Rattle.std.specs.List.Sorted.{IsStrictlyIncreasing};
-ghost use Rattle.ledger_core.specs.State.{numbers};
+ghost use Rattle.ledger_core.specs.State.{keys};
 ghost use Rattle.recovery.specs.Words.{ledger_of as tape_ledger};
 ghost use Rattle.std.specs.Prelude.{IfOk, OnOk};
 ghost use Rattle.peer_queue.specs.Place.{all_ready, placed};
 
 use crate::fault::station_fault;
 use crate::place_index::{PlaceIndex, all_ready_of};
-use crate::settled::{Settled, number_in};
+use crate::settled::{Settled, key_in};
 use crate::wait::Wait;
 use crate::{Limits, Owed, Shed, StationFault};
 use conn_core::{CxnId, Deferral, Outcome, Verdict};
 use disk_model::Disk;
 use funnel::{MsgId, Token};
-use ledger_core::{Cause, Debt, Note, Totals};
+use ledger_core::{Cause, Debt, Key, Note, Totals};
 use recovery::{RefusedTape, Tape, TapeFault};
 use std::alloc::{AllocError, Global};
 
 /// All that one peer is owed.
 ///
-/// Each call is logarithmic in what is owed; `release` for each number that it moves, and `shed` for each that there is
+/// Each call is logarithmic in what is owed; `release` for each debt that it moves, and `shed` for each that there is
 /// room for among the notes that pend, whatever exceeds the limit; `flush` is linear in what pends, `open` and `list`
 /// are linear.
 #[derive(Drop)]
 pub struct Station<D: Disk> {
     pub(crate) alloc: Global,
     pub(crate) tape: Tape<D>,
-    // The place of each number that is owed.
+    // The place of each key that is owed.
     pub(crate) index: PlaceIndex,
     pub(crate) limits: Limits,
-    ghost all_placed: { placed index ≡ numbers (tape_ledger tape) },
-    ghost marked: { All (λ number. number ≤ (tape_ledger tape).mark) (numbers (tape_ledger tape)) },
+    ghost all_placed: { placed index ≡ keys (tape_ledger tape) },
 }
 
 impl<D: Disk> Station<D> {
-    ghost use Rattle.std.specs.Prelude.{◌⊎◌, ◌↔◌, ◌==◌, ◌++◌, [], ◌∷◌, true, nat_lt, find};
+    ghost use Rattle.std.specs.Prelude.{◌⊎◌, ◌↔◌, true, nat_lt, find};
     ghost use Rattle.std.specs.Prelude.{MatchResult, IfErr, IfNone, IfSome, OnErr, IsErr, IsErrOf, IsOk, IsSome};
     ghost use Rattle.std.specs.Prelude.{IsTrue, List, Ok, None, Some, take};
     ghost use Rattle.std.specs.List.{Contains};
     ghost use Rattle.ledger_core.specs.Ledger.{totals_of};
     ghost use Rattle.ledger_core.specs.declared.ledger.LedgerFault.{LedgerFault};
     ghost use Rattle.ledger_core.specs.declared.note.Note.{Note};
-    ghost use Rattle.ledger_core.specs.State.{IsOwed, Overflows};
+    ghost use Rattle.ledger_core.specs.State.{IsNext, IsOwed, Overflows, marks_of};
     ghost use Rattle.recovery.specs.Flushes.{Flushes};
     ghost use Rattle.recovery.specs.Image.{EachTape, Survives};
     ghost use Rattle.recovery.specs.Notes.{History, most_pending};
@@ -53,18 +52,18 @@ impl<D: Disk> Station<D> {
     ghost use Rattle.ledger_core.specs.Index.{debt_at};
     ghost use Rattle.recovery.specs.Texts.{HasLengths};
     ghost use Rattle.peer_queue.specs.Calls.{Defers, IsFresh, KeepsDebts, RefusesClaim, RefusesFlush};
-    ghost use Rattle.peer_queue.specs.Calls.{RefusesDebt, RefusesOwe, RefusesRotation, Sheds};
+    ghost use Rattle.peer_queue.specs.Calls.{RefusesClose, RefusesDebt, RefusesOwe, RefusesRotation, Sheds};
     ghost use Rattle.peer_queue.specs.Place.{AreRising, Held, IsHeldBy, IsLater, Later, Ready};
     ghost use Rattle.peer_queue.specs.Place.{gone, held_count, least_candidate, moved, place_until};
-    ghost use Rattle.peer_queue.specs.Place.{released, unheld};
+    ghost use Rattle.peer_queue.specs.Place.{released, unheld, with_place};
     ghost use Rattle.peer_queue.specs.Index.{place_for};
     ghost use Rattle.peer_queue.specs.Shed.{IsShedSet};
-    ghost use Rattle.peer_queue.specs.Settled.{Finishes, IsEnded, Settles, number_in, settled_by};
+    ghost use Rattle.peer_queue.specs.Settled.{Finishes, IsEnded, Settles, key_in, settled_by};
     ghost use Rattle.peer_queue.specs.Faults.{IsClaimFault, IsEndFault, IsOweFault};
     ghost use Rattle.peer_queue.specs.Words.{IsBroken, IsEnd, IsRead, IsSame, IsSameTape, MeetsFull};
-    ghost use Rattle.peer_queue.specs.Words.{Notes, Refuses, StandsFor, Tells, code_of, deferred_number, disks_of};
+    ghost use Rattle.peer_queue.specs.Words.{Notes, Refuses, StandsFor, Tells, code_of, deferred_key, disks_of};
     ghost use Rattle.peer_queue.specs.Words.{generation_of, told_of, AreHonest, Continues, ledger_of, limits_of};
-    ghost use Rattle.peer_queue.specs.Words.{number_of, pending_of, places_of};
+    ghost use Rattle.peer_queue.specs.Words.{answered_key, open_key, pending_of, places_of};
 
     /// Opens the station of two disks, empty ones among them: all that its tape owes is ready.
     ///
@@ -111,7 +110,7 @@ impl<D: Disk> Station<D> {
         }
     }
 
-    /// Owes the article of this number: it is ready from now on.
+    /// Owes the funnel's line of this number: it is ready from now on.
     ///
     /// # Errors
     /// Tried in this order: `Broken`; `NoMemory` of the station; `Tape(Note(CountFull))`; `Tape(PendingFull)`;
@@ -123,9 +122,9 @@ impl<D: Disk> Station<D> {
         ensures new { result ≡ Ok Owed.New
             → Notes self.old self.new (Note.Owe number token.now id.now) }
         ensures places { result ≡ Ok Owed.New
-            → places_of self.new ≡ places_of self.old ++ (number, Ready) ∷ [] }
-        ensures refuses { RefusesOwe number (Note.Owe number token.now id.now)
-            self.old self.new result }
+            → places_of self.new ≡ with_place (places_of self.old) number Ready }
+        ensures refuses { RefusesOwe (ledger_of self.old).mark number
+            (Note.Owe number token.now id.now) self.old self.new result }
     {
         if self.tape.is_broken() {
             return Err(StationFault::Broken);
@@ -133,10 +132,54 @@ impl<D: Disk> Station<D> {
         if number <= self.tape.mark() {
             return Ok(Owed::Already);
         }
-        self.owe_new(number, token, id)
+        self.owe_new(Key::new(0, number), token, id)
     }
 
-    /// Claims the least number that is ready, or later until a moment at or before `now`: from now on this connection
+    /// Owes the line of this number of the source that is open (a backlog file): it is ready from now on.
+    ///
+    /// # Errors
+    /// Tried in this order: `Broken`; `NoMemory` of the station; `Tape(Note(CountFull))`; `Tape(PendingFull)`;
+    /// `NoMemory`.
+    pub fn import(&mut self, number: u64, token: &Token, id: &MsgId) -> Result<Owed, StationFault>
+        ensures already { (result ≡ Ok Owed.Already)
+            ↔ ((IsBroken self.old → ⊥) × (number ≤ (ledger_of self.old).import_mark)) }
+        ensures unchanged { result ≡ Ok Owed.Already → self.new ≡ self.old }
+        ensures new { result ≡ Ok Owed.New
+            → Notes self.old self.new (Note.Owe (open_key self.old number) token.now id.now) }
+        ensures places { result ≡ Ok Owed.New → places_of self.new
+            ≡ with_place (places_of self.old) (open_key self.old number) Ready }
+        ensures refuses { RefusesOwe (ledger_of self.old).import_mark number
+            (Note.Owe (open_key self.old number) token.now id.now) self.old self.new result }
+    {
+        if self.tape.is_broken() {
+            return Err(StationFault::Broken);
+        }
+        if number <= self.tape.import_mark() {
+            return Ok(Owed::Already);
+        }
+        let source = self.tape.closed() + 1;
+        self.owe_new(Key::new(source, number), token, id)
+    }
+
+    /// Closes the source that is open, and gives it: the next one is open from now on.
+    ///
+    /// # Errors
+    /// Nothing changes. Tried in this order: `Broken`; `Tape(Note(CountFull))` if it is the last source;
+    /// `Tape(PendingFull)`; `NoMemory`.
+    pub fn close_import(&mut self) -> Result<u32, StationFault>
+        ensures closed { IfOk result (λ source. (source ≡ (ledger_of self.old).closed + 1)
+            × Notes self.old self.new (Note.Closed source)) }
+        ensures places { places_of self.new ≡ places_of self.old }
+        ensures refuses { RefusesClose self.old self.new result }
+    {
+        let source = self.tape.closed() + 1;
+        if let Err((_, fault)) = self.tape.note(Note::Closed { source }) {
+            return Err(station_fault(fault));
+        }
+        Ok(source)
+    }
+
+    /// Claims the least key that is ready, or later until a moment at or before `now`: from now on this connection
     /// holds it. Its texts are read back from the tape, unless its note pends.
     ///
     /// # Errors
@@ -162,11 +205,11 @@ impl<D: Disk> Station<D> {
         if self.tape.is_broken() {
             return Err(StationFault::Broken);
         }
-        let Some(number) = self.index.candidate(now) else {
+        let Some(key) = self.index.candidate(now) else {
             return Ok(None);
         };
-        let debt = self.owed_debt(number)?;
-        self.index.hold(connection, number)?;
+        let debt = self.owed_debt(key)?;
+        self.index.hold(connection, key)?;
         Ok(Some(debt))
     }
 
@@ -180,19 +223,19 @@ impl<D: Disk> Station<D> {
         verdict: Verdict,
     ) -> Result<(), (Verdict, StationFault)>
         ensures ok { OnOk result
-            (Notes self.old self.new (Note.Final (number_of verdict) (code_of verdict))) }
+            (Notes self.old self.new (Note.Final (answered_key verdict) (code_of verdict))) }
         ensures places { OnOk result
-            (IsHeldBy (places_of self.old) connection.0 (number_of verdict)
-            × (places_of self.new ≡ gone (places_of self.old) (number_of verdict))) }
-        ensures refuses { Refuses self.old connection.0 (number_of verdict) result }
+            (IsHeldBy (places_of self.old) connection.0 (answered_key verdict)
+            × (places_of self.new ≡ gone (places_of self.old) (answered_key verdict))) }
+        ensures refuses { Refuses self.old connection.0 (answered_key verdict) result }
         ensures pending_full { Tells result (StationFault.Tape TapeFault.PendingFull)
-            ↔ MeetsFull self.old connection.0 (number_of verdict) }
+            ↔ MeetsFull self.old connection.0 (answered_key verdict) }
         ensures kinds { IfErr result (λ e. IsEndFault e.1) }
         ensures returned { IfErr result (λ e. e.0 ≡ verdict) }
         ensures unchanged { OnErr result (IsSame self.old self.new) }
     {
         let settled = Settled::Answered(verdict.code());
-        match self.settle_as(connection, verdict.debt().number(), settled) {
+        match self.settle_as(connection, verdict.debt().key(), settled) {
             Ok(()) => Ok(()),
             Err(fault) => Err((verdict, fault)),
         }
@@ -210,10 +253,10 @@ impl<D: Disk> Station<D> {
         now: u64,
     ) -> Result<(), (Deferral, StationFault)>
         ensures ok { OnOk result (Defers connection.0 deferral now self.old self.new) }
-        ensures refuses { Refuses self.old connection.0 (deferred_number deferral) result }
+        ensures refuses { Refuses self.old connection.0 (deferred_key deferral) result }
         ensures pending_full { Tells result (StationFault.Tape TapeFault.PendingFull)
             ↔ (((limits_of self.old).drop_deferred ≡ true)
-            × MeetsFull self.old connection.0 (deferred_number deferral)) }
+            × MeetsFull self.old connection.0 (deferred_key deferral)) }
         ensures no_memory { Tells result StationFault.NoMemory
             → (limits_of self.old).drop_deferred ≡ true }
         ensures kinds { IfErr result (λ e. IsEndFault e.1) }
@@ -221,7 +264,7 @@ impl<D: Disk> Station<D> {
         ensures unchanged { OnErr result (IsSame self.old self.new) }
     {
         let settled = Settled::deferred(self.limits, now);
-        match self.settle_as(connection, deferral.debt().number(), settled) {
+        match self.settle_as(connection, deferral.debt().key(), settled) {
             Ok(()) => Ok(()),
             Err(fault) => Err((deferral, fault)),
         }
@@ -248,7 +291,7 @@ impl<D: Disk> Station<D> {
         ensures returned { IfErr result (λ e. e.0 ≡ debt) }
         ensures unchanged { OnErr result (IsSame self.old self.new) }
     {
-        match self.settle_as(connection, debt.number(), Settled::Dropped(cause)) {
+        match self.settle_as(connection, debt.key(), Settled::Dropped(cause)) {
             Ok(()) => Ok(()),
             Err(fault) => Err((debt, fault)),
         }
@@ -268,7 +311,7 @@ impl<D: Disk> Station<D> {
         ensures returned { IfErr result (λ e. e.0 ≡ debt) }
         ensures unchanged { OnErr result (IsSame self.old self.new) }
     {
-        match self.settle_as(connection, debt.number(), Settled::Ready) {
+        match self.settle_as(connection, debt.key(), Settled::Ready) {
             Ok(()) => Ok(()),
             Err(fault) => Err((debt, fault)),
         }
@@ -297,10 +340,10 @@ impl<D: Disk> Station<D> {
         if self.tape.is_broken() {
             return Err((debt, StationFault::Broken));
         }
-        if !self.index.is_held_by(connection, debt.number()) {
+        if !self.index.is_held_by(connection, debt.key()) {
             return Err((debt, StationFault::NotHeld));
         }
-        self.give_up(connection, debt.number(), Wait::Until(until));
+        self.give_up(connection, debt.key(), Wait::Until(until));
         Ok(())
     }
 
@@ -319,10 +362,10 @@ impl<D: Disk> Station<D> {
         ensures settled { IfOk result (λ settled.
             settled ≡ settled_by (limits_of self.old) now outcome) }
         ensures ok { OnOk result (Finishes connection.0 now outcome self.old self.new) }
-        ensures refuses { Refuses self.old connection.0 (number_in outcome) result }
+        ensures refuses { Refuses self.old connection.0 (key_in outcome) result }
         ensures pending_full { Tells result (StationFault.Tape TapeFault.PendingFull)
             ↔ (IsEnded (settled_by (limits_of self.old) now outcome)
-            × MeetsFull self.old connection.0 (number_in outcome)) }
+            × MeetsFull self.old connection.0 (key_in outcome)) }
         ensures no_memory { Tells result StationFault.NoMemory
             → IsEnded (settled_by (limits_of self.old) now outcome) }
         ensures kinds { IfErr result (λ e. IsEndFault e.1) }
@@ -330,7 +373,7 @@ impl<D: Disk> Station<D> {
         ensures unchanged { OnErr result (IsSame self.old self.new) }
     {
         let settled = Settled::by(&outcome, self.limits, now);
-        match self.settle_as(connection, number_in(&outcome), settled) {
+        match self.settle_as(connection, key_in(&outcome), settled) {
             Ok(()) => Ok(settled),
             Err(fault) => Err((outcome, fault)),
         }
@@ -348,7 +391,7 @@ impl<D: Disk> Station<D> {
     }
 
     /// Drops, oldest first, what exceeds the backlog's limit, as far as there is room among the notes that pend. All of
-    /// it is dropped, or on a refusal nothing. It gathers one number more than there is room for at most.
+    /// it is dropped, or on a refusal nothing. It gathers one key more than there is room for at most.
     ///
     /// # Errors
     /// Tried in this order: `Broken`; `NoMemory`.
@@ -366,49 +409,49 @@ impl<D: Disk> Station<D> {
             return Err(StationFault::Broken);
         }
         let room = self.tape.room();
-        let mut numbers = self.shed_set(room)?;
-        let more = numbers.len() > room;
-        numbers.truncate(room);
-        if let Err(fault) = self.tape.drop_all(&numbers, Cause::Limit) {
+        let mut keys = self.shed_set(room)?;
+        let more = keys.len() > room;
+        keys.truncate(room);
+        if let Err(fault) = self.tape.drop_all(&keys, Cause::Limit) {
             return Err(station_fault(fault));
         }
-        self.index.remove_all(&numbers);
-        Ok(Shed { numbers, more })
+        self.index.remove_all(&keys);
+        Ok(Shed { keys, more })
     }
 
     // Notes what is owed anew, and makes it ready.
-    fn owe_new(&mut self, number: u64, token: &Token, id: &MsgId) -> Result<Owed, StationFault>
+    fn owe_new(&mut self, key: Key, token: &Token, id: &MsgId) -> Result<Owed, StationFault>
         requires works { IsBroken self.old → ⊥ }
-        requires above { (ledger_of self.old).mark < number }
-        ensures new { OnOk result (Notes self.old self.new (Note.Owe number token.now id.now)) }
+        requires next { IsNext (marks_of (ledger_of self.old)) key }
+        ensures new { OnOk result (Notes self.old self.new (Note.Owe key token.now id.now)) }
         ensures is_new { IfOk result (λ owed. owed ≡ Owed.New) }
         ensures places { OnOk result
-            (places_of self.new ≡ places_of self.old ++ (number, Ready) ∷ []) }
+            (places_of self.new ≡ with_place (places_of self.old) key Ready) }
         ensures broken { IsErrOf result StationFault.Broken → ⊥ }
         ensures count_full { IsErrOf result
             (StationFault.Tape (TapeFault.Note LedgerFault.CountFull))
-            → Overflows (ledger_of self.old) (Note.Owe number token.now id.now) }
+            → Overflows (ledger_of self.old) (Note.Owe key token.now id.now) }
         ensures pending_full { IsErrOf result (StationFault.Tape TapeFault.PendingFull)
             → (pending_of self.old ≡ most_pending)
-            × (Overflows (ledger_of self.old) (Note.Owe number token.now id.now) → ⊥) }
-        ensures never { Overflows (ledger_of self.old) (Note.Owe number token.now id.now)
+            × (Overflows (ledger_of self.old) (Note.Owe key token.now id.now) → ⊥) }
+        ensures never { Overflows (ledger_of self.old) (Note.Owe key token.now id.now)
             ⊎ (pending_of self.old ≡ most_pending) → IsErr result }
         ensures kinds { IfErr result IsOweFault }
         ensures unchanged { OnErr result (IsSame self.old self.new) }
     {
-        self.index.add(number)?;
-        if let Err(fault) = self.tape.owe(number, token, id) {
-            self.index.remove(number);
+        self.index.add(key)?;
+        if let Err(fault) = self.tape.owe(key, token, id) {
+            self.index.remove(key);
             return Err(station_fault(fault));
         }
         Ok(Owed::New)
     }
 
     // A debt that is owed, read back.
-    fn owed_debt(&mut self, number: u64) -> Result<Debt, StationFault>
+    fn owed_debt(&mut self, key: Key) -> Result<Debt, StationFault>
         requires works { IsBroken self.old → ⊥ }
-        requires owed { IsOwed (ledger_of self.old) number }
-        ensures number { IfOk result (λ debt. debt.0 ≡ number) }
+        requires owed { IsOwed (ledger_of self.old) key }
+        ensures key { IfOk result (λ debt. debt.0 ≡ key) }
         ensures debt { (h : History) → StandsFor self.old h
             → IfOk result (λ debt. Contains (ledger_of self.old).debts debt) }
         ensures cause { (h : History) → StandsFor self.old h
@@ -420,7 +463,7 @@ impl<D: Disk> Station<D> {
         ensures quiet { OnOk result (told_of self.new ≡ told_of self.old) }
         ensures places { places_of self.new ≡ places_of self.old }
     {
-        match self.tape.debt(number) {
+        match self.tape.debt(key) {
             Ok(Some(debt)) => Ok(debt),
             Ok(None) => unreachable!(),
             Err(fault) => Err(station_fault(fault)),
@@ -431,16 +474,16 @@ impl<D: Disk> Station<D> {
     fn settle_as(
         &mut self,
         connection: CxnId,
-        number: u64,
+        key: Key,
         settled: Settled,
     ) -> Result<(), StationFault>
         requires { settled ≢ Settled.Later 0 }
-        ensures ok { OnOk result (Settles connection.0 number settled self.old self.new) }
+        ensures ok { OnOk result (Settles connection.0 key settled self.old self.new) }
         ensures broken { IsErrOf result StationFault.Broken ↔ IsBroken self.old }
         ensures not_held { IsErrOf result StationFault.NotHeld
-            ↔ ((IsBroken self.old → ⊥) × (IsHeldBy (places_of self.old) connection.0 number → ⊥)) }
+            ↔ ((IsBroken self.old → ⊥) × (IsHeldBy (places_of self.old) connection.0 key → ⊥)) }
         ensures pending_full { IsErrOf result (StationFault.Tape TapeFault.PendingFull)
-            ↔ (IsEnded settled × MeetsFull self.old connection.0 number) }
+            ↔ (IsEnded settled × MeetsFull self.old connection.0 key) }
         ensures no_memory { IsErrOf result StationFault.NoMemory → IsEnded settled }
         ensures kinds { IfErr result IsEndFault }
         ensures unchanged { OnErr result (IsSame self.old self.new) }
@@ -448,31 +491,31 @@ impl<D: Disk> Station<D> {
         if self.tape.is_broken() {
             return Err(StationFault::Broken);
         }
-        if !self.index.is_held_by(connection, number) {
+        if !self.index.is_held_by(connection, key) {
             return Err(StationFault::NotHeld);
         }
         match settled {
-            Settled::Answered(code) => self.end(connection, number, Note::Final { number, code }),
-            Settled::Dropped(cause) => self.end(connection, number, Note::Drop { number, cause }),
+            Settled::Answered(code) => self.end(connection, key, Note::Final { key, code }),
+            Settled::Dropped(cause) => self.end(connection, key, Note::Drop { key, cause }),
             Settled::Later(moment) => {
-                self.give_up(connection, number, Wait::Until(moment));
+                self.give_up(connection, key, Wait::Until(moment));
                 Ok(())
             }
             Settled::Ready => {
-                self.give_up(connection, number, Wait::Ready);
+                self.give_up(connection, key, Wait::Ready);
                 Ok(())
             }
         }
     }
 
     // Ends a debt that this connection holds, by the note of its end, at a station that works.
-    fn end(&mut self, connection: CxnId, number: u64, note: Note) -> Result<(), StationFault>
-        requires note { IsEnd note number }
+    fn end(&mut self, connection: CxnId, key: Key, note: Note) -> Result<(), StationFault>
+        requires note { IsEnd note key }
         requires works { IsBroken self.old → ⊥ }
-        requires held { IsHeldBy (places_of self.old) connection.0 number }
+        requires held { IsHeldBy (places_of self.old) connection.0 key }
         ensures ok { OnOk result (Notes self.old self.new note) }
         ensures places { OnOk result
-            (places_of self.new ≡ gone (places_of self.old) number) }
+            (places_of self.new ≡ gone (places_of self.old) key) }
         ensures pending_full { IsErrOf result (StationFault.Tape TapeFault.PendingFull)
             ↔ pending_of self.old ≡ most_pending }
         ensures kinds { IfErr result (λ e. (e ≡ StationFault.Tape TapeFault.PendingFull)
@@ -484,34 +527,37 @@ impl<D: Disk> Station<D> {
         if let Err((_, fault)) = self.tape.note(note) {
             return Err(station_fault(fault));
         }
-        self.index.end(connection, number);
+        self.index.end(connection, key);
         Ok(())
     }
 
     // Has a debt that this connection holds wait for this.
-    fn give_up(&mut self, connection: CxnId, number: u64, wait: Wait)
-        requires { IsHeldBy (places_of self.old) connection.0 number }
+    fn give_up(&mut self, connection: CxnId, key: Key, wait: Wait)
+        requires { IsHeldBy (places_of self.old) connection.0 key }
         ensures tape { IsSameTape self.old self.new }
         ensures places { places_of self.new
-            ≡ moved (places_of self.old) number (place_for wait) }
+            ≡ moved (places_of self.old) key (place_for wait) }
     {
-        self.index.give_up(connection, number, wait);
+        self.index.give_up(connection, key, wait);
     }
 
-    // The least number above this one that no connection holds.
-    fn next_unheld(&self, number: u64) -> Option<u64>
-        ensures { result ≡ find (λ other. nat_lt number other) (unheld (places_of self.now)) }
+    // The least key above this one that no connection holds.
+    fn next_unheld(&self, key: Key) -> Option<Key>
+        ensures { result ≡ find (λ other. nat_lt key other) (unheld (places_of self.now)) }
     {
-        // None is above the mark.
-        if number < self.tape.mark() {
-            self.index.unheld_from(number + 1)
-        } else {
-            None
+        match key.next() {
+            Some(next) => self.index.unheld_from(next),
+            None => {
+                // It has 64 bits, so that the last key is above all that are owed.
+                let _import_mark = self.tape.import_mark();
+                let _closed = self.tape.closed();
+                None
+            }
         }
     }
 
-    // The numbers to shed, oldest first, or the first of them: one more than there is room for at most.
-    fn shed_set(&self, room: usize) -> Result<Vec<u64>, AllocError>
+    // The keys to shed, oldest first, or the first of them: one more than there is room for at most.
+    fn shed_set(&self, room: usize) -> Result<Vec<Key>, AllocError>
         ensures set { IfOk result (λ found. (set : List ℕ)
             × IsShedSet (limits_of self.now) (ledger_of self.now) (places_of self.now) set
             × (found.items ≡ take (room + 1) set)) }
@@ -520,17 +566,17 @@ impl<D: Disk> Station<D> {
         let limit = self.limits.backlog_limit;
         let mut owed = self.tape.totals().owed_bytes;
         let mut set = Vec::new(self.alloc);
-        let mut next = self.index.unheld_from(0);
+        let mut next = self.index.unheld_from(Key::new(0, 0));
         if limit == 0 || owed <= self.limits.backlog_high {
             return Ok(set);
         }
-        while let Some(number) = next
+        while let Some(key) = next
             && owed > limit
             && set.len() <= room
         {
-            set.push(number)?;
-            owed = owed.saturating_sub(self.tape.octets(number).unwrap_or(0));
-            next = self.next_unheld(number);
+            set.push(key)?;
+            owed = owed.saturating_sub(self.tape.octets(key).unwrap_or(0));
+            next = self.next_unheld(key);
         }
         Ok(set)
     }
@@ -589,19 +635,19 @@ impl<D: Disk> Station<D> {
         }
     }
 
-    /// The debt of this number, where it is owed. Its texts are read back from the tape, unless its note pends.
+    /// The debt of this key, where it is owed. Its texts are read back from the tape, unless its note pends.
     ///
     /// # Errors
     /// Tried in this order: `Broken`; `NoMemory`; `Tape(Disk)`, where the reading failed, or gave another note than was
     /// put there, which an honest disk never does. The station works on.
-    pub fn debt(&mut self, number: u64) -> Result<Option<Debt>, StationFault>
+    pub fn debt(&mut self, key: Key) -> Result<Option<Debt>, StationFault>
         // It is the debt that was noted.
         ensures debt { (h : History) → StandsFor self.old h
-            → IfOk result (λ debt. debt ≡ debt_at (ledger_of self.old) number) }
-        // Whatever the disk gives, the number is owed, and the texts have the lengths that were noted.
-        ensures owed { IfOk result (λ debt. (IsSome debt ↔ IsOwed (ledger_of self.old) number)
-            × HasLengths (ledger_of self.old) number debt) }
-        ensures refuses { RefusesDebt number self.old result }
+            → IfOk result (λ debt. debt ≡ debt_at (ledger_of self.old) key) }
+        // Whatever the disk gives, the key is owed, and the texts have the lengths that were noted.
+        ensures owed { IfOk result (λ debt. (IsSome debt ↔ IsOwed (ledger_of self.old) key)
+            × HasLengths (ledger_of self.old) key debt) }
+        ensures refuses { RefusesDebt key self.old result }
         ensures cause { (h : History) → StandsFor self.old h
             → IsErrOf result (StationFault.Tape TapeFault.Disk)
             → OneHasRisen (told_of self.old) (told_of self.new) }
@@ -609,23 +655,21 @@ impl<D: Disk> Station<D> {
         ensures quiet { OnOk result (told_of self.new ≡ told_of self.old) }
         ensures places { places_of self.new ≡ places_of self.old }
     {
-        match self.tape.debt(number) {
+        match self.tape.debt(key) {
             Ok(debt) => Ok(debt),
             Err(fault) => Err(station_fault(fault)),
         }
     }
 
-    /// The numbers that are owed, rising. A broken station answers too.
+    /// The keys that are owed, rising. A broken station answers too.
     ///
     /// # Errors
     /// `NoMemory` where memory was refused.
-    pub fn list(&self) -> Result<Vec<u64>, AllocError>
-        ensures items { IfOk result (λ v. v.items ≡ numbers (ledger_of self.now)) }
+    pub fn list(&self) -> Result<Vec<Key>, AllocError>
+        ensures items { IfOk result (λ v. v.items ≡ keys (ledger_of self.now)) }
         ensures rising { IfOk result (λ v. IsStrictlyIncreasing v.items) }
-        ensures marked { IfOk result
-            (λ v. All (λ number. number ≤ (ledger_of self.now).mark) v.items) }
     {
-        self.tape.numbers()
+        self.tape.keys()
     }
 
     /// What was taken, answered and dropped, and what is owed: taken = owed + answered + dropped. A broken station
@@ -637,11 +681,33 @@ impl<D: Disk> Station<D> {
         self.tape.totals()
     }
 
-    /// The greatest number that was owed, 0 at first. A broken station answers too.
+    /// The greatest number of the funnel that was noted, 0 at first. A broken station answers too.
     pub fn mark(&self) -> u64
         ensures { result ≡ (ledger_of self.now).mark }
     {
         self.tape.mark()
+    }
+
+    /// The source that was closed last, 0 at first: the next one is open. A broken station answers too.
+    pub fn closed(&self) -> u32
+        ensures closed { result ≡ (ledger_of self.now).closed }
+        ensures fits { result + 1 < 2 ^ 32 }
+    {
+        self.tape.closed()
+    }
+
+    /// The greatest number that was noted of the source that is open, 0 at first. A broken station answers too.
+    pub fn import_mark(&self) -> u64
+        ensures { result ≡ (ledger_of self.now).import_mark }
+    {
+        self.tape.import_mark()
+    }
+
+    /// How many more notes may pend. A broken station answers too.
+    pub fn room(&self) -> usize
+        ensures { result + pending_of self.now ≡ most_pending }
+    {
+        self.tape.room()
     }
 
     /// The limits of its backlog. A broken station answers too.
@@ -673,10 +739,8 @@ impl<D: Disk> Station<D> {
 
 // The index in which all that a tape owes is ready.
 fn index_of<D: Disk>(alloc: Global, tape: &Tape<D>) -> Result<PlaceIndex, AllocError>
-    ensures places { IfOk result (λ index. index ≡ all_ready (numbers (tape_ledger tape.now))) }
-    ensures marked { OnOk result
-        (All (λ number. number ≤ (tape_ledger tape.now).mark) (numbers (tape_ledger tape.now))) }
+    ensures places { IfOk result (λ index. index ≡ all_ready (keys (tape_ledger tape.now))) }
 {
-    let numbers = tape.numbers()?;
-    all_ready_of(alloc, &numbers)
+    let keys = tape.keys()?;
+    all_ready_of(alloc, &keys)
 }

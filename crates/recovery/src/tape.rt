@@ -21,7 +21,9 @@ use crate::read::read_ledger;
 use crate::segments::{Segments, is_second_live};
 use disk_model::Disk;
 use funnel::{MsgId, Token};
-use ledger_core::{Cause, Ledger, LedgerFault, Note, Totals, encode, encode_owe, offset_behind};
+use ledger_core::{
+    Cause, Key, Ledger, LedgerFault, Note, Totals, encode, encode_owe, offset_behind,
+};
 use std::alloc::{AllocError, Global};
 use tape_journal::{Journal, LONGEST_SEGMENT, records_len};
 
@@ -30,12 +32,6 @@ pub const MOST_PENDING: usize = 65536;
 
 // The shortest segment for which a rotation is due is longer, in octets.
 const LONG_SEGMENT: u64 = 65536;
-
-// How many octets the record of a Base has, with the end gate behind.
-const BASE_LEN: u64 = 55;
-
-// How many octets the record of a debt has beside its token and its message-id, less the 2 that owed bytes count.
-const DEBT_LEN: u64 = 14;
 
 /// Two disks on which no tape was opened, handed back as the call left them.
 #[derive(Drop)]
@@ -103,7 +99,7 @@ impl<D: Disk> Tape<D> {
     ghost use Rattle.ledger_core.specs.Spelling.{spellings};
     ghost use Rattle.ledger_core.specs.declared.ledger.LedgerFault.{LedgerFault};
     ghost use Rattle.ledger_core.specs.declared.note.Note.{Note};
-    ghost use Rattle.ledger_core.specs.State.{IsLegal, IsOwed, Owing, line_octets, numbers, step};
+    ghost use Rattle.ledger_core.specs.State.{IsLegal, IsOwed, Owing, keys, line_octets, step};
     ghost use Rattle.recovery.specs.Notes.{AreOwed, History, noted, noted_all, flushed};
     ghost use Rattle.recovery.specs.Flushes.{Flushes, RefusesFlush};
     ghost use Rattle.recovery.specs.Image.{EachTape, Lives, Survives};
@@ -254,15 +250,15 @@ impl<D: Disk> Tape<D> {
     /// # Errors
     /// Nothing changes. Those of `note`, in the same order: `Broken`; `Note(OldNumber)`; `Note(CountFull)`;
     /// `PendingFull`; `NoMemory`.
-    pub fn owe(&mut self, number: u64, token: &Token, id: &MsgId) -> Result<(), TapeFault>
+    pub fn owe(&mut self, key: Key, token: &Token, id: &MsgId) -> Result<(), TapeFault>
         ensures takes { (h : History) → StandsFor self.old h
-            → Takes (Note.Owe number token.now id.now ∷ []) h self.new result }
+            → Takes (Note.Owe key token.now id.now ∷ []) h self.new result }
         ensures ledger { OnOk result
-            (IsLegal (ledger_of self.old) (Note.Owe number token.now id.now)
+            (IsLegal (ledger_of self.old) (Note.Owe key token.now id.now)
             × (ledger_of self.new
-            ≡ step (ledger_of self.old) (Note.Owe number token.now id.now))) }
+            ≡ step (ledger_of self.old) (Note.Owe key token.now id.now))) }
         ensures pends { OnOk result (pending_of self.new ≡ pending_of self.old + 1) }
-        ensures refuses { RefusesOwing (Note.Owe number token.now id.now)
+        ensures refuses { RefusesOwing (Note.Owe key token.now id.now)
             self.old self.new result }
         ensures disks { disks_of self.new ≡ disks_of self.old }
         ensures works { IsBroken self.old ↔ IsBroken self.new }
@@ -270,13 +266,13 @@ impl<D: Disk> Tape<D> {
         if self.segments.live.is_broken() {
             return Err(TapeFault::Broken);
         }
-        if let Err(fault) = self.ledger.check_owe(number, token, id) {
+        if let Err(fault) = self.ledger.check_owe(key, token, id) {
             return Err(TapeFault::Note(fault));
         }
         if self.room() == 0 {
             return Err(TapeFault::PendingFull);
         }
-        self.pend_owe(number, token, id)
+        self.pend_owe(key, token, id)
     }
 
     // Takes a note, or changes nothing.
@@ -347,25 +343,25 @@ impl<D: Disk> Tape<D> {
     }
 
     // Takes the note that owes a debt and is legal, where one more may pend, or changes nothing.
-    fn pend_owe(&mut self, number: u64, token: &Token, id: &MsgId) -> Result<(), TapeFault>
-        requires legal { IsLegal (ledger_of self.old) (Note.Owe number token.now id.now) }
+    fn pend_owe(&mut self, key: Key, token: &Token, id: &MsgId) -> Result<(), TapeFault>
+        requires legal { IsLegal (ledger_of self.old) (Note.Owe key token.now id.now) }
         requires room { pending_of self.old < most_pending }
         ensures ok { (h : History) → StandsFor self.old h
-            → OnOk result (StandsFor self.new (noted h (Note.Owe number token.now id.now))) }
+            → OnOk result (StandsFor self.new (noted h (Note.Owe key token.now id.now))) }
         ensures ledger { OnOk result (ledger_of self.new
-            ≡ step (ledger_of self.old) (Note.Owe number token.now id.now)) }
+            ≡ step (ledger_of self.old) (Note.Owe key token.now id.now)) }
         ensures pends { OnOk result (pending_of self.new ≡ pending_of self.old + 1) }
         ensures stays { (h : History) → StandsFor self.old h → OnErr result (StandsFor self.new h) }
         ensures unchanged { OnErr result (IsSame self.old self.new) }
         ensures kinds { IfErr result (λ fault. fault ≡ TapeFault.NoMemory) }
         ensures segments { self.new.segments ≡ self.old.segments }
     {
-        let spelling = encode_owe(self.alloc, number, token, id)?;
+        let spelling = encode_owe(self.alloc, key, token, id)?;
         let at = self.next;
         let count = self.pending.len();
         let next = offset_behind(at, &spelling);
         self.pending.push(spelling)?;
-        match self.ledger.owe_at(number, token, id, at, count as u32) {
+        match self.ledger.owe_at(key, token, id, at, count as u32) {
             Ok(()) => {
                 self.next = next;
                 Ok(())
@@ -378,73 +374,73 @@ impl<D: Disk> Tape<D> {
     }
 
     /// Takes the note that drops each of these debts, in this order, all of them or none; they pend until the next
-    /// flush. Where the numbers rise each costs the logarithm of what is owed.
+    /// flush. Where the keys rise each costs the logarithm of what is owed.
     ///
     /// # Errors
     /// Nothing changes. Tried in this order: `Broken`; `Note(NotOwed)` where one of them is not owed, or is named
     /// twice; `PendingFull` where more than 65,536 notes would pend; `NoMemory`.
-    pub fn drop_all(&mut self, numbers: &[u64], cause: Cause) -> Result<(), TapeFault>
+    pub fn drop_all(&mut self, keys: &[Key], cause: Cause) -> Result<(), TapeFault>
         ensures takes { (h : History) → StandsFor self.old h
-            → Takes (drops cause numbers.now) h self.new result }
-        ensures legal { OnOk result (AllLegal (ledger_of self.old) (drops cause numbers.now)) }
+            → Takes (drops cause keys.now) h self.new result }
+        ensures legal { OnOk result (AllLegal (ledger_of self.old) (drops cause keys.now)) }
         ensures ledger { OnOk result
-            (ledger_of self.new ≡ after (ledger_of self.old) (drops cause numbers.now)) }
+            (ledger_of self.new ≡ after (ledger_of self.old) (drops cause keys.now)) }
         ensures pends { OnOk result
-            (pending_of self.new ≡ pending_of self.old + length numbers.now) }
-        ensures refuses { RefusesDrops numbers.now self.old self.new result }
+            (pending_of self.new ≡ pending_of self.old + length keys.now) }
+        ensures refuses { RefusesDrops keys.now self.old self.new result }
         ensures disks { disks_of self.new ≡ disks_of self.old }
         ensures works { IsBroken self.old ↔ IsBroken self.new }
     {
         if self.segments.live.is_broken() {
             return Err(TapeFault::Broken);
         }
-        if !self.owes_all(numbers) {
+        if !self.owes_all(keys) {
             return Err(TapeFault::Note(LedgerFault::NotOwed));
         }
-        if numbers.len() > self.room() {
+        if keys.len() > self.room() {
             return Err(TapeFault::PendingFull);
         }
-        self.pend_drops(numbers, cause)
+        self.pend_drops(keys, cause)
     }
 
     // Whether each of these is owed, and none is named twice.
-    fn owes_all(&self, numbers: &[u64]) -> bool
-        ensures { IsTrue result ↔ AreOwed (ledger_of self.now) [] numbers.now }
+    fn owes_all(&self, keys: &[Key]) -> bool
+        ensures { IsTrue result ↔ AreOwed (ledger_of self.now) [] keys.now }
     {
-        let mut greatest = 0;
-        for index in 0..numbers.len() {
-            let number = numbers[index];
-            if is_among(&numbers[..index], number, greatest) || !self.ledger.owes(number) {
+        let mut greatest = Key::new(0, 0);
+        for index in 0..keys.len() {
+            let key = keys[index];
+            if is_among(&keys[..index], key, greatest) || !self.ledger.owes(key) {
                 return false;
             }
-            greatest = greatest.max(number);
+            greatest = greatest.greater(key);
         }
         true
     }
 
     // Takes the drops of debts that are owed, where so many may pend, or changes nothing.
-    fn pend_drops(&mut self, numbers: &[u64], cause: Cause) -> Result<(), TapeFault>
-        requires owed { AreOwed (ledger_of self.old) [] numbers.now }
-        requires room { pending_of self.old + length numbers.now ≤ most_pending }
+    fn pend_drops(&mut self, keys: &[Key], cause: Cause) -> Result<(), TapeFault>
+        requires owed { AreOwed (ledger_of self.old) [] keys.now }
+        requires room { pending_of self.old + length keys.now ≤ most_pending }
         ensures ok { (h : History) → StandsFor self.old h
-            → OnOk result (StandsFor self.new (noted_all h (drops cause numbers.now))) }
-        ensures legal { OnOk result (AllLegal (ledger_of self.old) (drops cause numbers.now)) }
+            → OnOk result (StandsFor self.new (noted_all h (drops cause keys.now))) }
+        ensures legal { OnOk result (AllLegal (ledger_of self.old) (drops cause keys.now)) }
         ensures ledger { OnOk result
-            (ledger_of self.new ≡ after (ledger_of self.old) (drops cause numbers.now)) }
+            (ledger_of self.new ≡ after (ledger_of self.old) (drops cause keys.now)) }
         ensures pends { OnOk result
-            (pending_of self.new ≡ pending_of self.old + length numbers.now) }
+            (pending_of self.new ≡ pending_of self.old + length keys.now) }
         ensures stays { (h : History) → StandsFor self.old h → OnErr result (StandsFor self.new h) }
         ensures unchanged { OnErr result (IsSame self.old self.new) }
         ensures kinds { IfErr result (λ fault. fault ≡ TapeFault.NoMemory) }
         ensures segments { self.new.segments ≡ self.old.segments }
     {
-        let mut payloads = spelled_drops(self.alloc, numbers, cause)?;
+        let mut payloads = spelled_drops(self.alloc, keys, cause)?;
         // What was taken, all of it, is a sum with what was dropped, so that no count passes the greatest number.
         let _taken = taken_of(&self.ledger);
         let next = self.next.saturating_add(records_len(&payloads));
         self.pending.append(&mut payloads)?;
         self.next = next;
-        apply_drops(&mut self.ledger, numbers, cause);
+        apply_drops(&mut self.ledger, keys, cause);
         Ok(())
     }
 
@@ -516,11 +512,7 @@ impl<D: Disk> Tape<D> {
     pub(crate) fn rotated_len(&self) -> u64
         ensures { result ≡ min (rotated_length self.now) (2 ^ 64 - 1) }
     {
-        let totals = self.ledger.totals();
-        let debts = totals.owed.saturating_mul(DEBT_LEN);
-        BASE_LEN
-            .saturating_add(debts)
-            .saturating_add(totals.owed_bytes)
+        self.ledger.written_len().saturating_add(1)
     }
 
     /// Writes the ledger, the notes that pend in it, into the segment that doesn't live, which lives from then on: from
@@ -553,22 +545,22 @@ impl<D: Disk> Tape<D> {
         self.write_anew()
     }
 
-    /// What the debt of this number counts in owed bytes, where it is owed: the octets of token and message-id, and 2.
+    /// What the debt of this key counts in owed bytes, where it is owed: the octets of token and message-id, and 2.
     /// Takes no memory, and a broken tape answers too. Logarithmic in what is owed.
-    pub fn octets(&self, number: u64) -> Option<u64>
+    pub fn octets(&self, key: Key) -> Option<u64>
         ensures octets { result ≡ option_map (λ (owing : Owing). line_octets owing.1.0 owing.1.1)
-            (find (λ (owing : Owing). owing.0 == number) (ledger_of self.now).debts) }
-        ensures owed { IsSome result ↔ IsOwed (ledger_of self.now) number }
+            (find (λ (owing : Owing). owing.0 == key) (ledger_of self.now).debts) }
+        ensures owed { IsSome result ↔ IsOwed (ledger_of self.now) key }
     {
-        let spot = self.ledger.spot(number)?;
+        let spot = self.ledger.spot(key)?;
         Some(u64::from(spot.token_len) + u64::from(spot.id_len) + 2)
     }
 
-    /// Whether the debt of this number is owed. Logarithmic in what is owed.
-    pub fn owes(&self, number: u64) -> bool
-        ensures { IsTrue result ↔ IsOwed (ledger_of self.now) number }
+    /// Whether the debt of this key is owed. Logarithmic in what is owed.
+    pub fn owes(&self, key: Key) -> bool
+        ensures { IsTrue result ↔ IsOwed (ledger_of self.now) key }
     {
-        self.ledger.owes(number)
+        self.ledger.owes(key)
     }
 
     /// Whether a flush or a rotation failed on a disk, so that the tape is to be opened again.
@@ -578,24 +570,37 @@ impl<D: Disk> Tape<D> {
         self.segments.live.is_broken()
     }
 
-    /// The numbers that are owed, rising. None is above the mark.
+    /// The keys that are owed, rising.
     ///
     /// # Errors
     /// `NoMemory` where memory was refused.
-    pub fn numbers(&self) -> Result<Vec<u64>, AllocError>
-        ensures items { IfOk result (λ v. v.items ≡ numbers (ledger_of self.now)) }
+    pub fn keys(&self) -> Result<Vec<Key>, AllocError>
+        ensures items { IfOk result (λ v. v.items ≡ keys (ledger_of self.now)) }
         ensures rising { IfOk result (λ v. IsStrictlyIncreasing v.items) }
-        ensures marked { IfOk result
-            (λ v. All (λ number. number ≤ (ledger_of self.now).mark) v.items) }
     {
-        self.ledger.numbers(self.alloc)
+        self.ledger.keys(self.alloc)
     }
 
-    /// The greatest number that was noted, 0 at first.
+    /// The greatest number of the funnel that was noted, 0 at first.
     pub fn mark(&self) -> u64
         ensures { result ≡ (ledger_of self.now).mark }
     {
         self.ledger.mark()
+    }
+
+    /// The source that was closed last, 0 at first: the next one is open.
+    pub fn closed(&self) -> u32
+        ensures closed { result ≡ (ledger_of self.now).closed }
+        ensures fits { result + 1 < 2 ^ 32 }
+    {
+        self.ledger.closed()
+    }
+
+    /// The greatest number that was noted of the source that is open, 0 at first.
+    pub fn import_mark(&self) -> u64
+        ensures { result ≡ (ledger_of self.now).import_mark }
+    {
+        self.ledger.import_mark()
     }
 
     /// What was taken, answered and dropped, and what is owed: taken = owed + answered + dropped.
@@ -636,26 +641,23 @@ impl<D: Disk> Tape<D> {
     }
 }
 
-// Whether the number is one of these, of which none is above the greatest: a number above it is not looked for.
-fn is_among(numbers: &[u64], number: u64, greatest: u64) -> bool
-    requires { All (λ n. n ≤ greatest) numbers.now }
-    ensures { IsTrue result ↔ Contains numbers.now number }
+// Whether the key is one of these, of which none is above the greatest: a key above it is not looked for.
+fn is_among(keys: &[Key], key: Key, greatest: Key) -> bool
+    requires { All (λ k. k ≤ greatest) keys.now }
+    ensures { IsTrue result ↔ Contains keys.now key }
 {
-    number <= greatest && numbers.contains(&number)
+    !greatest.is_below(key) && keys.contains(&key)
 }
 
 // Drops these debts, each of which is owed in its turn. A drop takes no memory.
-fn apply_drops(ledger: &mut Ledger, numbers: &[u64], cause: Cause)
-    requires { AllLegal (state_of ledger.old) (drops cause numbers.now) }
-    ensures ledger { state_of ledger.new ≡ after (state_of ledger.old) (drops cause numbers.now) }
+fn apply_drops(ledger: &mut Ledger, keys: &[Key], cause: Cause)
+    requires { AllLegal (state_of ledger.old) (drops cause keys.now) }
+    ensures ledger { state_of ledger.new ≡ after (state_of ledger.old) (drops cause keys.now) }
     ensures indexes { (kept : ℕ) (payloads : List (List ℕ)) → Indexes kept payloads ledger.old
         → Indexes kept payloads ledger.new }
 {
-    for number in numbers {
-        let drop = Note::Drop {
-            number: *number,
-            cause,
-        };
+    for key in keys {
+        let drop = Note::Drop { key: *key, cause };
         let _ = ledger.apply_at(&drop, 0, 0);
     }
 }
@@ -677,20 +679,15 @@ fn taken_of(ledger: &Ledger) -> u64
 }
 
 // The spellings of the notes that drop these debts.
-fn spelled_drops(alloc: Global, numbers: &[u64], cause: Cause) -> Result<Vec<Vec<u8>>, AllocError>
+fn spelled_drops(alloc: Global, keys: &[Key], cause: Cause) -> Result<Vec<Vec<u8>>, AllocError>
     ensures spelled { IfOk result
-        (λ v. map vec_items v.items ≡ spellings (drops cause numbers.now)) }
-    ensures notes { OnOk result (AreNotes (drops cause numbers.now)) }
+        (λ v. map vec_items v.items ≡ spellings (drops cause keys.now)) }
+    ensures notes { OnOk result (AreNotes (drops cause keys.now)) }
 {
-    let mut payloads = Vec::with_capacity(alloc, numbers.len())?;
-    for number in numbers {
-        let payload = encode(
-            alloc,
-            &Note::Drop {
-                number: *number,
-                cause,
-            },
-        )?;
+    let mut payloads = Vec::with_capacity(alloc, keys.len())?;
+    for key in keys {
+        let drop = Note::Drop { key: *key, cause };
+        let payload = encode(alloc, &drop)?;
         payloads.push(payload)?;
     }
     Ok(payloads)

@@ -11,17 +11,17 @@ ghost use Rattle.recovery.specs.Words.{IsReadFault};
 use crate::TapeFault;
 use crate::tape::{Tape, end_of};
 use disk_model::Disk;
-use ledger_core::{Debt, Note, Spot, decode, encode_base, spells_owe};
+use ledger_core::{Debt, Key, Note, Spot, decode, encode_base, spells_owe};
 use std::alloc::{AllocError, Global};
 use tape_journal::{Batch, ReadFault};
 
-// The debt that a payload owes, where it is that of this number with texts of these lengths.
-fn debt_of(alloc: Global, number: u64, spot: Spot, payload: &[u8]) -> Result<Debt, TapeFault>
+// The debt that a payload owes, where it is that of this key with texts of these lengths.
+fn debt_of(alloc: Global, key: Key, spot: Spot, payload: &[u8]) -> Result<Debt, TapeFault>
     ensures debt { (debt : Owing) → IsNote (owe debt) → payload.now ≡ spelling (owe debt)
-        → debt.0 ≡ number
+        → debt.0 ≡ key
         → length debt.1.0 ≡ spot.token_len → length debt.1.1 ≡ spot.id_len
         → (IfOk result (λ d. d ≡ debt)) × (IsErrOf result TapeFault.Disk → ⊥) }
-    ensures ok { IfOk result (λ d. (d.0 ≡ number) × (length d.1.0 ≡ spot.token_len)
+    ensures ok { IfOk result (λ d. (d.0 ≡ key) × (length d.1.0 ≡ spot.token_len)
         × (length d.1.1 ≡ spot.id_len) × (payload.now ≡ spelling (owe d))) }
     ensures kinds { IfErr result IsReadFault }
 {
@@ -30,27 +30,28 @@ fn debt_of(alloc: Global, number: u64, spot: Spot, payload: &[u8]) -> Result<Deb
     };
     match note {
         Note::Owe {
-            number: read,
+            key: read,
             token,
             id,
-        } => debt_as(number, spot, Debt::new(read, token, id)),
+        } => debt_as(key, spot, Debt::new(read, token, id)),
         Note::Final { .. } => Err(TapeFault::Disk),
         Note::Drop { .. } => Err(TapeFault::Disk),
         Note::Seen { .. } => Err(TapeFault::Disk),
+        Note::Closed { .. } => Err(TapeFault::Disk),
     }
 }
 
-// The debt, where it is that of this number with texts of these lengths.
-fn debt_as(number: u64, spot: Spot, debt: Debt) -> Result<Debt, TapeFault>
+// The debt, where it is that of this key with texts of these lengths.
+fn debt_as(key: Key, spot: Spot, debt: Debt) -> Result<Debt, TapeFault>
     ensures ok { IfOk result
-        (λ d. (d ≡ debt) × (debt.0 ≡ number) × (length debt.1.0 ≡ spot.token_len)
+        (λ d. (d ≡ debt) × (debt.0 ≡ key) × (length debt.1.0 ≡ spot.token_len)
         × (length debt.1.1 ≡ spot.id_len)) }
-    ensures disk { IsErrOf result TapeFault.Disk → debt.0 ≡ number
+    ensures disk { IsErrOf result TapeFault.Disk → debt.0 ≡ key
         → length debt.1.0 ≡ spot.token_len
         → length debt.1.1 ≡ spot.id_len → ⊥ }
     ensures kinds { IfErr result (λ e. e ≡ TapeFault.Disk) }
 {
-    if debt.number() != number {
+    if debt.key() != key {
         return Err(TapeFault::Disk);
     }
     if debt.token().bytes().len() != usize::from(spot.token_len) {
@@ -70,7 +71,7 @@ impl<D: Disk> Tape<D> {
     ghost use Rattle.std.specs.Prelude.{List, slice_index_or, map, vec_items};
     ghost use Rattle.ledger_core.specs.Ledger.{state_of};
     ghost use Rattle.std.specs.List.Sorted.{IsStrictlyIncreasing};
-    ghost use Rattle.ledger_core.specs.State.{IsOwed, numbers};
+    ghost use Rattle.ledger_core.specs.State.{IsOwed, keys};
     ghost use Rattle.tape_journal.specs.Batch.{octets_in};
     ghost use Rattle.recovery.specs.Notes.{History};
     ghost use Rattle.recovery.specs.Tape.{IsRead, StandsFor};
@@ -78,22 +79,22 @@ impl<D: Disk> Tape<D> {
     ghost use Rattle.recovery.specs.Words.{IsBroken, IsDebtFault, OneHasRisen, Writes, generation_of, ledger_of};
     ghost use Rattle.recovery.specs.Words.{told_of};
 
-    /// The debt of this number, where it is owed. Its note is read back from the disk, unless it pends. Logarithmic in
+    /// The debt of this key, where it is owed. Its note is read back from the disk, unless it pends. Logarithmic in
     /// what is owed, and one reading of the disk.
     ///
     /// # Errors
     /// Tried in this order: `Broken`; `NoMemory`; `Disk`, where the reading failed, or gave another note than was put
     /// there, which an honest disk never does. None of them changes anything, or breaks the tape.
-    pub fn debt(&mut self, number: u64) -> Result<Option<Debt>, TapeFault>
+    pub fn debt(&mut self, key: Key) -> Result<Option<Debt>, TapeFault>
         // It is the debt that was noted.
         ensures debt { (h : History) → StandsFor self.old h
-            → IfOk result (λ debt. debt ≡ debt_at (ledger_of self.old) number) }
-        // Whatever the disk gives, the number is owed, and the texts have the lengths that were noted.
-        ensures owed { IfOk result (λ debt. (IsSome debt ↔ IsOwed (ledger_of self.old) number)
-            × HasLengths (ledger_of self.old) number debt) }
+            → IfOk result (λ debt. debt ≡ debt_at (ledger_of self.old) key) }
+        // Whatever the disk gives, the key is owed, and the texts have the lengths that were noted.
+        ensures owed { IfOk result (λ debt. (IsSome debt ↔ IsOwed (ledger_of self.old) key)
+            × HasLengths (ledger_of self.old) key debt) }
         ensures broken { IsErrOf result TapeFault.Broken ↔ IsBroken self.old }
         ensures refuses { IfErr result
-            (λ e. e ≢ TapeFault.Broken → IsOwed (ledger_of self.old) number) }
+            (λ e. e ≢ TapeFault.Broken → IsOwed (ledger_of self.old) key) }
         ensures cause { (h : History) → StandsFor self.old h
             → IsErrOf result TapeFault.Disk → OneHasRisen (told_of self.old) (told_of self.new) }
         ensures kinds { IfErr result IsDebtFault }
@@ -103,26 +104,26 @@ impl<D: Disk> Tape<D> {
         if self.segments.live.is_broken() {
             return Err(TapeFault::Broken);
         }
-        let Some(spot) = self.ledger.spot(number) else {
+        let Some(spot) = self.ledger.spot(key) else {
             return Ok(None);
         };
         let payload = match self.payload_of(spot) {
             Ok(payload) => payload,
             Err(fault) => return Err(fault),
         };
-        match debt_of(self.alloc, number, spot, &payload) {
+        match debt_of(self.alloc, key, spot, &payload) {
             Ok(debt) => Ok(Some(debt)),
             Err(fault) => Err(fault),
         }
     }
 
-    // The payload of the note that owes the debt of this number, which stands there.
-    fn note_at(&mut self, number: u64, spot: Spot) -> Result<Vec<u8>, TapeFault>
+    // The payload of the note that owes the debt of this key, which stands there.
+    fn note_at(&mut self, key: Key, spot: Spot) -> Result<Vec<u8>, TapeFault>
         requires works { IsBroken self.old → ⊥ }
-        requires spot { IsSpotOf self.old.ledger number spot }
+        requires spot { IsSpotOf self.old.ledger key spot }
         ensures note { (h : History) → StandsFor self.old h → IfOk result (λ v. (debt : Owing)
-            → debt_at (ledger_of self.old) number ≡ Some debt → v.items ≡ spelling (owe debt)) }
-        ensures spelled { IfOk result (λ v. SpellsOwe v.items number spot.token_len spot.id_len) }
+            → debt_at (ledger_of self.old) key ≡ Some debt → v.items ≡ spelling (owe debt)) }
+        ensures spelled { IfOk result (λ v. SpellsOwe v.items key spot.token_len spot.id_len) }
         ensures cause { (h : History) → StandsFor self.old h
             → IsErrOf result TapeFault.Disk → OneHasRisen (told_of self.old) (told_of self.new) }
         ensures kinds { IfErr result IsReadFault }
@@ -133,7 +134,7 @@ impl<D: Disk> Tape<D> {
             Ok(payload) => payload,
             Err(fault) => return Err(fault),
         };
-        if spells_owe(&payload, number, spot.token_len, spot.id_len) {
+        if spells_owe(&payload, key, spot.token_len, spot.id_len) {
             Ok(payload)
         } else {
             Err(TapeFault::Disk)
@@ -180,21 +181,21 @@ impl<D: Disk> Tape<D> {
         }
     }
 
-    // The numbers that are owed, rising, each with where it stands.
-    pub(crate) fn spots(&self) -> Result<Vec<(u64, Spot)>, AllocError>
+    // The keys that are owed, rising, each with where it stands.
+    pub(crate) fn spots(&self) -> Result<Vec<(Key, Spot)>, AllocError>
         ensures items { IfOk result (λ v. v.items ≡ spots_of self.now.ledger) }
-        ensures rising { OnOk result (IsStrictlyIncreasing (numbers (ledger_of self.now))) }
+        ensures rising { OnOk result (IsStrictlyIncreasing (keys (ledger_of self.now))) }
     {
         self.ledger.spots(self.alloc)
     }
 
     // Reads back the notes of all debts, whose spots are these, behind the Base of the next generation. The segment
     // that lives is read in pieces.
-    pub(crate) fn read_back(&mut self, spots: &[(u64, Spot)]) -> Result<Batch, TapeFault>
+    pub(crate) fn read_back(&mut self, spots: &[(Key, Spot)]) -> Result<Batch, TapeFault>
         requires works { IsBroken self.old → ⊥ }
         requires room { generation_of self.old < 2 ^ 64 - 1 }
         requires spots { spots.now ≡ spots_of self.old.ledger }
-        requires rising { IsStrictlyIncreasing (numbers (ledger_of self.old)) }
+        requires rising { IsStrictlyIncreasing (keys (ledger_of self.old)) }
         ensures written { (h : History) → StandsFor self.old h → IfOk result
             (Writes self.old) }
         ensures some { IfOk result (λ batch. 0 < octets_in batch) }
@@ -227,11 +228,11 @@ impl<D: Disk> Tape<D> {
     }
 
     // Reads back the notes of all debts, whose spots are these, behind the Base of the next generation, one by one.
-    fn read_each(&mut self, spots: &[(u64, Spot)]) -> Result<Batch, TapeFault>
+    fn read_each(&mut self, spots: &[(Key, Spot)]) -> Result<Batch, TapeFault>
         requires works { IsBroken self.old → ⊥ }
         requires room { generation_of self.old < 2 ^ 64 - 1 }
         requires spots { spots.now ≡ spots_of self.old.ledger }
-        requires rising { IsStrictlyIncreasing (numbers (ledger_of self.old)) }
+        requires rising { IsStrictlyIncreasing (keys (ledger_of self.old)) }
         ensures written { (h : History) → StandsFor self.old h → IfOk result
             (Writes self.old) }
         ensures some { IfOk result (λ batch. 0 < octets_in batch) }
@@ -245,8 +246,8 @@ impl<D: Disk> Tape<D> {
         let base = self.ledger.base(self.segments.generation + 1);
         batch.push(&encode_base(self.alloc, &base)?)?;
         for index in 0..spots.len() {
-            let (number, spot) = spots[index];
-            let payload = match self.note_at(number, spot) {
+            let (key, spot) = spots[index];
+            let payload = match self.note_at(key, spot) {
                 Ok(payload) => payload,
                 Err(fault) => return Err(fault),
             };

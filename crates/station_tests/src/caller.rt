@@ -1,12 +1,13 @@
 // Steps of a script: what is done to a station or by its peer, with the answer that is wanted.
 use crate::shared::{
-    LATER, Place, article, assert_same, connection, hand, input, names, offer, told,
+    LATER, Place, all_in_rows, article, assert_same, connection, funnel_key, hand, in_rows, input,
+    key_in_rows, names, offer, told,
 };
 use conn_core::{Conn, CxnId, Outcome};
 use disk_model::{Disk, FuseDisk, MemDisk};
 use funnel::{MsgId, Token};
-use ledger_core::{Cause, Debt, Totals};
-use peer_queue::{Limits, Owed, Settled, Shed, Station, StationFault, number_in, reopened};
+use ledger_core::{Cause, Debt, Key, Totals};
+use peer_queue::{Limits, Owed, Settled, Shed, Station, StationFault, key_in, reopened};
 use std::alloc::Global;
 use std::process::Abort;
 use std::test::Fail;
@@ -43,8 +44,16 @@ const NO_FUSE: Calls = (u64::MAX, u64::MAX);
 
 #[derive(Clone, Copy)]
 pub(crate) enum Step {
-    // The article of this number is owed.
+    // The funnel's line of this number is owed.
     Owe(u64, Result<Owed, StationFault>),
+    // The line of this number of the source that is open is owed.
+    Import(u64, Result<Owed, StationFault>),
+    // The source that is open is closed, which is this one.
+    Close(Result<u64, StationFault>),
+    // This source was closed last, and of the one behind it this number was noted.
+    Imported(u64, u64),
+    // So many more notes may pend.
+    Room(usize),
     // A connection claims at this moment the debt of the number that is wanted, 0 where there is none. It holds it
     // from then on.
     Claim(CxnId, u64, Result<u64, StationFault>),
@@ -253,6 +262,7 @@ fn octets_of(alloc: Global, disk: &mut MemDisk) -> Result<Vec<u8>, Fail> {
 fn take<A: Abort>(rt: &A, caller: &mut Caller, step: Step) -> Result<(), Fail> {
     match step {
         Step::Owe(number, want) => assert_owed(rt, caller, number, want),
+        Step::Import(number, want) => assert_imported(rt, caller, number, want),
         Step::Claim(connection, now, want) => assert_claimed(rt, caller, connection, now, want),
         Step::NotWanted(number) => answer(rt, caller, number, b"438 <x@y>\r\n", 438),
         Step::WantedLater(number) => answer(rt, caller, number, b"431 <x@y>\r\n", LATER),
@@ -290,6 +300,18 @@ fn assert_told<A: Abort>(rt: &A, caller: &mut Caller, step: Step) -> Result<(), 
             let rotated = caller.station.rotate();
             assert_answer(rt, caller, rotated, want)?;
         }
+        Step::Close(want) => {
+            let closed = close(&mut caller.station);
+            assert_answer(rt, caller, closed, want)?;
+        }
+        Step::Imported(closed, mark) => {
+            let told = (
+                u64::from(caller.station.closed()),
+                caller.station.import_mark(),
+            );
+            assert_same(rt, caller.place, &told, &(closed, mark));
+        }
+        Step::Room(want) => assert_same(rt, caller.place, &caller.station.room(), &want),
         Step::RotateDue(want) => {
             assert_same(rt, caller.place, &caller.station.rotate_due(), &want);
         }
@@ -322,6 +344,19 @@ fn owe(
     station.owe(number, token, id)
 }
 
+fn import(
+    station: &mut Station<FuseDisk<MemDisk>>,
+    number: u64,
+    token: &Token,
+    id: &MsgId,
+) -> Result<Owed, StationFault> {
+    station.import(number, token, id)
+}
+
+fn close(station: &mut Station<FuseDisk<MemDisk>>) -> Result<u64, StationFault> {
+    Ok(u64::from(station.close_import()?))
+}
+
 fn assert_owed<A: Abort>(
     rt: &A,
     caller: &mut Caller,
@@ -330,6 +365,27 @@ fn assert_owed<A: Abort>(
 ) -> Result<(), Fail> {
     let (token, id) = names(caller.alloc, b"<x@y>")?;
     let owed = owe(&mut caller.station, number, &token, &id);
+    assert_new(rt, caller, owed, want)
+}
+
+fn assert_imported<A: Abort>(
+    rt: &A,
+    caller: &mut Caller,
+    number: u64,
+    want: Result<Owed, StationFault>,
+) -> Result<(), Fail> {
+    let (token, id) = names(caller.alloc, b"<x@y>")?;
+    let owed = import(&mut caller.station, number, &token, &id);
+    assert_new(rt, caller, owed, want)
+}
+
+// What is wanted of a line that is owed, unless memory was refused.
+fn assert_new<A: Abort>(
+    rt: &A,
+    caller: &Caller,
+    owed: Result<Owed, StationFault>,
+    want: Result<Owed, StationFault>,
+) -> Result<(), Fail> {
     if owed == Err(StationFault::NoMemory) {
         return Err(Fail::from(StationFault::NoMemory));
     }
@@ -360,18 +416,18 @@ fn is_of_line(debt: &Debt) -> bool {
     debt.token().bytes() == b"a/1".as_slice() && debt.id().bytes() == b"<x@y>".as_slice()
 }
 
-// The number of a debt, 0 where there is none.
+// The key of a debt as rows have it, 0 where there is none.
 fn told_number<A: Abort>(rt: &A, place: Place, debt: &Option<Debt>) -> u64 {
     match debt {
         Some(debt) => {
             assert_same(rt, place, &is_of_line(debt), &true);
-            debt.number()
+            key_in_rows(debt)
         }
         None => 0,
     }
 }
 
-// Holds what was claimed, and answers its number.
+// Holds what was claimed, and answers its key as rows have it.
 fn keep<A: Abort>(rt: &A, caller: &mut Caller, debt: Option<Debt>) -> Result<u64, Fail> {
     let number = told_number(rt, caller.place, &debt);
     if let Some(debt) = debt {
@@ -426,9 +482,9 @@ fn send<A: Abort>(
     alloc: Global,
     place: Place,
     conn: &mut Conn,
-    number: u64,
+    key: Key,
 ) -> Result<(), Fail> {
-    hand(conn, number, article(alloc, b"Subject: t\n\n.b\n")?)?;
+    hand(conn, key, article(alloc, b"Subject: t\n\n.b\n")?)?;
     let block = conn.output().ends_with(b"Subject: t\r\n\r\n..b\r\n.\r\n");
     assert_same(rt, place, &block, &true);
     input(conn, b"239 <x@y>\r\n")
@@ -443,8 +499,8 @@ fn answered<A: Abort>(
     line: &[u8],
 ) -> Result<Outcome, Fail> {
     let mut conn = offered(alloc, debt, line)?;
-    if let Some(number) = conn.need() {
-        send(rt, alloc, place, &mut conn, number)?;
+    if let Some(key) = conn.need() {
+        send(rt, alloc, place, &mut conn, key)?;
     }
     Ok(conn.outcome().ok_or("an outcome")?)
 }
@@ -591,7 +647,7 @@ fn finish<A: Abort>(
     want: Result<Settled, StationFault>,
 ) -> Result<(), Fail> {
     let outcome = given(caller, number)?;
-    assert_same(rt, caller.place, &number_in(&outcome), &number);
+    assert_same(rt, caller.place, &in_rows(key_in(&outcome)), &number);
     let before = told(&outcome);
     match caller.station.finish(connection, outcome, now) {
         Ok(settled) => assert_same(rt, caller.place, &Ok(settled), &want),
@@ -605,8 +661,10 @@ fn finish<A: Abort>(
     Ok(())
 }
 
-fn assert_numbers<A: Abort>(rt: &A, caller: &Caller, numbers: &[u64], want: &[u64]) {
-    assert_same(rt, caller.place, &numbers, &want);
+fn assert_keys<A: Abort>(rt: &A, caller: &Caller, keys: &[Key], want: &[u64]) -> Result<(), Fail> {
+    let told = all_in_rows(caller.alloc, keys)?;
+    assert_same(rt, caller.place, &told.as_slice(), &want);
+    Ok(())
 }
 
 fn assert_shed<A: Abort>(
@@ -615,8 +673,8 @@ fn assert_shed<A: Abort>(
     want: &[u64],
     want_more: bool,
 ) -> Result<(), Fail> {
-    let Shed { numbers, more } = caller.station.shed()?;
-    assert_numbers(rt, caller, &numbers, want);
+    let Shed { keys, more } = caller.station.shed()?;
+    assert_keys(rt, caller, &keys, want)?;
     assert_same(rt, caller.place, &more, &want_more);
     Ok(())
 }
@@ -639,21 +697,20 @@ fn assert_debt<A: Abort>(
     number: u64,
     want: Result<u64, StationFault>,
 ) -> Result<(), Fail> {
-    let told = match caller.station.debt(number) {
+    let told = match caller.station.debt(funnel_key(number)) {
         Ok(debt) => Ok(told_number(rt, caller.place, &debt)),
         Err(fault) => Err(fault),
     };
     assert_answer(rt, caller, told, want)
 }
 
-fn listed(caller: &Caller) -> Result<Vec<u64>, Fail> {
+fn listed(caller: &Caller) -> Result<Vec<Key>, Fail> {
     Ok(caller.station.list()?)
 }
 
 fn assert_listed<A: Abort>(rt: &A, caller: &Caller, want: &[u64]) -> Result<(), Fail> {
-    let numbers = listed(caller)?;
-    assert_numbers(rt, caller, &numbers, want);
-    Ok(())
+    let keys = listed(caller)?;
+    assert_keys(rt, caller, &keys, want)
 }
 
 fn assert_between<A: Abort>(
@@ -662,7 +719,7 @@ fn assert_between<A: Abort>(
     least: &[u64],
     most: &[u64],
 ) -> Result<(), Fail> {
-    let numbers = listed(caller)?;
+    let numbers = all_in_rows(caller.alloc, &listed(caller)?)?;
     let told = (numbers.starts_with(least), most.starts_with(&numbers));
     assert_same(rt, caller.place, &told, &(true, true));
     Ok(())

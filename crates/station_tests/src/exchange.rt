@@ -1,9 +1,12 @@
 // Steps of an exchange: what a feeder or its peer does at one connection, or what the connection is asked, with what
 // it is to tell.
-use crate::shared::{Place, article, assert_same, connection, hand, input, names, offer, told};
+use crate::shared::{
+    Place, article, assert_same, connection, funnel_key, hand, in_rows, input, key_in_rows, names,
+    offer, told,
+};
 use article_store::Found;
 use conn_core::{ArticleFault, Conn, CxnId, Mode, OfferFault, Ready, Reason};
-use ledger_core::Debt;
+use ledger_core::{Debt, Key};
 use std::alloc::Global;
 use std::process::Abort;
 use std::test::Fail;
@@ -196,7 +199,14 @@ fn assert_known<A: Abort>(rt: &A, exchange: &Exchange, step: Step) {
     match step {
         Step::Wanted(want) => assert_wanted(rt, exchange, want),
         Step::Answered(want) => assert_same(rt, exchange.place, &conn.has_answered(), &want),
-        Step::Unanswered(want) => assert_same(rt, exchange.place, &conn.first_unanswered(), &want),
+        Step::Unanswered(want) => {
+            assert_same(
+                rt,
+                exchange.place,
+                &told_key(conn.first_unanswered()),
+                &want,
+            )
+        }
         Step::Refused(want) => assert_refused(rt, exchange, want),
         _ => {}
     }
@@ -204,7 +214,7 @@ fn assert_known<A: Abort>(rt: &A, exchange: &Exchange, step: Step) {
 
 fn debt(alloc: Global, number: u64, id: &[u8]) -> Result<Debt, Fail> {
     let (token, id) = names(alloc, id)?;
-    Ok(Debt::new(number, token, id))
+    Ok(Debt::new(funnel_key(number), token, id))
 }
 
 fn offer_debt<A: Abort>(
@@ -228,7 +238,7 @@ fn assert_not_offered<A: Abort>(
     match exchange.conn.offer(debt) {
         Ok(()) => return Err(Fail::from("a debt was taken that is to be refused")),
         Err(back) => {
-            let told = (back.debt.number(), back.fault);
+            let told = (key_in_rows(&back.debt), back.fault);
             assert_same(rt, exchange.place, &told, &(number, fault));
         }
     }
@@ -253,11 +263,11 @@ fn hand_in<A: Abort>(
 ) -> Result<(), Fail> {
     assert_need(rt, exchange, Some(number));
     assert_wanted(rt, exchange, Some(number));
-    hand(&mut exchange.conn, number, found)
+    hand(&mut exchange.conn, funnel_key(number), found)
 }
 
 fn assert_not_needed<A: Abort>(rt: &A, exchange: &mut Exchange, number: u64) -> Result<(), Fail> {
-    match exchange.conn.article(number, Found::Gone) {
+    match exchange.conn.article(funnel_key(number), Found::Gone) {
         Ok(()) => return Err(Fail::from("an article was taken that is not needed")),
         Err((found, fault)) => {
             let told = (matches!(found, Found::Gone), fault);
@@ -289,17 +299,25 @@ fn assert_outcome<A: Abort>(rt: &A, exchange: &mut Exchange, want: Option<(u64, 
     assert_same(rt, exchange.place, &outcome, &want);
 }
 
+// A key as rows have it.
+fn told_key(key: Option<Key>) -> Option<u64> {
+    match key {
+        Some(key) => Some(in_rows(key)),
+        None => None,
+    }
+}
+
 fn assert_ready<A: Abort>(rt: &A, exchange: &Exchange, want: Ready) {
     assert_same(rt, exchange.place, &exchange.conn.ready(), &want);
 }
 
 fn assert_need<A: Abort>(rt: &A, exchange: &Exchange, want: Option<u64>) {
-    assert_same(rt, exchange.place, &exchange.conn.need(), &want);
+    assert_same(rt, exchange.place, &told_key(exchange.conn.need()), &want);
 }
 
 fn assert_wanted<A: Abort>(rt: &A, exchange: &Exchange, want: Option<u64>) {
     let wanted = match exchange.conn.wanted() {
-        Some(debt) => Some(debt.number()),
+        Some(debt) => Some(key_in_rows(debt)),
         None => None,
     };
     assert_same(rt, exchange.place, &wanted, &want);

@@ -110,6 +110,8 @@ const REOPENING: &[Script] = &[
                 Step::Owe(4, Ok(Owed::New)),
                 Step::Flush(Err(DISK)),
                 Step::Owe(5, Err(BROKEN)),
+                Step::Import(1, Err(BROKEN)),
+                Step::Close(Err(BROKEN)),
                 Step::Claim(ONE, 0, Err(BROKEN)),
                 Step::Settle(ONE, 1, Err(BROKEN)),
                 Step::Defer(ONE, 2, 0, Err(BROKEN)),

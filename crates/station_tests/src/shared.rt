@@ -3,7 +3,7 @@ use article_store::Found;
 use bytes::Bytes;
 use conn_core::{Conn, CxnId, Options, Outcome};
 use funnel::{MsgId, Token};
-use ledger_core::{Cause, Debt};
+use ledger_core::{Cause, Debt, Key};
 use std::alloc::Global;
 use std::fmt::Debug;
 use std::process::Abort;
@@ -26,6 +26,10 @@ pub(crate) const STREAMING: Options = Options {
     check_filter: 20,
     response_timeout: 300,
 };
+
+// In rows a key is one number, in which the source counts this: the number of a funnel's line is its own key. No number
+// of another source is as great.
+pub(crate) const SOURCE: u64 = 4_294_967_296;
 
 // Where a comparison stands: the row, and the place of the step in it.
 #[derive(Clone, Copy)]
@@ -90,20 +94,45 @@ pub(crate) fn article(alloc: Global, text: &[u8]) -> Result<Found, Fail> {
     Ok(Found::Article(Bytes::copy_from_slice(alloc, text)?))
 }
 
-pub(crate) fn hand(conn: &mut Conn, number: u64, found: Found) -> Result<(), Fail> {
-    match conn.article(number, found) {
+pub(crate) fn hand(conn: &mut Conn, key: Key, found: Found) -> Result<(), Fail> {
+    match conn.article(key, found) {
         Ok(()) => Ok(()),
         Err((_, fault)) => Err(Fail::from(fault)),
     }
 }
 
-// The number of a debt, and the code of the reply that ended it or what is told in its place.
+// The key of the line of this number of the funnel.
+pub(crate) fn funnel_key(number: u64) -> Key {
+    Key::new(0, number)
+}
+
+// A key as rows have it.
+pub(crate) fn in_rows(key: Key) -> u64 {
+    u64::from(key.source())
+        .saturating_mul(SOURCE)
+        .saturating_add(key.number())
+}
+
+// The key of a debt, as rows have it.
+pub(crate) fn key_in_rows(debt: &Debt) -> u64 {
+    in_rows(debt.key())
+}
+
+pub(crate) fn all_in_rows(alloc: Global, keys: &[Key]) -> Result<Vec<u64>, Fail> {
+    let mut told = Vec::new(alloc);
+    for key in keys {
+        told.push(in_rows(*key))?;
+    }
+    Ok(told)
+}
+
+// The key of a debt as rows have it, and the code of the reply that ended it or what is told in its place.
 pub(crate) fn told(outcome: &Outcome) -> (u64, u16) {
     match outcome {
-        Outcome::Final(verdict) => (verdict.debt().number(), verdict.code().number()),
-        Outcome::Deferred(deferral) => (deferral.debt().number(), LATER),
-        Outcome::Lost(debt, Cause::Missing) => (debt.number(), MISSING),
-        Outcome::Lost(debt, _) => (debt.number(), UNSENDABLE),
-        Outcome::Back(debt) => (debt.number(), BACK),
+        Outcome::Final(verdict) => (key_in_rows(verdict.debt()), verdict.code().number()),
+        Outcome::Deferred(deferral) => (key_in_rows(deferral.debt()), LATER),
+        Outcome::Lost(debt, Cause::Missing) => (key_in_rows(debt), MISSING),
+        Outcome::Lost(debt, _) => (key_in_rows(debt), UNSENDABLE),
+        Outcome::Back(debt) => (key_in_rows(debt), BACK),
     }
 }

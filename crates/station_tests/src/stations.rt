@@ -3,6 +3,7 @@ use crate::caller::{
     NOT_HELD, ONE, OTHER, Opening, SMALL, Script, Step, UNLIMITED, begin, play, play_script,
     play_scripts,
 };
+use crate::shared::SOURCE;
 use conn_core::CxnId;
 use ledger_core::{Cause, FinalCode};
 use peer_queue::{Limits, Owed, Settled, StationFault, deferred_until};
@@ -416,6 +417,113 @@ const FINISHING: &[Script] = &[
     },
 ];
 
+// Lines of backlog files: source 1 is open at first.
+const IMPORTING: &[Script] = &[
+    Script {
+        name: "a line of the source that is open is owed once",
+        owed: 1,
+        limits: UNLIMITED,
+        steps: &[
+            Step::Imported(0, 0),
+            Step::Import(0, Ok(Owed::Already)),
+            Step::Import(1, Ok(Owed::New)),
+            Step::Import(1, Ok(Owed::Already)),
+            Step::Import(3, Ok(Owed::New)),
+            Step::Import(2, Ok(Owed::Already)),
+            Step::Imported(0, 3),
+            Step::Mark(1),
+            Step::List(&[1, SOURCE + 1, SOURCE + 3]),
+            Step::Close(Ok(1)),
+            Step::Imported(1, 0),
+            Step::Import(1, Ok(Owed::New)),
+            Step::Import(u64::MAX, Ok(Owed::New)),
+            Step::Close(Ok(2)),
+            Step::Totals(5, 0, 0, 5),
+            Step::Room(65529),
+        ],
+        opened: &[],
+        tape: None,
+    },
+    Script {
+        name: "the funnel goes first, then source by source",
+        owed: 1,
+        limits: UNLIMITED,
+        steps: &[
+            Step::Close(Ok(1)),
+            Step::Import(1, Ok(Owed::New)),
+            Step::Import(9, Ok(Owed::New)),
+            Step::Close(Ok(2)),
+            Step::Close(Ok(3)),
+            Step::Close(Ok(4)),
+            Step::Close(Ok(5)),
+            Step::Close(Ok(6)),
+            Step::Close(Ok(7)),
+            Step::Close(Ok(8)),
+            Step::Close(Ok(9)),
+            Step::Import(1, Ok(Owed::New)),
+            Step::Owe(2, Ok(Owed::New)),
+            Step::List(&[1, 2, 2 * SOURCE + 1, 2 * SOURCE + 9, 10 * SOURCE + 1]),
+            Step::Claim(ONE, 0, Ok(1)),
+            Step::Claim(ONE, 0, Ok(2)),
+            Step::Claim(OTHER, 0, Ok(2 * SOURCE + 1)),
+            Step::Claim(ONE, 0, Ok(2 * SOURCE + 9)),
+            Step::Claim(ONE, 0, Ok(10 * SOURCE + 1)),
+            Step::Claim(ONE, 0, Ok(0)),
+            Step::Lose(ONE, 2 * SOURCE + 1, Err(NOT_HELD)),
+            Step::Lose(OTHER, 2 * SOURCE + 1, Ok(())),
+            Step::Release(ONE, 4),
+            Step::List(&[1, 2, 2 * SOURCE + 9, 10 * SOURCE + 1]),
+        ],
+        opened: &[],
+        tape: None,
+    },
+    Script {
+        name: "a source that a stop left open goes on",
+        owed: 0,
+        limits: UNLIMITED,
+        steps: &[
+            Step::Import(1, Ok(Owed::New)),
+            Step::Flush(Ok(1)),
+            Step::Import(2, Ok(Owed::New)),
+        ],
+        opened: &[
+            (
+                Opening::Again(UNLIMITED),
+                &[
+                    Step::Imported(0, 1),
+                    Step::Import(1, Ok(Owed::Already)),
+                    Step::Import(2, Ok(Owed::New)),
+                    Step::Close(Ok(1)),
+                    Step::Rotate(Ok(1)),
+                    Step::List(&[SOURCE + 1, SOURCE + 2]),
+                ],
+            ),
+            (
+                Opening::Again(UNLIMITED),
+                &[
+                    Step::Imported(1, 0),
+                    Step::Import(1, Ok(Owed::New)),
+                    Step::List(&[SOURCE + 1, SOURCE + 2, 2 * SOURCE + 1]),
+                ],
+            ),
+        ],
+        tape: None,
+    },
+    Script {
+        name: "the funnel is shed before a backlog file",
+        owed: 2,
+        limits: SMALL,
+        steps: &[
+            Step::Import(1, Ok(Owed::New)),
+            Step::Import(2, Ok(Owed::New)),
+            Step::Shed(&[1, 2, SOURCE + 1], false),
+            Step::List(&[SOURCE + 2]),
+        ],
+        opened: &[],
+        tape: None,
+    },
+];
+
 const FINISHED_WITHOUT_ROOM: Script = Script {
     name: "only what ends a debt wants room",
     owed: MOST_PENDING,
@@ -505,12 +613,18 @@ const PENDING_FULL: Script = Script {
         Step::Lose(ONE, 3, Err(FULL)),
         Step::Totals(MOST_PENDING, 0, 0, MOST_PENDING),
         Step::Mark(MOST_PENDING),
+        Step::Room(0),
+        Step::Import(1, Err(FULL)),
+        Step::Close(Err(FULL)),
+        Step::Imported(0, 0),
         Step::Flush(Ok(MOST_PENDING)),
         Step::Owe(MOST_PENDING + 1, Ok(Owed::New)),
+        Step::Import(1, Ok(Owed::New)),
+        Step::Close(Ok(1)),
         Step::Settle(ONE, 1, Ok(())),
         Step::Defer(ONE, 2, 0, Ok(())),
         Step::Lose(ONE, 3, Ok(())),
-        Step::Flush(Ok(MOST_PENDING + 4)),
+        Step::Flush(Ok(MOST_PENDING + 6)),
     ],
     opened: &[],
     tape: None,
@@ -551,6 +665,11 @@ fn the_deferred_wait(rt: HostRuntime) -> Result<(), Fail> {
 #[test]
 fn what_is_put_off_waits(rt: HostRuntime) -> Result<(), Fail> {
     play_scripts(&rt, rt.alloc(), PUTTING_OFF)
+}
+
+#[test]
+fn lines_of_backlog_files_are_owed(rt: HostRuntime) -> Result<(), Fail> {
+    play_scripts(&rt, rt.alloc(), IMPORTING)
 }
 
 #[test]

@@ -1,6 +1,6 @@
 // Stations over two disks of which one call fails, each call in turn.
 use crate::caller::{ONE, UNLIMITED};
-use crate::shared::names;
+use crate::shared::{all_in_rows, funnel_key, names};
 use disk_model::{Disk, FlakyDisk, MemDisk};
 use ledger_core::{Cause, Debt};
 use peer_queue::{Owed, Station, StationFault};
@@ -80,7 +80,7 @@ fn claim(station: &mut Flaky) -> Result<Option<Debt>, StationFault> {
 }
 
 fn is_told(station: &mut Flaky, number: u64) -> Result<bool, StationFault> {
-    Ok(station.debt(number)?.is_some())
+    Ok(station.debt(funnel_key(number))?.is_some())
 }
 
 // What is told of a number where each call but one succeeds: a reading that failed changed nothing, and the next
@@ -170,7 +170,7 @@ fn work<A: Abort>(rt: &A, alloc: Global, station: &mut Flaky) -> Result<Counts, 
 
 fn listed(alloc: Global, disks: (MemDisk, MemDisk)) -> Result<Vec<u64>, Fail> {
     match opened(alloc, disks) {
-        Ok(station) => Ok(station.list()?),
+        Ok(station) => all_in_rows(alloc, &station.list()?),
         Err((fault, _)) => Err(Fail::from(fault)),
     }
 }

@@ -2,7 +2,8 @@
 // whose command was the first without an answer at the close, the reply that closed it, and its reason in words.
 use crate::exchange::{CHECKED, PLAIN, Row, STREAMING, Step, play_rows};
 use crate::shared::{
-    BACK, LATER, MISSING, Place, article, assert_same, connection, hand, input, names, offer,
+    BACK, LATER, MISSING, Place, article, assert_same, connection, funnel_key, hand, input, names,
+    offer,
 };
 use conn_core::{Conn, CxnId, Mode, Reason};
 use ledger_core::Debt;
@@ -419,8 +420,12 @@ fn long_articles_go_out(rt: HostRuntime) -> Result<(), Fail> {
     let text = long_text(rt.alloc())?;
     for number in 1..4 {
         let (token, id) = names(rt.alloc(), b"<x@y>")?;
-        offer(&mut conn, Debt::new(number, token, id))?;
-        hand(&mut conn, number, article(rt.alloc(), text.as_slice())?)?;
+        offer(&mut conn, Debt::new(funnel_key(number), token, id))?;
+        hand(
+            &mut conn,
+            funnel_key(number),
+            article(rt.alloc(), text.as_slice())?,
+        )?;
         drain(&rt, &mut conn, 13);
         input(&mut conn, b"335\r\n")?;
         drain(&rt, &mut conn, LINES * 65 + 3);

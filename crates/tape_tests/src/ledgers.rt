@@ -1,6 +1,6 @@
 // Ledgers at which steps are taken.
 use crate::answers::assert_answer;
-use crate::samples::{Sample, note_of};
+use crate::samples::{Line, Sample, keys_of, line, lines, note_of};
 use ledger_core::{Base, Ledger, LedgerFault, ReplayFault, Totals, encode, encode_base};
 use std::alloc::Global;
 use std::process::Abort;
@@ -14,9 +14,13 @@ enum Step {
     Owes(u64, bool),
     // Where the debt of this number stands, and how long its token and its message-id are.
     Spot(u64, Option<(u64, u8, u8)>),
+    // What is owed is these lines of the funnel.
     Numbers(&'static [u64]),
+    Keys(&'static [Line]),
     Totals(Totals),
     Mark(u64),
+    Closed(u32),
+    ImportMark(u64),
 }
 
 fn apply(
@@ -36,7 +40,7 @@ fn check(alloc: Global, ledger: &Ledger, sample: Sample) -> Result<Result<(), Le
 }
 
 fn told(ledger: &Ledger, number: u64) -> Option<(u64, u8, u8)> {
-    match ledger.spot(number) {
+    match ledger.spot(line(number)) {
         Some(spot) => Some((spot.at, spot.token_len, spot.id_len)),
         None => None,
     }
@@ -55,11 +59,20 @@ fn take<A: Abort>(
             assert_answer(rt, at, &answer, &want)
         }
         Step::Check(sample, want) => assert_answer(rt, at, &check(alloc, ledger, sample)?, &want),
-        Step::Owes(number, want) => assert_answer(rt, at, &ledger.owes(number), &want),
+        Step::Owes(number, want) => assert_answer(rt, at, &ledger.owes(line(number)), &want),
         Step::Spot(number, want) => assert_answer(rt, at, &told(ledger, number), &want),
-        Step::Numbers(want) => assert_answer(rt, at, &ledger.numbers(alloc)?.as_slice(), &want),
+        Step::Numbers(want) => {
+            let want = lines(alloc, want)?;
+            assert_answer(rt, at, &ledger.keys(alloc)?.as_slice(), &want.as_slice())
+        }
+        Step::Keys(want) => {
+            let want = keys_of(alloc, want)?;
+            assert_answer(rt, at, &ledger.keys(alloc)?.as_slice(), &want.as_slice())
+        }
         Step::Totals(want) => assert_answer(rt, at, &ledger.totals(), &want),
         Step::Mark(want) => assert_answer(rt, at, &ledger.mark(), &want),
+        Step::Closed(want) => assert_answer(rt, at, &ledger.closed(), &want),
+        Step::ImportMark(want) => assert_answer(rt, at, &ledger.import_mark(), &want),
     }
     Ok(())
 }
@@ -129,6 +142,35 @@ fn notes_leave_a_ledger(rt: HostRuntime) -> Result<(), Fail> {
             Step::Apply(Sample::Final(3), Ok(())),
             Step::Spot(3, None),
         ],
+        // Lines of the source that is open are owed, behind those of the funnel, until it is closed.
+        &[
+            Step::Check(Sample::OweFrom(2, 1), Err(LedgerFault::OldNumber)),
+            Step::Apply(Sample::OweFrom(1, 2), Ok(())),
+            Step::Apply(Sample::OweFrom(1, 2), Err(LedgerFault::OldNumber)),
+            Step::Apply(Sample::Owe(7), Ok(())),
+            Step::Keys(&[(0, 7), (1, 2)]),
+            Step::ImportMark(2),
+            Step::Apply(Sample::Closed(2), Err(LedgerFault::OldNumber)),
+            Step::Check(Sample::Closed(1), Ok(())),
+            Step::Apply(Sample::Closed(1), Ok(())),
+            Step::Closed(1),
+            Step::ImportMark(0),
+            Step::Mark(7),
+            Step::Apply(Sample::OweFrom(1, 3), Err(LedgerFault::OldNumber)),
+            Step::Apply(Sample::OweFrom(2, 1), Ok(())),
+            Step::Keys(&[(0, 7), (1, 2), (2, 1)]),
+            Step::Apply(Sample::FinalFrom(1, 2), Ok(())),
+            Step::Apply(Sample::FinalFrom(1, 2), Err(LedgerFault::NotOwed)),
+            Step::Apply(Sample::DropFrom(2, 1), Ok(())),
+            Step::Numbers(&[7]),
+            Step::Totals(Totals {
+                taken: 3,
+                answered: 1,
+                dropped: 1,
+                owed: 1,
+                owed_bytes: 10,
+            }),
+        ],
     ];
     for steps in SCRIPTS {
         run(&rt, rt.alloc(), Ledger::new(rt.alloc()), steps)?;
@@ -190,10 +232,12 @@ fn replay_stops(rt: HostRuntime) -> Result<(), Fail> {
 enum Payload {
     // Generation, mark, taken, answered, dropped and live.
     Base([u64; 6]),
+    // The same, the source that was closed last, and the mark of the next.
+    Imports([u64; 6], u32, u64),
     Note(Sample),
 }
 
-fn base_of(numbers: [u64; 6]) -> Base {
+fn base_of(numbers: [u64; 6], closed: u32, import_mark: u64) -> Base {
     let [generation, mark, taken, answered, dropped, live] = numbers;
     Base {
         generation,
@@ -202,6 +246,8 @@ fn base_of(numbers: [u64; 6]) -> Base {
         answered,
         dropped,
         live,
+        closed,
+        import_mark,
     }
 }
 
@@ -209,7 +255,10 @@ fn spelled(alloc: Global, payloads: &[Payload]) -> Result<Vec<Vec<u8>>, Fail> {
     let mut all = Vec::new(alloc);
     for payload in payloads {
         let octets = match payload {
-            Payload::Base(numbers) => encode_base(alloc, &base_of(*numbers))?,
+            Payload::Base(numbers) => encode_base(alloc, &base_of(*numbers, 0, 0))?,
+            Payload::Imports(numbers, closed, import_mark) => {
+                encode_base(alloc, &base_of(*numbers, *closed, *import_mark))?
+            }
             Payload::Note(sample) => encode(alloc, &note_of(alloc, *sample)?)?,
         };
         all.push(octets)?;
@@ -294,6 +343,78 @@ fn a_tape_is_restored(rt: HostRuntime) -> Result<(), Fail> {
                     owed_bytes: 20,
                 },
             )),
+        ),
+        // Behind its marks a debt may be of the source that is open, and of each before, of whatever number.
+        (
+            &[
+                Payload::Imports([1, 1, 3, 0, 0, 3], 1, 5),
+                OWE_1,
+                Payload::Note(Sample::OweFrom(1, 9)),
+                Payload::Note(Sample::OweFrom(2, 5)),
+                Payload::Note(Sample::OweFrom(2, 6)),
+                Payload::Note(Sample::Closed(2)),
+            ],
+            Ok((
+                1,
+                1,
+                Totals {
+                    taken: 4,
+                    owed: 4,
+                    owed_bytes: 40,
+                    ..NOTHING
+                },
+            )),
+        ),
+        (
+            &[
+                Payload::Imports([1, 0, 1, 0, 0, 1], 4_294_967_294, 1),
+                Payload::Note(Sample::OweFrom(4_294_967_295, 1)),
+            ],
+            Ok((
+                1,
+                0,
+                Totals {
+                    taken: 1,
+                    owed: 1,
+                    owed_bytes: 10,
+                    ..NOTHING
+                },
+            )),
+        ),
+        // The last source is closed neither by a Base nor by a note.
+        (
+            &[Payload::Imports([1, 0, 0, 0, 0, 0], 4_294_967_295, 0)],
+            Err(ReplayFault::Refused { index: 0 }),
+        ),
+        (
+            &[
+                Payload::Imports([1, 0, 0, 0, 0, 0], 4_294_967_294, 0),
+                Payload::Note(Sample::Closed(4_294_967_295)),
+            ],
+            Err(ReplayFault::Refused { index: 1 }),
+        ),
+        // A debt of a later source than the one that is open, of that above its mark, and one that doesn't rise.
+        (
+            &[
+                Payload::Imports([1, 0, 1, 0, 0, 1], 1, 5),
+                Payload::Note(Sample::OweFrom(3, 1)),
+            ],
+            Err(ReplayFault::Refused { index: 1 }),
+        ),
+        (
+            &[
+                Payload::Imports([1, 0, 1, 0, 0, 1], 1, 5),
+                Payload::Note(Sample::OweFrom(2, 6)),
+            ],
+            Err(ReplayFault::Refused { index: 1 }),
+        ),
+        (
+            &[
+                Payload::Imports([1, 1, 2, 0, 0, 2], 1, 5),
+                Payload::Note(Sample::OweFrom(1, 1)),
+                OWE_1,
+            ],
+            Err(ReplayFault::Refused { index: 2 }),
         ),
         // A Base without a generation, and counts that don't add up, in full numbers.
         (

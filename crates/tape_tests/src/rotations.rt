@@ -182,6 +182,40 @@ const YOUNGER: [u8; 119] = [
     0, 0, 0x0b, 2, 0, 0, 0, 0, 0, 0, 0, 1, 0, 0xef, 0,
 ];
 
+// A note of each kind: the line 3 is owed, the line 3 of a backlog file that was taken in, and the line 4 of the next.
+const IMPORTED: [u8; 279] = [
+    0xa5, 0, 0, 0, 0x13, 1, 0, 0, 0, 0, 0, 0, 0, 1, 3, 0x61, 0x2f, 0x31, 5, 0x3c, 0x78, 0x40, 0x79,
+    0x3e, 0xa5, 0, 0, 0, 0x13, 1, 0, 0, 0, 0, 0, 0, 0, 2, 3, 0x61, 0x2f, 0x31, 5, 0x3c, 0x78, 0x40,
+    0x79, 0x3e, 0xa5, 0, 0, 0, 0x13, 1, 0, 0, 0, 0, 0, 0, 0, 3, 3, 0x61, 0x2f, 0x31, 5, 0x3c, 0x78,
+    0x40, 0x79, 0x3e, 0xa5, 0, 0, 0, 0x17, 6, 0, 0, 0, 1, 0, 0, 0, 0, 0, 0, 0, 1, 3, 0x61, 0x2f,
+    0x31, 5, 0x3c, 0x78, 0x40, 0x79, 0x3e, 0xa5, 0, 0, 0, 0x17, 6, 0, 0, 0, 1, 0, 0, 0, 0, 0, 0, 0,
+    2, 3, 0x61, 0x2f, 0x31, 5, 0x3c, 0x78, 0x40, 0x79, 0x3e, 0xa5, 0, 0, 0, 0x17, 6, 0, 0, 0, 1, 0,
+    0, 0, 0, 0, 0, 0, 3, 3, 0x61, 0x2f, 0x31, 5, 0x3c, 0x78, 0x40, 0x79, 0x3e, 0xa5, 0, 0, 0, 0x0b,
+    2, 0, 0, 0, 0, 0, 0, 0, 1, 0, 0xef, 0xa5, 0, 0, 0, 0x0a, 3, 0, 0, 0, 0, 0, 0, 0, 2, 3, 0xa5, 0,
+    0, 0, 0x0f, 7, 0, 0, 0, 1, 0, 0, 0, 0, 0, 0, 0, 1, 0, 0xef, 0xa5, 0, 0, 0, 0x0e, 8, 0, 0, 0, 1,
+    0, 0, 0, 0, 0, 0, 0, 2, 3, 0xa5, 0, 0, 0, 5, 9, 0, 0, 0, 1, 0xa5, 0, 0, 0, 0x17, 6, 0, 0, 0, 2,
+    0, 0, 0, 0, 0, 0, 0, 4, 3, 0x61, 0x2f, 0x31, 5, 0x3c, 0x78, 0x40, 0x79, 0x3e, 0xa5, 0, 0, 0, 9,
+    5, 0, 0, 0, 0, 0, 0, 0, 5, 0,
+];
+
+// What the first rotation makes of them.
+const IMPORTED_ONCE: [u8; 147] = [
+    0xa5, 0, 0, 0, 0x3d, 0x0a, 0, 0, 0, 0, 0, 0, 0, 1, 0, 0, 0, 0, 0, 0, 0, 5, 0, 0, 0, 0, 0, 0, 0,
+    7, 0, 0, 0, 0, 0, 0, 0, 2, 0, 0, 0, 0, 0, 0, 0, 2, 0, 0, 0, 0, 0, 0, 0, 3, 0, 0, 0, 1, 0, 0, 0,
+    0, 0, 0, 0, 4, 0xa5, 0, 0, 0, 0x13, 1, 0, 0, 0, 0, 0, 0, 0, 3, 3, 0x61, 0x2f, 0x31, 5, 0x3c,
+    0x78, 0x40, 0x79, 0x3e, 0xa5, 0, 0, 0, 0x17, 6, 0, 0, 0, 1, 0, 0, 0, 0, 0, 0, 0, 3, 3, 0x61,
+    0x2f, 0x31, 5, 0x3c, 0x78, 0x40, 0x79, 0x3e, 0xa5, 0, 0, 0, 0x17, 6, 0, 0, 0, 2, 0, 0, 0, 0, 0,
+    0, 0, 4, 3, 0x61, 0x2f, 0x31, 5, 0x3c, 0x78, 0x40, 0x79, 0x3e, 0,
+];
+
+// A Base that closes the last source, behind which none could be open.
+const LAST_SOURCE: [u8; 91] = [
+    0xa5, 0, 0, 0, 0x3d, 0x0a, 0, 0, 0, 0, 0, 0, 0, 1, 0, 0, 0, 0, 0, 0, 0, 1, 0, 0, 0, 0, 0, 0, 0,
+    1, 0, 0, 0, 0, 0, 0, 0, 0, 0, 0, 0, 0, 0, 0, 0, 0, 0, 0, 0, 0, 0, 0, 0, 1, 0xff, 0xff, 0xff,
+    0xff, 0, 0, 0, 0, 0, 0, 0, 0, 0xa5, 0, 0, 0, 0x13, 1, 0, 0, 0, 0, 0, 0, 0, 1, 3, 0x61, 0x2f,
+    0x31, 5, 0x3c, 0x78, 0x40, 0x79, 0x3e, 0,
+];
+
 // What lies on the disks, and what is done at each opening of the tape.
 const SCRIPTS: &[(Octets, &[Opening])] = &[
     // The first rotation of one debt, and the next.
@@ -311,6 +345,75 @@ const SCRIPTS: &[(Octets, &[Opening])] = &[
             ),
         ],
     ),
+    // Lines of backlog files are kept by each opening and by each rotation, behind those of the funnel.
+    (
+        (&[], &[]),
+        &[
+            (
+                &[
+                    Step::OweEach(1, 4),
+                    Step::Note(Sample::OweFrom(1, 1), Ok(())),
+                    Step::Note(Sample::OweFrom(1, 2), Ok(())),
+                    Step::Note(Sample::OweFrom(1, 3), Ok(())),
+                    Step::Note(Sample::Final(1), Ok(())),
+                    Step::Note(Sample::Drop(2), Ok(())),
+                    Step::Note(Sample::FinalFrom(1, 1), Ok(())),
+                    Step::Note(Sample::DropFrom(1, 2), Ok(())),
+                    Step::Note(Sample::Closed(1), Ok(())),
+                    Step::Note(Sample::OweFrom(2, 4), Ok(())),
+                    Step::Note(Sample::Seen(5), Ok(())),
+                    Step::Flush(Ok(13)),
+                ],
+                Some((&IMPORTED, &[])),
+            ),
+            (
+                &[
+                    Step::Keys(&[(0, 3), (1, 3), (2, 4)]),
+                    Step::Mark(5),
+                    Step::Closed(1),
+                    Step::ImportMark(4),
+                    Step::DebtFrom((1, 3), Ok(Some((1, 3)))),
+                    Step::DebtFrom((2, 3), Ok(None)),
+                    Step::Note(Sample::OweFrom(1, 4), Err(OLD_NUMBER)),
+                    Step::Note(Sample::OweFrom(2, 4), Err(OLD_NUMBER)),
+                    Step::Note(Sample::Closed(1), Err(OLD_NUMBER)),
+                    Step::Note(Sample::Closed(3), Err(OLD_NUMBER)),
+                    Step::Rotate(Ok(1)),
+                ],
+                Some((&IMPORTED, &IMPORTED_ONCE)),
+            ),
+            (
+                &[
+                    Step::Keys(&[(0, 3), (1, 3), (2, 4)]),
+                    Step::Mark(5),
+                    Step::Closed(1),
+                    Step::ImportMark(4),
+                    Step::Totals(Totals {
+                        taken: 7,
+                        answered: 2,
+                        dropped: 2,
+                        owed: 3,
+                        owed_bytes: 30,
+                    }),
+                    Step::DebtFrom((2, 4), Ok(Some((2, 4)))),
+                    Step::Note(Sample::OweFrom(2, 5), Ok(())),
+                    Step::Note(Sample::Owe(6), Ok(())),
+                    Step::Keys(&[(0, 3), (0, 6), (1, 3), (2, 4), (2, 5)]),
+                    Step::Flush(Ok(2)),
+                ],
+                None,
+            ),
+            (
+                &[Step::Keys(&[(0, 3), (0, 6), (1, 3), (2, 4), (2, 5)])],
+                None,
+            ),
+        ],
+    ),
+    // A segment that does not live may close the last source.
+    (
+        (&LAST_SOURCE, &OTHER_TWICE),
+        &[(&[Step::Numbers(&[2])], None)],
+    ),
     // On a tie the first segment lives, with no Base and with one; else the one of greater generation.
     ((&OWED, &NOTED), &[(&[Step::Numbers(&[1])], None)]),
     ((&ROTATED, &OTHER), &[(&[Step::Numbers(&[1])], None)]),
@@ -426,6 +529,7 @@ fn a_segment_is_damaged(rt: HostRuntime) -> Result<(), Fail> {
         ((&NEVER, &ROTATED), 0, 0),
         // The segment that lives is no tape.
         ((&OWED, &MISCOUNTED), 1, 0),
+        ((&OWED, &LAST_SOURCE), 1, 0),
         ((&OWED, &MISSING), 1, 54),
         ((&OWED, &ABOVE), 1, 54),
         ((&OWED, &CUT), 1, 78),

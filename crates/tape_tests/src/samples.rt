@@ -1,6 +1,6 @@
 // Notes as data. Ledgers, spellings and tapes take them alike.
 use funnel::{MsgId, Token};
-use ledger_core::{Cause, FinalCode, Note};
+use ledger_core::{Cause, FinalCode, Key, Note};
 use std::alloc::Global;
 use std::test::Fail;
 
@@ -12,6 +12,36 @@ pub(crate) enum Sample {
     Final(u64),
     Drop(u64),
     Seen(u64),
+    // The same of a line of a backlog file: its source and its number.
+    OweFrom(u32, u64),
+    FinalFrom(u32, u64),
+    DropFrom(u32, u64),
+    Closed(u32),
+}
+
+// A source and the number of a line in it.
+pub(crate) type Line = (u32, u64);
+
+// The key of a line of the funnel.
+pub(crate) fn line(number: u64) -> Key {
+    Key::new(0, number)
+}
+
+pub(crate) fn keys_of(alloc: Global, lines: &[Line]) -> Result<Vec<Key>, Fail> {
+    let mut keys = Vec::with_capacity(alloc, lines.len())?;
+    for (source, number) in lines {
+        keys.push(Key::new(*source, *number))?;
+    }
+    Ok(keys)
+}
+
+// The keys of these lines of the funnel.
+pub(crate) fn lines(alloc: Global, numbers: &[u64]) -> Result<Vec<Key>, Fail> {
+    let mut keys = Vec::with_capacity(alloc, numbers.len())?;
+    for number in numbers {
+        keys.push(line(*number))?;
+    }
+    Ok(keys)
 }
 
 // The octets of a token and of a message-id.
@@ -32,38 +62,60 @@ pub(crate) fn texts<'a>(token: &'a Token, id: &'a MsgId) -> Texts<'a> {
     (token.bytes(), id.bytes())
 }
 
+fn owe(alloc: Global, key: Key) -> Result<Note, Fail> {
+    Ok(Note::Owe {
+        key,
+        token: token(alloc)?,
+        id: id(alloc)?,
+    })
+}
+
+fn answered(key: Key) -> Note {
+    let code = FinalCode::TakethisReceived;
+    Note::Final { key, code }
+}
+
+fn dropped(key: Key) -> Note {
+    let cause = Cause::Missing;
+    Note::Drop { key, cause }
+}
+
 pub(crate) fn note_of(alloc: Global, sample: Sample) -> Result<Note, Fail> {
     match sample {
-        Sample::Owe(number) => Ok(Note::Owe {
-            number,
-            token: token(alloc)?,
-            id: id(alloc)?,
-        }),
-        Sample::Final(number) => Ok(Note::Final {
-            number,
-            code: FinalCode::TakethisReceived,
-        }),
-        Sample::Drop(number) => Ok(Note::Drop {
-            number,
-            cause: Cause::Missing,
-        }),
+        Sample::Owe(number) => owe(alloc, line(number)),
+        Sample::Final(number) => Ok(answered(line(number))),
+        Sample::Drop(number) => Ok(dropped(line(number))),
         Sample::Seen(number) => Ok(Note::Seen { number }),
+        Sample::OweFrom(source, number) => owe(alloc, Key::new(source, number)),
+        Sample::FinalFrom(source, number) => Ok(answered(Key::new(source, number))),
+        Sample::DropFrom(source, number) => Ok(dropped(Key::new(source, number))),
+        Sample::Closed(source) => Ok(Note::Closed { source }),
     }
 }
 
 // Whether this note is the sample.
 pub(crate) fn is_sample(note: &Note, want: Sample) -> bool {
     match (note, want) {
-        (Note::Owe { number, token, id }, Sample::Owe(want)) => {
-            *number == want && texts(token, id) == TEXTS
+        (Note::Owe { key, token, id }, Sample::Owe(number)) => {
+            *key == line(number) && texts(token, id) == TEXTS
         }
-        (Note::Final { number, code }, Sample::Final(want)) => {
-            *number == want && *code == FinalCode::TakethisReceived
+        (Note::Owe { key, token, id }, Sample::OweFrom(source, number)) => {
+            *key == Key::new(source, number) && texts(token, id) == TEXTS
         }
-        (Note::Drop { number, cause }, Sample::Drop(want)) => {
-            *number == want && *cause == Cause::Missing
+        (Note::Final { key, code }, Sample::Final(number)) => {
+            *key == line(number) && *code == FinalCode::TakethisReceived
+        }
+        (Note::Final { key, code }, Sample::FinalFrom(source, number)) => {
+            *key == Key::new(source, number) && *code == FinalCode::TakethisReceived
+        }
+        (Note::Drop { key, cause }, Sample::Drop(number)) => {
+            *key == line(number) && *cause == Cause::Missing
+        }
+        (Note::Drop { key, cause }, Sample::DropFrom(source, number)) => {
+            *key == Key::new(source, number) && *cause == Cause::Missing
         }
         (Note::Seen { number }, Sample::Seen(want)) => *number == want,
+        (Note::Closed { source }, Sample::Closed(want)) => *source == want,
         _ => false,
     }
 }

@@ -1,9 +1,9 @@
 // How notes are spelled on a tape, and what stands in them.
 use crate::answers::assert_answer;
-use crate::samples::{Sample, TEXTS, id, is_sample, note_of, texts, token};
+use crate::samples::{Sample, TEXTS, id, is_sample, line, note_of, texts, token};
 use ledger_core::{
     Base, Cause, Debt, FinalCode, after_in_parts, counts_add_up, decode, decode_base, encode,
-    encode_base, numbers_rise, one_base_spelling, one_spelling, restores_itself,
+    encode_base, keys_rise, one_base_spelling, one_spelling, restores_itself,
 };
 use std::alloc::Global;
 use std::test::Fail;
@@ -19,11 +19,26 @@ const DROP: [u8; 10] = [3, 0, 0, 0, 0, 0, 0, 0, 1, 3];
 
 const SEEN: [u8; 9] = [5, 0, 0, 0, 0, 0, 0, 0, 7];
 
+// The same of the line 1 of source 515, and that source closed.
+const OWE_FROM: [u8; 23] = [
+    6, 0, 0, 2, 3, 0, 0, 0, 0, 0, 0, 0, 1, 3, 97, 47, 49, 5, 60, 120, 64, 121, 62,
+];
+
+const FINAL_FROM: [u8; 15] = [7, 0, 0, 2, 3, 0, 0, 0, 0, 0, 0, 0, 1, 0, 239];
+
+const DROP_FROM: [u8; 14] = [8, 0, 0, 2, 3, 0, 0, 0, 0, 0, 0, 0, 1, 3];
+
+const CLOSED: [u8; 5] = [9, 0, 0, 2, 3];
+
 const SPELLINGS: &[(Sample, &[u8])] = &[
     (Sample::Owe(1), &OWE),
     (Sample::Final(1), &FINAL),
     (Sample::Drop(1), &DROP),
     (Sample::Seen(7), &SEEN),
+    (Sample::OweFrom(515, 1), &OWE_FROM),
+    (Sample::FinalFrom(515, 1), &FINAL_FROM),
+    (Sample::DropFrom(515, 1), &DROP_FROM),
+    (Sample::Closed(515), &CLOSED),
 ];
 
 const OTHERS: &[&[u8]] = &[
@@ -36,11 +51,29 @@ const OTHERS: &[&[u8]] = &[
     &[3, 0, 0, 0, 0, 0, 0, 0, 1],
     &[5, 0, 0, 0, 0, 0, 0, 0],
     &[
+        6, 0, 0, 2, 3, 0, 0, 0, 0, 0, 0, 0, 1, 3, 97, 47, 49, 5, 60, 120, 64, 121,
+    ],
+    &[7, 0, 0, 2, 3, 0, 0, 0, 0, 0, 0, 0, 1, 0],
+    &[8, 0, 0, 2, 3, 0, 0, 0, 0, 0, 0, 0, 1],
+    &[9, 0, 0, 2],
+    &[
         1, 0, 0, 0, 0, 0, 0, 0, 1, 3, 97, 47, 49, 5, 60, 120, 64, 121, 62, 0,
     ],
     &[2, 0, 0, 0, 0, 0, 0, 0, 1, 0, 239, 0],
     &[3, 0, 0, 0, 0, 0, 0, 0, 1, 3, 0],
     &[5, 0, 0, 0, 0, 0, 0, 0, 7, 0],
+    &[
+        6, 0, 0, 2, 3, 0, 0, 0, 0, 0, 0, 0, 1, 3, 97, 47, 49, 5, 60, 120, 64, 121, 62, 0,
+    ],
+    &[7, 0, 0, 2, 3, 0, 0, 0, 0, 0, 0, 0, 1, 0, 239, 0],
+    &[8, 0, 0, 2, 3, 0, 0, 0, 0, 0, 0, 0, 1, 3, 0],
+    &[9, 0, 0, 2, 3, 0],
+    // A line of the funnel told as one of a source.
+    &[
+        6, 0, 0, 0, 0, 0, 0, 0, 0, 0, 0, 0, 1, 3, 97, 47, 49, 5, 60, 120, 64, 121, 62,
+    ],
+    &[7, 0, 0, 0, 0, 0, 0, 0, 0, 0, 0, 0, 1, 0, 239],
+    &[8, 0, 0, 0, 0, 0, 0, 0, 0, 0, 0, 0, 1, 3],
     // Tags, codes and causes that are none, and texts that are.
     &[4, 0, 0, 0, 0, 0, 0, 0, 7],
     &[6, 0, 0, 0, 0, 0, 0, 0, 7],
@@ -93,8 +126,8 @@ fn causes(rt: HostRuntime) {
 
 #[test]
 fn debts(rt: HostRuntime) -> Result<(), Fail> {
-    let debt = Debt::new(7, token(rt.alloc())?, id(rt.alloc())?);
-    assert_answer(&rt, 0, &debt.number(), &7);
+    let debt = Debt::new(line(7), token(rt.alloc())?, id(rt.alloc())?);
+    assert_answer(&rt, 0, &debt.key(), &line(7));
     assert_answer(&rt, 0, &texts(debt.token(), debt.id()), &TEXTS);
     Ok(())
 }
@@ -140,6 +173,8 @@ const BASE: Base = Base {
     answered: 5,
     dropped: 3,
     live: 0x0100_0000_0000_0000,
+    closed: 0,
+    import_mark: 0,
 };
 
 const SPELLED_BASE: [u8; 49] = [
@@ -147,12 +182,38 @@ const SPELLED_BASE: [u8; 49] = [
     5, 0, 0, 0, 0, 0, 0, 0, 3, 1, 0, 0, 0, 0, 0, 0, 0,
 ];
 
+// One of a ledger that has taken in backlog files.
+const IMPORTS: Base = Base {
+    generation: 1,
+    mark: 0x0203,
+    taken: 9,
+    answered: 5,
+    dropped: 3,
+    live: 1,
+    closed: 0x0607,
+    import_mark: 0x0809,
+};
+
+const SPELLED_IMPORTS: [u8; 61] = [
+    10, 0, 0, 0, 0, 0, 0, 0, 1, 0, 0, 0, 0, 0, 0, 2, 3, 0, 0, 0, 0, 0, 0, 0, 9, 0, 0, 0, 0, 0, 0,
+    0, 5, 0, 0, 0, 0, 0, 0, 0, 3, 0, 0, 0, 0, 0, 0, 0, 1, 0, 0, 6, 7, 0, 0, 0, 0, 0, 0, 8, 9,
+];
+
+// The same octets, with nothing to tell of them.
+const SPELLED_NO_IMPORTS: [u8; 61] = [
+    10, 0, 0, 0, 0, 0, 0, 0, 1, 0, 0, 0, 0, 0, 0, 2, 3, 0, 0, 0, 0, 0, 0, 0, 9, 0, 0, 0, 0, 0, 0,
+    0, 5, 0, 0, 0, 0, 0, 0, 0, 3, 0, 0, 0, 0, 0, 0, 0, 1, 0, 0, 0, 0, 0, 0, 0, 0, 0, 0, 0, 0,
+];
+
 #[test]
 fn a_base_is_spelled_and_read(rt: HostRuntime) -> Result<(), Fail> {
-    let octets = encode_base(rt.alloc(), &BASE)?;
-    assert_answer(&rt, 0, &octets.as_slice(), &SPELLED_BASE.as_slice());
-    assert_answer(&rt, 0, &decode_base(&SPELLED_BASE), &Some(BASE));
-    assert_answer(&rt, 0, &is_no_note(rt.alloc(), &SPELLED_BASE)?, &true);
+    let rows: [(Base, &[u8]); 2] = [(BASE, &SPELLED_BASE), (IMPORTS, &SPELLED_IMPORTS)];
+    for (at, (base, spelled)) in rows.iter().enumerate() {
+        let octets = encode_base(rt.alloc(), base)?;
+        assert_answer(&rt, at, &octets.as_slice(), spelled);
+        assert_answer(&rt, at, &decode_base(spelled), &Some(*base));
+        assert_answer(&rt, at, &is_no_note(rt.alloc(), spelled)?, &true);
+    }
     Ok(())
 }
 
@@ -170,6 +231,12 @@ fn nothing_else_is_a_base(rt: HostRuntime) -> Result<(), Fail> {
     let mut other = SPELLED_BASE;
     other[0] = 5;
     assert_answer(&rt, 2, &decode_base(&other), &None);
+    // One octet less of the longer one, its octets under the other's tag, and nothing told under its own.
+    assert_answer(&rt, 3, &decode_base(&SPELLED_IMPORTS[..60]), &None);
+    let mut other = SPELLED_IMPORTS;
+    other[0] = 4;
+    assert_answer(&rt, 4, &decode_base(&other), &None);
+    assert_answer(&rt, 5, &decode_base(&SPELLED_NO_IMPORTS), &None);
     Ok(())
 }
 
@@ -179,6 +246,6 @@ fn laws() {
     one_base_spelling();
     after_in_parts();
     counts_add_up();
-    numbers_rise();
+    keys_rise();
     restores_itself();
 }

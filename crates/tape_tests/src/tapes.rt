@@ -3,9 +3,9 @@ use crate::answers::assert_answer;
 use crate::disks::{assert_both, assert_faults, beside_empty, disk_of, disks_of};
 use crate::planned_file::{Plan, PlannedFile};
 use crate::read_only::ReadOnly;
-use crate::samples::{Sample, TEXTS, is_sample, note_of, texts};
+use crate::samples::{Line, Sample, TEXTS, is_sample, keys_of, line, lines, note_of, texts};
 use disk_model::{Choice, Disk, FileDisk, FlakyDisk, FuseDisk, MemDisk};
-use ledger_core::{Cause, Debt, LedgerFault, Note, Totals};
+use ledger_core::{Cause, Debt, Key, LedgerFault, Note, Totals};
 use recovery::{RefusedTape, Tape, TapeFault, tape_once};
 use std::alloc::Global;
 use std::ops::Range;
@@ -47,11 +47,17 @@ pub(crate) enum Step {
     RotateDue(bool),
     // The debt of this number is told with it, where there is one.
     Debt(u64, Result<Option<u64>, TapeFault>),
+    // The same of a line of a backlog file.
+    DebtFrom(Line, Result<Option<Line>, TapeFault>),
     Octets(u64, Option<u64>),
     Owes(u64, bool),
     IsBroken(bool),
+    // What is owed is these lines of the funnel.
     Numbers(&'static [u64]),
+    Keys(&'static [Line]),
     Mark(u64),
+    Closed(u32),
+    ImportMark(u64),
     Totals(Totals),
     Room(usize),
 }
@@ -102,8 +108,12 @@ fn end_each<D: Disk>(
     Ok(())
 }
 
-fn drop_all<D: Disk>(tape: &mut Tape<D>, numbers: &[u64]) -> Result<Result<(), TapeFault>, Fail> {
-    match tape.drop_all(numbers, Cause::Limit) {
+fn drop_all<D: Disk>(
+    alloc: Global,
+    tape: &mut Tape<D>,
+    numbers: &[u64],
+) -> Result<Result<(), TapeFault>, Fail> {
+    match tape.drop_all(&lines(alloc, numbers)?, Cause::Limit) {
         Err(TapeFault::NoMemory) => Err(Fail::from(TapeFault::NoMemory)),
         answer => Ok(answer),
     }
@@ -123,22 +133,42 @@ pub(crate) fn rotate<D: Disk>(tape: &mut Tape<D>) -> Result<Result<u64, TapeFaul
     }
 }
 
-// The number of a debt, which has to be of the texts of each debt here.
-fn number_of(debt: &Debt) -> Result<u64, Fail> {
+// The line of a debt, which has to be of the texts of each debt here.
+fn line_of(debt: &Debt) -> Result<Line, Fail> {
     if texts(debt.token(), debt.id()) == TEXTS {
-        Ok(debt.number())
+        Ok((debt.key().source(), debt.key().number()))
     } else {
         Err(Fail::from("another debt is told"))
     }
 }
 
-fn told<D: Disk>(tape: &mut Tape<D>, number: u64) -> Result<Result<Option<u64>, TapeFault>, Fail> {
-    match tape.debt(number) {
-        Ok(Some(debt)) => Ok(Ok(Some(number_of(&debt)?))),
+// The debt of this key.
+fn debt_of<D: Disk>(tape: &mut Tape<D>, key: Key) -> Result<Result<Option<Line>, TapeFault>, Fail> {
+    match tape.debt(key) {
+        Ok(Some(debt)) => Ok(Ok(Some(line_of(&debt)?))),
         Ok(None) => Ok(Ok(None)),
         Err(TapeFault::NoMemory) => Err(Fail::from(TapeFault::NoMemory)),
         Err(fault) => Ok(Err(fault)),
     }
+}
+
+fn told<D: Disk>(tape: &mut Tape<D>, number: u64) -> Result<Result<Option<u64>, TapeFault>, Fail> {
+    match debt_of(tape, line(number))? {
+        Ok(Some((0, number))) => Ok(Ok(Some(number))),
+        Ok(Some(_)) => Err(Fail::from("a debt of another source is told")),
+        Ok(None) => Ok(Ok(None)),
+        Err(fault) => Ok(Err(fault)),
+    }
+}
+
+fn assert_owed<A: Abort, D: Disk>(
+    rt: &A,
+    at: usize,
+    tape: &Tape<D>,
+    want: &[Key],
+) -> Result<(), Fail> {
+    assert_answer(rt, at, &tape.keys()?.as_slice(), &want);
+    Ok(())
 }
 
 fn take<A: Abort, D: Disk>(
@@ -153,16 +183,25 @@ fn take<A: Abort, D: Disk>(
         Step::SeenEach(first, behind) => see_each(tape, first, behind)?,
         Step::OweEach(first, behind) => owe_each(alloc, tape, first, behind)?,
         Step::EndEach(first, behind) => end_each(alloc, tape, first, behind)?,
-        Step::DropAll(numbers, want) => assert_answer(rt, at, &drop_all(tape, numbers)?, &want),
+        Step::DropAll(numbers, want) => {
+            assert_answer(rt, at, &drop_all(alloc, tape, numbers)?, &want)
+        }
         Step::Flush(want) => assert_answer(rt, at, &flush(tape)?, &want),
         Step::Rotate(want) => assert_answer(rt, at, &rotate(tape)?, &want),
         Step::RotateDue(want) => assert_answer(rt, at, &tape.rotate_due(), &want),
         Step::Debt(number, want) => assert_answer(rt, at, &told(tape, number)?, &want),
-        Step::Octets(number, want) => assert_answer(rt, at, &tape.octets(number), &want),
-        Step::Owes(number, want) => assert_answer(rt, at, &tape.owes(number), &want),
+        Step::DebtFrom((source, number), want) => {
+            let key = Key::new(source, number);
+            assert_answer(rt, at, &debt_of(tape, key)?, &want)
+        }
+        Step::Octets(number, want) => assert_answer(rt, at, &tape.octets(line(number)), &want),
+        Step::Owes(number, want) => assert_answer(rt, at, &tape.owes(line(number)), &want),
         Step::IsBroken(want) => assert_answer(rt, at, &tape.is_broken(), &want),
-        Step::Numbers(want) => assert_answer(rt, at, &tape.numbers()?.as_slice(), &want),
+        Step::Numbers(want) => assert_owed(rt, at, tape, &lines(alloc, want)?)?,
+        Step::Keys(want) => assert_owed(rt, at, tape, &keys_of(alloc, want)?)?,
         Step::Mark(want) => assert_answer(rt, at, &tape.mark(), &want),
+        Step::Closed(want) => assert_answer(rt, at, &tape.closed(), &want),
+        Step::ImportMark(want) => assert_answer(rt, at, &tape.import_mark(), &want),
         Step::Totals(want) => assert_answer(rt, at, &tape.totals(), &want),
         Step::Room(want) => assert_answer(rt, at, &tape.room(), &want),
     }

@@ -1,6 +1,8 @@
 // Numbers that wait for a moment, and how long a place is let alone once it failed.
 use crate::answers::assert_answer;
+use crate::samples::{Line, line};
 use deferral::{Backoff, Later};
+use ledger_core::Key;
 use std::alloc::{AllocError, Global};
 use std::collections::BTreeMap;
 use std::process::Abort;
@@ -27,22 +29,37 @@ enum Try {
     Opened,
 }
 
-fn put(later: &mut Later, number: u64, due: u64) -> Result<(), AllocError> {
-    if later.contains(number) {
+fn put(later: &mut Later, key: Key, due: u64) -> Result<(), AllocError> {
+    if later.contains(key) {
         return Ok(());
     }
-    later.put(number, due)
+    later.put(key, due)
+}
+
+fn line_of(key: Option<Key>) -> Option<Line> {
+    match key {
+        Some(key) => Some((key.source(), key.number())),
+        None => None,
+    }
+}
+
+// The number of a line of the funnel.
+fn number_of(key: Option<Key>) -> Option<u64> {
+    match key {
+        Some(key) => Some(key.number()),
+        None => None,
+    }
 }
 
 fn take<A: Abort>(rt: &A, later: &mut Later, at: usize, step: Step) -> Result<(), Fail> {
     match step {
-        Step::Put(number, due) => put(later, number, due)?,
-        Step::Set(number, due, want) => assert_answer(rt, at, &later.set(number, due), &want),
-        Step::Remove(number, want) => assert_answer(rt, at, &later.remove(number), &want),
-        Step::Contains(number, want) => assert_answer(rt, at, &later.contains(number), &want),
-        Step::DueLeast(now, want) => assert_answer(rt, at, &later.due_least(now), &want),
+        Step::Put(number, due) => put(later, line(number), due)?,
+        Step::Set(number, due, want) => assert_answer(rt, at, &later.set(line(number), due), &want),
+        Step::Remove(number, want) => assert_answer(rt, at, &later.remove(line(number)), &want),
+        Step::Contains(number, want) => assert_answer(rt, at, &later.contains(line(number)), &want),
+        Step::DueLeast(now, want) => assert_answer(rt, at, &number_of(later.due_least(now)), &want),
         Step::DueFrom(first, now, want) => {
-            assert_answer(rt, at, &later.due_from(first, now), &want)
+            assert_answer(rt, at, &number_of(later.due_from(line(first), now)), &want)
         }
     }
     Ok(())
@@ -154,6 +171,27 @@ fn numbers_wait_for_their_moments(rt: HostRuntime) -> Result<(), Fail> {
     ];
     for steps in SCRIPTS {
         run(&rt, rt.alloc(), steps)?;
+    }
+    Ok(())
+}
+
+// A line of the funnel goes before those of backlog files, and these go by their sources.
+#[test]
+fn sources_wait_in_their_order(rt: HostRuntime) -> Result<(), Fail> {
+    let mut later = Later::new(rt.alloc());
+    for (source, number) in [(1, 5), (2, 1), (0, 9), (1, 7)] {
+        put(&mut later, Key::new(source, number), 10)?;
+    }
+    const ROWS: &[(Line, Option<Line>)] = &[
+        ((0, 0), Some((0, 9))),
+        ((0, 10), Some((1, 5))),
+        ((1, 6), Some((1, 7))),
+        ((1, 8), Some((2, 1))),
+        ((2, 2), None),
+    ];
+    for (at, ((source, number), want)) in ROWS.iter().enumerate() {
+        let found = line_of(later.due_from(Key::new(*source, *number), 10));
+        assert_answer(&rt, at, &found, want);
     }
     Ok(())
 }

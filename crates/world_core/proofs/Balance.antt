@@ -26,7 +26,7 @@ use Rattle.ledger_core.specs.declared.note.Cause.TheVariants.{Missing, Unsendabl
 use Rattle.conn_core.specs.declared.phase.Phase.{Phase}
 use Rattle.conn_core.specs.declared.phase.Phase.TheVariants.{Greeting, Asking, Streaming, OneByOne, Leaving}
 use Rattle.conn_core.specs.declared.reason.Reason.{Reason}
-use Rattle.peer_queue.specs.Settled.{number_in}
+use Rattle.peer_queue.specs.Settled.{key_in}
 use Rattle.world_core.specs.Exchange.{untold}
 use Rattle.world_core.specs.Sound.{numbers_at}
 
@@ -35,7 +35,7 @@ abbrev pub held_numbers : List Held → List ℕ
 held_numbers held = map (λ (x : Held). x.debt.0) held
 
 abbrev pub end_numbers : List End → List ℕ
-end_numbers ends = map (λ (x : End). number_in x.outcome) ends
+end_numbers ends = map (λ (x : End). key_in x.outcome) ends
 
 pub times_both : (xs ys : List ℕ) (n : ℕ) → times (xs ++ ys) n ≡ times xs n + times ys n
 times_both [] ys n = omega arith
@@ -94,7 +94,7 @@ module _ (debts : List Owing) (gone : List ℕ) where
       let same = ap (λ g. times (held_numbers (held_from 0 debts g)) m) (append-nil gone) in
       omega (arith, same)
 
-  single_out : (k : ℕ) (x : Held) (outcome : Outcome) → find (is_at k) still ≡ Some x → number_in outcome ≡ x.debt.0
+  single_out : (k : ℕ) (x : Held) (outcome : Outcome) → find (is_at k) still ≡ Some x → key_in outcome ≡ x.debt.0
       → Balances (record { ticket = x.ticket; outcome = outcome } ∷ [])
   single_out k x outcome is own = λ m.
       let at : x.ticket ≡ k = (find-is_at k still x is).0 in
@@ -193,7 +193,7 @@ module _ (options : Options) where
 
   ends_both : (xs ys : List End) → end_numbers (xs ++ ys) ≡ end_numbers xs ++ end_numbers ys
   ends_both [] ys = refl
-  ends_both (x ∷ xs) ys = ap (λ l. number_in x.outcome ∷ l) (ends_both xs ys)
+  ends_both (x ∷ xs) ys = ap (λ l. key_in x.outcome ∷ l) (ends_both xs ys)
 
   pub goes_then : (h mid later : List Event) → GoesOn h mid → GoesOn mid later → GoesOn h later
   goes_then h mid later one other = record {
@@ -319,13 +319,13 @@ module _ (options : Options) where
       → outcomes options later ≡ outcomes options h ++ map (λ (x : End). x.outcome) goes.more
   outcomes_are h later goes = ap (map (λ (x : End). x.outcome)) goes.ends_are ∙ outcomes_both (ends options h) goes.more
 
-  numbers_both : (xs ys : List Outcome) → map number_in (xs ++ ys) ≡ map number_in xs ++ map number_in ys
+  numbers_both : (xs ys : List Outcome) → map key_in (xs ++ ys) ≡ map key_in xs ++ map key_in ys
   numbers_both [] ys = refl
-  numbers_both (x ∷ xs) ys = ap (λ l. number_in x ∷ l) (numbers_both xs ys)
+  numbers_both (x ∷ xs) ys = ap (λ l. key_in x ∷ l) (numbers_both xs ys)
 
-  numbers_ends : (xs : List End) → map number_in (map (λ (x : End). x.outcome) xs) ≡ end_numbers xs
+  numbers_ends : (xs : List End) → map key_in (map (λ (x : End). x.outcome) xs) ≡ end_numbers xs
   numbers_ends [] = refl
-  numbers_ends (x ∷ xs) = ap (λ l. number_in x.outcome ∷ l) (numbers_ends xs)
+  numbers_ends (x ∷ xs) = ap (λ l. key_in x.outcome ∷ l) (numbers_ends xs)
 
   pub untold_are : (h later : List Event) → (goes : GoesOn h later) → taken h ≤ length (outcomes options h)
       → untold options later ≡ untold options h ++ map (λ (x : End). x.outcome) goes.more
@@ -336,12 +336,12 @@ module _ (options : Options) where
   pub same_numbers : (h later : List Event) → GoesOn h later → taken h ≤ length (outcomes options h) → (m : ℕ)
       → times (numbers_at options later) m ≡ times (numbers_at options h) m
   same_numbers h later goes few m =
-      let now = ap (λ os. times (map number_in os) m) (untold_are h later goes few)
+      let now = ap (λ os. times (map key_in os) m) (untold_are h later goes few)
       ∙ ap (λ l. times l m) (numbers_both (untold options h) _
-      ∙ ap (λ l. map number_in (untold options h) ++ l) (numbers_ends goes.more)) in
-      let apart = times_both (map number_in (untold options h)) (end_numbers goes.more) m in
-      let new = times_both (map number_in (untold options later)) (held_numbers (held options later)) m in
-      let old = times_both (map number_in (untold options h)) (held_numbers (held options h)) m in
+      ∙ ap (λ l. map key_in (untold options h) ++ l) (numbers_ends goes.more)) in
+      let apart = times_both (map key_in (untold options h)) (end_numbers goes.more) m in
+      let new = times_both (map key_in (untold options later)) (held_numbers (held options later)) m in
+      let old = times_both (map key_in (untold options h)) (held_numbers (held options h)) m in
       omega (arith, now, apart, new, old, goes.balance m)
 
   -- one number more
@@ -352,12 +352,12 @@ module _ (options : Options) where
       let on = same_numbers (Offered debt ∷ h) (after options h (Offered debt)) (goes_offered h debt)
       (omega (arith, few, ap length outs)) m in
       let front = ap (λ (os : List Outcome).
-      times (map number_in (drop (taken h) os) ++ held_numbers (held options (Offered debt ∷ h))) m) outs in
-      let back = ap (λ (hs : List Held). times (map number_in (untold options h) ++ held_numbers hs) m)
+      times (map key_in (drop (taken h) os) ++ held_numbers (held options (Offered debt ∷ h))) m) outs in
+      let back = ap (λ (hs : List Held). times (map key_in (untold options h) ++ held_numbers hs) m)
       (held_offered h debt) in
       let last : List Held = record { ticket = length (accepted h); debt = debt } ∷ [] in
-      let apart = times_both (map number_in (untold options h)) (held_numbers (held options h ++ last)) m in
+      let apart = times_both (map key_in (untold options h)) (held_numbers (held options h ++ last)) m in
       let both = ap (λ (l : List ℕ). times l m) (held_numbers_both (held options h) last) in
       let two = times_both (held_numbers (held options h)) (debt.0 ∷ []) m in
-      let old = times_both (map number_in (untold options h)) (held_numbers (held options h)) m in
+      let old = times_both (map key_in (untold options h)) (held_numbers (held options h)) m in
       omega (arith, on, front, back, apart, both, two, old)

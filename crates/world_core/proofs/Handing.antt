@@ -40,7 +40,7 @@ use Rattle.world_core.specs.declared.peer.Peer.{Peer}
 use Rattle.world_core.specs.declared.told.Handed.{Handed as Handover}
 use Rattle.world_core.specs.declared.told.Told.{Told}
 use Rattle.world_core.specs.declared.told.Told.TheVariants.{Handed as ToldHanded}
-use Rattle.world_core.specs.declared.told.Handed.TheVariants.{Busy, Closed, Nothing, Number}
+use Rattle.world_core.specs.declared.told.Handed.TheVariants.{Busy, Closed, Debt, Nothing}
 use Rattle.world_core.proofs.Balance.{goes_offered, more_numbers, outcomes_offered}
 use Rattle.world_core.proofs.Breaking.{none_told, reason_told}
 use Rattle.world_core.proofs.Holding.{moved_here, moved_other}
@@ -268,7 +268,7 @@ module _ {D : Type 0} {g : Ghosts D} where
           → ((o : Options) (unread : List ℕ) (h : List Happening) → ConnStands o connection.conn unread h
           → ConnStands o new_c.conn unread (after o h (Offered debt)))
           → new_c.waiting ≡ connection.waiting → new_c.rank ≡ connection.rank → new_c.conn.id ≡ connection.conn.id
-          → HandedOver id now conn past (Number number) new_c new
+          → HandedOver id now conn past (Debt number) new_c new
       took_over number own_number new_c ready stands waits rank same_id =
           let o = options_of past.conf in
           let arises = Goes_on conn.transcript (Offered debt) pair.arises ready in
@@ -276,7 +276,7 @@ module _ {D : Type 0} {g : Ghosts D} where
             transcript = after o conn.transcript (Offered debt);
             later = claimed;
             hands = subst (λ (n : ℕ).
-                HandsOverAt id now conn past (Number n) (after o conn.transcript (Offered debt)) claimed)
+                HandsOverAt id now conn past (Debt n) (after o conn.transcript (Offered debt)) claimed)
                 (sym own_number)
                 (Taken_at debt claimed ready claims);
             stand = record {

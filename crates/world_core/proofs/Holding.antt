@@ -11,7 +11,7 @@ use Rattle.conn_core.specs.History.{story, taken}
 use Rattle.conn_core.specs.declared.options.Options.{Options}
 use Rattle.conn_core.specs.declared.outcome.Outcome.{Outcome}
 use Rattle.peer_queue.specs.Place.{IsHeldBy, Place, Places, gone, moved, place_at}
-use Rattle.peer_queue.specs.Settled.{number_in}
+use Rattle.peer_queue.specs.Settled.{key_in}
 use Rattle.world_core.specs.Exchange.{untold}
 use Rattle.world_core.specs.Sound.{numbers_at}
 
@@ -137,9 +137,9 @@ untold_taken options h outcome next =
 -- and its number the first of the connection's
 pub numbers_taken : (options : Options) (h : List Happening) (outcome : Outcome)
     → untold options h ≡ outcome ∷ untold options (Taken ∷ h)
-    → numbers_at options h ≡ number_in outcome ∷ numbers_at options (Taken ∷ h)
+    → numbers_at options h ≡ key_in outcome ∷ numbers_at options (Taken ∷ h)
 numbers_taken options h outcome next =
-    ap (λ (os : List Outcome). map number_in os ++ map (λ (x : Held). x.debt.0) (held options h)) next
+    ap (λ (os : List Outcome). map key_in os ++ map (λ (x : Held). x.debt.0) (held options h)) next
     ∙ ap (λ (xs : List Held).
-    number_in outcome ∷ (map number_in (untold options (Taken ∷ h)) ++ map (λ (x : Held). x.debt.0) xs))
+    key_in outcome ∷ (map key_in (untold options (Taken ∷ h)) ++ map (λ (x : Held). x.debt.0) xs))
     (sym (held_taken options h))

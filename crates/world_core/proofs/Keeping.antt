@@ -15,7 +15,7 @@ use Rattle.world_core.specs.Events.{Rotates, Sees, Settles, Sheds}
 use Rattle.world_core.specs.Events.{owed_as, owing_as, settled_as, settling}
 use Rattle.peer_queue.specs.declared.settled.Settled.{Settled}
 use Rattle.peer_queue.specs.declared.settled.Settled.TheVariants.{Answered, Dropped, Later, Ready}
-use Rattle.peer_queue.specs.Settled.{number_in}
+use Rattle.peer_queue.specs.Settled.{key_in}
 use Rattle.world_core.specs.Events.AllDo.{Start, Next}
 use Rattle.world_core.specs.Keeping.{PeerStays, PeersStay}
 use Rattle.world_core.specs.Laws.{StaysAcknowledged}
@@ -172,7 +172,7 @@ event_stays (Returns rank id number) was now does =
     one_changed was now rank does.peer _ does.here does.changed (refl, tape_same does.peer.tape does.peer.tape refl)
 event_stays (Settles rank id moment outcome) was now does =
     one_changed was now rank does.peer _ does.here does.changed
-    (settled_stays (settling does.peer moment outcome) (number_in outcome) does.peer)
+    (settled_stays (settling does.peer moment outcome) (key_in outcome) does.peer)
 event_stays (Sees number) was now does = stay_same was now (ap (λ (p : Past). p.peers) does.changed)
 event_stays Acknowledges was now does = stay_same was now (ap (λ (p : Past). p.peers) does.changed)
 event_stays (Opens rank) was now does =

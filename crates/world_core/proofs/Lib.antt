@@ -35,6 +35,7 @@ pub mod Recovering
 pub mod Coming
 pub mod Finals
 pub mod Placing
+pub mod Placed
 pub mod Holding
 pub mod Settling
 pub mod Following

@@ -15,7 +15,7 @@ use Rattle.recovery.specs.LeavingLaws.{EachLedger-weaker}
 use Rattle.recovery.specs.Notes.{AreLegal, History, noted}
 use Rattle.conn_core.specs.declared.outcome.Outcome.{Outcome}
 use Rattle.peer_queue.specs.Place.{Held, IsHeldBy, Later as LaterPlace, Place, Places, Ready, moved, place_at}
-use Rattle.peer_queue.specs.Settled.{number_in}
+use Rattle.peer_queue.specs.Settled.{key_in}
 use Rattle.peer_queue.specs.declared.settled.Settled.{Settled}
 use Rattle.peer_queue.specs.declared.settled.Settled.TheVariants.{Answered, Dropped, Later, Ready as Back}
 use Rattle.world_core.specs.Past.{Past, PeerPast, TapePast, mark_at, with_peer, with_tape}
@@ -202,7 +202,7 @@ pub keeps_settled : (id now : ℕ) (outcome : Outcome) (was later : PeerPast) �
     → PeerKeeps id was later
 keeps_settled id now outcome was later is =
     subst (PeerKeeps id was) (sym is.changed)
-    (settled_keeps (settling was now outcome) id (number_in outcome) was is.held)
+    (settled_keeps (settling was now outcome) id (key_in outcome) was is.held)
 
 -- a tape that was read
 keeps_read : (id : ℕ) (was : PeerPast) (tape : TapePast) (places : Places) → IsReadTape was.tape tape

@@ -20,7 +20,7 @@ use Rattle.disk_model.specs.InMemory.{events, faults_told}
 use Rattle.disk_model.specs.declared.memory.MemDisk.{MemDisk}
 use Rattle.disk_model.specs.declared.Disk.{Ghosts}
 use Rattle.feed_conf.specs.declared.conf.PeerConf.{PeerConf}
-use Rattle.ledger_core.specs.State.{State, numbers, start}
+use Rattle.ledger_core.specs.State.{State, keys, start}
 use Rattle.peer_queue.specs.Place.{all_ready}
 use Rattle.peer_queue.specs.Words.{limits_of as station_limits, places_of, tape_of}
 use Rattle.recovery.specs.Image.{IsNoTapeAt, IsSomeTape, IsTape, Log, Octets}
@@ -144,7 +144,7 @@ module _ {D : Type 0} {g : Ghosts D} where
   pub opens_given : (given : GivenPeer) (old : Log) (peer : Peer D g) → old ≡ (Made given.1.items ∷ [], [])
       → IsOpenedTape old (tape_of peer.station) → told_of (tape_of peer.station) ≡ (0, 0)
       → (IsBroken (tape_of peer.station) → ⊥)
-      → places_of peer.station ≡ all_ready (numbers (ledger_of (tape_of peer.station)))
+      → places_of peer.station ≡ all_ready (keys (ledger_of (tape_of peer.station)))
       → station_limits peer.station ≡ limits_of given.0 → peer.conf ≡ given.0 → peer.parted ≡ false
       → OpensGiven given peer
   opens_given given old peer log opened told works ready limits conf parts = record {
@@ -154,7 +154,7 @@ module _ {D : Type 0} {g : Ghosts D} where
       conf = conf;
       limits = limits;
       tape = is_found opened.state (tape_of peer.station) opened.stands told works;
-      places = ready ∙ ap (λ (state : State). all_ready (numbers state)) opened.stands.ledger;
+      places = ready ∙ ap (λ (state : State). all_ready (keys state)) opened.stands.ledger;
       parted = parts;
     };
   }
@@ -281,7 +281,7 @@ module _ {D : Type 0} {g : Ghosts D} where
         stand = (all.0.stands, rest.stand);
         names = ap (λ (names : List (List ℕ)). one.0.name ∷ names) rest.names;
         acknowledged = (tt, rest.acknowledged);
-        free = ((λ id number. none_held (numbers all.0.state) id number), rest.free);
+        free = ((λ id number. none_held (keys all.0.state) id number), rest.free);
       }
 
 -- the world runs, with no connection, and no stop is armed

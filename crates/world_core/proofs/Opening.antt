@@ -1,7 +1,7 @@
 -- A tape that had stopped is opened.
 use Rattle.std.proofs.Common.{◌≡◌, ◌⊎◌, inl, inr, ℕ, false, refl, sym, ap, ◌∙◌, subst}
 use Rattle.disk_model.specs.declared.Disk.{Ghosts}
-use Rattle.ledger_core.specs.State.{State, numbers}
+use Rattle.ledger_core.specs.State.{State, keys}
 use Rattle.recovery.specs.Image.{EachTape, Log, Survives, TapeLeaves}
 use Rattle.recovery.specs.Leaving.{EachLedger, HasLedger, LedgersLeave, LiesOn, broken_of, ledger_of_first}
 use Rattle.recovery.specs.LeavingLaws.{TapeLeaves-now, found_first, survives_of_front}
@@ -36,7 +36,7 @@ module _ {D : Type 0} {g : Ghosts D} where
       → Recovers past.tape.history old (tape_of peer.station) → IsOpenedTape old (tape_of peer.station)
       → (IsBroken (tape_of peer.station) → ⊥)
       → told_of (tape_of peer.station) ≡ told
-      → places_of peer.station ≡ all_ready (numbers (ledger_of (tape_of peer.station)))
+      → places_of peer.station ≡ all_ready (keys (ledger_of (tape_of peer.station)))
       → station_limits peer.station ≡ limits_of past.conf → peer.conf ≡ past.conf → peer.parted ≡ false
       → OpenedAs past peer
   opened_as past old told peer log faults recovers opened works quiet ready limits conf parts = record {
@@ -67,7 +67,7 @@ module _ {D : Type 0} {g : Ghosts D} where
         broken =
             not_true (broken_of (tape_of peer.station)) works;
       };
-      places = ready ∙ ap (λ (state : State). all_ready (numbers state)) recovers.stands.ledger;
+      places = ready ∙ ap (λ (state : State). all_ready (keys state)) recovers.stands.ledger;
       parted = parts;
     };
   }

@@ -1,15 +1,19 @@
 -- What a line at a station makes of its peer.
-use Rattle.std.proofs.Common.{◌≡◌, ◌≢◌, ◌↔◌, ℕ, ◌<◌, ◌≤◌, Bool, true, false, List, [], ◌∷◌, ◌++◌, if◌then◌else◌, nat_lt}
+use Rattle.std.proofs.Common.{◌≡◌, ◌≢◌, ◌↔◌, ℕ, ◌<◌, ◌≤◌, Bool, true, false, None, List, if◌then◌else◌, nat_lt}
 use Rattle.std.proofs.Common.{refl, sym, ap, ◌∙◌, subst, inl, inr}
 use Rattle.std.proofs.lemmas.Bool.{cases_lt, lt-ltb, le-ltb}
 use Rattle.disk_model.specs.declared.Disk.{Ghosts}
-use Rattle.ledger_core.specs.State.{State, Overflows}
+use Rattle.ledger_core.specs.State.{IsNext, Overflows, State, keys, marks_of}
+use Rattle.ledger_core.specs.StateLaws.{next-apart}
+use Rattle.ledger_core.specs.Written.{IsWhole}
+use Rattle.ledger_core.specs.WrittenLaws.{whole-after}
 use Rattle.ledger_core.specs.declared.note.Note.{Note}
 use Rattle.ledger_core.specs.declared.note.Note.TheVariants.{Owe}
 use Rattle.ledger_core.specs.declared.ledger.LedgerFault.TheVariants.{CountFull}
 use Rattle.recovery.specs.Leaving.{broken_of}
 use Rattle.recovery.specs.LeavingLaws.{pends_by, same_disks}
-use Rattle.recovery.specs.Notes.{most_pending}
+use Rattle.recovery.specs.Notes.{History, most_pending}
+use Rattle.recovery.specs.Tape.{StandsFor}
 use Rattle.recovery.specs.Words.{IsBroken, ledger_of, pending_of}
 use Rattle.recovery.specs.declared.tape.Tape.{Tape}
 use Rattle.recovery.specs.declared.fault.TapeFault.{TapeFault}
@@ -17,7 +21,7 @@ use Rattle.recovery.specs.declared.fault.TapeFault.TheVariants.{Damaged, Disk, B
 use Rattle.recovery.specs.declared.fault.TapeFault.TheVariants.{GenerationFull, PendingFull, NoMemory as NoTapeMemory}
 use Rattle.recovery.specs.declared.fault.TapeFault.TheVariants.{Note as RefusedNote}
 use Rattle.peer_queue.specs.Faults.{IsOweFault, IsOweTapeFault}
-use Rattle.peer_queue.specs.Place.{Places, Ready}
+use Rattle.peer_queue.specs.Place.{Places, Ready, place_at, placed, with_place}
 use Rattle.peer_queue.specs.Words.{IsSame, Notes, limits_of as station_limits, places_of, tape_of}
 use Rattle.peer_queue.specs.declared.fault.StationFault.{StationFault}
 use Rattle.peer_queue.specs.declared.fault.StationFault.TheVariants.{NotHeld, Broken, Tape as TapeRefused, NoMemory}
@@ -31,6 +35,7 @@ use Rattle.world_core.specs.Fault.{fault_of, fault_of_station}
 use Rattle.world_core.specs.Stands.{OwedNot, OwedTo, PeerStands, TapeStands}
 use Rattle.world_core.specs.declared.fault.Fault.{Fault}
 use Rattle.world_core.specs.declared.peer.Peer.{Peer}
+use Rattle.world_core.proofs.Placed.{no_place}
 use Rattle.world_core.proofs.Peers.{same_tape, same_truth, tape_broken, tape_works}
 
 new_where : (number : ℕ) (past : PeerPast) (above : Bool) → nat_lt (mark_at past.tape) number ≡ above
@@ -74,20 +79,39 @@ module _ {D : Type 0} {g : Ghosts D} where
       → HasRoom past → ⊥
   no_room_here past tape stands works full = λ room. room (sym (pends_by tape past.history stands.stands works) ∙ full)
 
+  -- the ledger of a tape keeps what each ledger does
+  ledger_whole : (tape : Tape D g) (h : History) → StandsFor tape h → IsWhole (ledger_of tape)
+  ledger_whole tape h stands =
+      subst IsWhole (sym stands.ledger)
+      (whole-after h.base h.notes stands.are_legal.notes_are stands.are_legal.legal stands.are_legal.whole)
+
+  -- what may be noted next has no place
+  unplaced : (number : ℕ) (past : PeerPast) (peer : Peer D g) → PeerStands past peer
+      → placed (places_of peer.station) ≡ keys (ledger_of (tape_of peer.station))
+      → IsNext (marks_of (ledger_of (tape_of peer.station))) number → place_at past.places number ≡ None
+  unplaced number past peer stands are next =
+      let state = ledger_of (tape_of peer.station) in
+      let whole = ledger_whole (tape_of peer.station) past.tape.history stands.tape.stands in
+      subst (λ (p : Places). place_at p number ≡ None) stands.places
+      (no_place (places_of peer.station) number (keys state) are
+      (next-apart (marks_of state) number (keys state) next whole.debts.past))
+
   owed_new : (number : ℕ) (past : PeerPast) (token id : List ℕ) (old new : Peer D g) → PeerStands past old
       → (IsBroken (tape_of old.station) → ⊥)
       → (ledger_of (tape_of old.station)).mark < number → pending_of (tape_of old.station) ≢ most_pending
       → (Overflows (ledger_of (tape_of old.station)) (Owe number token id) → ⊥)
+      → placed (places_of old.station) ≡ keys (ledger_of (tape_of old.station))
       → Notes old.station new.station (Owe number token id)
-      → places_of new.station ≡ places_of old.station ++ (number, Ready) ∷ [] → new.conf ≡ old.conf
+      → places_of new.station ≡ with_place (places_of old.station) number Ready → new.conf ≡ old.conf
       → new.parted ≡ old.parted
       → OwedTo number token id past New new
-  owed_new number past token id old new stands works above room fits notes places conf parts =
+  owed_new number past token id old new stands works above room fits are notes places conf parts =
       let mark : mark_at past.tape < number =
       subst (λ (state : State). state.mark < number) stands.tape.stands.ledger above in
       record {
         works = tape_works past.tape (tape_of old.station) stands.tape works;
         owed_is = sym (new_where number past true (lt-ltb _ _ mark));
+        apart = λ _. unplaced number past old stands are notes.legal.0;
         room = λ _. (
           room_here past.tape (tape_of old.station) stands.tape works room,
           subst (λ (state : State). Overflows state (Owe number token id) → ⊥) stands.tape.stands.ledger fits,
@@ -96,7 +120,7 @@ module _ {D : Type 0} {g : Ghosts D} where
           conf = conf ∙ stands.conf;
           limits = notes.limits ∙ stands.limits;
           tape = noted_tape past.tape old.station new.station (Owe number token id) stands.tape notes;
-          places = places ∙ ap (λ (l : Places). l ++ (number, Ready) ∷ []) stands.places;
+          places = places ∙ ap (λ (l : Places). with_place l number Ready) stands.places;
           parted = parts ∙ stands.parted;
         };
       }
@@ -110,6 +134,7 @@ module _ {D : Type 0} {g : Ghosts D} where
       record {
         works = tape_works past.tape (tape_of peer.station) stands.tape works;
         owed_is = sym (new_where number past false (le-ltb _ _ mark));
+        apart = λ e. cc;
         room = λ e. cc;
         stands = stands;
       }
@@ -118,16 +143,24 @@ module _ {D : Type 0} {g : Ghosts D} where
   pub owed_answered : (number : ℕ) (past : PeerPast) (token id : List ℕ) (old new : Peer D g) (owed : Owed)
       → PeerStands past old
       → (IsBroken (tape_of old.station) → ⊥) → (owed ≡ Already → number ≤ (ledger_of (tape_of old.station)).mark)
+      → (owed ≡ New → number ≤ (ledger_of (tape_of old.station)).mark → ⊥)
+      → placed (places_of old.station) ≡ keys (ledger_of (tape_of old.station))
       → (owed ≡ Already → new.station ≡ old.station)
       → (owed ≡ New → Notes old.station new.station (Owe number token id))
-      → (owed ≡ New → places_of new.station ≡ places_of old.station ++ (number, Ready) ∷ [])
+      → (owed ≡ New → places_of new.station ≡ with_place (places_of old.station) number Ready)
       → (Overflows (ledger_of (tape_of old.station)) (Owe number token id) → ⊥)
       → ((ledger_of (tape_of old.station)).mark < number → pending_of (tape_of old.station) ≢ most_pending)
       → new.conf ≡ old.conf → new.parted ≡ old.parted → OwedTo number token id past owed new
-  owed_answered number past token id old new New stands works below same notes places fits room conf parts =
-      let above = (notes refl).legal.1 in
-      owed_new number past token id old new stands works above (room above) fits (notes refl) (places refl) conf parts
-  owed_answered number past token id old new Already stands works below same notes places fits room conf parts =
+  owed_answered number past token id old new New stands works below never are same notes places fits room conf parts =
+      let above : (ledger_of (tape_of old.station)).mark < number =
+      elim (cases_lt (ledger_of (tape_of old.station)).mark number) [
+        | inl over ↦ over
+        | inr under ↦ absurd (never refl under)
+      ] in
+      owed_new number past token id old new stands works above (room above) fits are (notes refl) (places refl) conf
+      parts
+  owed_answered number past token id old new Already stands works below never are same notes places fits room conf
+      parts =
       let st = same refl in
       let stays : PeerStands past new = record {
         conf = conf ∙ stands.conf;

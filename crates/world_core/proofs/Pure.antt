@@ -1,11 +1,13 @@
 -- Lemmas on lists and marks, and on what is acknowledged.
-use Rattle.std.proofs.Common.{◌≡◌, ℕ, zero, suc, ◌<◌, ◌≤◌, Some, List, [], ◌∷◌, ◌++◌, length, get_or, take, drop, map}
-use Rattle.std.proofs.Common.{refl, sym, ap, ◌∙◌, subst, arith, take-append-drop}
+use Rattle.std.proofs.Common.{◌≡◌, ℕ, zero, suc, ◌<◌, ◌≤◌, ◌^◌, Bool, Some, List, [], ◌∷◌, ◌++◌, length, get_or}
+use Rattle.std.proofs.Common.{take, drop, map, refl, sym, ap, ◌∙◌, subst, inl, inr, arith, take-append-drop}
+use Rattle.std.specs.Prelude.{if◌then◌else◌}
+use Rattle.std.proofs.lemmas.Bool.{le-ltb, lt-ltb}
 use Rattle.std.proofs.Math.ListN.{set}
 use Rattle.std.specs.List.{AllByRecursion, AllZip, slice_get}
 use Rattle.ledger_core.specs.declared.note.Note.{Note}
-use Rattle.ledger_core.specs.declared.note.Note.TheVariants.{Owe, Final, Drop, Seen}
-use Rattle.ledger_core.specs.State.{State, AllLegal, after, step}
+use Rattle.ledger_core.specs.declared.note.Note.TheVariants.{Owe, Final, Drop, Seen, Closed}
+use Rattle.ledger_core.specs.State.{State, AllLegal, IsNext, after, marks_of, step}
 use Rattle.ledger_core.specs.StateLaws.{after-append, AllLegal-back}
 use Rattle.recovery.specs.Image.{Octets, Survives}
 use Rattle.recovery.specs.Leaving.{HasLedger, ledger_of_first, mark_of, pending_notes}
@@ -61,11 +63,21 @@ map_set f (a ∷ xs) (suc i) x y here same = ap (λ l. f a ∷ l) (map_set f xs 
 
 -- ---- marks
 
+-- a line of the funnel is above it, and one of another source leaves it
+owe_mark : (state : State) (key : ℕ) (token id : List ℕ) → IsNext (marks_of state) key
+    → state.mark ≤ (step state (Owe key token id)).mark
+owe_mark state key token id (inl (line, above)) =
+    omega (arith, above, ap (λ (b : Bool). if b then key else state.mark) (lt-ltb key (2 ^ 64) line))
+owe_mark state key token id (inr (above, below)) =
+    let far : 2 ^ 64 ≤ key = omega (arith, above) in
+    omega (arith, ap (λ (b : Bool). if b then key else state.mark) (le-ltb key (2 ^ 64) far))
+
 step_mark : (state : State) (note : Note) → AllLegal state (note ∷ []) → state.mark ≤ (step state note).mark
-step_mark state (Owe number token id) legal = omega (arith, legal.0.1)
-step_mark state (Final number code) legal = omega arith
-step_mark state (Drop number cause) legal = omega arith
+step_mark state (Owe key token id) legal = owe_mark state key token id legal.0.0
+step_mark state (Final key code) legal = omega arith
+step_mark state (Drop key cause) legal = omega arith
 step_mark state (Seen number) legal = omega (arith, legal.0.1)
+step_mark state (Closed source) legal = omega arith
 
 -- a mark does not fall
 pub after_mark : (state : State) (notes : List Note) → AllLegal state notes → state.mark ≤ (after state notes).mark
@@ -89,10 +101,11 @@ take_mark base notes count legal =
 
 -- above a mark is above a lesser one
 pub above_less : (low high : ℕ) → low ≤ high → (note : Note) → IsAbove high note → IsAbove low note
-above_less low high less (Owe number token id) above = omega (arith, less, above)
-above_less low high less (Final number code) above = tt
-above_less low high less (Drop number cause) above = tt
+above_less low high less (Owe key token id) above = omega (arith, less, above)
+above_less low high less (Final key code) above = tt
+above_less low high less (Drop key cause) above = tt
 above_less low high less (Seen number) above = tt
+above_less low high less (Closed source) above = tt
 
 pub acknowledged_less : (low high : ℕ) → low ≤ high → (peer : PeerPast) → HasAcknowledged high peer
     → HasAcknowledged low peer

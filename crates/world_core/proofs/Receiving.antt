@@ -222,19 +222,19 @@ no_more (Some x) never = absurd (never x refl)
 
 module _ (o : Options) where
   first_needed : (number : ℕ) (wants : List Want) (handed : List ℕ) (left : List Want) → left_from 0 wants handed ≡ left
-      → option_map (λ (want : Want). want.number) (slice_get left 0) ≡ Some number
+      → option_map (λ (want : Want). want.key) (slice_get left 0) ≡ Some number
       → first_left (is_of number) handed 0 wants ≡ None → ⊥
   first_needed number wants handed [] is wanted none = let never : None ≡ Some number = wanted in cc
   first_needed number wants handed (want ∷ rest) is wanted none =
-      let same : want.number ≡ number = cc in
+      let same : want.key ≡ number = cc in
       let found : find (is_of number) (want ∷ rest) ≡ Some want =
-      ap (λ (b : Bool). cond b (Some want) (find (is_of number) rest)) (eq-eqb want.number number same) in
+      ap (λ (b : Bool). cond b (Some want) (find (is_of number) rest)) (eq-eqb want.key number same) in
       let never : Some want ≡ None = sym found ∙ (ap (find (is_of number)) (sym is)
       ∙ (find-left_from (is_of number) handed 0 wants ∙ ap (option_map (λ (x : ℕ × Want). x.1)) none)) in
       cc
 
   pub wanted_step : (b : Bool) (wants : List Want) (handed : List ℕ) (number : ℕ)
-      → (if b then None else option_map (λ (want : Want). want.number) (slice_get (left_from 0 wants handed) 0))
+      → (if b then None else option_map (λ (want : Want). want.key) (slice_get (left_from 0 wants handed) 0))
       ≡ Some number
       → (if b then None else first_left (is_of number) handed 0 wants) ≡ None → ⊥
   wanted_step true wants handed number wanted none = let never : None ≡ Some number = wanted in cc

@@ -5,11 +5,15 @@ use Rattle.std.proofs.Common.{take, refl, sym, ap, ◌∙◌, subst, inl, inr, a
 use Rattle.std.specs.Prelude.{◌==◌, Contains}
 use Rattle.std.proofs.lemmas.Bool.{cases_eq, eqb-true}
 use Rattle.std.specs.List.{AllByRecursion, AllZip, slice_get}
-use Rattle.ledger_core.specs.State.{Owing, State, after, step, without}
+use Rattle.ledger_core.specs.State.{IsNext, Owing, State, after, keys, marks_of, step, with_debt, without}
+use Rattle.ledger_core.specs.StateLaws.{Put, next-apart, put}
+use Rattle.ledger_core.specs.Written.{IsWhole}
+use Rattle.ledger_core.specs.WrittenLaws.{whole-step}
 use Rattle.ledger_core.specs.declared.note.Note.{Note}
-use Rattle.ledger_core.specs.declared.note.Note.TheVariants.{Drop, Final, Owe, Seen}
+use Rattle.ledger_core.specs.declared.note.Note.TheVariants.{Drop, Final, Owe, Seen, Closed}
 use Rattle.peer_queue.specs.Words.{IsEnd}
 use Rattle.recovery.specs.Leaving.{EachLedger, IsFront}
+use Rattle.recovery.specs.Notes.{AreLegal}
 use Rattle.world_core.specs.Past.{Life, PeerPast}
 use Rattle.world_core.specs.Safe.{IsSafe, KeepsNotes}
 use Rattle.world_core.specs.Laws.{AllAreRecovered, Comes, HasEnded, IsRecovered, OverRuns, StillOwes}
@@ -30,9 +34,16 @@ module _ {A : Type 0} where
   contains_left (y ∷ xs) ys x (suc k, below, is) =
       contains_more (xs ++ ys) y x (contains_left xs ys x (k, omega (arith, below), is))
 
-  contains_last : (xs : List A) (x : A) → Contains (xs ++ x ∷ []) x
-  contains_last [] x = contains_first [] x
-  contains_last (y ∷ xs) x = contains_more (xs ++ x ∷ []) y x (contains_last xs x)
+  -- one more among them
+  contains_put : (xs ys : List A) (x y : A) → Contains (xs ++ ys) y → Contains (xs ++ x ∷ ys) y
+  contains_put [] ys x y has = contains_more ys x y has
+  contains_put (z ∷ xs) ys x y (zero, below, is) = (zero, omega arith, is)
+  contains_put (z ∷ xs) ys x y (suc k, below, is) =
+      contains_more (xs ++ x ∷ ys) z y (contains_put xs ys x y (k, omega (arith, below), is))
+
+  contains_here : (xs ys : List A) (x : A) → Contains (xs ++ x ∷ ys) x
+  contains_here [] ys x = contains_first ys x
+  contains_here (y ∷ xs) ys x = contains_more (xs ++ x ∷ ys) y x (contains_here xs ys x)
 
   pub contains_taken : (k : ℕ) (xs : List A) (x : A) → Contains (take k xs) x → Contains xs x
   contains_taken zero xs x (i, below, is) = absurd (omega (arith, below))
@@ -84,6 +95,34 @@ stays number (e ∷ debts) d apart (zero, below, is) =
 stays number (e ∷ debts) d apart (suc k, below, is) =
     goes_step (e.0 == number) e d (without number debts) (stays number debts d apart (k, omega (arith, below), is))
 
+-- with one debt more, whose key may be noted next, each is owed that was, and this one is
+put_here : (state : State) (key : ℕ) (token id : List ℕ) → IsNext (marks_of state) key → IsWhole state
+    → Put state.debts key token id
+put_here state key token id next whole =
+    put state.debts key token id (next-apart (marks_of state) key (keys state) next whole.debts.past)
+
+put_stays : (debts : List Owing) (key : ℕ) (token id : List ℕ) (d : Owing) → Put debts key token id → Contains debts d
+    → Contains (with_debt debts key token id) d
+put_stays debts key token id d there has =
+    subst (λ (ds : List Owing). Contains ds d) (sym there.is)
+    (contains_put there.front there.behind (key, (token, id)) d
+    (subst (λ (ds : List Owing). Contains ds d) there.was has))
+
+put_owes : (debts : List Owing) (key : ℕ) (token id : List ℕ) → Put debts key token id
+    → Contains (with_debt debts key token id) (key, (token, id))
+put_owes debts key token id there =
+    subst (λ (ds : List Owing). Contains ds (key, (token, id))) (sym there.is)
+    (contains_here there.front there.behind (key, (token, id)))
+
+-- notes behind the first
+legal_behind : (state : State) (note : Note) (notes : List Note) → AreLegal state (note ∷ notes)
+    → AreLegal (step state note) notes
+legal_behind state note notes are = record {
+  whole = whole-step state note are.notes_are.0 are.legal.0 are.whole;
+  notes_are = are.notes_are.1;
+  legal = are.legal.1;
+}
+
 -- among these notes is one that ends the debt of this number
 abbrev Ends : List Note → ℕ → Type 0
 Ends notes number = (note : Note) × Contains notes note × IsEnd note number
@@ -97,41 +136,51 @@ behind X note notes number (inl owed) = inl owed
 behind X note notes number (inr ends) = inr (ends_more note notes number ends)
 
 -- a debt that is owed stays so, or one of the notes ends it
-owed_on : (state : State) (notes : List Note) (number : ℕ) (token id : List ℕ)
+owed_on : (state : State) (notes : List Note) (number : ℕ) (token id : List ℕ) → AreLegal state notes
     → Contains state.debts (number, (token, id))
     → Contains (after state notes).debts (number, (token, id)) ⊎ Ends notes number
-owed_on state [] number token id has = inl has
-owed_on state (Owe n t i ∷ notes) number token id has =
+owed_on state [] number token id are has = inl has
+owed_on state (Owe n t i ∷ notes) number token id are has =
     behind _ (Owe n t i) notes number
-    (owed_on (step state (Owe n t i)) notes number token id
-    (contains_left state.debts ((n, (t, i)) ∷ []) (number, (token, id)) has))
-owed_on state (Final n code ∷ notes) number token id has = elim (cases_eq number n) [
+    (owed_on (step state (Owe n t i)) notes number token id (legal_behind state (Owe n t i) notes are)
+    (put_stays state.debts n t i (number, (token, id)) (put_here state n t i are.legal.0.0 are.whole) has))
+owed_on state (Final n code ∷ notes) number token id are has = elim (cases_eq number n) [
   | inl same ↦ inr (Final n code, contains_first notes (Final n code), sym same)
   | inr apart ↦ behind _ (Final n code) notes number
-      (owed_on (step state (Final n code)) notes number token id (stays n state.debts (number, (token, id)) apart has))
+      (owed_on (step state (Final n code)) notes number token id (legal_behind state (Final n code) notes are)
+      (stays n state.debts (number, (token, id)) apart has))
 ]
-owed_on state (Drop n cause ∷ notes) number token id has = elim (cases_eq number n) [
+owed_on state (Drop n cause ∷ notes) number token id are has = elim (cases_eq number n) [
   | inl same ↦ inr (Drop n cause, contains_first notes (Drop n cause), sym same)
   | inr apart ↦ behind _ (Drop n cause) notes number
-      (owed_on (step state (Drop n cause)) notes number token id (stays n state.debts (number, (token, id)) apart has))
+      (owed_on (step state (Drop n cause)) notes number token id (legal_behind state (Drop n cause) notes are)
+      (stays n state.debts (number, (token, id)) apart has))
 ]
-owed_on state (Seen n ∷ notes) number token id has =
-    behind _ (Seen n) notes number (owed_on (step state (Seen n)) notes number token id has)
+owed_on state (Seen n ∷ notes) number token id are has =
+    behind _ (Seen n) notes number
+    (owed_on (step state (Seen n)) notes number token id (legal_behind state (Seen n) notes are) has)
+owed_on state (Closed source ∷ notes) number token id are has =
+    behind _ (Closed source) notes number
+    (owed_on (step state (Closed source)) notes number token id (legal_behind state (Closed source) notes are) has)
 
 -- so does one that a note among them owes
-owed_by : (state : State) (notes : List Note) (index number : ℕ) (token id : List ℕ)
+owed_by : (state : State) (notes : List Note) (index number : ℕ) (token id : List ℕ) → AreLegal state notes
     → slice_get notes index ≡ Some (Owe number token id)
     → Contains (after state notes).debts (number, (token, id)) ⊎ Ends notes number
-owed_by state [] index number token id here = absurd cc
-owed_by state (note ∷ notes) zero number token id here =
+owed_by state [] index number token id are here = absurd cc
+owed_by state (note ∷ notes) zero number token id are here =
     let same : note ≡ Owe number token id = cc in
+    let all : AreLegal state (Owe number token id ∷ notes) =
+    subst (λ (n : Note). AreLegal state (n ∷ notes)) same are in
     subst (λ (n : Note). Contains (after state (n ∷ notes)).debts (number, (token, id)) ⊎ Ends (n ∷ notes) number)
     (sym same)
     (behind _ (Owe number token id) notes number
     (owed_on (step state (Owe number token id)) notes number token id
-    (contains_last state.debts (number, (token, id)))))
-owed_by state (note ∷ notes) (suc index) number token id here =
-    behind _ note notes number (owed_by (step state note) notes index number token id here)
+    (legal_behind state (Owe number token id) notes all)
+    (put_owes state.debts number token id (put_here state number token id all.legal.0.0 all.whole))))
+owed_by state (note ∷ notes) (suc index) number token id are here =
+    behind _ note notes number
+    (owed_by (step state note) notes index number token id (legal_behind state note notes are) here)
 
 -- ---- a peer
 
@@ -157,10 +206,10 @@ still_owes was now stays = record {
       let among = get_below front.count now.tape.history.notes index note (omega (arith, there.0, front.enough))
       there.1 in
       at_front now state front number token id
-      (owed_by now.tape.history.base (take front.count now.tape.history.notes) index number token id among);
+      (owed_by now.tape.history.base (take front.count now.tape.history.notes) index number token id front.legal among);
   given = λ number token id has state front.
       at_front now state front number token id
-      (owed_on now.tape.history.base (take front.count now.tape.history.notes) number token id
+      (owed_on now.tape.history.base (take front.count now.tape.history.notes) number token id front.legal
       (subst (λ (base : State). Contains base.debts (number, (token, id))) (sym stays.1.base) has));
 }
 

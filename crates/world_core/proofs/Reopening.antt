@@ -4,7 +4,7 @@ use Rattle.std.specs.Prelude.{Vec, option_map}
 use Rattle.std.specs.declared.alloc.Global.{Global}
 use Rattle.std.specs.List.{AllZip}
 use Rattle.disk_model.specs.declared.Disk.{Ghosts}
-use Rattle.ledger_core.specs.State.{State, numbers}
+use Rattle.ledger_core.specs.State.{State, keys}
 use Rattle.recovery.specs.LeavingLaws.{EachLedger-weaker}
 use Rattle.world_core.specs.Past.{Life, Past, PeerPast, with_past}
 use Rattle.world_core.specs.Events.{AllDo, Event}
@@ -181,8 +181,8 @@ module _ {D : Type 0} {g : Ghosts D} where
   marks_said (past ∷ pasts) [] all = absurd all
   marks_said (past ∷ pasts) (peer ∷ peers) all =
       ap (λ conf. Mark conf.name (Rattle.peer_queue.specs.Words.ledger_of peer.station).mark
-      (numbers (Rattle.peer_queue.specs.Words.ledger_of peer.station)) ∷ map opened_said peers) all.0.conf
-      ∙ ap (λ (state : State). Mark past.conf.name state.mark (numbers state) ∷ map opened_said peers)
+      (keys (Rattle.peer_queue.specs.Words.ledger_of peer.station)) ∷ map opened_said peers) all.0.conf
+      ∙ ap (λ (state : State). Mark past.conf.name state.mark (keys state) ∷ map opened_said peers)
       all.0.tape.stands.ledger
       ∙ ap (λ l. mark_said past ∷ l) (marks_said pasts peers all.1)
 

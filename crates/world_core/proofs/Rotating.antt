@@ -212,12 +212,12 @@ module _ {D : Type 0} {g : Ghosts D} where
       → AreRising (places_of old.station)
       → IsShed (station_limits old.station) (ledger_of (tape_of old.station)) (places_of old.station)
       (pending_of (tape_of old.station)) shed
-      → StandsFor (tape_of new.station) (noted_all past.tape.history (dropped shed.numbers.items))
-      → places_of new.station ≡ all_gone (places_of old.station) shed.numbers.items
+      → StandsFor (tape_of new.station) (noted_all past.tape.history (dropped shed.keys.items))
+      → places_of new.station ≡ all_gone (places_of old.station) shed.keys.items
       → disks_of (tape_of new.station) ≡ disks_of (tape_of old.station)
       → (IsBroken (tape_of old.station) ↔ IsBroken (tape_of new.station))
       → station_limits new.station ≡ station_limits old.station → new.conf ≡ old.conf
-      → new.parted ≡ old.parted → ShedPeer past shed.numbers.items new
+      → new.parted ≡ old.parted → ShedPeer past shed.keys.items new
   shed_as past old new shed stands works rising is notes places disks same limits conf parts =
       let here = same_disks (tape_of new.station) (tape_of old.station) disks in
       record {
@@ -229,10 +229,10 @@ module _ {D : Type 0} {g : Ghosts D} where
               stands.tape.stands.ledger
               (subst (λ (l : Limits). IsShedSet l (ledger_of (tape_of old.station)) (places_of old.station) is.set)
               stands.limits is.is_set));
-          numbers_are = is.numbers ∙ ap (λ (n : ℕ). take (most_pending - n) is.set)
+          numbers_are = is.keys ∙ ap (λ (n : ℕ). take (most_pending - n) is.set)
               (pends_by (tape_of old.station) past.tape.history stands.tape.stands works);
-          free = subst (λ (p : Places). AreUnheld p shed.numbers.items) stands.places
-              (subst (λ (numbers : List ℕ). AreUnheld (places_of old.station) numbers) (sym is.numbers)
+          free = subst (λ (p : Places). AreUnheld p shed.keys.items) stands.places
+              (subst (λ (numbers : List ℕ). AreUnheld (places_of old.station) numbers) (sym is.keys)
               (shed_unheld (station_limits old.station) (ledger_of (tape_of old.station)) (places_of old.station) is.set
               (most_pending - pending_of (tape_of old.station)) rising is.is_set));
         };
@@ -246,7 +246,7 @@ module _ {D : Type 0} {g : Ghosts D} where
             broken = same_truth (broken_of (tape_of old.station)) (broken_of (tape_of new.station)) same
                 ∙ stands.tape.broken;
           };
-          places = places ∙ ap (λ (p : Places). all_gone p shed.numbers.items) stands.places;
+          places = places ∙ ap (λ (p : Places). all_gone p shed.keys.items) stands.places;
           parted = parts ∙ stands.parted;
         };
       }

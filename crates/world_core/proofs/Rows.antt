@@ -4,7 +4,7 @@ use Rattle.std.specs.Prelude.{codes, if◌then◌else◌}
 use Rattle.disk_model.specs.declared.choice.Choice.{Choice}
 use Rattle.disk_model.specs.Disk.Event.{Made, Synced, Wrote}
 use Rattle.feed_conf.specs.declared.conf.PeerConf.{PeerConf}
-use Rattle.ledger_core.specs.State.{numbers}
+use Rattle.ledger_core.specs.State.{keys}
 use Rattle.recovery.specs.Notes.{begun as begun_history, flushed, recovered}
 use Rattle.peer_queue.specs.Place.{Ready}
 use Rattle.peer_queue.specs.declared.limits.Owed.TheVariants.{Already, New}
@@ -61,7 +61,7 @@ restarted counts count past =
 -- what each peer has: its mark, what it is owed, and how many of its notes are acknowledged
 abbrev standing : Past → List (ℕ × (List ℕ × ℕ))
 standing past = map (λ (peer : PeerPast).
-    (mark_at peer.tape, (numbers (ledger_at peer.tape), peer.tape.history.kept))) past.peers
+    (mark_at peer.tape, (keys (ledger_at peer.tape), peer.tape.history.kept))) past.peers
 
 -- ---- output
 

@@ -15,7 +15,7 @@ use Rattle.conn_core.specs.declared.options.Options.{Options}
 use Rattle.conn_core.specs.declared.outcome.Outcome.{Outcome}
 use Rattle.peer_queue.specs.Faults.{IsEndFault}
 use Rattle.peer_queue.specs.Place.{Held, IsHeldBy, Later as LaterPlace, Places, Ready, gone, moved, place_at}
-use Rattle.peer_queue.specs.Settled.{Finishes, IsEnded, Settles, number_in, settled_by}
+use Rattle.peer_queue.specs.Settled.{Finishes, IsEnded, Settles, key_in, settled_by}
 use Rattle.peer_queue.specs.Words.{IsSame, limits_of as station_limits, places_of, tape_of}
 use Rattle.peer_queue.specs.Words.{MeetsFull}
 use Rattle.peer_queue.specs.declared.fault.StationFault.{StationFault}
@@ -82,7 +82,7 @@ settled_conf Back n peer = refl
 
 -- its settings stay
 pub conf_settled : (now : ℕ) (outcome : Outcome) (peer : PeerPast) → (settled now outcome peer).conf ≡ peer.conf
-conf_settled now outcome peer = settled_conf (settling peer now outcome) (number_in outcome) peer
+conf_settled now outcome peer = settled_conf (settling peer now outcome) (key_in outcome) peer
 
 pub tied_as : (id : ℕ) (conn : ConnPast) (peer : PeerPast) (options : Options) → options_of peer.conf ≡ options
     → ((m : ℕ) → IsHeldBy peer.places id m ↔ Contains (numbers_at options conn.transcript) m)
@@ -139,11 +139,11 @@ module _ {D : Type 0} {g : Ghosts D} where
       (outcome : Outcome) (cxn number : ℕ) (told_so : Settled) → PairStands id conn past before old
       → Takes (options_of past.conf) conn.unread conn.transcript (Some outcome) after.conn
       → after.waiting ≡ None → after.rank ≡ before.rank → after.conn.id ≡ before.conn.id → cxn ≡ id
-      → number ≡ number_in outcome
+      → number ≡ key_in outcome
       → told_so ≡ settled_by (station_limits old.station) now outcome → Finishes cxn now outcome old.station new.station
       → (IsBroken (tape_of old.station) → ⊥)
       → (IsEnded (settled_by (station_limits old.station) now outcome)
-      → IsHeldBy (places_of old.station) cxn (number_in outcome)
+      → IsHeldBy (places_of old.station) cxn (key_in outcome)
       → pending_of (tape_of old.station) ≢ most_pending) → new.conf ≡ old.conf → new.parted ≡ old.parted → mid ≡ was
       → told ≡ mid ++ ToldSettled cxn number told_so ∷ []
       → SettledOne id now conn past was after new told
@@ -155,7 +155,7 @@ module _ {D : Type 0} {g : Ghosts D} where
       let by : settled_by (station_limits old.station) now outcome ≡ settling past now outcome =
       ap (λ (limits : Limits). settled_by limits now outcome) pair.stands.limits in
       let s = settling past now outcome in
-      let n = number_in outcome in
+      let n = key_in outcome in
       let settles : Settles id n s old.station new.station =
       subst (λ (c : ℕ). Settles c n s old.station new.station) own
       (subst (λ (x : Settled). Settles cxn n x old.station new.station) by finishes) in
@@ -241,9 +241,9 @@ module _ {D : Type 0} {g : Ghosts D} where
       → cxn ≡ id
       → ((fault ≡ Broken) ↔ IsBroken (tape_of old.station))
       → ((fault ≡ NotHeld) ↔ ((IsBroken (tape_of old.station) → ⊥)
-      × (IsHeldBy (places_of old.station) cxn (number_in outcome) → ⊥)))
+      × (IsHeldBy (places_of old.station) cxn (key_in outcome) → ⊥)))
       → ((fault ≡ TapeRefused PendingFull) ↔ (IsEnded (settled_by (station_limits old.station) now outcome)
-      × MeetsFull old.station cxn (number_in outcome)))
+      × MeetsFull old.station cxn (key_in outcome)))
       → (fault ≡ NoMemory → IsEnded (settled_by (station_limits old.station) now outcome)) → IsEndFault fault
       → told ≡ fault_of_station fault → IsSame old.station new.station → new.conf ≡ old.conf → new.parted ≡ old.parted
       → SettledNot id now conn past told after new
@@ -256,12 +256,12 @@ module _ {D : Type 0} {g : Ghosts D} where
       ap (λ (limits : Limits). settled_by limits now outcome) pair.stands.limits in
       let numbers = numbers_taken options conn.transcript outcome next in
       let rest = numbers_at options (Taken ∷ conn.transcript) in
-      let has : Contains (numbers_at options conn.transcript) (number_in outcome) =
-      subst (λ (l : List ℕ). Contains l (number_in outcome)) (sym numbers) (contains_first rest (number_in outcome)) in
-      let held : IsHeldBy (places_of old.station) cxn (number_in outcome) =
-      subst (λ (p : Places). IsHeldBy p cxn (number_in outcome)) (sym pair.stands.places)
-      (subst (λ (c : ℕ). IsHeldBy past.places c (number_in outcome)) (sym own)
-      ((pair.tied.held (number_in outcome)).1 has)) in
+      let has : Contains (numbers_at options conn.transcript) (key_in outcome) =
+      subst (λ (l : List ℕ). Contains l (key_in outcome)) (sym numbers) (contains_first rest (key_in outcome)) in
+      let held : IsHeldBy (places_of old.station) cxn (key_in outcome) =
+      subst (λ (p : Places). IsHeldBy p cxn (key_in outcome)) (sym pair.stands.places)
+      (subst (λ (c : ℕ). IsHeldBy past.places c (key_in outcome)) (sym own)
+      ((pair.tied.held (key_in outcome)).1 has)) in
       record {
         why = inr (
           outcome,

@@ -131,6 +131,7 @@ module _ {D : Type 0} {g : Ghosts D} where
                 peer = here.0;
                 here = here.1;
                 works = is.works;
+                apart = (λ e. is.apart (is.owed_is ∙ e));
                 room =
                     (λ e. is.room (is.owed_is ∙ e));
                 changed = refl;

@@ -5,7 +5,8 @@ use Rattle.std.specs.Prelude.{◌==◌, if◌then◌else◌}
 use Rattle.std.proofs.Math.ListN.{set}
 use Rattle.std.proofs.lemmas.Bool.{cases_eq}
 use Rattle.std.specs.List.{AllByRecursion, AllZip, slice_get}
-use Rattle.peer_queue.specs.Place.{AreUnheld, Held, IsHeldBy, IsUnheld, Place, Places, Ready, all_gone, gone, place_at}
+use Rattle.peer_queue.specs.Place.{AreUnheld, Held, IsHeldBy, IsUnheld, Places, Ready, all_gone, gone, place_at}
+use Rattle.peer_queue.specs.Place.{with_place}
 use Rattle.peer_queue.specs.declared.limits.Owed.{Owed}
 use Rattle.peer_queue.specs.declared.limits.Owed.TheVariants.{New, Already}
 use Rattle.world_core.specs.Past.{Past, PeerPast, TapePast, with_peer, with_tape}
@@ -20,6 +21,7 @@ use Rattle.world_core.specs.Steps.{is_named, owes_from, seal_events}
 use Rattle.world_core.specs.Told.{Said}
 use Rattle.world_core.specs.declared.fault.Fault.{Fault}
 use Rattle.world_core.proofs.Holding.{gone_none, gone_other}
+use Rattle.world_core.proofs.Placed.{with_here, with_other}
 
 -- ---- one peer
 
@@ -89,30 +91,30 @@ none_put past later same =
 
 -- ---- a line, and what is dropped
 
-owed_at : (b : Bool) (o : Option Place) (id : ℕ) → cond b (Some Ready) None ≡ Some (Held id) → o ≡ None
-    → o ≡ Some (Held id)
-owed_at true o id is none = let never : Some Ready ≡ Some (Held id) = is in cc
-owed_at false o id is none = let never : None ≡ Some (Held id) = is in cc
+-- a debt more, that is ready, is held by none
+ready_back : (p : Places) (number id m : ℕ) → IsHeldBy (with_place p number Ready) id m → IsHeldBy p id m
+ready_back p number id m is = elim (cases_eq m number) [
+  | inl same ↦ (
+      let there : place_at (with_place p number Ready) m ≡ Some Ready =
+      subst (λ (n : ℕ). place_at (with_place p number Ready) n ≡ Some Ready) (sym same) (with_here p number Ready) in
+      absurd (let never : Some Ready ≡ Some (Held id) = sym there ∙ is in cc))
+  | inr apart ↦ sym (with_other p number m Ready apart) ∙ is
+]
 
-keep_step : (b : Bool) (p : Place) (one other : Option Place) (id : ℕ) → (one ≡ Some (Held id) → other ≡ Some (Held id))
-    → cond b (Some p) one ≡ Some (Held id) → cond b (Some p) other ≡ Some (Held id)
-keep_step true p one other id rest here = here
-keep_step false p one other id rest there = rest there
-
--- a number behind all, that is ready, is held by none
-ready_back : (p : Places) (number id m : ℕ) → IsHeldBy (p ++ (number, Ready) ∷ []) id m → IsHeldBy p id m
-ready_back [] number id m is = owed_at (number == m) None id is refl
-ready_back (e ∷ p) number id m is = keep_step (e.0 == m) e.1 _ _ id (λ there. ready_back p number id m there) is
-
-ready_on : (p : Places) (number id m : ℕ) → IsHeldBy p id m → IsHeldBy (p ++ (number, Ready) ∷ []) id m
-ready_on [] number id m is = let never : None ≡ Some (Held id) = is in cc
-ready_on (e ∷ p) number id m is = keep_step (e.0 == m) e.1 _ _ id (λ there. ready_on p number id m there) is
+ready_on : (p : Places) (number id m : ℕ) → place_at p number ≡ None → IsHeldBy p id m
+    → IsHeldBy (with_place p number Ready) id m
+ready_on p number id m none is = elim (cases_eq m number) [
+  | inl same ↦ (
+      let there : place_at p number ≡ Some (Held id) = subst (λ (n : ℕ). place_at p n ≡ Some (Held id)) same is in
+      absurd (let never : None ≡ Some (Held id) = sym none ∙ there in cc))
+  | inr apart ↦ with_other p number m Ready apart ∙ is
+]
 
 owing_holds : (owed : Owed) (number : ℕ) (token id : List ℕ) (peer : PeerPast)
-    → HoldsSame peer (owing_as owed number token id peer)
-owing_holds New number token id peer =
-    (refl, λ conn m. (ready_back peer.places number conn m, ready_on peer.places number conn m))
-owing_holds Already number token id peer = hold_same peer
+    → (owed ≡ New → place_at peer.places number ≡ None) → HoldsSame peer (owing_as owed number token id peer)
+owing_holds New number token id peer none =
+    (refl, λ conn m. (ready_back peer.places number conn m, ready_on peer.places number conn m (none refl)))
+owing_holds Already number token id peer none = hold_same peer
 
 gone_back : (p : Places) (number id m : ℕ) → IsHeldBy (gone p number) id m → IsHeldBy p id m
 gone_back p number id m is = elim (cases_eq m number) [
@@ -160,7 +162,7 @@ OnTape OpensIntake = ⊥
 holds_does : (event : Event) → OnTape event → (past later : Past) → Does event past later → AllHold past later
 holds_does (Owes rank token id) on past later d =
     one_put past later rank d.peer _ d.here
-    (owing_holds (owed_as (past.last + 1) d.peer) (past.last + 1) token id d.peer) d.changed
+    (owing_holds (owed_as (past.last + 1) d.peer) (past.last + 1) token id d.peer d.apart) d.changed
 holds_does (Parts rank) on past later d =
     one_put past later rank d.peer _ d.here (hold_places d.peer (parted d.peer d.tape) refl refl) d.changed
 holds_does (Rotates rank generation) on past later d =

@@ -13,7 +13,7 @@ use Rattle.conn_core.specs.State.{Holding}
 use Rattle.conn_core.specs.declared.options.Options.{Options}
 use Rattle.conn_core.specs.declared.reason.Reason.{Reason}
 use Rattle.peer_queue.specs.Place.{IsHeldBy}
-use Rattle.peer_queue.specs.Settled.{number_in}
+use Rattle.peer_queue.specs.Settled.{key_in}
 use Rattle.world_core.specs.Past.{ConnPast, PeerPast, options_of}
 use Rattle.world_core.specs.Exchange.{sent_out, told_out, untold, with_transcript}
 use Rattle.world_core.specs.Pairs.{Followed, FollowedNot, SettledAll, Tells, settled_said}
@@ -36,7 +36,7 @@ module _ (options : Options) (h : List Happening) (count : ℕ) where
   story_sent = refl
 
   numbers_sent : numbers_at options (Sent count ∷ h) ≡ numbers_at options h
-  numbers_sent = ap (λ (s : Story). map number_in (drop (taken h) (map (λ x. x.outcome) s.ends))
+  numbers_sent = ap (λ (s : Story). map key_in (drop (taken h) (map (λ x. x.outcome) s.ends))
       ++ map (λ (x : Held). x.debt.0) (held_from 0 (accepted h) (ended_tickets s.ends))) story_sent
 
   noted_step : (closed : Bool) → numbers_at options (if closed then h else Sent count ∷ h) ≡ numbers_at options h

@@ -5,7 +5,7 @@ use Rattle.recovery.specs.Leaving.{pending_notes}
 use Rattle.std.specs.Option.{is_some}
 use Rattle.std.specs.List.{AllByRecursion, AllZip, slice_get}
 use Rattle.disk_model.specs.declared.Disk.{Ghosts}
-use Rattle.ledger_core.specs.State.{numbers}
+use Rattle.ledger_core.specs.State.{keys}
 use Rattle.peer_queue.specs.Place.{Held, Ready, all_ready, place_at}
 use Rattle.world_core.specs.Past.{Past, PeerPast, TapePast, ledger_at, with_peer, with_tape}
 use Rattle.world_core.specs.Safe.{IsAbove, IsSafe}
@@ -36,7 +36,7 @@ none_held (n ∷ ns) id number is = by_test (n == number) (none_held ns id numbe
     by_test false never is = never is
 
 pub opened_free : (peer : PeerPast) (tape : TapePast) → HasNoneHeld (opened_peer peer tape)
-opened_free peer tape = λ id number. none_held (numbers (ledger_at tape)) id number
+opened_free peer tape = λ id number. none_held (keys (ledger_at tape)) id number
 
 -- what had stopped before has stopped at rest
 pub stays_stopped : (past : PeerPast) (peer : StoppedPeer) → StoppedStands past peer

@@ -2,16 +2,15 @@
 use Rattle.std.specs.Prelude.{◌≡◌, ◌⊎◌, ◌+◌, ◌-◌, ◌<◌, ℕ, zero, suc, true, false, nat_lt, if◌then◌else◌, Option, None}
 use Rattle.std.specs.Prelude.{Some, List, [], ◌∷◌, ◌++◌, length, take, slice_get, Contains}
 use Rattle.ledger_core.specs.declared.note.Note.TheVariants.{Drop, Final, Owe, Seen}
-use Rattle.ledger_core.specs.State.{Overflows, Owing}
+use Rattle.ledger_core.specs.State.{Overflows, Owing, keys}
 use Rattle.recovery.specs.Leaving.{pending_notes}
 use Rattle.recovery.specs.Notes.{most_pending, noted_all}
 use Rattle.recovery.specs.Words.{OneHasRisen}
 use Rattle.recovery.specs.declared.fault.TapeFault.TheVariants.{Broken, Disk}
 use Rattle.conn_core.specs.declared.outcome.Outcome.{Outcome}
-use Rattle.ledger_core.specs.State.{numbers}
 use Rattle.peer_queue.specs.Place.{AreUnheld, Held, IsHeldBy, Later as LaterPlace, Ready, all_gone, all_ready, gone}
-use Rattle.peer_queue.specs.Place.{least_candidate, moved}
-use Rattle.peer_queue.specs.Settled.{IsEnded, number_in, settled_by}
+use Rattle.peer_queue.specs.Place.{least_candidate, moved, place_at, with_place}
+use Rattle.peer_queue.specs.Settled.{IsEnded, key_in, settled_by}
 use Rattle.peer_queue.specs.Shed.{IsShedSet, dropped}
 use Rattle.peer_queue.specs.declared.limits.Owed.{Owed}
 use Rattle.peer_queue.specs.declared.limits.Owed.TheVariants.{Already, New}
@@ -45,11 +44,11 @@ pub data Event : Type 0 where
 abbrev pub owed_as : ℕ → PeerPast → Owed
 owed_as number peer = if nat_lt (mark_at peer.tape) number then New else Already
 
--- one note more, and its number is ready; or nothing
+-- one note more, and the debt is ready, in its place by its key; or nothing
 abbrev pub owing_as : Owed → ℕ → List ℕ → List ℕ → PeerPast → PeerPast
 owing_as New number token id peer = record peer {
   tape = noted_at peer.tape (Owe number token id);
-  places = peer.places ++ (number, Ready) ∷ [];
+  places = with_place peer.places number Ready;
 }
 owing_as Already number token id peer = peer
 
@@ -63,7 +62,7 @@ opened_peer peer tape = record {
   conf = peer.conf;
   tape = tape;
   places =
-      all_ready (numbers (ledger_at tape));
+      all_ready (keys (ledger_at tape));
   parted = false;
 }
 
@@ -94,7 +93,7 @@ settling peer now outcome = settled_by (limits_of peer.conf) now outcome
 
 -- what an outcome makes of its peer
 abbrev pub settled : ℕ → Outcome → PeerPast → PeerPast
-settled now outcome peer = settled_as (settling peer now outcome) (number_in outcome) peer
+settled now outcome peer = settled_as (settling peer now outcome) (key_in outcome) peer
 
 -- the mark of the intake rises to a number that is above it
 abbrev pub seen : ℕ → TapePast → TapePast
@@ -115,11 +114,12 @@ pub record IsShedAt (peer : PeerPast) (numbers : List ℕ) : Type 0 where
 
 -- ---- events
 
--- the line is owed at the peer of this rank
+-- the line is owed at the peer of this rank, where its number has no place yet
 pub record DoesOwe (rank : ℕ) (token id : List ℕ) (past later : Past) : Type 0 where
   pub peer : PeerPast
   pub here : slice_get past.peers rank ≡ Some peer
   pub works : peer.tape.broken ≡ false
+  pub apart : owed_as (past.last + 1) peer ≡ New → place_at peer.places (past.last + 1) ≡ None
   pub room : owed_as (past.last + 1) peer ≡ New
       → HasRoom peer.tape × (Overflows (ledger_at peer.tape) (Owe (past.last + 1) token id) → ⊥)
   pub changed : later ≡ with_peer past rank (owing_as (owed_as (past.last + 1) peer) (past.last + 1) token id peer)
@@ -167,7 +167,7 @@ pub record DoesSettle (rank id now : ℕ) (outcome : Outcome) (past later : Past
   pub peer : PeerPast
   pub here : slice_get past.peers rank ≡ Some peer
   pub works : peer.tape.broken ≡ false
-  pub held : IsHeldBy peer.places id (number_in outcome)
+  pub held : IsHeldBy peer.places id (key_in outcome)
   pub room : IsEnded (settling peer now outcome) → HasRoom peer.tape
   pub changed : later ≡ with_peer past rank (settled now outcome peer)
 

@@ -14,7 +14,7 @@ use Rattle.conn_core.specs.declared.options.Options.{Options}
 use Rattle.conn_core.specs.declared.outcome.Outcome.{Outcome}
 use Rattle.conn_core.specs.declared.ready.Ready.TheVariants.{Busy as NoRoom, Shut, Yes}
 use Rattle.peer_queue.specs.Place.{least_candidate}
-use Rattle.peer_queue.specs.Settled.{number_in, settled_by}
+use Rattle.peer_queue.specs.Settled.{key_in, settled_by}
 use Rattle.peer_queue.specs.declared.limits.Limits.{Limits}
 use Rattle.world_core.specs.Past.{ConnPast, Life, Past, PeerPast, TapePast, conn_at, limits_of, options_of, rank_of}
 use Rattle.world_core.specs.Past.{with_conn, with_past, with_peer, with_tape}
@@ -24,7 +24,7 @@ use Rattle.world_core.specs.Told.{Connected, Handed, Output, Said, Settled, clos
 use Rattle.world_core.specs.declared.fault.Fault.{Fault}
 use Rattle.world_core.specs.declared.fault.Fault.TheVariants.{CountFull, NoConnection, NoMemory, NoPeer, NotNeeded}
 use Rattle.world_core.specs.declared.told.Handed.{Handed as Handover}
-use Rattle.world_core.specs.declared.told.Handed.TheVariants.{Busy, Closed, Nothing, Number}
+use Rattle.world_core.specs.declared.told.Handed.TheVariants.{Busy, Closed, Debt, Nothing}
 
 -- ---- what follows a step on a connection
 
@@ -52,7 +52,7 @@ settle_events rank id now outcomes = map (λ (outcome : Outcome). Settles rank i
 -- what is told then, of a connection whose transcript was this before the step
 abbrev pub exchange_said : Limits → Options → (id now : ℕ) → (was h : List Happening) → List Said
 exchange_said limits options id now was h =
-    map (λ (outcome : Outcome). Settled id (number_in outcome) (settled_by limits now outcome)) (untold options h)
+    map (λ (outcome : Outcome). Settled id (key_in outcome) (settled_by limits now outcome)) (untold options h)
     ++ (map (Output id) (lines_in (output options (told_out options h)))
     ++ (need_said id (need options (told_out options h))
     ++ closed_said id (reason options was) (reason options (told_out options h))))
@@ -128,7 +128,7 @@ pub data HandsOver (id now : ℕ) (conn : ConnPast) (peer : PeerPast) (past : Pa
   Taken_over : (debt : Owing) (later : Past) → IsCandidate now peer debt
       → ready_of (options_of peer.conf) conn.transcript ≡ Yes
       → AllDo past (Claims conn.rank id now ∷ []) later
-      → HandsOver id now conn peer past (Number debt.0) (after (options_of peer.conf) conn.transcript (Offered debt))
+      → HandsOver id now conn peer past (Debt debt.0) (after (options_of peer.conf) conn.transcript (Offered debt))
       later
   Has_no_room : (debt : Owing) (later : Past) → IsCandidate now peer debt
       → ready_of (options_of peer.conf) conn.transcript ≡ NoRoom

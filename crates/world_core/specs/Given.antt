@@ -5,7 +5,7 @@ use Rattle.std.specs.List.Sorted.{IsPermutation}
 use Rattle.std.specs.declared.alloc.Global.{Global}
 use Rattle.disk_model.specs.declared.Disk.{Ghosts}
 use Rattle.feed_conf.specs.declared.conf.PeerConf.{PeerConf}
-use Rattle.ledger_core.specs.State.{State, numbers}
+use Rattle.ledger_core.specs.State.{State, keys}
 use Rattle.peer_queue.specs.Place.{all_ready}
 use Rattle.recovery.specs.Image.{IsNoTapeAt, IsSomeTape, IsTape, Log, Octets}
 use Rattle.recovery.specs.Notes.{found}
@@ -107,7 +107,7 @@ found_tape state log = record { history = found state; log = log; faults = (0, 0
 -- the peer of these settings on it
 abbrev pub found_peer : PeerConf → State → Log → PeerPast
 found_peer conf state log =
-    record { conf = conf; tape = found_tape state log; places = all_ready (numbers state); parted = false }
+    record { conf = conf; tape = found_tape state log; places = all_ready (keys state); parted = false }
 
 module _ {D : Type 0} {g : Ghosts D} where
   -- the tape has this ledger, as it was opened

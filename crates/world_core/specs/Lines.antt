@@ -1,7 +1,8 @@
 -- What steps tell, as the lines of the script's format (docs/FORMATS.md), each with its LF.
-use Rattle.std.specs.Prelude.{ℕ, List, [], ◌∷◌, ◌++◌, codes, decimal, flat_map}
+use Rattle.std.specs.Prelude.{ℕ, ◌^◌, List, [], ◌∷◌, ◌++◌, codes, decimal, flat_map, if◌then◌else◌, nat_lt}
 use Rattle.funnel.specs.Faults.{line_fault_name}
 use Rattle.ledger_core.specs.Codes.{cause_name, code_number}
+use Rattle.ledger_core.specs.Keys.{number_of, source_of}
 use Rattle.reply_reader.specs.Faults.{reply_fault_name}
 use Rattle.conn_core.specs.declared.reason.Reason.{Reason}
 use Rattle.conn_core.specs.declared.reason.Reason.TheVariants.{Greeting, Reader, Unmatched, Ended, Timeout, Broken}
@@ -13,23 +14,28 @@ use Rattle.peer_queue.specs.declared.settled.Settled.TheVariants.{Answered, Drop
 use Rattle.world_core.specs.Told.{Bad, Closed, Connected, Handed, Mark, Need, Output, Owed, Rotated, Said, Settled}
 use Rattle.world_core.specs.Told.{Shed, Stopped, Taken}
 use Rattle.world_core.specs.declared.told.Handed.{Handed as Handover}
-use Rattle.world_core.specs.declared.told.Handed.TheVariants.{Busy, Closed as HasClosed, Nothing, Number}
+use Rattle.world_core.specs.declared.told.Handed.TheVariants.{Busy, Closed as HasClosed, Debt, Nothing}
 
 -- a peer that a line names
 abbrev pub owed_text : List ℕ × Answer → List ℕ
 owed_text (name, New) = 32 ∷ name ++ codes " new"
 owed_text (name, Already) = 32 ∷ name ++ codes " already"
 
--- what became of the debt of this number
+-- the key of a debt: a line of the funnel by its number, one of another source as source, slash, number
+abbrev pub key_text : ℕ → List ℕ
+key_text key =
+    if nat_lt key (2 ^ 64) then decimal key else decimal (source_of key) ++ 47 ∷ decimal (number_of key)
+
+-- what became of the debt of this key
 abbrev pub settled_text : ℕ → Settling → List ℕ
-settled_text number (Answered code) = codes " final " ++ decimal number ++ 32 ∷ decimal (code_number code)
-settled_text number (Later moment) = codes " later " ++ decimal number ++ 32 ∷ decimal moment
-settled_text number (Dropped cause) = codes " drop " ++ decimal number ++ 32 ∷ cause_name cause
-settled_text number Ready = codes " back " ++ decimal number
+settled_text key (Answered code) = codes " final " ++ key_text key ++ 32 ∷ decimal (code_number code)
+settled_text key (Later moment) = codes " later " ++ key_text key ++ 32 ∷ decimal moment
+settled_text key (Dropped cause) = codes " drop " ++ key_text key ++ 32 ∷ cause_name cause
+settled_text key Ready = codes " back " ++ key_text key
 
 -- what became of the candidate that was to be handed over
 abbrev pub handed_text : Handover → List ℕ
-handed_text (Number number) = codes " hand " ++ decimal number
+handed_text (Debt key) = codes " hand " ++ key_text key
 handed_text Nothing = codes " none"
 handed_text Busy = codes " busy"
 handed_text HasClosed = codes " closed"
@@ -44,10 +50,10 @@ reason_text Timeout = codes "Timeout"
 reason_text Broken = codes "Broken"
 reason_text Quit = codes "Quit"
 
--- numbers, each behind a space, or a line where there are none
-abbrev pub numbers_text : List ℕ → List ℕ
-numbers_text [] = codes " -"
-numbers_text (number ∷ rest) = flat_map (λ (n : ℕ). 32 ∷ decimal n) (number ∷ rest)
+-- keys, each behind a space, or a line where there are none
+abbrev pub keys_text : List ℕ → List ℕ
+keys_text [] = codes " -"
+keys_text (key ∷ rest) = flat_map (λ (k : ℕ). 32 ∷ key_text k) (key ∷ rest)
 
 -- what is told, without its LF; a connection is told as c and its number
 abbrev pub told_text : Said → List ℕ
@@ -56,14 +62,14 @@ told_text (Bad number fault) = decimal number ++ codes " bad " ++ line_fault_nam
 told_text (Taken mark) = codes "taken " ++ decimal mark
 told_text (Connected connection name) = 99 ∷ decimal connection ++ 32 ∷ name
 told_text (Handed connection handed) = 99 ∷ decimal connection ++ handed_text handed
-told_text (Settled connection number settled) = 99 ∷ decimal connection ++ settled_text number settled
+told_text (Settled connection key settled) = 99 ∷ decimal connection ++ settled_text key settled
 told_text (Output connection line) = 99 ∷ decimal connection ++ 62 ∷ line
-told_text (Need connection number) = 99 ∷ decimal connection ++ codes " need " ++ decimal number
+told_text (Need connection key) = 99 ∷ decimal connection ++ codes " need " ++ key_text key
 told_text (Closed connection reason) = 99 ∷ decimal connection ++ codes " closed " ++ reason_text reason
-told_text (Shed name numbers) = name ++ codes " shed" ++ numbers_text numbers
+told_text (Shed name keys) = name ++ codes " shed" ++ keys_text keys
 told_text (Rotated name generation) = name ++ codes " rotated " ++ decimal generation
 told_text Stopped = codes "stopped"
-told_text (Mark name mark owes) = name ++ codes " mark " ++ decimal mark ++ codes " owes" ++ numbers_text owes
+told_text (Mark name mark owes) = name ++ codes " mark " ++ decimal mark ++ codes " owes" ++ keys_text owes
 
 -- the line of what is told
 abbrev pub line_text : Said → List ℕ

@@ -14,7 +14,7 @@ use Rattle.conn_core.specs.State.{untold_at}
 use Rattle.conn_core.specs.declared.outcome.Outcome.{Outcome}
 use Rattle.conn_core.specs.declared.ready.Ready.TheVariants.{Busy as NoRoom, Shut, Yes}
 use Rattle.peer_queue.specs.Place.{IsHeldBy, Ready, least_candidate, moved}
-use Rattle.peer_queue.specs.Settled.{IsEnded, number_in}
+use Rattle.peer_queue.specs.Settled.{IsEnded, key_in}
 use Rattle.world_core.specs.Past.{ConnPast, PeerPast, TapePast, limits_of, options_of, with_places, with_tape}
 use Rattle.world_core.specs.Tapes.{HasRoom, IsReadTape}
 use Rattle.world_core.specs.Events.{IsCandidate, RefusesClaim, RefusesEnd, claimed_peer, settled, settling}
@@ -27,7 +27,7 @@ use Rattle.world_core.specs.declared.fault.Fault.{Fault}
 use Rattle.world_core.specs.declared.fault.Fault.TheVariants.{NoMemory, NotNeeded}
 use Rattle.world_core.specs.declared.peer.Peer.{Peer}
 use Rattle.world_core.specs.declared.told.Handed.{Handed as Handover}
-use Rattle.world_core.specs.declared.told.Handed.TheVariants.{Busy, Closed, Nothing, Number}
+use Rattle.world_core.specs.declared.told.Handed.TheVariants.{Busy, Closed, Debt, Nothing}
 use Rattle.world_core.specs.declared.told.Told.{Told}
 
 -- ---- a peer
@@ -35,7 +35,7 @@ use Rattle.world_core.specs.declared.told.Told.{Told}
 -- an outcome of the connection of this number goes to its peer
 pub record SettlesAt (id now : ℕ) (outcome : Outcome) (peer later : PeerPast) : Type 0 where
   pub works : peer.tape.broken ≡ false
-  pub held : IsHeldBy peer.places id (number_in outcome)
+  pub held : IsHeldBy peer.places id (key_in outcome)
   pub room : IsEnded (settling peer now outcome) → HasRoom peer.tape
   pub changed : later ≡ settled now outcome peer
 
@@ -47,7 +47,7 @@ pub data AllSettleAt (id now : ℕ) (begun : PeerPast) : List Outcome → PeerPa
 
 -- what is told of an outcome
 abbrev pub settled_said : ℕ → ℕ → PeerPast → Outcome → Said
-settled_said id now peer outcome = Settled id (number_in outcome) (settling peer now outcome)
+settled_said id now peer outcome = Settled id (key_in outcome) (settling peer now outcome)
 
 -- The numbers that the connection holds at its peer are exactly those that it has, and it has none twice.
 pub record IsTied (id : ℕ) (conn : ConnPast) (peer : PeerPast) : Type 0 where
@@ -86,7 +86,7 @@ pub data HandsOverAt (id now : ℕ) (conn : ConnPast) (peer : PeerPast) : Handov
       → HandsOverAt id now conn peer Nothing conn.transcript (with_tape peer tape)
   Taken_at : (debt : Owing) (later : PeerPast) → ready_of (options_of peer.conf) conn.transcript ≡ Yes
       → ClaimsAt id now debt peer later
-      → HandsOverAt id now conn peer (Number debt.0) (after (options_of peer.conf) conn.transcript (Offered debt)) later
+      → HandsOverAt id now conn peer (Debt debt.0) (after (options_of peer.conf) conn.transcript (Offered debt)) later
   No_room_at : (debt : Owing) (later : PeerPast) → ready_of (options_of peer.conf) conn.transcript ≡ NoRoom
       → GivesBackAt id now debt peer later
       → HandsOverAt id now conn peer Busy conn.transcript later

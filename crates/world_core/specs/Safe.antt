@@ -2,7 +2,7 @@
 use Rattle.std.specs.Prelude.{◌<◌, ℕ, List}
 use Rattle.std.specs.List.{AllByRecursion}
 use Rattle.ledger_core.specs.declared.note.Note.{Note}
-use Rattle.ledger_core.specs.declared.note.Note.TheVariants.{Owe, Final, Drop, Seen}
+use Rattle.ledger_core.specs.declared.note.Note.TheVariants.{Owe, Final, Drop, Seen, Closed}
 use Rattle.ledger_core.specs.State.{State}
 use Rattle.recovery.specs.Leaving.{EachLedger, IsFront, pending_notes}
 use Rattle.recovery.specs.Notes.{History}
@@ -10,10 +10,11 @@ use Rattle.world_core.specs.Past.{Past, PeerPast}
 
 -- the note was made by a line above this number, or by no line
 abbrev pub IsAbove : ℕ → Note → Type 0
-IsAbove mark (Owe number token id) = mark < number
-IsAbove mark (Final number code) = Unit {0}
-IsAbove mark (Drop number cause) = Unit {0}
+IsAbove mark (Owe key token id) = mark < key
+IsAbove mark (Final key code) = Unit {0}
+IsAbove mark (Drop key cause) = Unit {0}
 IsAbove mark (Seen number) = Unit {0}
+IsAbove mark (Closed source) = Unit {0}
 
 -- each note that a line up to this number made is acknowledged: none of those that pend is
 abbrev pub HasAcknowledged : ℕ → PeerPast → Type 0

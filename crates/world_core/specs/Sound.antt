@@ -11,7 +11,7 @@ use Rattle.conn_core.specs.History.{Event as Happening, held}
 use Rattle.conn_core.specs.Stands.{Arises}
 use Rattle.conn_core.specs.declared.options.Options.{Options}
 use Rattle.peer_queue.specs.Place.{IsHeldBy}
-use Rattle.peer_queue.specs.Settled.{number_in}
+use Rattle.peer_queue.specs.Settled.{key_in}
 use Rattle.world_core.specs.Past.{ConnPast, Life, Past, PeerPast, conn_at, mark_at, options_of}
 use Rattle.world_core.specs.Safe.{HasAcknowledged}
 use Rattle.world_core.specs.Exchange.{untold}
@@ -49,7 +49,7 @@ pub record IsSound (past : Past) : Type 0 where
 
 -- the numbers that a connection has: those of outcomes that are still to be taken, and of the debts that it holds
 abbrev pub numbers_at : Options → List Happening → List ℕ
-numbers_at options h = map number_in (untold options h) ++ map (λ (x : Held). x.debt.0) (held options h)
+numbers_at options h = map key_in (untold options h) ++ map (λ (x : Held). x.debt.0) (held options h)
 
 -- the connection has a peer, its transcript can have come about, and it has no number twice
 pub record IsSoundConn (peers : List PeerPast) (conn : ConnPast) : Type 0 where

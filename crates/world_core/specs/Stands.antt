@@ -6,7 +6,7 @@ use Rattle.disk_model.specs.declared.Disk.{Ghosts}
 use Rattle.feed_conf.specs.declared.conf.PeerConf.{PeerConf}
 use Rattle.ledger_core.specs.Ledger.{totals_of}
 use Rattle.ledger_core.specs.declared.ledger.Totals.{Totals}
-use Rattle.ledger_core.specs.State.{Overflows, State, numbers, start}
+use Rattle.ledger_core.specs.State.{Overflows, State, keys, start}
 use Rattle.ledger_core.specs.declared.note.Note.TheVariants.{Owe}
 use Rattle.recovery.specs.Leaving.{EachLedger, broken_of}
 use Rattle.recovery.specs.Notes.{AreLegal, found}
@@ -17,7 +17,7 @@ use Rattle.recovery.specs.declared.tape.Tape.{Tape}
 use Rattle.conn_core.specs.History.{Taken, outcomes, taken}
 use Rattle.conn_core.specs.Stands.{StandsFor as ConnStands}
 use Rattle.conn_core.specs.declared.outcome.Outcome.{Outcome}
-use Rattle.peer_queue.specs.Place.{all_ready}
+use Rattle.peer_queue.specs.Place.{all_ready, place_at}
 use Rattle.peer_queue.specs.Words.{limits_of as station_limits, places_of, tape_of}
 use Rattle.peer_queue.specs.declared.limits.Owed.{Owed}
 use Rattle.peer_queue.specs.declared.limits.Owed.TheVariants.{New}
@@ -75,6 +75,7 @@ module _ {D : Type 0} {g : Ghosts D} where
   pub record OwedTo (number : ℕ) (token id : List ℕ) (past : PeerPast) (owed : Owed) (peer : Peer D g) : Type 0 where
     pub works : past.tape.broken ≡ false
     pub owed_is : owed ≡ owed_as number past
+    pub apart : owed ≡ New → place_at past.places number ≡ None
     pub room : owed ≡ New → HasRoom past.tape × (Overflows (ledger_at past.tape) (Owe number token id) → ⊥)
     pub stands : PeerStands (owing_as owed number token id past) peer
 
@@ -211,7 +212,7 @@ pub record IsFreshTape (state : State) (P : State → Type 0) (tape : TapePast) 
 pub record IsFreshPeer (conf : PeerConf) (state : State) (peer : PeerPast) : Type 0 where
   pub conf_is : peer.conf ≡ conf
   pub tape : IsFreshTape state (KeepsNotes peer) peer.tape
-  pub places : peer.places ≡ all_ready (numbers state)
+  pub places : peer.places ≡ all_ready (keys state)
   pub parted : peer.parted ≡ false
 
 -- A world that begins, with peers of what was given, in this order: its intake's tape was opened on empty disks, no

@@ -4,7 +4,7 @@ use Rattle.std.specs.Prelude.{map, take, slice_get}
 use Rattle.std.specs.List.{AllByRecursion}
 use Rattle.std.specs.Str.{bytes_eq}
 use Rattle.disk_model.specs.declared.Disk.{Ghosts}
-use Rattle.ledger_core.specs.State.{numbers}
+use Rattle.ledger_core.specs.State.{keys}
 use Rattle.peer_queue.specs.Words.{ledger_of}
 use Rattle.world_core.specs.Past.{Past, PeerPast}
 use Rattle.recovery.specs.declared.fault.TapeFault.TheVariants.{Disk}
@@ -47,7 +47,7 @@ FoundAt past name (Some rank) = (peer : PeerPast) × (slice_get past.peers rank 
 module _ {D : Type 0} {g : Ghosts D} where
   -- what is told of a peer whose tape was opened
   abbrev pub opened_said : Peer D g → Said
-  opened_said peer = Mark peer.conf.name (ledger_of peer.station).mark (numbers (ledger_of peer.station))
+  opened_said peer = Mark peer.conf.name (ledger_of peer.station).mark (keys (ledger_of peer.station))
 
   -- ---- events
 

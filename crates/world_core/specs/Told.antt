@@ -3,7 +3,7 @@ use Rattle.std.specs.Prelude.{◌==◌, ℕ, if◌then◌else◌, Option, None, 
 use Rattle.std.specs.Global.{Vec}
 use Rattle.funnel.specs.Line.{without_cr}
 use Rattle.funnel.specs.declared.line.LineFault.{LineFault}
-use Rattle.ledger_core.specs.State.{numbers}
+use Rattle.ledger_core.specs.State.{keys}
 use Rattle.conn_core.specs.declared.reason.Reason.{Reason}
 use Rattle.peer_queue.specs.declared.limits.Owed.{Owed as Answer}
 use Rattle.peer_queue.specs.declared.settled.Settled.{Settled as Settling}
@@ -27,11 +27,11 @@ pub data Said : Type 0 where
   Taken : (mark : ℕ) → Said  -- the lines up to this one are acknowledged
   Connected : (connection : ℕ) (name : List ℕ) → Said  -- a connection was made
   Handed : (connection : ℕ) (handed : Handing) → Said  -- what came of the least candidate
-  Settled : (connection number : ℕ) (settled : Settling) → Said  -- what came of the debt of this number, which it had
+  Settled : (connection key : ℕ) (settled : Settling) → Said  -- what came of the debt of this key, which it had
   Output : (connection : ℕ) (line : List ℕ) → Said  -- a line went out
-  Need : (connection : ℕ) (number : ℕ) → Said  -- an article is wanted
+  Need : (connection : ℕ) (key : ℕ) → Said  -- an article is wanted
   Closed : (connection : ℕ) (reason : Reason) → Said  -- a connection closed
-  Shed : (name : List ℕ) (numbers : List ℕ) → Said  -- what of a peer's backlog was dropped
+  Shed : (name : List ℕ) (keys : List ℕ) → Said  -- what of a peer's backlog was dropped
   Rotated : (name : List ℕ) (generation : ℕ) → Said  -- what a peer is owed was written anew
   Stopped : Said  -- all has stopped
   Mark : (name : List ℕ) (mark : ℕ) (owes : List ℕ) → Said  -- a peer's tape was opened
@@ -43,11 +43,11 @@ said_of (ToldBad number fault) = Bad number fault
 said_of (ToldTaken mark) = Taken mark
 said_of (ToldConnected connection name) = Connected connection name
 said_of (ToldHanded connection handed) = Handed connection handed
-said_of (ToldSettled connection number settled) = Settled connection number settled
+said_of (ToldSettled connection key settled) = Settled connection key settled
 said_of (ToldOutput connection line) = Output connection line.items
-said_of (ToldNeed connection number) = Need connection number
+said_of (ToldNeed connection key) = Need connection key
 said_of (ToldClosed connection reason) = Closed connection reason
-said_of (ToldShed name numbers) = Shed name numbers.items
+said_of (ToldShed name debts) = Shed name debts.items
 said_of (ToldRotated name generation) = Rotated name generation
 said_of ToldStopped = Stopped
 said_of (ToldMark name mark owes) = Mark name mark owes.items
@@ -70,7 +70,7 @@ lines_in octets = lines_from [] octets
 -- the article that is wanted
 abbrev pub need_said : ℕ → Option ℕ → List Said
 need_said id None = []
-need_said id (Some number) = Need id number ∷ []
+need_said id (Some key) = Need id key ∷ []
 
 -- why a connection closed, where it was open before
 abbrev pub closed_said : ℕ → (was now : Option Reason) → List Said
@@ -80,4 +80,4 @@ closed_said id (Some before) now = []
 
 -- a peer whose tape was opened
 abbrev pub mark_said : PeerPast → Said
-mark_said peer = Mark peer.conf.name (mark_at peer.tape) (numbers (ledger_at peer.tape))
+mark_said peer = Mark peer.conf.name (mark_at peer.tape) (keys (ledger_at peer.tape))

@@ -18,7 +18,8 @@ use conn_core::{ArticleFault, Conn, CxnId, OfferFault, Options, Outcome, Reason}
 use disk_model::Disk;
 use feed_conf::PeerConf;
 use funnel::{first_line, without_cr};
-use peer_queue::{each_number_has_one_place, number_in};
+use ledger_core::Key;
+use peer_queue::{each_number_has_one_place, key_in};
 use std::alloc::{AllocError, Global};
 
 /// A connection of a world.
@@ -101,12 +102,12 @@ impl Connection {
             return Ok(false);
         };
         let id = self.conn.id();
-        let number = number_in(&outcome);
+        let key = key_in(&outcome);
         match peer.station.finish(id, outcome, now) {
             Ok(settled) => {
                 told.push_reserved(Told::Settled {
                     connection: id.0,
-                    number,
+                    key,
                     settled,
                 });
                 Ok(true)
@@ -180,9 +181,9 @@ impl Connection {
         let Some(debt) = claimed else {
             return Ok(Handed::Nothing);
         };
-        let number = debt.number();
+        let key = debt.key();
         let Err(refused) = self.conn.offer(debt) else {
-            return Ok(Handed::Number(number));
+            return Ok(Handed::Debt(key));
         };
         if let Err((_, fault)) = peer.station.back(id, refused.debt) {
             return Err(Fault::from_station(fault));
@@ -232,11 +233,11 @@ impl Connection {
             (λ fault. SuppliedNot found.now id now conn past fault self.new peer.new) }
     {
         let was_open = self.conn.closed().is_none();
-        let Some(number) = self.conn.need() else {
+        let Some(key) = self.conn.need() else {
             return Err(Fault::NotNeeded);
         };
         let found = copy_of(found)?;
-        match self.conn.article(number, found) {
+        match self.conn.article(key, found) {
             Ok(()) => self.tell(peer, was_open, now, told),
             Err((_, ArticleFault::NotNeeded)) => Err(Fault::NotNeeded),
             Err((_, ArticleFault::NoMemory)) => Err(Fault::NoMemory),
@@ -353,11 +354,11 @@ fn tell_output(told: &mut Vec<Told>, connection: u64, output: &[u8]) -> Result<(
 }
 
 // Tells which article is wanted.
-fn tell_need(told: &mut Vec<Told>, connection: u64, need: Option<u64>) -> Result<(), AllocError>
+fn tell_need(told: &mut Vec<Told>, connection: u64, need: Option<Key>) -> Result<(), AllocError>
     ensures { OnOk result (Tells told.old.items (need_said connection need) told.new.items) }
 {
-    if let Some(number) = need {
-        told.push(Told::Need { connection, number })?;
+    if let Some(key) = need {
+        told.push(Told::Need { connection, key })?;
     }
     Ok(())
 }

@@ -1,13 +1,14 @@
 // What steps tell, as the lines of the script's format (docs/FORMATS.md).
 ghost use Rattle.std.specs.Prelude.{◌≡◌, [], ◌∷◌, ◌++◌, decimal as digits_of, flat_map, map, IfOk};
 ghost use Rattle.std.specs.Prelude.{OnOk};
-ghost use Rattle.world_core.specs.Lines.{handed_text, line_text, numbers_text, owed_text};
+ghost use Rattle.world_core.specs.Lines.{handed_text, key_text, keys_text, line_text, owed_text};
 ghost use Rattle.world_core.specs.Lines.{reason_text, settled_text, told_text};
 ghost use Rattle.world_core.specs.Told.{said_of};
 ghost use Rattle.world_core.specs.declared.told.OwedAt.{OwedAt};
 
 use crate::told::{Handed, OwedAt, Told};
 use conn_core::Reason;
+use ledger_core::Key;
 use peer_queue::{Owed, Settled};
 use std::alloc::{AllocError, Global};
 
@@ -55,31 +56,31 @@ fn add_told(out: &mut Vec<u8>, told: &Told) -> Result<(), AllocError>
         }
         Told::Settled {
             connection,
-            number,
+            key,
             settled,
         } => {
             add_connection(out, *connection)?;
-            add_settled(out, *number, *settled)
+            add_settled(out, *key, *settled)
         }
         Told::Output { connection, line } => {
             add_connection(out, *connection)?;
             out.push(b'>')?;
             out.extend_from_slice(line)
         }
-        Told::Need { connection, number } => {
+        Told::Need { connection, key } => {
             add_connection(out, *connection)?;
             out.extend_from_slice(b" need ")?;
-            add_number(out, *number)
+            add_key(out, *key)
         }
         Told::Closed { connection, reason } => {
             add_connection(out, *connection)?;
             out.extend_from_slice(b" closed ")?;
             add_reason(out, *reason)
         }
-        Told::Shed { name, numbers } => {
+        Told::Shed { name, keys } => {
             out.extend_from_slice(name.bytes())?;
             out.extend_from_slice(b" shed")?;
-            add_numbers(out, numbers)
+            add_keys(out, keys)
         }
         Told::Rotated { name, generation } => {
             out.extend_from_slice(name.bytes())?;
@@ -92,7 +93,7 @@ fn add_told(out: &mut Vec<u8>, told: &Told) -> Result<(), AllocError>
             out.extend_from_slice(b" mark ")?;
             add_number(out, *mark)?;
             out.extend_from_slice(b" owes")?;
-            add_numbers(out, owes)
+            add_keys(out, owes)
         }
     }
 }
@@ -102,6 +103,17 @@ fn add_number(out: &mut Vec<u8>, number: u64) -> Result<(), AllocError>
     ensures { OnOk result (out.new.items ≡ out.old.items ++ digits_of number) }
 {
     out.extend_from_slice(itoa::Buffer::new().format(number).as_bytes())
+}
+
+// The key of a debt: a line of the funnel by its number, one of another source as source, slash, number.
+fn add_key(out: &mut Vec<u8>, key: Key) -> Result<(), AllocError>
+    ensures { OnOk result (out.new.items ≡ out.old.items ++ key_text key) }
+{
+    if key.source() != 0 {
+        add_number(out, u64::from(key.source()))?;
+        out.push(b'/')?;
+    }
+    add_number(out, key.number())
 }
 
 // A connection: c and its number.
@@ -140,9 +152,9 @@ fn add_handed(out: &mut Vec<u8>, handed: Handed) -> Result<(), AllocError>
     ensures { OnOk result (out.new.items ≡ out.old.items ++ handed_text handed) }
 {
     match handed {
-        Handed::Number(number) => {
+        Handed::Debt(key) => {
             out.extend_from_slice(b" hand ")?;
-            add_number(out, number)
+            add_key(out, key)
         }
         Handed::Nothing => out.extend_from_slice(b" none"),
         Handed::Busy => out.extend_from_slice(b" busy"),
@@ -150,37 +162,37 @@ fn add_handed(out: &mut Vec<u8>, handed: Handed) -> Result<(), AllocError>
     }
 }
 
-// What became of the debt of this number.
-fn add_settled(out: &mut Vec<u8>, number: u64, settled: Settled) -> Result<(), AllocError>
-    ensures { OnOk result (out.new.items ≡ out.old.items ++ settled_text number settled) }
+// What became of the debt of this key.
+fn add_settled(out: &mut Vec<u8>, key: Key, settled: Settled) -> Result<(), AllocError>
+    ensures { OnOk result (out.new.items ≡ out.old.items ++ settled_text key settled) }
 {
     match settled {
         Settled::Answered(code) => {
-            add_pair(out, b" final ", number)?;
+            add_pair(out, b" final ", key)?;
             add_number(out, u64::from(code.number()))
         }
         Settled::Later(moment) => {
-            add_pair(out, b" later ", number)?;
+            add_pair(out, b" later ", key)?;
             add_number(out, moment)
         }
         Settled::Dropped(cause) => {
-            add_pair(out, b" drop ", number)?;
+            add_pair(out, b" drop ", key)?;
             out.extend_from_slice(cause.name().as_bytes())
         }
         Settled::Ready => {
             out.extend_from_slice(b" back ")?;
-            add_number(out, number)
+            add_key(out, key)
         }
     }
 }
 
-// A word, a number, and a space before what follows.
-fn add_pair(out: &mut Vec<u8>, word: &[u8], number: u64) -> Result<(), AllocError>
+// A word, a key, and a space before what follows.
+fn add_pair(out: &mut Vec<u8>, word: &[u8], key: Key) -> Result<(), AllocError>
     ensures { OnOk result (out.new.items
-        ≡ out.old.items ++ (word.now ++ (digits_of number ++ 32 ∷ []))) }
+        ≡ out.old.items ++ (word.now ++ (key_text key ++ 32 ∷ []))) }
 {
     out.extend_from_slice(word)?;
-    add_number(out, number)?;
+    add_key(out, key)?;
     out.push(b' ')?;
     Ok(())
 }
@@ -209,16 +221,16 @@ fn add_reason(out: &mut Vec<u8>, reason: Reason) -> Result<(), AllocError>
     }
 }
 
-// A space and each number, or ` -` where there is none.
-fn add_numbers(out: &mut Vec<u8>, numbers: &[u64]) -> Result<(), AllocError>
-    ensures { OnOk result (out.new.items ≡ out.old.items ++ numbers_text numbers.now) }
+// A space and each key, or ` -` where there is none.
+fn add_keys(out: &mut Vec<u8>, keys: &[Key]) -> Result<(), AllocError>
+    ensures { OnOk result (out.new.items ≡ out.old.items ++ keys_text keys.now) }
 {
-    if numbers.is_empty() {
+    if keys.is_empty() {
         return out.extend_from_slice(b" -");
     }
-    for number in numbers {
+    for key in keys {
         out.push(b' ')?;
-        add_number(out, *number)?;
+        add_key(out, *key)?;
     }
     Ok(())
 }

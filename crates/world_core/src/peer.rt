@@ -7,6 +7,7 @@ use crate::stop::{StopDisk, Trigger};
 use disk_model::{Disk, MemDisk};
 use feed_conf::PeerConf;
 use funnel::{MsgId, Token};
+use ledger_core::Key;
 use peer_queue::{Limits, Owed, Station, each_number_has_one_place};
 use recovery::TapeFault;
 use std::alloc::Global;
@@ -45,6 +46,8 @@ impl<D: Disk> Peer<D> {
         ensures err { (past : PeerPast) → PeerStands past self.old
             → IfErr result (λ fault. OwedNot number token.now id.now past fault self.new) }
     {
+        // proof: a number above the mark has no place yet.
+        each_number_has_one_place(&self.station);
         match self.station.owe(number, token, id) {
             Ok(owed) => Ok(owed),
             Err(fault) => Err(Fault::from_station(fault)),
@@ -80,16 +83,16 @@ impl<D: Disk> Peer<D> {
         }
     }
 
-    // Drops what exceeds its backlog limit, and tells which numbers.
-    pub(crate) fn shed(&mut self) -> Result<Vec<u64>, Fault>
+    // Drops what exceeds its backlog limit, and tells which keys.
+    pub(crate) fn shed(&mut self) -> Result<Vec<Key>, Fault>
         ensures ok { (past : PeerPast) → PeerStands past self.old
-            → IfOk result (λ numbers. ShedPeer past numbers.items self.new) }
+            → IfOk result (λ keys. ShedPeer past keys.items self.new) }
         ensures err { (past : PeerPast) → PeerStands past self.old
             → IfErr result (λ fault. UnshedPeer past fault self.new) }
     {
         each_number_has_one_place(&self.station);
         match self.station.shed() {
-            Ok(shed) => Ok(shed.numbers),
+            Ok(shed) => Ok(shed.keys),
             Err(fault) => Err(Fault::from_station(fault)),
         }
     }

@@ -8,6 +8,7 @@ use crate::stations::Stations;
 use crate::told::{OwedAt, Told};
 use disk_model::Disk;
 use funnel::{FunnelLine, LineFault, MsgId, PeerName, Token, read_line};
+use ledger_core::Key;
 use std::alloc::{AllocError, Global};
 use std::collections::BTreeMap;
 
@@ -121,8 +122,8 @@ impl<D: Disk> Stations<D> {
         };
         let mut told = Vec::with_capacity(self.alloc, 1)?;
         let name = name.clone()?;
-        let numbers = self.shed_at(rank)?;
-        told.push_reserved(Told::Shed { name, numbers });
+        let keys = self.shed_at(rank)?;
+        told.push_reserved(Told::Shed { name, keys });
         Ok(told)
     }
 
@@ -147,10 +148,10 @@ impl<D: Disk> Stations<D> {
     }
 
     // Sheds at the peer of this rank.
-    fn shed_at(&mut self, rank: usize) -> Result<Vec<u64>, Fault>
+    fn shed_at(&mut self, rank: usize) -> Result<Vec<Key>, Fault>
         requires { rank < vec_len self.old.peers }
         ensures ok { (past : Past) → Stands self.old past
-            → IfOk result (λ numbers. DidOne past (Sheds rank numbers.items) self.new) }
+            → IfOk result (λ keys. DidOne past (Sheds rank keys.items) self.new) }
         ensures err { (past : Past) → Stands self.old past
             → IfErr result (λ fault. FailedOne past (Sheds rank []) fault self.new) }
     {

@@ -1,6 +1,7 @@
 // What steps tell.
 use conn_core::Reason;
 use funnel::{LineFault, PeerName};
+use ledger_core::Key;
 use peer_queue::{Owed, Settled};
 
 /// What became of a line at a peer that it names.
@@ -15,8 +16,8 @@ pub struct OwedAt {
 /// What became of the least candidate that was to be handed to a connection.
 #[derive(Clone, Copy, Debug, PartialEq, Eq)]
 pub enum Handed {
-    /// The connection has this number.
-    Number(u64),
+    /// The connection has the debt of this key.
+    Debt(Key),
     /// There is no candidate.
     Nothing,
     /// The connection has no room.
@@ -52,10 +53,10 @@ pub enum Told {
         connection: u64,
         handed: Handed,
     },
-    /// This became of the debt of this number, which the connection had.
+    /// This became of the debt of this key, which the connection had.
     Settled {
         connection: u64,
-        number: u64,
+        key: Key,
         settled: Settled,
     },
     /// A line that went out, without its CR LF.
@@ -63,20 +64,20 @@ pub enum Told {
         connection: u64,
         line: Vec<u8>,
     },
-    /// The article of this number is wanted.
+    /// The article of this key is wanted.
     Need {
         connection: u64,
-        number: u64,
+        key: Key,
     },
     /// The connection closed.
     Closed {
         connection: u64,
         reason: Reason,
     },
-    /// These numbers of a peer's backlog were dropped.
+    /// The debts of these keys, of a peer's backlog, were dropped.
     Shed {
         name: PeerName,
-        numbers: Vec<u64>,
+        keys: Vec<Key>,
     },
     /// What a peer is owed was written anew, in this generation.
     Rotated {
@@ -85,10 +86,10 @@ pub enum Told {
     },
     /// All has stopped.
     Stopped,
-    /// A peer's tape was opened: its mark, and the numbers that are owed, rising.
+    /// A peer's tape was opened: its mark, and the keys that are owed, rising.
     Mark {
         name: PeerName,
         mark: u64,
-        owes: Vec<u64>,
+        owes: Vec<Key>,
     },
 }

@@ -123,7 +123,7 @@ impl Machine {
         self.has_answered = true;
         match self.held.get(ask.ticket()) {
             Some(x) => {
-                let want = WantedArticle::new(x.ticket(), x.debt().number());
+                let want = WantedArticle::new(x.ticket(), x.debt().key());
                 self.wanted.push_back_reserved(want);
                 Ok(())
             }

@@ -17,7 +17,7 @@ use article_store::Found;
 use bytes::{Bytes, BytesMut};
 use dot_codec::{BlockRefusal, to_block};
 use funnel::MsgId;
-use ledger_core::{Cause, Debt};
+use ledger_core::{Cause, Debt, Key};
 use std::alloc::AllocError;
 use std::collections::VecDeque;
 
@@ -41,39 +41,39 @@ fn lost(debt: Debt, loss: Loss) -> Outcome
 }
 
 impl Machine {
-    // Takes what was found for the first want of that number. An `Err` changes nothing.
-    pub(crate) fn on_article(&mut self, number: u64, found: &Found) -> Result<(), AllocError>
+    // Takes what was found for the first want of that key. An `Err` changes nothing.
+    pub(crate) fn on_article(&mut self, key: Key, found: &Found) -> Result<(), AllocError>
         ensures ok { OnOk result
             ((handing : Handing) × IsHandedAs found.now handing
-            × (self.new ≡ handed self.old number handing)) }
+            × (self.new ≡ handed self.old key handing)) }
         ensures unchanged { OnErr result (self.new ≡ self.old) }
         ensures no_memory { OnErr result (IsSendableArticle found.now) }
     {
         match found {
-            Found::Article(text) => self.on_text(number, text.as_slice()),
+            Found::Article(text) => self.on_text(key, text.as_slice()),
             Found::Gone => {
-                self.lose(number, Loss::Missing);
+                self.lose(key, Loss::Missing);
                 Ok(())
             }
             Found::Unsendable => {
-                self.lose(number, Loss::Unfit);
+                self.lose(key, Loss::Unfit);
                 Ok(())
             }
         }
     }
 
     // Takes the text of the article. An `Err` changes nothing.
-    fn on_text(&mut self, number: u64, text: &[u8]) -> Result<(), AllocError>
+    fn on_text(&mut self, key: Key, text: &[u8]) -> Result<(), AllocError>
         ensures ok { OnOk result
             ((handing : Handing) × IsTextAs text.now handing
-            × (self.new ≡ handed self.old number handing)) }
+            × (self.new ≡ handed self.old key handing)) }
         ensures unchanged { OnErr result (self.new ≡ self.old) }
         ensures no_memory { OnErr result (IsSendable text.now) }
     {
         match to_block(*self.window.allocator(), text) {
-            Ok(block) => self.send(number, block),
+            Ok(block) => self.send(key, block),
             Err(BlockRefusal::Unsendable) => {
-                self.lose(number, Loss::Unfit);
+                self.lose(key, Loss::Unfit);
                 Ok(())
             }
             Err(BlockRefusal::NoMemory) => Err(AllocError),
@@ -81,19 +81,19 @@ impl Machine {
     }
 
     // The article is there no more, or its text can't be sent: its debt is lost.
-    fn lose(&mut self, number: u64, loss: Loss)
-        ensures { self.new ≡ handed self.old number (handing_of loss) }
+    fn lose(&mut self, key: Key, loss: Loss)
+        ensures { self.new ≡ handed self.old key (handing_of loss) }
     {
-        self.lose_wanted(number, loss);
+        self.lose_wanted(key, loss);
         self.quit_if_due();
     }
 
-    // The first want of that number goes, and the debt that it is about is lost.
-    fn lose_wanted(&mut self, number: u64, loss: Loss)
-        ensures { self.new ≡ handed_for (without_want self.old number) (handing_of loss)
-            (held_for self.old.held (find (is_of number) self.old.wanted)) }
+    // The first want of that key goes, and the debt that it is about is lost.
+    fn lose_wanted(&mut self, key: Key, loss: Loss)
+        ensures { self.new ≡ handed_for (without_want self.old key) (handing_of loss)
+            (held_for self.old.held (find (is_of key) self.old.wanted)) }
     {
-        match take_wanted(&mut self.wanted, number) {
+        match take_wanted(&mut self.wanted, key) {
             Some(want) => self.lose_at(want.ticket(), loss),
             None => {}
         }
@@ -111,12 +111,12 @@ impl Machine {
     }
 
     // This is the block of the article. An `Err` changes nothing.
-    fn send(&mut self, number: u64, block: Bytes) -> Result<(), AllocError>
-        ensures ok { OnOk result (self.new ≡ handed self.old number (Sendable block)) }
+    fn send(&mut self, key: Key, block: Bytes) -> Result<(), AllocError>
+        ensures ok { OnOk result (self.new ≡ handed self.old key (Sendable block)) }
         ensures unchanged { OnErr result (self.new ≡ self.old) }
     {
-        let Some(x) = debt_wanting(&self.held, &self.wanted, number) else {
-            self.forget(number);
+        let Some(x) = debt_wanting(&self.held, &self.wanted, key) else {
+            self.forget(key);
             return Ok(());
         };
         self.window.reserve(1)?;
@@ -131,16 +131,16 @@ impl Machine {
             }
         };
         self.window.push_back_reserved(ask);
-        let _ = take_wanted(&mut self.wanted, number);
+        let _ = take_wanted(&mut self.wanted, key);
         self.quit_if_due();
         Ok(())
     }
 
-    // The want of that number goes, and nothing comes of it.
-    fn forget(&mut self, number: u64)
-        ensures { self.new ≡ quit_if_due (without_want self.old number) }
+    // The want of that key goes, and nothing comes of it.
+    fn forget(&mut self, key: Key)
+        ensures { self.new ≡ quit_if_due (without_want self.old key) }
     {
-        let _ = take_wanted(&mut self.wanted, number);
+        let _ = take_wanted(&mut self.wanted, key);
         self.quit_if_due();
     }
 }

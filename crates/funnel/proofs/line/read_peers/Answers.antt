@@ -1,5 +1,6 @@
 -- A word is put behind the peers so far or passed over, and at the end blanks alone are left.
-use Rattle.std.proofs.Common.{◌≡◌, ℕ, true, false, List, [], ◌∷◌, ◌++◌, subst, sym, refl, ◌∙◌, ap, append_assoc, append-nil}
+use Rattle.std.proofs.Common.{◌≡◌, ℕ, true, false, List, [], ◌∷◌, ◌++◌, subst, sym, refl, ◌∙◌, ap, append_assoc}
+use Rattle.std.proofs.Common.{append-nil}
 use Rattle.std.proofs.lemmas.Bool.{false_from_ne_true, false≢true}
 use Rattle.funnel.specs.LineLaws.{HasPeers, peers_first, peers_passed, peers_none}
 use Rattle.funnel.specs.Names.{is_peer_name}

@@ -1,5 +1,5 @@
 use Rattle.std.proofs.Common.{◌≡◌, ℕ, ap, sym, ◌∙◌}
-use Rattle.ledger_core.specs.State.{State, numbers}
+use Rattle.ledger_core.specs.State.{State, keys}
 use Rattle.recovery.specs.declared.fault.TapeFault.{TapeFault}
 use Rattle.recovery.specs.declared.fault.TapeFault.TheVariants.{Damaged, Disk, Broken, TapeFull, GenerationFull, PendingFull}
 use Rattle.recovery.specs.declared.fault.TapeFault.TheVariants.{NoMemory, Note}
@@ -27,7 +27,7 @@ pub returns-in-Ok-clause-ready : goal.returns-in-Ok-clause-ready
 returns-in-Ok-clause-ready g c = λ h stands.
     let left = c.into_disks-a.ensures.survives (flushed h) (c.in_default.ensures.flushes h stands).ok in
     c.in-Ok.ensures.fresh.ready
-    ∙ ap (λ (state : State). all_ready (numbers state))
+    ∙ ap (λ (state : State). all_ready (keys state))
     (same_ledger h c.in-Ok.opened.tape c.args.station.tape (stands_whole h
     _ c.in-Ok.opened.tape (c.in-Ok.ensures.recovers
     (flushed h) left.0 left.1 left.2).recovers) stands)

@@ -2,5 +2,5 @@ use Rattle.std.proofs.Common.{◌≡◌, take}
 use Rattle.peer_queue.specs.Place.{all_ready}
 use Rattle.peer_queue.proofs.place_index.all_ready_of.Given as goal
 
-abbrev pub invariant-loop-number : goal.invariant-loop-number
-invariant-loop-number l = l.index ≡ all_ready (take l.number-index l.numbers)
+abbrev pub invariant-loop-key : goal.invariant-loop-key
+invariant-loop-key l = l.index ≡ all_ready (take l.key-index l.keys)

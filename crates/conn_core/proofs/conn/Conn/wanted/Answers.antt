@@ -9,8 +9,8 @@ pub returns-clause-value : goal.returns-clause-value
 returns-clause-value c = λ options unread h st.
     c.wanted.ensures ∙ first_wanted-is options _ h (state-of options _ unread h (rw (← c.self.view_is) at st))
 
-pub returns-clause-number : goal.returns-clause-number
-returns-clause-number c = λ options unread h st.
+pub returns-clause-key : goal.returns-clause-key
+returns-clause-key c = λ options unread h st.
     let stands = state-of options _ unread h (rw (← c.self.view_is) at st) in
     ap (option_map (λ (debt : Owing). debt.0)) (c.wanted.ensures ∙ first_wanted-is options _ h stands)
     ∙ wanted_number-is options _ h stands

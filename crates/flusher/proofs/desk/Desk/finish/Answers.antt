@@ -1,5 +1,5 @@
 use Rattle.std.proofs.Common.{sym, subst}
-use Rattle.peer_queue.specs.Settled.{Settles, number_in}
+use Rattle.peer_queue.specs.Settled.{Settles, key_in}
 use Rattle.peer_queue.specs.declared.settled.Settled.{Settled}
 use Rattle.peer_queue.specs.Words.{ledger_of}
 use Rattle.flusher.proofs.Keeps.{counted_along, counted_settled, keeps_same, keeps_settled}
@@ -22,7 +22,7 @@ invariant_of-self-2 g c =
     let old = c.args.self.now in
     let new = c.finish.new.self in
     let held = c.args.connection.0 in
-    let number = number_in c.args.outcome in
+    let number = key_in c.args.outcome in
     let settled = c.in_ok-settled.settled in
     let finished = c.in_ok-settled.ensures in
     let made : Settles held number settled old.station new =

@@ -1,16 +1,25 @@
-use Rattle.std.proofs.Common.{rules}
-use Rattle.std.specs.Prelude.{IsErrOf}
-use Rattle.peer_queue.specs.declared.fault.StationFault.TheVariants.{Tape}
-use Rattle.recovery.specs.declared.fault.TapeFault.TheVariants.{TapeFull}
+use Rattle.peer_queue.specs.Words.{ledger_of}
+use Rattle.flusher.proofs.Keeps.{counted_along}
 use Rattle.flusher.proofs.desk.Desk.flush_or_rotate.Goals as goal
 
-pub returns-in-Err-Tape-TapeFull-clause-full : goal.returns-in-Err-Tape-TapeFull-clause-full
-returns-in-Err-Tape-TapeFull-clause-full g c refused =
-    let ended : IsErrOf c.flush.result (Tape TapeFull) = search rules in
-    let full = c.flush.ensures.full ended in
+pub invariant_of-self : goal.invariant_of-self
+invariant_of-self g c =
+    let old = c.args.self.now in
+    let e = c.flush_or_rotate.ensures in
     record {
-      full = full.0;
-      left = c.flush.new.self.station;
-      same = full.1;
-      anew = c.rotate_full.ensures.full refused;
+      kept = e.kept old.kept;
+      one_part = old.one_part;
+      counted = counted_along _ _ _ (ledger_of old.station) (ledger_of c.flush_or_rotate.new.station) e.ledger old.counted;
+      sum = old.sum;
+    }
+
+pub invariant_of-self-in-Err : goal.invariant_of-self-in-Err
+invariant_of-self-in-Err g c =
+    let old = c.args.self.now in
+    let e = c.flush_or_rotate.ensures in
+    record {
+      kept = e.kept old.kept;
+      one_part = old.one_part;
+      counted = counted_along _ _ _ (ledger_of old.station) (ledger_of c.flush_or_rotate.new.station) e.ledger old.counted;
+      sum = old.sum;
     }

@@ -20,7 +20,7 @@ invariant_of-self-2 g c =
     let old = c.args.self.now in
     let new = c.shed.new.self in
     let e = c.in_ok-shed.ensures in
-    let numbers = c.in_ok-shed.shed.numbers.items in
+    let numbers = c.in_ok-shed.shed.keys.items in
     let count = c.count.ensures.station in
     let more : c.count.new.station.amount ≡ old.dropped.amount + length numbers = search rules in
     record {

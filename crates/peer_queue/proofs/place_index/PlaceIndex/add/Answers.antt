@@ -1,10 +1,10 @@
-use Rattle.std.proofs.Common.{◌≡◌, ◌++◌, ◌∷◌, [], ℕ, Bool, Some, None, sym, subst}
+use Rattle.std.proofs.Common.{◌≡◌, ℕ, Bool, Some, None, sym, subst}
 use Rattle.std.specs.Prelude.{OnOk}
 use Rattle.std.specs.Ordering.{nat_cmp}
 use Rattle.std.specs.BTreeMap.{get}
 use Rattle.std.specs.BTreeSet.{contains}
 use Rattle.deferral.specs.Due.{due_of}
-use Rattle.peer_queue.specs.Place.{AreBelow, Places, Ready}
+use Rattle.peer_queue.specs.Place.{Places, Ready, place_at, with_place}
 use Rattle.peer_queue.specs.Index.{Holders, pair_cmp, places_by}
 use Rattle.peer_queue.proofs.Kept as kept
 use Rattle.peer_queue.proofs.Moves as moves
@@ -12,20 +12,18 @@ use Rattle.peer_queue.proofs.place_index.PlaceIndex.add.Goals as goal
 
 pub put-requires : goal.put-requires
 put-requires c =
-    let agenda = c.self.inside.agenda in
-    let h : Holders = get nat_cmp c.self.inside.holders in
-    let k : ℕ → ℕ → Bool = λ b m. contains pair_cmp c.self.inside.held (b, m) in
-    let n = c.args.number in
-    moves.absent_last n agenda (moves.below_by h agenda n (subst (AreBelow n) (sym c.self.view_is) c.requires))
+    let n = c.args.key in
+    moves.absent_due (get nat_cmp c.self.inside.holders) c.self.inside.agenda n
+    (subst (λ (p : Places). place_at p n ≡ None) (sym c.self.view_is) c.requires)
 
 pub invariant_of-self : goal.invariant_of-self
 invariant_of-self c =
     let agenda = c.self.inside.agenda in
     let h : Holders = get nat_cmp c.self.inside.holders in
     let k : ℕ → ℕ → Bool = λ b m. contains pair_cmp c.self.inside.held (b, m) in
-    let n = c.args.number in
-    let below = moves.below_by h agenda n (subst (AreBelow n) (sym c.self.view_is) c.requires) in
-    let none : due_of agenda n ≡ None = moves.absent_last n agenda below in
+    let n = c.args.key in
+    let none : due_of agenda n ≡ None =
+    moves.absent_due h agenda n (subst (λ (p : Places). place_at p n ≡ None) (sym c.self.view_is) c.requires) in
     let ok = moves.ready_put c.put.result agenda c.put.new.self n c.due_at.result c.due_at.ensures c.put.ensures.ok in
     kept.kept_put c.put.result agenda c.put.new.self h k n c.self.invariant none ok c.put.ensures.unchanged
     (λ m. c.after_put.ensures.moments agenda n m (Some 0) none)
@@ -35,8 +33,7 @@ pub returns-clause-ok : goal.returns-clause-ok
 returns-clause-ok c =
     let agenda = c.self.inside.agenda in
     let h : Holders = get nat_cmp c.self.inside.holders in
-    let k : ℕ → ℕ → Bool = λ b m. contains pair_cmp c.self.inside.held (b, m) in
-    let n = c.args.number in
+    let n = c.args.key in
     let ok = moves.ready_put c.put.result agenda c.put.new.self n c.due_at.result c.due_at.ensures c.put.ensures.ok in
-    subst (λ (p : Places). OnOk c.put.result (places_by h c.put.new.self ≡ p ++ (n, Ready) ∷ [])) c.self.view_is
-    (moves.places_put c.put.result agenda c.put.new.self h n (subst (AreBelow n) (sym c.self.view_is) c.requires) ok)
+    subst (λ (p : Places). OnOk c.put.result (places_by h c.put.new.self ≡ with_place p n Ready)) c.self.view_is
+    (moves.places_put c.put.result agenda c.put.new.self h n ok)

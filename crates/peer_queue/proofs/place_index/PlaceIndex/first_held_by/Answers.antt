@@ -23,7 +23,7 @@ returns-in_err-holder-clause-none c =
     let here = subst (λ (p : Places). IsHeldBy p b n) (sym c.self.view_is) held in
     (c.self.invariant.told b n).1 (kept.held_by h agenda k n b c.self.invariant here).0 in
     subst (λ (r : Option ℕ). IfNone r ((n : ℕ) → IsHeldBy c.args.self.now b n → ⊥)) (sym c.from_residual.ensures)
-    (λ n held. let off = (c.range.ensures.in_range tt).5 c.in_err-holder.ensures.steps.0 (b, n) (kept.from_first b n) in let on = told n held in cc)
+    (λ n held. let off = (c.range.ensures.in_range tt).5 c.in_err-holder.ensures.steps.0 (b, n) (subst (λ (z : ℕ). IsInRange pair_cmp (Included (b, z)) Unbounded (b, n)) (sym c.new.ensures.key) (kept.from_first b n)) in let on = told n held in cc)
 
 pub returns-then-holder-connection-clause-some : goal.returns-then-holder-connection-clause-some
 returns-then-holder-connection-clause-some c =
@@ -32,7 +32,7 @@ returns-then-holder-connection-clause-some c =
     let k : ℕ → ℕ → Bool = λ b m. contains pair_cmp c.self.inside.held (b, m) in
     let b = c.args.connection.0 in
     let key = c.in_ok-holder.field-0.now in
-    let first = subst (λ (l : List (ℕ × ℕ)). IfSome (slice_get l 0) (λ (q : ℕ × ℕ). IsInRange pair_cmp (Included (b, 0)) Unbounded q × (contains pair_cmp c.self.inside.held q ≡ true))) c.in_ok-holder.ensures.steps (c.range.ensures.in_range tt).1 in
+    let first = subst (λ (l : List (ℕ × ℕ)). IfSome (slice_get l 0) (λ (q : ℕ × ℕ). IsInRange pair_cmp (Included (b, c.new.result)) Unbounded q × (contains pair_cmp c.self.inside.held q ≡ true))) c.in_ok-holder.ensures.steps (c.range.ensures.in_range tt).1 in
     let told = subst (λ (x : ℕ). contains pair_cmp c.self.inside.held (x, key.1) ≡ true) c.if-holder-connection.true first.1 in
     subst (λ (p : Places). IsHeldBy p b key.1) c.self.view_is
     (kept.is_held_by h agenda k key.1 b c.self.invariant ((c.self.invariant.told b key.1).0 told))
@@ -44,12 +44,13 @@ returns-else-holder-connection-clause-none c =
     let k : ℕ → ℕ → Bool = λ b m. contains pair_cmp c.self.inside.held (b, m) in
     let b = c.args.connection.0 in
     let key = c.in_ok-holder.field-0.now in
-    let first = subst (λ (l : List (ℕ × ℕ)). IfSome (slice_get l 0) (λ (q : ℕ × ℕ). IsInRange pair_cmp (Included (b, 0)) Unbounded q × (contains pair_cmp c.self.inside.held q ≡ true))) c.in_ok-holder.ensures.steps (c.range.ensures.in_range tt).1 in
+    let first = subst (λ (l : List (ℕ × ℕ)). IfSome (slice_get l 0) (λ (q : ℕ × ℕ). IsInRange pair_cmp (Included (b, c.new.result)) Unbounded q × (contains pair_cmp c.self.inside.held q ≡ true))) c.in_ok-holder.ensures.steps (c.range.ensures.in_range tt).1 in
     λ n held.
     let here = subst (λ (p : Places). IsHeldBy p b n) (sym c.self.view_is) held in
     let told = (c.self.invariant.told b n).1 (kept.held_by h agenda k n b c.self.invariant here).0 in
-    let least = subst (λ (l : List (ℕ × ℕ)). IfSome (slice_get l 0) (λ (q : ℕ × ℕ). is_gt (pair_cmp q (b, n)) ≡ false)) c.in_ok-holder.ensures.steps ((c.range.ensures.in_range tt).2 (b, n) (kept.from_first b n) told) in
-    c.if-holder-connection.false (kept.between b n key first.0.0 least)
+    let least = subst (λ (l : List (ℕ × ℕ)). IfSome (slice_get l 0) (λ (q : ℕ × ℕ). is_gt (pair_cmp q (b, n)) ≡ false)) c.in_ok-holder.ensures.steps ((c.range.ensures.in_range tt).2 (b, n) (subst (λ (z : ℕ). IsInRange pair_cmp (Included (b, z)) Unbounded (b, n)) (sym c.new.ensures.key) (kept.from_first b n)) told) in
+    let low = subst (λ (z : ℕ). is_gt (pair_cmp (b, z) key) ≡ false) c.new.ensures.key first.0.0 in
+    c.if-holder-connection.false (kept.between b n key low least)
 
 pub returns-in_err-holder-clause-rising : goal.returns-in_err-holder-clause-rising
 returns-in_err-holder-clause-rising c = subst AreRising c.self.view_is (rising_by (get nat_cmp c.self.inside.holders) c.self.inside.agenda c.self.invariant.rising)

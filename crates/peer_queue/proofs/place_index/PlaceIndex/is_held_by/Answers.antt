@@ -13,7 +13,7 @@ returns-in-Some c =
     let agenda = c.self.inside.agenda in
     let h : Holders = get nat_cmp c.self.inside.holders in
     let k : ℕ → ℕ → Bool = λ b m. contains pair_cmp c.self.inside.held (b, m) in
-    let n = c.args.number in
+    let n = c.args.key in
     let b = c.args.connection.0 in
     let holder : Some c.in-Some.holder.now ≡ h n = c.in-Some.ensures.value in (
       λ e. subst (λ (p : Places). IsHeldBy p b n) c.self.view_is (kept.is_held_by h agenda k n b c.self.invariant (sym holder ∙ ap Some (eqb-true c.in-Some.holder.now b e))),
@@ -29,7 +29,7 @@ returns-in-None c =
     let agenda = c.self.inside.agenda in
     let h : Holders = get nat_cmp c.self.inside.holders in
     let k : ℕ → ℕ → Bool = λ b m. contains pair_cmp c.self.inside.held (b, m) in
-    let n = c.args.number in
+    let n = c.args.key in
     let b = c.args.connection.0 in
     let holder : None ≡ h n = c.in-None.ensures.value in (
       λ e. absurd (cc),

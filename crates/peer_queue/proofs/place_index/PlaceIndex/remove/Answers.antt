@@ -14,7 +14,7 @@ invariant_of-self c =
     let agenda = c.self.inside.agenda in
     let h : Holders = get nat_cmp c.self.inside.holders in
     let k : ℕ → ℕ → Bool = λ b m. contains pair_cmp c.self.inside.held (b, m) in
-    let n = c.args.number in
+    let n = c.args.key in
     let was = kept.unheld_due h agenda n (subst (λ (p : Places). IsUnheld p n) (sym c.self.view_is) c.requires) in
     let new = c.remove.ensures.new in
     let moments : (m : ℕ) → due_of c.remove.new.self m ≡ cond (n == m) None (due_of agenda m) = λ m. ap (λ (w : Waiting). due_of w m) new ∙ c.after_remove.ensures.moments agenda n m c.self.invariant.rising in
@@ -30,4 +30,4 @@ returns c =
     let agenda = c.self.inside.agenda in
     let h : Holders = get nat_cmp c.self.inside.holders in
     let k : ℕ → ℕ → Bool = λ b m. contains pair_cmp c.self.inside.held (b, m) in
-    ap (places_by h) c.remove.ensures.new ∙ (moves.gone_by h h agenda c.args.number c.self.invariant.rising (λ m apart. refl) ∙ ap (λ (p : Places). gone p c.args.number) c.self.view_is)
+    ap (places_by h) c.remove.ensures.new ∙ (moves.gone_by h h agenda c.args.key c.self.invariant.rising (λ m apart. refl) ∙ ap (λ (p : Places). gone p c.args.key) c.self.view_is)

@@ -1,7 +1,6 @@
-use Rattle.std.proofs.Common.{◌≡◌, ◌⊎◌, ◌<◌, ◌≤◌, ◌^◌, sym, ap, ◌∙◌, subst, arith}
+use Rattle.std.proofs.Common.{◌≡◌, ◌⊎◌, ◌<◌, ◌^◌, sym, ap, ◌∙◌, subst, arith}
 use Rattle.std.specs.Prelude.{◌↔◌}
-use Rattle.std.specs.List.{All}
-use Rattle.ledger_core.specs.State.{State, IsLegal, numbers}
+use Rattle.ledger_core.specs.State.{IsLegal, keys}
 use Rattle.recovery.specs.Notes.{most_pending}
 use Rattle.recovery.specs.declared.fault.TapeFault.TheVariants.{PendingFull}
 use Rattle.peer_queue.specs.Place.{placed}
@@ -9,7 +8,7 @@ use Rattle.peer_queue.specs.Words.{IsBroken, ledger_of, pending_of}
 use Rattle.peer_queue.specs.declared.fault.StationFault.{StationFault}
 use Rattle.peer_queue.specs.declared.fault.StationFault.TheVariants.{NoMemory, Tape as TapeRefused}
 use Rattle.peer_queue.proofs.EndFaults.{end_kind, full_iff, held_legal}
-use Rattle.peer_queue.proofs.Ends.{marked_ended, placed_ended}
+use Rattle.peer_queue.proofs.Ends.{placed_ended}
 use Rattle.peer_queue.proofs.station.Station.end.Goals as goal
 
 pub invariant_of-self-2 : goal.invariant_of-self-2
@@ -18,17 +17,15 @@ invariant_of-self-2 g c =
     let step = c.in_default.ensures.ledger.1 in
     record {
       all_placed = ap placed c.end.ensures
-          ∙ (placed_ended station.index (ledger_of station) c.args.note c.args.number c.requires.note station.all_placed
-          ∙ ap numbers (sym step));
-      marked = subst (λ (s : State). All (λ m. m ≤ s.mark) (numbers s)) (sym step)
-          (marked_ended (ledger_of station) c.args.note c.args.number c.requires.note station.marked);
+          ∙ (placed_ended station.index (ledger_of station) c.args.note c.args.key c.requires.note station.all_placed
+          ∙ ap keys (sym step));
     }
 
 pub returns-in-Err-clause-pending_full : goal.returns-in-Err-clause-pending_full
 returns-in-Err-clause-pending_full g c =
     let station = c.args.self.now in
     let fits : c.totals-totals.result.taken < 2 ^ 64 = omega arith in
-    let legal = held_legal station.index (ledger_of station) c.args.note c.args.connection.0 c.args.number
+    let legal = held_legal station.index (ledger_of station) c.args.note c.args.connection.0 c.args.key
     c.totals-totals.result c.requires.note station.all_placed c.requires.held c.totals-totals.ensures.counts
     c.totals-totals.ensures.sum fits in
     let here : (c.in-Err.fault ≡ PendingFull) ↔ ((IsBroken station → ⊥) × IsLegal (ledger_of station) c.args.note × (pending_of station ≡ most_pending)) = c.in-Err.ensures.refuses.pending_full in
@@ -38,7 +35,7 @@ pub returns-in-Err-clause-kinds : goal.returns-in-Err-clause-kinds
 returns-in-Err-clause-kinds g c =
     let station = c.args.self.now in
     let fits : c.totals-totals.result.taken < 2 ^ 64 = omega arith in
-    let legal = held_legal station.index (ledger_of station) c.args.note c.args.connection.0 c.args.number
+    let legal = held_legal station.index (ledger_of station) c.args.note c.args.connection.0 c.args.key
     c.totals-totals.result c.requires.note station.all_placed c.requires.held c.totals-totals.ensures.counts
     c.totals-totals.ensures.sum fits in
     subst (λ (f : StationFault). (f ≡ TapeRefused PendingFull) ⊎ (f ≡ NoMemory)) (sym c.station_fault.ensures)

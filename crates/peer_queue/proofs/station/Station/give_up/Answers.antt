@@ -9,6 +9,5 @@ invariant_of-self g c =
     let station = c.args.self.now in
     record {
       all_placed = ap placed c.give_up.ensures
-          ∙ (placed-moved station.index c.args.number (place_for c.args.wait) ∙ station.all_placed);
-      marked = station.marked;
+          ∙ (placed-moved station.index c.args.key (place_for c.args.wait) ∙ station.all_placed);
     }

@@ -1,11 +1,18 @@
-use Rattle.std.proofs.Common.{◌≤◌, sym, arith}
-use Rattle.ledger_core.specs.State.{numbers}
-use Rattle.peer_queue.specs.Words.{ledger_of}
-use Rattle.peer_queue.proofs.Fronts.{found_above}
+use Rattle.std.proofs.Common.{ℕ, sym, ap, ◌∙◌, add-one, arith}
+use Rattle.std.specs.Prelude.{find, nat_le}
+use Rattle.peer_queue.specs.Place.{unheld}
+use Rattle.peer_queue.specs.Words.{ledger_of, places_of}
+use Rattle.peer_queue.proofs.Fronts.{found_last}
 use Rattle.peer_queue.proofs.station.Station.next_unheld.Goals as goal
 
-pub returns-else-number-mark : goal.returns-else-number-mark
-returns-else-number-mark g c =
+pub returns-in-Some : goal.returns-in-Some
+returns-in-Some g c =
+    c.unheld_from.ensures.first
+    ∙ ap (λ (k : ℕ). find (λ m. nat_le k m) (unheld (places_of c.args.self.now)))
+    (c.in-Some.ensures.some ∙ add-one c.args.key)
+
+pub returns-in-None : goal.returns-in-None
+returns-in-None g c =
     let station = c.args.self.now in
-    let above : (ledger_of station).mark ≤ c.args.number = omega arith in
-    sym (found_above c.args.number (ledger_of station).mark station.index (numbers (ledger_of station)) station.all_placed station.marked above)
+    sym (found_last c.args.key station.index (ledger_of station) station.all_placed station.tape.ledger.past
+    (omega arith) (omega arith) c.in-None.ensures.none)

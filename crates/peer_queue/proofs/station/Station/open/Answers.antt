@@ -1,5 +1,5 @@
 use Rattle.std.proofs.Common.{sym, ap, ◌∙◌, subst}
-use Rattle.ledger_core.specs.State.{numbers}
+use Rattle.ledger_core.specs.State.{keys}
 use Rattle.recovery.specs.Image.{Log, Survives, TapeLeaves}
 use Rattle.recovery.specs.Words.{ledger_of as tape_ledger}
 use Rattle.recovery.specs.TapeLaws.{logs_of_disks, refused_as_opened}
@@ -9,8 +9,7 @@ use Rattle.peer_queue.proofs.station.Station.open.Goals as goal
 
 pub invariant_of-result : goal.invariant_of-result
 invariant_of-result g c = record {
-  all_placed = ap placed c.in-Ok-index_of.ensures.places ∙ placed-all_ready (numbers (tape_ledger c.in-Ok.tape));
-  marked = c.in-Ok-index_of.ensures.marked;
+  all_placed = ap placed c.in-Ok-index_of.ensures.places ∙ placed-all_ready (keys (tape_ledger c.in-Ok.tape));
 }
 
 pub returns-in-Err-index_of-clause-recovers : goal.returns-in-Err-index_of-clause-recovers

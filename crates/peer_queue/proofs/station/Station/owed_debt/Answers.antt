@@ -14,15 +14,15 @@ pub unreachable-requires : goal.unreachable-requires
 unreachable-requires g c =
     false≢true (sym (ap is_some c.in-Ok-None.field-0-is) ∙ c.in-Ok-None.ensures.owed.0.1 c.requires.owed)
 
-pub returns-in-Ok-Some-clause-number : goal.returns-in-Ok-Some-clause-number
-returns-in-Ok-Some-clause-number g c =
+pub returns-in-Ok-Some-clause-key : goal.returns-in-Ok-Some-clause-key
+returns-in-Ok-Some-clause-key g c =
     let state = tape_ledger c.args.self.now.tape in
-    read_number state c.args.number c.in-Ok-Some.debt
-    (subst (HasLengths state c.args.number) c.in-Ok-Some.field-0-is c.in-Ok-Some.ensures.owed.1)
+    read_number state c.args.key c.in-Ok-Some.debt
+    (subst (HasLengths state c.args.key) c.in-Ok-Some.field-0-is c.in-Ok-Some.ensures.owed.1)
 
 pub returns-in-Ok-Some-clause-debt : goal.returns-in-Ok-Some-clause-debt
 returns-in-Ok-Some-clause-debt g c = λ h stands.
-    (found_debt c.args.number (tape_ledger c.args.self.now.tape).debts c.in-Ok-Some.debt
+    (found_debt c.args.key (tape_ledger c.args.self.now.tape).debts c.in-Ok-Some.debt
     (sym (c.in-Ok-Some.ensures.debt h stands) ∙ c.in-Ok-Some.field-0-is)).1
 
 -- of a tape that works a debt is refused for the disk or for want of memory

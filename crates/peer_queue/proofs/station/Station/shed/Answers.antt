@@ -2,8 +2,7 @@ use Rattle.std.proofs.Common.{◌≡◌, ℕ, ◌≤◌, List, [], length, take,
 use Rattle.std.specs.Prelude.{Err, nat_lt}
 use Rattle.std.proofs.lemmas.Bool.{iff_false}
 use Rattle.std.proofs.lemmas.List.{length-take}
-use Rattle.std.specs.List.{All}
-use Rattle.ledger_core.specs.State.{State, numbers, after}
+use Rattle.ledger_core.specs.State.{State, keys, after}
 use Rattle.recovery.specs.Notes.{AreOwed}
 use Rattle.recovery.specs.declared.fault.TapeFault.{TapeFault}
 use Rattle.recovery.specs.Words.{ledger_of as tape_ledger}
@@ -12,7 +11,7 @@ use Rattle.peer_queue.specs.Shed.{dropped}
 use Rattle.peer_queue.specs.Words.{ledger_of, pending_of, places_of}
 use Rattle.peer_queue.specs.ShedLaws.{shed_unheld}
 use Rattle.peer_queue.proofs.Cuts.{cut_again, cut_shed}
-use Rattle.peer_queue.proofs.Sheds.{drop_fault, marked_dropped, placed_dropped, shed_owed}
+use Rattle.peer_queue.proofs.Sheds.{drop_fault, placed_dropped, shed_owed}
 use Rattle.peer_queue.proofs.station.Station.shed.Goals as goal
 
 pub returns-in-Err-clause-kinds : goal.returns-in-Err-clause-kinds
@@ -20,12 +19,12 @@ returns-in-Err-clause-kinds g c =
     let station = c.args.self.now in
     let state = ledger_of station in
     let places = places_of station in
-    let found = c.in_ok-numbers.ensures.set in
+    let found = c.in_ok-keys.ensures.set in
     let set = found.0 in
     let room = c.room-room.result in
-    let again = cut_again room c.in_ok-numbers.numbers.items set found.2 in
+    let again = cut_again room c.in_ok-keys.keys.items set found.2 in
     let cut : c.deref.result.now ≡ take room set = c.deref.ensures.value ∙ (c.truncate.ensures.items ∙ again) in
-    let rising = c.in_ok-numbers.ensures.rising in
+    let rising = c.in_ok-keys.ensures.rising in
     let owed : AreOwed state [] c.deref.result.now =
     subst (λ (l : List ℕ). AreOwed state [] l) (sym cut)
     (shed_owed station.limits state places set room rising station.all_placed found.1) in
@@ -39,13 +38,13 @@ pub remove_all-requires : goal.remove_all-requires
 remove_all-requires g c =
     let station = c.args.self.now in
     let places = places_of station in
-    let found = c.in_ok-numbers.ensures.set in
+    let found = c.in_ok-keys.ensures.set in
     let set = found.0 in
     let room = c.room-room.result in
-    let again = cut_again room c.in_ok-numbers.numbers.items set found.2 in
+    let again = cut_again room c.in_ok-keys.keys.items set found.2 in
     let cut : c.deref-2.result.now ≡ take room set = c.deref-2.ensures.value ∙ (c.truncate.ensures.items ∙ again) in
     subst (λ (l : List ℕ). AreUnheld places l) (sym cut)
-    (shed_unheld station.limits (ledger_of station) places set room c.in_ok-numbers.ensures.rising found.1)
+    (shed_unheld station.limits (ledger_of station) places set room c.in_ok-keys.ensures.rising found.1)
 
 pub invariant_of-self-2 : goal.invariant_of-self-2
 invariant_of-self-2 g c =
@@ -57,20 +56,19 @@ invariant_of-self-2 g c =
     record {
       all_placed =
           ap placed (c.remove_all.ensures ∙ ap (λ (k : List ℕ). all_gone (places_of station) k) same)
-          ∙ (placed_dropped (places_of station) state l station.all_placed ∙ sym (ap (λ (s : State). numbers s) ledger));
-      marked = subst (λ (s : State). All (λ m. m ≤ s.mark) (numbers s)) (sym ledger) (marked_dropped state l station.marked);
+          ∙ (placed_dropped (places_of station) state l station.all_placed ∙ sym (ap (λ (s : State). keys s) ledger));
     }
 
 pub returns-clause-ok : goal.returns-clause-ok
 returns-clause-ok g c =
     let station = c.args.self.now in
     let room = c.room-room.result in
-    let found = c.in_ok-numbers.numbers.items in
+    let found = c.in_ok-keys.keys.items in
     let many : c.len.result ≡ length found = omega (arith, c.len.ensures) in
     record {
       set =
           cut_shed station.limits (ledger_of station) (places_of station) (pending_of station) room found
-          c.room-room.ensures c.in_ok-numbers.ensures.set c.truncate.ensures.items (ap (λ (n : ℕ). nat_lt room n) many);
+          c.room-room.ensures c.in_ok-keys.ensures.set c.truncate.ensures.items (ap (λ (n : ℕ). nat_lt room n) many);
       notes = search rules;
       ledger = search rules;
       places = search rules;

@@ -1,5 +1,5 @@
 use Rattle.std.proofs.Common.{◌≡◌, ℕ, ◌+◌, ◌-◌, List, [], length, Option, refl, sym, ap, ◌∙◌, subst, inl, inr, arith}
-use Rattle.std.specs.Prelude.{unwrap_or}
+use Rattle.std.specs.Prelude.{find, nat_le, unwrap_or}
 use Rattle.std.proofs.lemmas.List.{length_push, take_all}
 use Rattle.ledger_core.specs.State.{owed_bytes}
 use Rattle.ledger_core.specs.declared.ledger.Totals.{Totals}
@@ -23,11 +23,13 @@ loop-next-init g c =
     let owed = c.totals-owed.result.owed_bytes in
     let state = ledger_of station in
     let places = places_of station in
+    let found = subst (λ (z : ℕ). next ≡ find (λ m. nat_le z m) (unheld places)) c.new.ensures.key
+    c.unheld_from-next.ensures.first in
     let counted : owed ≡ owed_bytes state = ap (λ (totals : Totals). totals.owed_bytes) c.totals-owed.ensures.counts in
     record {
       front =
           subst (λ (set : List ℕ). IsFront limit state places set next owed) (sym c.new-set.ensures.items)
-          (front_none limit state places next owed c.unheld_from-next.ensures.first counted);
+          (front_none limit state places next owed found counted);
       few = omega (arith, ap (λ (l : List ℕ). length l) c.new-set.ensures.items);
     }
 
@@ -35,8 +37,8 @@ pub loop-next-smaller : goal.loop-next-smaller
 loop-next-smaller g c =
     let U = unheld (places_of c.args.self.now) in
     let set = c.loop-next.set.items in
-    let at = at_some U (length set) c.in-Some.number (sym c.loop-next.invariant.front.next ∙ c.in-Some.is) in
-    let more : length c.push.new.self.items ≡ length set + 1 = ap (λ (l : List ℕ). length l) c.in_ok-push.ensures.items ∙ length_push set c.in-Some.number in
+    let at = at_some U (length set) c.in-Some.key (sym c.loop-next.invariant.front.next ∙ c.in-Some.is) in
+    let more : length c.push.new.self.items ≡ length set + 1 = ap (λ (l : List ℕ). length l) c.in_ok-push.ensures.items ∙ length_push set c.in-Some.key in
     omega (arith, at.0, more)
 
 pub loop-next-preserved : goal.loop-next-preserved
@@ -45,7 +47,7 @@ loop-next-preserved g c =
     let limit = station.limits.backlog_limit in
     let state = ledger_of station in
     let places = places_of station in
-    let n = c.in-Some.number in
+    let n = c.in-Some.key in
     let set = c.loop-next.set.items in
     let owed = c.loop-next.owed in
     let next = c.next_unheld-next.result in

@@ -1,4 +1,4 @@
--- The debt of a number, read back.
+-- The debt of a key, read back.
 use Rattle.std.proofs.Common.{Err, ◌==◌, ◌≡◌, List, [], ◌∷◌, Bool, true, false, cond, Some, sym, ap, ◌∙◌, subst}
 use Rattle.std.specs.Prelude.{find}
 use Rattle.ledger_core.specs.Base.{owe, owes}
@@ -28,7 +28,7 @@ pub returns-in-Ok-debt_of-clause-debt : goal.returns-in-Ok-debt_of-clause-debt
 returns-in-Ok-debt_of-clause-debt g c = λ h stands.
     let tape = c.args.self.now in
     let spot = c.in-Some.ensures.spot in
-    let note = note_found (λ (o : Owing). o.0 == c.args.number) (ledger_of tape).debts spot.debt
+    let note = note_found (λ (o : Owing). o.0 == c.args.key) (ledger_of tape).debts spot.debt
     (owes_notes tape h stands) spot.found in
     let read = c.deref.ensures.value ∙ c.in-Ok.ensures.note h (spelling (owe spot.debt)) stands spot.stands in
     let said = c.in-Ok-debt_of.ensures.debt spot.debt note read spot.is (sym spot.token_len) (sym spot.id_len) in
@@ -38,7 +38,7 @@ pub returns-clause-cause : goal.returns-clause-cause
 returns-clause-cause g c = λ h stands told.
     let tape = c.args.self.now in
     let spot = c.in-Some.ensures.spot in
-    let note = note_found (λ (o : Owing). o.0 == c.args.number) (ledger_of tape).debts spot.debt
+    let note = note_found (λ (o : Owing). o.0 == c.args.key) (ledger_of tape).debts spot.debt
     (owes_notes tape h stands) spot.found in
     let read = c.deref.ensures.value ∙ c.in-Ok.ensures.note h (spelling (owe spot.debt)) stands spot.stands in
     let said = c.in-Err-debt_of.ensures.debt spot.debt note read spot.is (sym spot.token_len) (sym spot.id_len) in

@@ -24,12 +24,12 @@ pub returns-else-spells_owe-clause-cause : goal.returns-else-spells_owe-clause-c
 returns-else-spells_owe-clause-cause g c = λ h stands told.
     let spot = c.requires.spot in
     let read = c.in-Ok.ensures.note h (spelling (owe spot.debt)) stands spot.stands in
-    let number : spelling (owe spot.debt) ≡ spelling (owe (c.args.number, spot.debt.1)) =
+    let same : spelling (owe spot.debt) ≡ spelling (owe (c.args.key, spot.debt.1)) =
     ap (λ (n : ℕ). spelling (owe (n, spot.debt.1))) spot.is in
     let spells = c.spells_owe.ensures.1 (record {
       token = spot.debt.1.0;
       id = spot.debt.1.1;
-      spelled = c.deref.ensures.value ∙ (read ∙ number);
+      spelled = c.deref.ensures.value ∙ (read ∙ same);
       token_is = sym spot.token_len;
       id_is = sym spot.id_len;
     }) in

@@ -9,6 +9,7 @@ use Rattle.tape_journal.specs.Segment.{records}
 use Rattle.ledger_core.specs.Spots.{StandsAt}
 use Rattle.recovery.proofs.Counts.{live_risen}
 use Rattle.recovery.proofs.Indexed.{Among, Pends, in_pending, on_tape, records-long}
+use Rattle.recovery.proofs.Readings.{read_kept}
 use Rattle.recovery.proofs.tape.Tape.payload_of.Goals as goal
 
 -- it pends
@@ -89,3 +90,17 @@ returns-in-Err-Disk-clause-cause g c = λ h payload stands there told.
     (c.in-Err-Disk.ensures.cause at.front among.behind payload (subst (Holds live) among.split w.holds)
     (place_of w.payloads pending c.args.spot.at c.args.spot.slot live.end payload w.holds.end before at live.fits)
     (ap Err c.in-Err-Disk.field-0-is))
+
+pub returns-in-Ok-clause-reads : goal.returns-in-Ok-clause-reads
+returns-in-Ok-clause-reads g c =
+    read_kept c.args.self.now c.payload_at.new.self _ _ c.in-Ok.ensures.keeps c.in-Ok.ensures.continues
+
+pub returns-in-Err-NoMemory-clause-reads : goal.returns-in-Err-NoMemory-clause-reads
+returns-in-Err-NoMemory-clause-reads g c =
+    let said = c.in-Err-NoMemory.ensures in
+    read_kept c.args.self.now c.payload_at.new.self _ _ said.keeps said.continues
+
+pub returns-in-Err-Disk-clause-reads : goal.returns-in-Err-Disk-clause-reads
+returns-in-Err-Disk-clause-reads g c =
+    let said = c.in-Err-Disk.ensures in
+    read_kept c.args.self.now c.payload_at.new.self _ _ said.keeps said.continues

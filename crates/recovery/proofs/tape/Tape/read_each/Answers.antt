@@ -1,6 +1,6 @@
 -- All notes of a ledger, read back.
 use Rattle.std.proofs.Common.{◌≡◌, ◌+◌, ◌<◌, ◌++◌, ◌∷◌, [], ℕ, zero, suc, Err, List, length, get_or, take, Some, refl, sym, ap, ◌∙◌, subst, arith}
-use Rattle.std.proofs.lemmas.List.{map_push, take_more}
+use Rattle.std.proofs.lemmas.List.{get_or_default, map_push, take_more}
 use Rattle.std.proofs.lemmas.Result.{err_from_is_err_and}
 use Rattle.std.specs.Prelude.{Result}
 use Rattle.std.specs.List.Sorted.{IsStrictlyIncreasing}
@@ -18,7 +18,7 @@ use Rattle.ledger_core.specs.Ledger.{state_of}
 use Rattle.ledger_core.specs.Note.{AreNotes, IsNote}
 use Rattle.ledger_core.specs.Spelling.{spelling, spellings}
 use Rattle.ledger_core.specs.SpellingLaws.{spellings-append}
-use Rattle.ledger_core.specs.State.{Owing, numbers}
+use Rattle.ledger_core.specs.State.{Owing, keys}
 use Rattle.ledger_core.specs.Written.{base_of}
 use Rattle.recovery.specs.Words.{batch_fault, generation_of, ledger_of}
 use Rattle.recovery.specs.declared.fault.TapeFault.{TapeFault}
@@ -30,7 +30,7 @@ use Rattle.recovery.proofs.tape.Tape.read_each.Goals as goal
 
 -- the spot of the debt in its place
 spot_here : (ledger : Ledger) (spots : List (ℕ × Spot)) (k : ℕ) (d : ℕ × Spot) (e : Owing) → spots ≡ spots_of ledger
-    → IsStrictlyIncreasing (numbers (state_of ledger)) → k < length spots
+    → IsStrictlyIncreasing (keys (state_of ledger)) → k < length spots
     → IsSpotOf ledger (get_or spots k d).0 (get_or spots k d).1
     × (debt_at (state_of ledger) (get_or spots k d).0 ≡ Some (get_or (state_of ledger).debts k e))
 spot_here ledger spots k d e same rising within =
@@ -40,13 +40,16 @@ spot_here ledger spots k d e same rising within =
 
 pub note_at-requires-clause-spot : goal.note_at-requires-clause-spot
 note_at-requires-clause-spot g c =
-    let tape = c.args.self.now in
-    let d : ℕ × Spot = (0, record { at = 0; slot = 0; token_len = 0; id_len = 0 }) in
-    subst (λ (l : Ledger). IsSpotOf l (get_or c.args.spots.now c.loop-index.index d).0
-    (get_or c.args.spots.now c.loop-index.index d).1)
+    let spots = c.args.spots.now in
+    let k = c.loop-index.index in
+    let d : ℕ × Spot = c.index-spots-index.result in
+    let e : ℕ × Spot = c.index-spots-index-in-loop-index.result in
+    subst (λ (l : Ledger). IsSpotOf l (get_or spots k d).0 (get_or spots k e).1)
     (sym c.loop-index.invariant.reads.ledger)
-    (spot_here tape.ledger c.args.spots.now c.loop-index.index d (0, ([], [])) c.requires.spots c.requires.rising
-    c.loop-index-test.true).0
+    (subst (λ (s : ℕ × Spot). IsSpotOf c.args.self.now.ledger (get_or spots k d).0 s.1)
+    (get_or_default spots k d e c.loop-index-test.true)
+    (spot_here c.args.self.now.ledger spots k d (0, ([], [])) c.requires.spots c.requires.rising
+    c.loop-index-test.true).0)
 
 one_more : (base : List ℕ) (debts : List Owing) (k : ℕ) (e : Owing) → k < length debts
     → base ∷ spellings (owes (take (k + 1) debts)) ≡ (base ∷ spellings (owes (take k debts))) ++ spelling
@@ -61,7 +64,7 @@ loop-index-preserved g c =
     let tape = c.args.self.now in
     let loop = c.loop-index in
     let was = loop.invariant in
-    let d : ℕ × Spot = (0, record { at = 0; slot = 0; token_len = 0; id_len = 0 }) in
+    let d : ℕ × Spot = c.index-spots-index.result in
     let e : Owing = (0, ([], [])) in
     let base = base_spelling (base_of (generation_of tape + 1) (ledger_of tape)) in
     let debts = (ledger_of tape).debts in
@@ -115,7 +118,7 @@ returns-in_err-push-2-clause-cause g c = λ h stands told.
     let tape = c.args.self.now in
     let loop = c.loop-index in
     let was = loop.invariant in
-    let d : ℕ × Spot = (0, record { at = 0; slot = 0; token_len = 0; id_len = 0 }) in
+    let d : ℕ × Spot = c.index-spots-index.result in
     let e : Owing = (0, ([], [])) in
     let debts = (ledger_of tape).debts in
     let here = spot_here tape.ledger c.args.spots.now loop.index d e c.requires.spots c.requires.rising

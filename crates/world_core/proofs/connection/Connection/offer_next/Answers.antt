@@ -41,7 +41,7 @@ returns-in_default-offer-clause-ok g c = λ id conn past pair.
     took_over id c.args.now conn past c.args.self.now c.args.peer.now _ pair is.reads refl refl debt c.id-id.result.0
     (ap (λ i. i.0) c.id-id.ensures ∙ pair.id_is) (λ b. let never = is.refuses.broken.1 b in
     cc) some.0 some.1 owed c.each_number_has_one_place.ensures.rising
-    c.number-number.result c.number-number.ensures _ ready (λ o unread h stands. (taken o unread h stands).1) refl
+    c.key-key.result c.key-key.ensures _ ready (λ o unread h stands. (taken o unread h stands).1) refl
     refl c.in_default-offer.ensures.same_id
 
 pub returns-in-Err-back-clause-err : goal.returns-in-Err-back-clause-err

@@ -13,10 +13,10 @@ returns-in-Ok-clause-ok g c = λ id conn past pair.
     (c.next_outcome.ensures.takes past.conf conn pair.holds) in
     settled_one id c.args.now conn past c.args.self.now _ c.args.peer.now _ c.args.told.now.items
     c.reserve.new.self.items _ c.in-Some.outcome
-    c.id-id.result.0 c.number_in-number.result c.in-Ok.settled pair taken c.next_outcome.ensures.waits
+    c.id-id.result.0 c.key_in-key.result c.in-Ok.settled pair taken c.next_outcome.ensures.waits
     c.next_outcome.ensures.rank
     c.next_outcome.ensures.id (ap (λ i. i.0) (c.id-id.ensures ∙ c.next_outcome.ensures.id) ∙ pair.id_is)
-    c.number_in-number.ensures is.settled is.ok
+    c.key_in-key.ensures is.settled is.ok
     (λ b. is.refuses.broken.1 b)
     (λ ends held full. is.pending_full.1 (ends, ((λ b. is.refuses.broken.1 b), held, full))) refl refl
     c.reserve.ensures.items c.push_reserved.ensures.items

@@ -28,22 +28,22 @@ returns-in_err-found-clause-err g c = λ id conn past pair.
     let wanted = sym (need_told past.conf conn c.args.self.now c.args.self.now.waiting c.need.result pair.holds
     c.need.ensures) ∙ c.in-Some.is in
     if_err c.from_residual.result _ _ c.from_residual.ensures.1
-    (λ fault is. inr (c.in-Some.number, wanted, inl (is, pair)))
+    (λ fault is. inr (c.in-Some.key, wanted, inl (is, pair)))
 
 pub returns-in-Ok-clause-ok : goal.returns-in-Ok-clause-ok
 returns-in-Ok-clause-ok g c = λ id conn past pair.
     let wanted = sym (need_told past.conf conn c.args.self.now c.args.self.now.waiting c.need.result pair.holds
     c.need.ensures) ∙ c.in-Some.is in
     let so = pair_handed id conn past c.args.self.now _ c.args.peer.now pair refl refl c.in-Ok.ensures.same_id
-    c.in_ok-found.found c.in-Some.number c.in-Ok.ensures.ok in
+    c.in_ok-found.found c.in-Some.key c.in-Ok.ensures.ok in
     on_ok_map c.tell.result _ _ (c.tell.ensures.ok id
-    (with_transcript conn (after (options_of past.conf) conn.transcript (Handed c.in-Some.number so.0))) past
+    (with_transcript conn (after (options_of past.conf) conn.transcript (Handed c.in-Some.key so.0))) past
     conn.transcript so.2
     (none_told c.is_none-was_open.result c.closed.result c.is_none-was_open.ensures
     ∙ ap is_none (reason_told past.conf conn c.args.self.now c.args.self.now.waiting c.closed.result pair.holds
     c.closed.ensures)))
     (λ followed. record {
-      number = c.in-Some.number;
+      number = c.in-Some.key;
       handing = so.0;
       wanted = wanted;
       handed = subst (λ (f : Found). IsHandedAs f so.0) c.in_ok-found.ensures so.1;
@@ -55,11 +55,11 @@ returns-in-Ok-clause-err g c = λ id conn past pair.
     let wanted = sym (need_told past.conf conn c.args.self.now c.args.self.now.waiting c.need.result pair.holds
     c.need.ensures) ∙ c.in-Some.is in
     let so = pair_handed id conn past c.args.self.now _ c.args.peer.now pair refl refl c.in-Ok.ensures.same_id
-    c.in_ok-found.found c.in-Some.number c.in-Ok.ensures.ok in
+    c.in_ok-found.found c.in-Some.key c.in-Ok.ensures.ok in
     if_err_map c.tell.result _ _ (c.tell.ensures.err id
-    (with_transcript conn (after (options_of past.conf) conn.transcript (Handed c.in-Some.number so.0))) past so.2)
+    (with_transcript conn (after (options_of past.conf) conn.transcript (Handed c.in-Some.key so.0))) past so.2)
     (λ fault followed. inr (
-      c.in-Some.number,
+      c.in-Some.key,
       wanted,
       inr (so.0, subst (λ (f : Found). IsHandedAs f so.0) c.in_ok-found.ensures so.1, followed),
     ))
@@ -68,8 +68,8 @@ pub returns-in-Err-default-NotNeeded-clause-err : goal.returns-in-Err-default-No
 returns-in-Err-default-NotNeeded-clause-err g c = λ id conn past pair.
     let wanted = sym (need_told past.conf conn c.args.self.now c.args.self.now.waiting c.need.result pair.holds
     c.need.ensures) ∙ c.in-Some.is in
-    absurd (wanted_needed past.conf conn c.args.self.now c.args.self.now.waiting c.in-Some.number wanted pair.holds
-    (λ o unread h stands. subst (λ f. RefusesArticle f (needed o h c.in-Some.number))
+    absurd (wanted_needed past.conf conn c.args.self.now c.args.self.now.waiting c.in-Some.key wanted pair.holds
+    (λ o unread h stands. subst (λ f. RefusesArticle f (needed o h c.in-Some.key))
     c.in-Err-default-NotNeeded.field-0-1-is (c.in-Err-default-NotNeeded.ensures.refuses o unread h stands)))
 
 pub returns-clause-err : goal.returns-clause-err
@@ -77,7 +77,7 @@ returns-clause-err g c = λ id conn past pair.
     let wanted = sym (need_told past.conf conn c.args.self.now c.args.self.now.waiting c.need.result pair.holds
     c.need.ensures) ∙ c.in-Some.is in
     inr (
-      c.in-Some.number,
+      c.in-Some.key,
       wanted,
       inl (
         refl,

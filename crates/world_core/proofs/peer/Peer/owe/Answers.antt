@@ -8,7 +8,9 @@ returns-in-Ok-clause-ok g c = λ past stands.
     let is = c.in-Ok.ensures in
     owed_answered c.args.number past c.args.token.now c.args.id.now c.args.self.now _ c.in-Ok.owed stands
     (λ b. let never = is.refuses.broken.1 b in cc)
-    (λ e. let own = is.already.0 cc in own.1) (λ e. is.unchanged cc) (λ e. is.new cc) (λ e. is.places cc)
+    (λ e. let own = is.already.0 cc in own.1)
+    (λ e below. let never = is.already.1 ((λ b. let no = is.refuses.broken.1 b in cc), below) in cc)
+    c.each_number_has_one_place.ensures.placed (λ e. is.unchanged cc) (λ e. is.new cc) (λ e. is.places cc)
     (λ over. let no = is.refuses.never (inl over) in
     cc) (λ above full. let no = is.refuses.never (inr (above, full)) in cc) refl refl
 

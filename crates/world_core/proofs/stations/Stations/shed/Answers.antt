@@ -25,20 +25,20 @@ returns-in_err-name-clause-err g c = λ past stands.
     (rank_same c.args.name.now past c.args.self.now stands ∙ sym c.rank_of.ensures ∙ c.in-Some.is) c.args.self.now
     fault memory stands)
 
-pub returns-in_err-numbers-clause-err : goal.returns-in_err-numbers-clause-err
-returns-in_err-numbers-clause-err g c = λ past stands.
-    if_err c.from_residual-in_err-numbers.result _ _ c.from_residual-in_err-numbers.ensures.1
+pub returns-in_err-keys-clause-err : goal.returns-in_err-keys-clause-err
+returns-in_err-keys-clause-err g c = λ past stands.
+    if_err c.from_residual-in_err-keys.result _ _ c.from_residual-in_err-keys.ensures.1
     (λ fault same. shed_failed c.args.name.now past c.in-Some.rank
     (rank_same c.args.name.now past c.args.self.now stands ∙ sym c.rank_of.ensures ∙ c.in-Some.is)
     c.shed_at.new.self fault
     (subst (λ f. FailedOne past (Sheds c.in-Some.rank []) f c.shed_at.new.self) (sym same)
-    (c.in_err-numbers.ensures.err past stands)))
+    (c.in_err-keys.ensures.err past stands)))
 
 pub returns-clause-ok : goal.returns-clause-ok
 returns-clause-ok g c = λ past stands.
     shed_took c.args.name.now past c.in-Some.rank
     (rank_same c.args.name.now past c.args.self.now stands ∙ sym c.rank_of.ensures ∙ c.in-Some.is)
-    c.shed_at.new.self _ c.in_ok-numbers.numbers.items
-    (shed_said c.args.name.now _ c.in_ok-numbers.numbers _ c.in_ok-name.ensures.cases
+    c.shed_at.new.self _ c.in_ok-keys.keys.items
+    (shed_said c.args.name.now _ c.in_ok-keys.keys _ c.in_ok-name.ensures.cases
     (pushed _ _ _ c.push_reserved.ensures.items c.in_ok-told.ensures.items))
-    (c.in_ok-numbers.ensures.ok past stands)
+    (c.in_ok-keys.ensures.ok past stands)

@@ -1,0 +1,62 @@
+-- What the lines of a backlog file make of a peer's ledger (profile).
+use Rattle.std.specs.Prelude.{◌≡◌, ◌≢◌, ◌⊎◌, ◌+◌, ◌<◌, ◌≤◌, ℕ, List, [], ◌∷◌, ◌++◌, None, Some, false, length, map, nat_lt}
+use Rattle.funnel.specs.Line.{HasFault, IsBacklogLine}
+use Rattle.funnel.specs.Malformed.{first_of, one_more}
+use Rattle.funnel.specs.Stream.{Splits, clipped, ended}
+use Rattle.funnel.specs.declared.line.LineFault.{LineFault}
+use Rattle.funnel.specs.declared.line.LineFault.TheVariants.{NoMemory}
+use Rattle.ledger_core.specs.Keys.{key_of}
+use Rattle.ledger_core.specs.State.{State, after, step}
+use Rattle.ledger_core.specs.declared.note.Note.{Note}
+use Rattle.ledger_core.specs.declared.note.Note.TheVariants.{Closed, Owe}
+use Rattle.backlog_files.specs.declared.report.Report.{Report}
+
+-- The notes that the line of this number makes, behind this ledger, and the report with it: a good line is owed under
+-- its number in the source that is open, or passed over if lines up to its number were noted; a malformed one owes
+-- nothing.
+pub data TakesLine (past : State) (number : ℕ) (line : List ℕ) (before : Report) : List Note → Report → Type 0 where
+  Is_owed : (token id : List ℕ) → IsBacklogLine line token id → past.import_mark < number
+      → TakesLine past number line before (Owe (key_of (past.closed + 1) number) token id ∷ [])
+      (record before { taken = one_more before.taken })
+  Is_passed : (token id : List ℕ) → IsBacklogLine line token id → number ≤ past.import_mark
+      → TakesLine past number line before [] (record before { passed = one_more before.passed })
+  Is_malformed : (fault : LineFault) → HasFault line fault → fault ≢ NoMemory
+      → TakesLine past number line before []
+      (record before { malformed = Some (first_of before.malformed number fault) })
+
+-- the report of no line
+abbrev pub no_line : Report
+no_line = record { taken = 0; passed = 0; malformed = None; has_rest = false }
+
+-- What these lines, one after another and the first of them line 1, make of a ledger, and the report of them.
+pub data Imports (begun : State) : List (List ℕ) → State → Report → Type 0 where
+  Begins : Imports begun [] begun no_line
+  Goes_on : (lines : List (List ℕ)) (past : State) (before report : Report) (line : List ℕ) (notes : List Note)
+      → Imports begun lines past before → TakesLine past (length lines + 1) line before notes report
+      → Imports begun (lines ++ line ∷ []) (after past notes) report
+
+-- the ledger behind the note that closes the source which is open
+abbrev pub closed : State → State
+closed past = step past (Closed (past.closed + 1))
+
+-- The file that has these octets was taken in: its lines, of which no more is kept than shows that they are too long,
+-- and then the note that closes their source. A rest without LF is no line.
+pub record TakesIn (octets : List ℕ) (begun now : State) (report : Report) : Type 0 where
+  pub lines : List (List ℕ)
+  pub rest : List ℕ
+  pub splits : Splits octets lines rest
+  pub past : State
+  pub counts : Report
+  pub imports : Imports begun (map clipped lines) past counts
+  pub ends : now ≡ closed past
+  pub reports : report ≡ record counts { has_rest = nat_lt 0 (length rest) }
+
+-- Of the file that has these octets the first lines were taken in, and the note may be made that closes their source.
+pub record TakesSome (octets : List ℕ) (begun now : State) : Type 0 where
+  pub lines : List (List ℕ)
+  pub behind : List ℕ
+  pub parts : octets ≡ ended lines ++ behind
+  pub past : State
+  pub counts : Report
+  pub imports : Imports begun (map clipped lines) past counts
+  pub ends : (now ≡ past) ⊎ (now ≡ closed past)

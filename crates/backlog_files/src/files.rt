@@ -1,0 +1,165 @@
+// The backlog files of a directory.
+use crate::fault::BacklogFault;
+use crate::import::{close, take_in};
+use crate::report::Report;
+use crate::same_file::FileId;
+use disk_model::{Disk, TapeDirectory};
+use flusher::Peer;
+use funnel::PeerName;
+use funnel_files::LineFile;
+use std::alloc::AllocError;
+use std::fs::{self, File, Metadata};
+use std::io::{self, ErrorKind};
+use std::rt::Files;
+use std::str;
+
+/// The backlog files of a directory, each with the bare name of its peer.
+#[derive(Drop)]
+pub struct BacklogFiles<'a, F> {
+    files: &'a F,
+    // The directory, which is locked, and its path.
+    tapes: &'a TapeDirectory,
+    directory: &'a str,
+    // Files that serve for something else.
+    others: Vec<FileId>,
+}
+
+/// A backlog file that was taken in.
+#[derive(Debug, Drop)]
+pub struct Imported {
+    /// Its path.
+    pub path: String,
+    /// What became of its lines.
+    pub report: Report,
+    /// Whether it was left where it is, since it is another file by now, or a longer one: the next import takes that
+    /// one in.
+    pub is_left: bool,
+}
+
+impl<'a, F: AllocGlobal + Files<File = File>> BacklogFiles<'a, F> {
+    /// Those of the directory at this path, which is locked.
+    pub fn new(files: &'a F, tapes: &'a TapeDirectory, directory: &'a str) -> Self {
+        BacklogFiles {
+            files,
+            tapes,
+            directory,
+            others: Vec::new(files.alloc()),
+        }
+    }
+
+    /// The file at this path, if there is one, serves for something else, and is never taken in.
+    ///
+    /// # Errors
+    /// Memory was refused.
+    pub fn spare(&mut self, path: &str) -> Result<(), AllocError> {
+        if let Ok(there) = fs::metadata(self.files, path) {
+            self.others.push(FileId::of(&there))?;
+        }
+        Ok(())
+    }
+
+    /// Takes in the file with the name of this peer, and removes it once all its lines are acknowledged; `None` if
+    /// there is none. An import that was cut off is ended: by the same file, or without it, so that a file that is put
+    /// there later is not taken for the rest of it.
+    ///
+    /// # Errors
+    /// `Unread` if it is no regular file, or serves for something else: it was not touched; or if it cannot be opened,
+    /// or read to its end. `Station`: what the station refused. `Unremoved`: all was taken in, and would be once more.
+    pub fn take_in<D: Disk>(&self, peer: &mut Peer<D>) -> Result<Option<Imported>, BacklogFault> {
+        let path = self.path_of(&peer.name)?;
+        match fs::symlink_metadata(self.files, path.as_str()) {
+            Ok(found) => match self.take_found(peer, path, &found) {
+                Ok(imported) => Ok(Some(imported)),
+                Err(fault) => Err(fault),
+            },
+            Err(reason) if reason.kind() == ErrorKind::NotFound => {
+                close_open(peer)?;
+                Ok(None)
+            }
+            Err(reason) => Err(BacklogFault::Unread { path, reason }),
+        }
+    }
+
+    // Takes in the file that was found at this path.
+    fn take_found<D: Disk>(
+        &self,
+        peer: &mut Peer<D>,
+        path: String,
+        found: &Metadata,
+    ) -> Result<Imported, BacklogFault> {
+        let alloc = self.files.alloc();
+        let file = match self.open(&path, found) {
+            Ok(file) => file,
+            Err(reason) => return Err(BacklogFault::Unread { path, reason }),
+        };
+        let mut lines = LineFile::new(alloc, file)?;
+        let report = match take_in(alloc, peer, &mut lines) {
+            Ok(report) => report,
+            Err(fault) => return Err(BacklogFault::of_import(path, fault)),
+        };
+        match self.remove(&path, &lines) {
+            Ok(is_gone) => Ok(Imported {
+                path,
+                report,
+                is_left: !is_gone,
+            }),
+            Err(reason) => Err(BacklogFault::Unremoved { path, reason }),
+        }
+    }
+
+    // Opens the file that was found at this path, if it is one to be taken in. It is looked at before, since opening a
+    // FIFO might never end. What it has is made durable: else, after a power cut in the middle of the import, other
+    // lines might come under numbers that are noted.
+    fn open(&self, path: &str, found: &Metadata) -> io::Result<File> {
+        if !found.is_file() {
+            return Err(no_backlog("it is not a regular file"));
+        }
+        if self.others.contains(&FileId::of(found)) {
+            return Err(no_backlog("it is the funnel, the configuration or the status file"));
+        }
+        let file = File::open(self.files, path)?;
+        if FileId::of(&file.metadata()?) != FileId::of(found) {
+            return Err(no_backlog("it was replaced"));
+        }
+        file.sync_all()?;
+        Ok(file)
+    }
+
+    // Removes the file that was read, and makes that durable, unless another file is at this path by now, or a longer
+    // one. Whether no file is there any more.
+    fn remove(&self, path: &str, lines: &LineFile<File>) -> io::Result<bool> {
+        let (file, read) = lines.reader();
+        let was = FileId::of(&file.metadata()?);
+        match fs::symlink_metadata(self.files, path) {
+            Ok(there) if FileId::of(&there) != was || there.len() != read => return Ok(false),
+            Ok(_) => fs::remove_file(self.files, path)?,
+            Err(error) if error.kind() == ErrorKind::NotFound => {}
+            Err(error) => return Err(error),
+        }
+        self.tapes.sync()?;
+        Ok(true)
+    }
+
+    // The path of a peer's backlog file.
+    fn path_of(&self, name: &PeerName) -> Result<String, AllocError> {
+        // The name of a peer is text.
+        let name = str::from_utf8(name.bytes()).unwrap_or("");
+        let mut path = String::from_str(self.files.alloc(), self.directory)?;
+        path.push('/')?;
+        path.push_str(name)?;
+        Ok(path)
+    }
+}
+
+// Why a file is none that is taken in.
+fn no_backlog(why: &'static str) -> io::Error {
+    io::Error::new(ErrorKind::InvalidInput, why)
+}
+
+// Closes the source that is open, if lines of it were taken in.
+fn close_open<D: Disk>(peer: &mut Peer<D>) -> Result<(), BacklogFault> {
+    if peer.station.import_mark() > 0 {
+        close(peer)?;
+    }
+    Ok(())
+}

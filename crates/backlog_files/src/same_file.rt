@@ -1,0 +1,20 @@
+// Which file a file is.
+use std::fs::Metadata;
+use std::os::unix::fs::MetadataExt;
+
+/// A file, by its device and its number there: no two that are there at a time have both.
+#[derive(Clone, Copy, PartialEq, Eq)]
+pub(crate) struct FileId {
+    device: u64,
+    number: u64,
+}
+
+impl FileId {
+    /// The file that this is told of.
+    pub fn of(metadata: &Metadata) -> Self {
+        FileId {
+            device: metadata.dev(),
+            number: metadata.ino(),
+        }
+    }
+}

@@ -1,0 +1,8 @@
+use Rattle.std.proofs.Common.{Result, Ok, Err}
+use Rattle.flusher.proofs.Keeps.{keeps_closed}
+use Rattle.flusher.proofs.peer.Peer.close_import.Goals as goal
+
+pub invariant_of-self : goal.invariant_of-self
+invariant_of-self g c =
+    let e = c.close_import.ensures in
+    record { kept = keeps_closed c.args.self.now.station c.close_import.new.self c.close_import.result e.closed e.refuses.unchanged c.args.self.now.kept }
