@@ -1,21 +1,18 @@
 -- The names that a script declares differ.
-use Rattle.std.proofs.Common.{◌≡◌, ℕ, Bool, true, false, List, [], ◌∷◌, ◌++◌, map, refl, sym, subst, ap, ◌∙◌, inl, inr}
+use Rattle.std.proofs.Common.{◌≡◌, ℕ, List, [], ◌∷◌, ◌++◌, map, sym, subst, ◌∙◌}
 use Rattle.std.proofs.Common.{append-nil, append_assoc}
-use Rattle.std.specs.Prelude.{Contains, IsPermutation}
-use Rattle.std.specs.List.{IsDistinct, list_any}
+use Rattle.std.specs.Prelude.{IsPermutation}
+use Rattle.std.specs.List.{IsDistinct}
 use Rattle.std.specs.Cmp.Lexicographic.{nat_list_eq_equiv}
 use Rattle.std.specs.Str.{bytes_eq}
-use Rattle.std.proofs.lemmas.Bool.{cases_Bool}
 use Rattle.std.proofs.lemmas.List.Sorted.{IsPermutation-map}
-use Rattle.std.proofs.lemmas.Map.Keys.{IsDistinct-IsPermutation, IsDistinct-push}
-use Rattle.std.proofs.lemmas.Map.Views.{Contains-from_any}
+use Rattle.std.proofs.lemmas.Map.Keys.{IsDistinct-IsPermutation}
 use Rattle.std.proofs.lemmas.Simd.{map-map}
-use Rattle.std.proofs.lemmas.Slice.Eq.{bytes_eq-Decides}
 use Rattle.feed_conf.specs.PeerView.{settings_view}
 use Rattle.feed_conf.specs.Settings.{Settings}
 use Rattle.feed_conf.specs.declared.conf.PeerConf.{PeerConf}
-use Rattle.script.specs.Line.{SentenceView, Blank, Declares, Takes}
-use Rattle.script.specs.Script.{Holds, IsScript, KeepsOrder, MayFollow, Reads, confs_of, names_of, peers_of}
+use Rattle.script.specs.Line.{SentenceView}
+use Rattle.script.specs.Script.{IsScript, KeepsOrder, confs_of, names_of, peers_of}
 use Rattle.script.specs.declared.read.Script.{Script}
 use Rattle.world_core.specs.Given.{GivenPeer, given_names}
 use Rattle.script.proofs.Growing.{HasDistinct, names_of-append, one_more}

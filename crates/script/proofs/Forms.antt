@@ -13,7 +13,7 @@ use Rattle.script.specs.Line.{SaysAction, SaysStep}
 use Rattle.script.specs.Numbers.{u64_of}
 use Rattle.script.specs.Parts.{ActionOf, StepOf}
 use Rattle.script.specs.Step.{StepView, Lines, Flushes, Begins, Parts, Seals, Connects, Acts, Ticks, Sheds, Rotates}
-use Rattle.script.specs.Step.{Stops, Arms, Restarts}
+use Rattle.script.specs.Step.{Imports, Stops, Arms, Restarts}
 use Rattle.script.specs.Words.{IsCut, IsSolid}
 use Rattle.script.proofs.Cuts.{SameCut, cuts_once, is_solid, solid_from}
 
@@ -101,6 +101,8 @@ step_form line word (Some rest) (Rotates name) cut says = (
   ap is_peer_name says.2
       ∙ says.1,
 )
+step_form line word None (Imports name t) cut says = absurd says
+step_form line word (Some rest) (Imports name t) cut says = (rest, cut ∙ ap (λ w. w ++ 32 ∷ rest) says.0, says.1)
 step_form line word None Stops cut says = cut ∙ says
 step_form line word (Some rest) Stops cut says = absurd says
 step_form line word None (Arms armed) cut says = absurd says
@@ -170,6 +172,7 @@ module _ (line word : List ℕ) (text : Option (List ℕ)) (solid : IsSolid word
   step_parts (Sheds name) says = at_step (codes "shed") (Some name) (Sheds name) refl says.0 (refl, says.1, refl)
   step_parts (Rotates name) says =
       at_step (codes "rotate") (Some name) (Rotates name) refl says.0 (refl, says.1, refl)
+  step_parts (Imports name t) says = at_step (codes "import") (Some says.0) (Imports name t) refl says.1 (refl, says.2)
   step_parts Stops says = at_step (codes "stop") None Stops refl says refl
   step_parts (Arms armed) says = at_step (codes "stop") (Some says.0) (Arms armed) refl says.1 (refl, says.2)
   step_parts Restarts says = at_step (codes "restart") None Restarts refl says refl

@@ -6,16 +6,16 @@ use Rattle.std.specs.Str.{bytes_eq}
 use Rattle.std.proofs.lemmas.Bool.{eqb-false}
 use Rattle.std.proofs.lemmas.List.Elements.{All-cons}
 use Rattle.article_store.specs.declared.store.Found.TheVariants.{Article, Gone, Unsendable}
-use Rattle.script.specs.Action.{ActionView, Hands, Receives, Supplies, Breaks}
-use Rattle.script.specs.Line.{SentenceView, Blank, Declares, Gives, Takes, Says, SaysStep, SaysTape}
+use Rattle.script.specs.Action.{ActionView, Hands, Receives, Supplies, Breaks, IsWritten, Spells}
+use Rattle.script.specs.Line.{SentenceView, Blank, Declares, Gives, Takes, NamesText, Says, SaysStep, SaysTape}
 use Rattle.script.specs.Parts.{ActionOf, SaysOn, StepOf}
 use Rattle.script.specs.Step.{StepView, Lines, Flushes, Begins, Parts, Seals, Connects, Acts, Ticks, Sheds, Rotates}
-use Rattle.script.specs.Step.{Stops, Arms, Restarts}
+use Rattle.script.specs.Step.{Imports, Stops, Arms, Restarts}
 use Rattle.script.specs.Words.{IsCut, IsSolid}
 use Rattle.script.proofs.Cuts.{cuts_once, cut_is, cut_longer, solid_from, solid_none}
 use Rattle.script.proofs.Forms.{number_solid, step_parts}
 use Rattle.script.proofs.Peers.{peer_once}
-use Rattle.script.proofs.Tapes.{tape_once}
+use Rattle.script.proofs.Tapes.{behind_once, names_once, tape_once}
 use Rattle.script.proofs.Writing.{written_once}
 
 -- two numbers that the test tells apart
@@ -36,11 +36,12 @@ tag_for word behind =
     if bytes_eq word (codes "begin") then 11 else (
     if bytes_eq word (codes "part") then 12 else (
     if bytes_eq word (codes "seal") then 13 else (
+    if bytes_eq word (codes "import") then 14 else (
     if bytes_eq word (codes "hand") then 10 else (
     if bytes_eq word (codes "say") then 10 else (
     if bytes_eq word (codes "raw") then 10 else (
     if bytes_eq word (codes "article") then 10 else (
-    if bytes_eq word (codes "break") then 10 else 0)))))))))))))))
+    if bytes_eq word (codes "break") then 10 else 0))))))))))))))))
 
 abbrev step_tag : StepView → ℕ
 step_tag (Lines text) = 1
@@ -56,6 +57,7 @@ step_tag (Acts number action) = 10
 step_tag Begins = 11
 step_tag (Parts name) = 12
 step_tag Seals = 13
+step_tag (Imports name text) = 14
 
 tagged : (step : StepView) → step_tag step ≡ 0 → ⊥
 tagged (Lines text) e = apart 1 0 refl e
@@ -71,6 +73,7 @@ tagged (Acts number action) e = apart 10 0 refl e
 tagged Begins e = apart 11 0 refl e
 tagged (Parts name) e = apart 12 0 refl e
 tagged Seals e = apart 13 0 refl e
+tagged (Imports name text) e = apart 14 0 refl e
 
 -- an action's word
 action_tag_is : (word : List ℕ) (text : Option (List ℕ)) (action : ActionView) → ActionOf word text action →
@@ -103,6 +106,7 @@ tag_is word None (Acts number action) says = absurd says
 tag_is word None Begins says = ap (λ w. tag_for w false) says
 tag_is word None (Parts name) says = absurd says
 tag_is word None Seals says = ap (λ w. tag_for w false) says
+tag_is word None (Imports name text) says = absurd says
 tag_is word (Some rest) (Lines t) says = ap (λ w. tag_for w true) says.0
 tag_is word (Some rest) Flushes says = absurd says
 tag_is word (Some rest) (Connects name) says = ap (λ w. tag_for w true) says.0
@@ -116,6 +120,7 @@ tag_is word (Some rest) (Acts number action) says = action_tag_is word says.text
 tag_is word (Some rest) Begins says = absurd says
 tag_is word (Some rest) (Parts name) says = ap (λ w. tag_for w true) says.0
 tag_is word (Some rest) Seals says = absurd says
+tag_is word (Some rest) (Imports name text) says = ap (λ w. tag_for w true) says.0
 
 -- words that begin with other octets
 differs : (v w : List ℕ) → (get_or v 0 0 == get_or w 0 0) ≡ false → (word : List ℕ) → word ≡ v → word ≡ w → ⊥
@@ -198,6 +203,7 @@ once_alone word (Sheds s) b p q e = absurd p
 once_alone word (Rotates s) b p q e = absurd p
 once_alone word (Arms s) b p q e = absurd p
 once_alone word (Parts s) b p q e = absurd p
+once_alone word (Imports n s) b p q e = absurd p
 once_alone word a b p q e = absurd (apart (step_tag a) (step_tag b) refl e)
 
 once_behind : (word rest : List ℕ) (a b : StepView) → StepOf word (Some rest) a → StepOf word (Some rest) b →
@@ -209,6 +215,9 @@ once_behind word rest (Acts m a) (Acts n b) p q e = on_once word rest m n a b p 
 once_behind word rest (Ticks s) (Ticks t) p q e = let same : s ≡ t = cc (p.1, q.1) in ap Ticks same
 once_behind word rest (Sheds s) (Sheds t) p q e = ap Sheds (p.2 ∙ sym q.2)
 once_behind word rest (Rotates s) (Rotates t) p q e = ap Rotates (p.2 ∙ sym q.2)
+once_behind word rest (Imports m s) (Imports n t) p q e =
+    let same = names_once IsWritten written_once rest m n s t p.1 q.1 in
+    ap (λ (k : List ℕ). Imports k s) same.0 ∙ ap (Imports n) same.1
 once_behind word rest (Arms s) (Arms t) p q e = let same : s ≡ t = cc (p.1, q.1) in ap Arms same
 once_behind word rest Flushes b p q e = absurd p
 once_behind word rest Stops b p q e = absurd p
@@ -216,6 +225,12 @@ once_behind word rest Restarts b p q e = absurd p
 once_behind word rest Begins b p q e = absurd p
 once_behind word rest Seals b p q e = absurd p
 once_behind word rest a b p q e = absurd (apart (step_tag a) (step_tag b) refl e)
+
+-- `import` says nothing of a connection
+pub import_acts_not : (word rest : List ℕ) → word ≡ codes "import" → (number : ℕ) (action : ActionView) →
+    SaysOn word rest number action → ⊥
+import_acts_not word rest is number action says =
+    apart 10 14 refl (sym (action_tag_is word says.text action says.says) ∙ ap (λ (w : List ℕ). tag_for w true) is)
 
 parts_once : (word : List ℕ) (text : Option (List ℕ)) (a b : StepView) → StepOf word text a → StepOf word text b →
     a ≡ b
@@ -265,16 +280,17 @@ peer_no_tape line x y p q = differs (codes "peer " ++ x) (codes "tape " ++ y) re
 
 tape_no_step : (line name octets : List ℕ) (step : StepView) → SaysTape line name octets → SaysStep line step → ⊥
 tape_no_step line name octets step p q =
-    no_step line (codes "tape") (Some (name ++ 32 ∷ p.0)) (solid_from (codes "tape") refl) p.1 refl step q
+    no_step line (codes "tape") (Some p.0) (solid_from (codes "tape") refl) p.1 refl step q
 
 -- a line of a tape that is written otherwise says nothing
 pub no_tape_none : (line text : List ℕ) → line ≡ codes "tape " ++ text →
-    ((name octets : List ℕ) → SaysTape (codes "tape " ++ text) name octets → ⊥) → (said : SentenceView) →
+    ((name octets : List ℕ) → NamesText Spells text name octets → ⊥) → (said : SentenceView) →
     Says line said → ⊥
 no_tape_none line text e none Blank says = tape_no_blank line text e says
 no_tape_none line text e none (Declares peer) says = peer_no_tape line says.declaration text says.written e
 no_tape_none line text e none (Gives name octets) says =
-    none name octets (subst (λ (l : List ℕ). SaysTape l name octets) e says)
+    none name octets (subst (λ (r : List ℕ). NamesText Spells r name octets)
+    (behind_once says.0 text (sym says.1 ∙ e)) says.2)
 no_tape_none line text e none (Takes step) says =
     no_step line (codes "tape") (Some text) (solid_from (codes "tape") refl) e refl step says
 
@@ -284,12 +300,12 @@ says_once line Blank (Declares peer) p q = absurd (peer_no_blank line q.declarat
 says_once line Blank (Takes step) p q = absurd (blank_no_step line step p q)
 says_once line (Declares peer) Blank p q = absurd (peer_no_blank line p.declaration p.written q)
 says_once line (Declares one) (Declares other) p q = ap Declares (peer_once line one other p q)
-says_once line Blank (Gives name octets) p q = absurd (tape_no_blank line (name ++ 32 ∷ q.0) q.1 p)
-says_once line (Gives name octets) Blank p q = absurd (tape_no_blank line (name ++ 32 ∷ p.0) p.1 q)
+says_once line Blank (Gives name octets) p q = absurd (tape_no_blank line q.0 q.1 p)
+says_once line (Gives name octets) Blank p q = absurd (tape_no_blank line p.0 p.1 q)
 says_once line (Declares peer) (Gives name octets) p q =
-    absurd (peer_no_tape line p.declaration (name ++ 32 ∷ q.0) p.written q.1)
+    absurd (peer_no_tape line p.declaration q.0 p.written q.1)
 says_once line (Gives name octets) (Declares peer) p q =
-    absurd (peer_no_tape line q.declaration (name ++ 32 ∷ p.0) q.written p.1)
+    absurd (peer_no_tape line q.declaration p.0 q.written p.1)
 says_once line (Gives one octets) (Gives other others) p q =
     let same = tape_once line one other octets others p q in
     ap (λ (n : List ℕ). Gives n octets) same.0 ∙ ap (λ (o : List ℕ). Gives other o) same.1

@@ -2,12 +2,13 @@
 use Rattle.std.proofs.Common.{◌≡◌, ℕ, List, [], ◌∷◌, ◌++◌, None, Some, inl, inr, refl}
 use Rattle.std.specs.Prelude.{codes}
 use Rattle.article_store.specs.declared.store.Found.TheVariants.{Gone}
-use Rattle.script.specs.Action.{Hands, Receives, Spells, Supplies}
+use Rattle.script.specs.Action.{Ends, Hands, IsWritten, Receives, Spells, Supplies}
 use Rattle.script.specs.Arming.{arming_of}
 use Rattle.script.specs.Line.{Blank, Gives, Says, SaysStep, Takes}
 use Rattle.script.specs.Numbers.{u64_of}
 use Rattle.script.specs.Script.{KeepsOrder, tape_of}
-use Rattle.script.specs.Step.{Lines, Flushes, Begins, Parts, Seals, Connects, Acts, Ticks, Stops, Arms, Restarts}
+use Rattle.script.specs.Step.{Lines, Flushes, Begins, Parts, Seals, Connects, Acts, Ticks, Imports, Stops, Arms}
+use Rattle.script.specs.Step.{Restarts}
 
 blank_line : Says [] Blank
 blank_line = inl refl
@@ -65,7 +66,15 @@ seal_line = refl
 
 -- octets are written in digits of either case, one pair or more
 tape_line : Spells (codes "a5Ff") (165 ∷ 255 ∷ []) → Says (codes "tape p a5Ff") (Gives (codes "p") (165 ∷ 255 ∷ []))
-tape_line spells = (codes "a5Ff", refl, refl, spells)
+tape_line spells = (codes "p a5Ff", refl, (codes "a5Ff", refl, refl, spells))
+
+-- the text of a backlog file may be empty, but the space before it is not left out; `gone` is a text like any other
+empty_import : SaysStep (codes "import p ") (Imports (codes "p") [])
+empty_import = (codes "p ", refl, ([], refl, refl, Ends))
+
+import_of_gone : IsWritten (codes "gone") (codes "gone")
+    → SaysStep (codes "import p gone") (Imports (codes "p") (codes "gone"))
+import_of_gone written = (codes "p gone", refl, (codes "gone", refl, refl, written))
 
 odd_digits : (octets : List ℕ) → Spells (codes "a5f") octets → ⊥
 odd_digits octets spells = let never = spells.1 in cc

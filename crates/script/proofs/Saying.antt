@@ -6,9 +6,9 @@ use Rattle.article_store.specs.declared.store.Found.TheVariants.{Article, Gone, 
 use Rattle.script.specs.Action.{ActionView, Hands, Receives, Supplies, Breaks, action_view}
 use Rattle.script.specs.Line.{SaysStep}
 use Rattle.script.specs.Numbers.{u64_of}
-use Rattle.script.specs.Parts.{ActionOf, SaysOn, StepOf}
+use Rattle.script.specs.Parts.{ActionOf, SaysNoneBehind, SaysOn, StepOf}
 use Rattle.script.specs.Step.{StepView, Lines, Flushes, Begins, Parts, Seals, Connects, Acts, Ticks, Sheds, Rotates}
-use Rattle.script.specs.Step.{Stops, Arms, Restarts, step_view}
+use Rattle.script.specs.Step.{Imports, Stops, Arms, Restarts, step_view}
 use Rattle.script.specs.Words.{IsCut, IsSolid}
 use Rattle.script.specs.declared.action.Action.{Action}
 use Rattle.world_core.specs.declared.step.Step.{Step}
@@ -45,6 +45,7 @@ says_none_alone word line flush begin seal stop restart (Acts number action) say
 says_none_alone word line flush begin seal stop restart (Ticks moment) says = says
 says_none_alone word line flush begin seal stop restart (Sheds name) says = says
 says_none_alone word line flush begin seal stop restart (Rotates name) says = says
+says_none_alone word line flush begin seal stop restart (Imports name text) says = says
 says_none_alone word line flush begin seal stop restart Stops says = stop says
 says_none_alone word line flush begin seal stop restart (Arms arming) says = says
 says_none_alone word line flush begin seal stop restart Restarts says = restart says
@@ -53,25 +54,25 @@ says_none_alone word line flush begin seal stop restart Restarts says = restart 
 module _ (word : List ℕ) (line : word ≢ codes "line") (part : word ≢ codes "part") (connect : word ≢ codes "connect")
     (shed : word ≢ codes "shed") (rotate : word ≢ codes "rotate") (tick : word ≢ codes "tick")
     (stop : word ≢ codes "stop") where
-  says_no_step : (rest : List ℕ) → ((number : ℕ) (said : ActionView) → SaysOn word rest number said → ⊥) →
-      (said : StepView) → StepOf word (Some rest) said → ⊥
+  says_no_step : (rest : List ℕ) → SaysNoneBehind word rest → (said : StepView) → StepOf word (Some rest) said → ⊥
   says_no_step rest none (Lines text) says = line says.0
   says_no_step rest none Flushes says = says
   says_no_step rest none Begins says = says
   says_no_step rest none (Parts name) says = part says.0
   says_no_step rest none Seals says = says
   says_no_step rest none (Connects name) says = connect says.0
-  says_no_step rest none (Acts number action) says = none number action says
+  says_no_step rest none (Acts number action) says = none.acts number action says
   says_no_step rest none (Ticks moment) says = tick says.0
   says_no_step rest none (Sheds name) says = shed says.0
   says_no_step rest none (Rotates name) says = rotate says.0
+  says_no_step rest none (Imports name text) says = none.imports says.0 name text says.1
   says_no_step rest none Stops says = says
   says_no_step rest none (Arms arming) says = stop says.0
   says_no_step rest none Restarts says = says
 
   pub says_step : {T E : Type 0} (view : T → List ℕ) (text : Option T) (rest : List ℕ)
       (made : Result (Option Step) E) →
-      IfOk made (λ step. MatchOption step ((number : ℕ) (said : ActionView) → SaysOn word rest number said → ⊥)
+      IfOk made (λ step. MatchOption step (SaysNoneBehind word rest)
       (λ s. StepOf word (Some rest) (step_view s))) →
       option_map view text ≡ Some rest →
       IfOk made (λ step. MatchOption step ((said : StepView) → StepOf word (option_map view text) said → ⊥)
@@ -81,6 +82,16 @@ module _ (word : List ℕ) (line : word ≢ codes "line") (part : word ≢ codes
       subst (λ (o : Option (List ℕ)). (said : StepView) → StepOf word o said → ⊥) (sym e) (says_no_step rest h)
   says_step view text rest (Ok (Some step)) h e =
       subst (λ (o : Option (List ℕ)). StepOf word o (step_view step)) (sym e) h
+
+-- a word that is not `import` says there what it says of a connection
+pub behind_other : {E : Type 0} (word rest : List ℕ) (made : Result (Option Step) E) → word ≢ codes "import" →
+    IfOk made (λ step. MatchOption step ((number : ℕ) (said : ActionView) → SaysOn word rest number said → ⊥)
+    (λ s. StepOf word (Some rest) (step_view s))) →
+    IfOk made (λ step. MatchOption step (SaysNoneBehind word rest) (λ s. StepOf word (Some rest) (step_view s)))
+behind_other word rest (Err fault) other h = tt
+behind_other word rest (Ok None) other h =
+    record { acts = h; imports = λ is name octets names. absurd (other is) }
+behind_other word rest (Ok (Some step)) other h = h
 
 -- What stands behind a word is cut there.
 module _ (word rest written : List ℕ) (text : Option (List ℕ)) (solid : IsSolid written)

@@ -9,7 +9,12 @@ use Rattle.script.specs.Arming.{arming_of}
 use Rattle.script.specs.Numbers.{u64_of}
 use Rattle.script.specs.Peer.{SaysPeer}
 use Rattle.script.specs.Step.{StepView, Lines, Flushes, Begins, Parts, Seals, Connects, Acts, Ticks, Sheds, Rotates}
-use Rattle.script.specs.Step.{Stops, Arms, Restarts}
+use Rattle.script.specs.Step.{Imports, Stops, Arms, Restarts}
+
+-- the name of a peer, one space, and behind it what is a writing of these octets
+abbrev pub NamesText : (IsWriting : List ℕ → List ℕ → Type 0) → (text name octets : List ℕ) → Type 0
+NamesText IsWriting text name octets =
+    (written : List ℕ) × (text ≡ name ++ 32 ∷ written) × IsTrue (is_peer_name name) × IsWriting written octets
 
 -- a line asks this of the connection whose number is written so
 abbrev pub SaysAction : (line number : List ℕ) → ActionView → Type 0
@@ -37,6 +42,8 @@ SaysStep line (Acts number action) =
 SaysStep line (Ticks moment) = (written : List ℕ) × (line ≡ codes "tick " ++ written) × (u64_of written ≡ Some moment)
 SaysStep line (Sheds name) = (line ≡ codes "shed " ++ name) × IsTrue (is_peer_name name)
 SaysStep line (Rotates name) = (line ≡ codes "rotate " ++ name) × IsTrue (is_peer_name name)
+SaysStep line (Imports name text) =
+    (rest : List ℕ) × (line ≡ codes "import " ++ rest) × NamesText IsWritten rest name text
 SaysStep line Stops = line ≡ codes "stop"
 SaysStep line (Arms armed) =
     (words : List ℕ) × (line ≡ codes "stop " ++ words)
@@ -46,8 +53,7 @@ SaysStep line Restarts = line ≡ codes "restart"
 -- a line says that the first disk of this peer's tape holds these octets
 abbrev pub SaysTape : (line name octets : List ℕ) → Type 0
 SaysTape line name octets =
-    (digits : List ℕ) × (line ≡ codes "tape " ++ (name ++ 32 ∷ digits)) × IsTrue (is_peer_name name)
-    × Spells digits octets
+    (rest : List ℕ) × (line ≡ codes "tape " ++ rest) × NamesText Spells rest name octets
 
 -- what one line says: nothing, a peer, what a peer's tape holds, or a step
 pub data SentenceView : Type 0 where

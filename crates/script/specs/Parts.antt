@@ -5,9 +5,10 @@ use Rattle.article_store.specs.declared.store.Found.TheVariants.{Article, Gone, 
 use Rattle.funnel.specs.Names.{is_peer_name}
 use Rattle.script.specs.Action.{ActionView, Hands, Receives, Supplies, Breaks, IsWritten, Spells, line_of}
 use Rattle.script.specs.Arming.{arming_of}
+use Rattle.script.specs.Line.{NamesText}
 use Rattle.script.specs.Numbers.{u64_of}
 use Rattle.script.specs.Step.{StepView, Lines, Flushes, Begins, Parts, Seals, Connects, Acts, Ticks, Sheds, Rotates}
-use Rattle.script.specs.Step.{Stops, Arms, Restarts}
+use Rattle.script.specs.Step.{Imports, Stops, Arms, Restarts}
 use Rattle.script.specs.Words.{IsCut}
 
 -- a word with what stands behind the connection's number says this action
@@ -55,6 +56,8 @@ StepOf word None (Sheds name) = ⊥
 StepOf word (Some rest) (Sheds name) = (word ≡ codes "shed") × IsTrue (is_peer_name rest) × (name ≡ rest)
 StepOf word None (Rotates name) = ⊥
 StepOf word (Some rest) (Rotates name) = (word ≡ codes "rotate") × IsTrue (is_peer_name rest) × (name ≡ rest)
+StepOf word None (Imports name text) = ⊥
+StepOf word (Some rest) (Imports name text) = (word ≡ codes "import") × NamesText IsWritten rest name text
 StepOf word None Stops = word ≡ codes "stop"
 StepOf word (Some rest) Stops = ⊥
 StepOf word None (Arms armed) = ⊥
@@ -62,3 +65,8 @@ StepOf word (Some rest) (Arms armed) =
     (word ≡ codes "stop") × (arming_of (slice_split (λ octet. octet == 32) rest) ≡ Some armed)
 StepOf word None Restarts = word ≡ codes "restart"
 StepOf word (Some rest) Restarts = ⊥
+
+-- a word with what stands behind it says neither what a connection does nor that a backlog file is taken in
+pub record SaysNoneBehind (word rest : List ℕ) : Type 0 where
+  pub acts : (number : ℕ) (action : ActionView) → SaysOn word rest number action → ⊥
+  pub imports : word ≡ codes "import" → (name octets : List ℕ) → NamesText IsWritten rest name octets → ⊥

@@ -2,7 +2,8 @@
 use Rattle.std.specs.Prelude.{ℕ, ◌==◌, if◌then◌else◌, List}
 use Rattle.world_core.specs.declared.step.Step.{Step}
 use Rattle.world_core.specs.declared.step.Step.TheVariants.{Line, Flush, Begin, Part, Seal, Connect, Hand, Bytes}
-use Rattle.world_core.specs.declared.step.Step.TheVariants.{Article, Break, Tick, Shed, Rotate, Stop, Restart}
+use Rattle.world_core.specs.declared.step.Step.TheVariants.{Article, Break, Tick, Shed, Rotate, Import, Stop}
+use Rattle.world_core.specs.declared.step.Step.TheVariants.{Restart}
 use Rattle.script.specs.Action.{ActionView, Hands, Receives, Supplies, Breaks}
 use Rattle.script.specs.Arming.{Armed}
 
@@ -27,6 +28,8 @@ pub data StepView : Type 0 where
   Sheds : List ℕ → StepView
   -- what is owed to this peer is written anew
   Rotates : List ℕ → StepView
+  -- a backlog file of this peer, which has this text, is taken in
+  Imports : (name text : List ℕ) → StepView
   -- all stops, at rest
   Stops : StepView
   -- a stop is armed
@@ -49,6 +52,7 @@ step_view (Break number) = Acts number Breaks
 step_view (Tick moment) = Ticks moment
 step_view (Shed name) = Sheds name
 step_view (Rotate name) = Rotates name
+step_view (Import name text) = Imports name text.items
 step_view (Stop peer call choice) =
     if call == 0 then Stops else Arms (record { peer = peer; call = call; choice = choice })
 step_view Restart = Restarts

@@ -112,8 +112,11 @@ fn found_of(alloc: Global, text: &[u8]) -> Result<Option<Found>, AllocError>
     }
 }
 
-// The text that is written with escapes; nothing where a backslash escapes no known letter.
-fn unescape(alloc: Global, written: &[u8]) -> Result<Option<Vec<u8>>, AllocError>
+/// The text that is written with escapes; nothing if a backslash escapes no known letter.
+///
+/// # Errors
+/// Memory was refused.
+pub(crate) fn unescape(alloc: Global, written: &[u8]) -> Result<Option<Vec<u8>>, AllocError>
     ensures { IfOk result (λ text. MatchOption text
         ((octets : List ℕ) → IsWritten written.now octets → ⊥)
         (λ octets. IsWritten written.now octets.items)) }
@@ -130,7 +133,7 @@ fn unescape(alloc: Global, written: &[u8]) -> Result<Option<Vec<u8>>, AllocError
     Ok(Some(text))
 }
 
-// The first octet that is written, and what stands behind it; nothing where a backslash escapes no known letter.
+// The first octet that is written, and what stands behind it; nothing if a backslash escapes no known letter.
 fn first_octet(written: &[u8]) -> Option<(u8, &[u8])>
     ensures none { IfNone result (written.now ≢ []
         → (text : List ℕ) → IsWritten written.now text → ⊥) }

@@ -11,6 +11,7 @@ mod action;
 mod arming;
 mod draft;
 mod fault;
+mod import;
 pub mod laws;
 mod numbers;
 mod peer;

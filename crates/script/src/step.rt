@@ -2,11 +2,12 @@
 ghost use Rattle.std.specs.Prelude.{◌≡◌, None, Some, ℕ, option_map, IfOk, MatchOption};
 ghost use Rattle.script.specs.Action.{ActionView};
 ghost use Rattle.script.specs.Line.{SaysStep};
-ghost use Rattle.script.specs.Parts.{SaysOn, StepOf};
+ghost use Rattle.script.specs.Parts.{SaysNoneBehind, SaysOn, StepOf};
 ghost use Rattle.script.specs.Step.{StepView, Stops, step_view};
 
 use crate::action::Action;
 use crate::arming::Arming;
+use crate::import::read_import;
 use crate::numbers::read_number;
 use crate::words::split_word;
 use disk_model::Choice;
@@ -60,7 +61,7 @@ fn step_of(alloc: Global, word: &[u8], text: Option<&[u8]>) -> Result<Option<Ste
             Some(arming) => Ok(Some(arming.into_step())),
             None => Ok(None),
         },
-        (word, Some(rest)) => step_on(alloc, word, rest),
+        (word, Some(rest)) => step_behind(alloc, word, rest),
     }
 }
 
@@ -91,6 +92,20 @@ fn rest_now() -> Step
             happened: 0,
             fill: 0,
         },
+    }
+}
+
+// A step that takes in a backlog file, or one on a connection.
+fn step_behind(alloc: Global, word: &[u8], rest: &[u8]) -> Result<Option<Step>, AllocError>
+    ensures { IfOk result (λ step. MatchOption step (SaysNoneBehind word.now rest.now)
+        (λ made. StepOf word.now (Some rest.now) (step_view made))) }
+{
+    if word != b"import".as_slice() {
+        return step_on(alloc, word, rest);
+    }
+    match read_import(alloc, rest)? {
+        Some((peer, text)) => Ok(Some(Step::Import { peer, text })),
+        None => Ok(None),
     }
 }
 

@@ -1,6 +1,7 @@
 // What a script's `tape` line says that a peer's tape holds (docs/FORMATS.md).
-ghost use Rattle.std.specs.Prelude.{◌++◌, ℕ, List, IfOk, MatchOption, codes};
-ghost use Rattle.script.specs.Line.{SaysTape};
+ghost use Rattle.std.specs.Prelude.{ℕ, List, IfOk, MatchOption};
+ghost use Rattle.script.specs.Action.{Spells};
+ghost use Rattle.script.specs.Line.{NamesText};
 
 use crate::action::octets_of;
 use crate::words::split_word;
@@ -14,8 +15,8 @@ use std::alloc::{AllocError, Global};
 /// Memory was refused.
 pub fn read_tape(alloc: Global, text: &[u8]) -> Result<Option<(PeerName, Vec<u8>)>, AllocError>
     ensures { IfOk result (λ tape. MatchOption tape
-        ((name octets : List ℕ) → SaysTape (codes "tape " ++ text.now) name octets → ⊥)
-        (λ made. SaysTape (codes "tape " ++ text.now) made.0 made.1.items)) }
+        ((name octets : List ℕ) → NamesText Spells text.now name octets → ⊥)
+        (λ made. NamesText Spells text.now made.0 made.1.items)) }
 {
     let (name, digits) = split_word(text);
     let Some(digits) = digits else {

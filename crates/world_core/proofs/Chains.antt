@@ -126,7 +126,7 @@ module _ {D : Type 0} {g : Ghosts D} where
     stands = one.stands;
   }
 
-  pub did_then : (past : Past) (events next : List Event) (old new : Stations D g) (did : Did past events old)
+  abbrev pub did_then : (past : Past) (events next : List Event) (old new : Stations D g) (did : Did past events old)
       → Did did.later next new
       → Did past (events ++ next) new
   did_then past events next old new did more =

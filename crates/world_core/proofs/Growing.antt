@@ -1,26 +1,21 @@
 -- Transcripts that grow: what came out of one stays, and a debt is accepted only where it is offered.
-use Rattle.std.proofs.Common.{◌≡◌, ◌⊎◌, ℕ, zero, suc, ◌+◌, ◌<◌, Bool, true, false, Option, None, Some, List, [], ◌∷◌}
-use Rattle.std.proofs.Common.{◌++◌, length, take, drop, refl, sym, ap, ◌∙◌, subst, inl, inr, arith, append_assoc}
-use Rattle.std.proofs.Common.{append-nil, take-append-drop}
+use Rattle.std.proofs.Common.{◌≡◌, ◌⊎◌, ℕ, zero, suc, ◌+◌, Bool, true, false, None, Some, List, []}
+use Rattle.std.proofs.Common.{◌∷◌, ◌++◌, length, refl, sym, ap, ◌∙◌, subst, inl, inr, append_assoc}
 use Rattle.std.specs.Prelude.{Contains, if◌then◌else◌, is_some}
 use Rattle.std.specs.List.{slice_get}
 use Rattle.ledger_core.specs.State.{Owing}
 use Rattle.conn_core.specs.Commands.{Command}
 use Rattle.conn_core.specs.History.{accepted, after, answered_ask, closes, ends, ends_at_close, ends_by_answer}
-use Rattle.conn_core.specs.History.{ends_by_loss, held, held_wanting, is_quit_due, needed, need, outcomes}
-use Rattle.conn_core.specs.History.{output, outside, puts, reason, story, taken, with_puts, with_quit}
-use Rattle.conn_core.specs.History.{Broke, Came, End, Event as Happening, Faulted, Handed, Leave, Offered, Put, Sent}
-use Rattle.conn_core.specs.History.{Taken, Tick}
+use Rattle.conn_core.specs.History.{ends_by_loss, held, held_wanting, is_quit_due, output, outside, puts, reason, story}
+use Rattle.conn_core.specs.History.{with_puts, with_quit, Broke, Came, End, Event as Happening, Faulted, Handed, Leave}
+use Rattle.conn_core.specs.History.{Offered, Put, Sent, Taken, Tick}
 use Rattle.conn_core.specs.Receipt.Receives.{Is_closed, Waits, Reads, Fails as FailsToRead}
 use Rattle.conn_core.specs.Receipt.{Reads_on, Receives, ReceivesSome, Stops}
-use Rattle.conn_core.specs.Stands.{Arises, Goes_on}
 use Rattle.conn_core.specs.StoryLaws.{ends-offered}
 use Rattle.conn_core.specs.declared.options.Options.{Options}
 use Rattle.conn_core.specs.declared.outcome.Outcome.{Outcome}
 use Rattle.world_core.specs.Exchange.{sent_out, told_out, untold, with_taken}
-use Rattle.world_core.proofs.Holding.{outcomes_taken}
-use Rattle.world_core.proofs.Receiving.{wanted_step}
-use Rattle.world_core.proofs.Recovering.{contains_left}
+use Rattle.world_core.proofs.Holding.{contains_left}
 
 -- ---- lists
 
@@ -155,60 +150,3 @@ module _ (options : Options) where
       → Contains (ends options later) x
   ends_grew h later grew x has =
       subst (λ (l : List Happening). Contains (ends options l) x) (sym grew.is) (ends_behind grew.more h x has)
-
--- ---- they can have come about
-
-drop_some : {A : Type 0} (n : ℕ) (xs : List A) (o : A) (rest : List A) → o ∷ rest ≡ drop n xs
-    → (n < length xs) × (rest ≡ drop (suc n) xs)
-drop_some zero [] o rest is = absurd cc
-drop_some (suc n) [] o rest is = absurd cc
-drop_some zero (x ∷ xs) o rest is = (omega arith, let same : rest ≡ xs = cc in same)
-drop_some (suc n) (x ∷ xs) o rest is = let so = drop_some n xs o rest is in (omega (arith, so.0), so.1)
-
-some_there : {A : Type 0} (o : Option A) → (o ≡ None → ⊥) → is_some o ≡ true
-some_there None never = absurd (never refl)
-some_there (Some x) never = refl
-
-module _ (options : Options) where
-  takes : (os rest : List Outcome) (h : List Happening) → os ++ rest ≡ untold options h → Arises options h
-      → Arises options (with_taken os h)
-  takes [] rest h is arises = arises
-  takes (o ∷ os) rest h is arises =
-      let so = drop_some (taken h) (outcomes options h) o (os ++ rest) is in
-      let more : suc (taken h) ≡ taken h + 1 = omega arith in
-      takes os rest (Taken ∷ h)
-      (so.1 ∙ ap (λ (n : ℕ). drop n (outcomes options h)) more
-      ∙ ap (λ (l : List Outcome). drop (taken h + 1) l) (sym (outcomes_taken options h)))
-      (Goes_on h Taken arises so.0)
-
-  -- so many of the outcomes are taken
-  pub takes_first : (count : ℕ) (h : List Happening) → Arises options h
-      → Arises options (with_taken (take count (untold options h)) h)
-  takes_first count h arises =
-      takes (take count (untold options h)) (drop count (untold options h)) h
-      (take-append-drop count (untold options h)) arises
-
-  pub sends : (h : List Happening) → Arises options h → Arises options (sent_out options h)
-  sends h arises =
-      Goes_on (told_out options h) (Sent (length (output options (told_out options h))))
-      (takes (untold options h) [] h (append-nil (untold options h)) arises) (omega arith)
-
-  alive_outside : (h : List Happening) (e : Happening) → reason options h ≡ None
-      → outside options h e ≡ after options h e
-  alive_outside h e alive = ap (λ r. if is_some r then h else after options h e) alive
-
-  pub receives : (waiting left : List ℕ) (h later : List Happening) → Arises options h
-      → Receives options waiting h later left → Arises options later
-  receives _ _ h _ arises (Is_closed waiting _ closed) = arises
-  receives _ _ h _ arises (Waits waiting _ alive short) = arises
-  receives _ left h later arises (Reads waiting rest _ _ _ reply alive begins more) =
-      receives rest left (after options h (Came reply)) later
-      (subst (Arises options) (alive_outside h (Came reply) alive) (Goes_on h (Came reply) arises tt)) more
-  receives _ _ h _ arises (FailsToRead waiting _ fault alive begins) =
-      subst (Arises options) (alive_outside h (Faulted fault) alive) (Goes_on h (Faulted fault) arises tt)
-
-  pub wanted_there : (h : List Happening) (number : ℕ) → need options h ≡ Some number
-      → is_some (needed options h number) ≡ true
-  wanted_there h number is =
-      some_there (needed options h number)
-      (wanted_step options (is_some (reason options h)) (story options h).wants (story options h).handed number is)

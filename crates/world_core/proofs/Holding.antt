@@ -23,6 +23,12 @@ contains_first xs x = (0, omega arith, refl)
 pub contains_more : {X : Type 0} (xs : List X) (x y : X) → Contains xs y → Contains (x ∷ xs) y
 contains_more xs x y has = (suc has.0, omega (arith, has.1), has.2)
 
+pub contains_left : {X : Type 0} (xs ys : List X) (x : X) → Contains xs x → Contains (xs ++ ys) x
+contains_left [] ys x (k, below, is) = absurd (omega (arith, below))
+contains_left (y ∷ xs) ys x (zero, below, is) = (zero, omega arith, is)
+contains_left (y ∷ xs) ys x (suc k, below, is) =
+    contains_more (xs ++ ys) y x (contains_left xs ys x (k, omega (arith, below), is))
+
 pub contains_less : {X : Type 0} (xs : List X) (x y : X) → (y ≡ x → ⊥) → Contains (x ∷ xs) y → Contains xs y
 contains_less xs x y apart (zero, below, is) = absurd (apart (sym is))
 contains_less xs x y apart (suc k, below, is) = (k, omega (arith, below), is)

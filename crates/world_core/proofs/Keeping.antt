@@ -10,9 +10,9 @@ use Rattle.peer_queue.specs.declared.limits.Owed.{Owed}
 use Rattle.peer_queue.specs.declared.limits.Owed.TheVariants.{New, Already}
 use Rattle.recovery.specs.Notes.{History, flushed, noted_all, recovered}
 use Rattle.world_core.specs.Past.{Past, PeerPast, TapePast, with_peer}
-use Rattle.world_core.specs.Events.{Acknowledges, AllDo, Claims, Does, Event, Opens, OpensIntake, Owes, Parts, Returns}
-use Rattle.world_core.specs.Events.{Rotates, Sees, Settles, Sheds}
-use Rattle.world_core.specs.Events.{owed_as, owing_as, settled_as, settling}
+use Rattle.world_core.specs.Events.{Acknowledges, AllDo, Claims, Closes, Does, Event, Imports, Opens, OpensIntake, Owes}
+use Rattle.world_core.specs.Events.{Parts, Returns, Rotates, Sees, Settles, Sheds, Spills}
+use Rattle.world_core.specs.Events.{closing, import_key, imported_as, owed_as, owing_as, settled_as, settling}
 use Rattle.peer_queue.specs.declared.settled.Settled.{Settled}
 use Rattle.peer_queue.specs.declared.settled.Settled.TheVariants.{Answered, Dropped, Later, Ready}
 use Rattle.peer_queue.specs.Settled.{key_in}
@@ -156,6 +156,15 @@ pub event_stays : (event : Event) (was now : Past) → Does event was now → Pe
 event_stays (Owes rank token id) was now does =
     one_changed was now rank does.peer _ does.here does.changed
     (owing_stays (owed_as (was.last + 1) does.peer) (was.last + 1) token id does.peer)
+event_stays (Imports rank number token id) was now does =
+    one_changed was now rank does.peer _ does.here does.changed
+    (owing_stays (imported_as number does.peer) (import_key number does.peer) token id does.peer)
+event_stays (Closes rank) was now does =
+    one_changed was now rank does.peer _ does.here does.changed
+    (refl, tape_noted does.peer.tape _ (closing does.peer ∷ []) refl)
+event_stays (Spills rank) was now does =
+    one_changed was now rank does.peer _ does.here does.changed
+    (refl, tape_flushed does.peer.tape does.tape (history_of _ _ does.flushes.all))
 event_stays (Parts rank) was now does =
     one_changed was now rank does.peer _ does.here does.changed
     (refl, tape_flushed does.peer.tape does.tape (history_of _ _ does.flushes.all))

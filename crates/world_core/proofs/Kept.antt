@@ -1,10 +1,9 @@
 -- The names of the peers stay, whatever happens.
-use Rattle.std.proofs.Common.{◌≡◌, ℕ, ◌+◌, Some, List, refl, ap, ◌∙◌}
+use Rattle.std.proofs.Common.{◌≡◌, ℕ, ◌+◌, Some, refl, ap, ◌∙◌}
 use Rattle.std.specs.List.{slice_get}
 use Rattle.world_core.specs.Past.{Past, PeerPast, with_peer}
-use Rattle.world_core.specs.Events.{Acknowledges, AllDo, Claims, Does, Event, Opens, OpensIntake, Owes, Parts, Returns}
-use Rattle.world_core.specs.Events.{Rotates, Sees, Settles, Sheds}
-use Rattle.world_core.specs.Events.{Next, Refuses, Start, owed_as}
+use Rattle.world_core.specs.Events.{Acknowledges, Claims, Closes, Does, Event, Imports, Opens, OpensIntake, Owes, Parts}
+use Rattle.world_core.specs.Events.{Returns, Rotates, Sees, Settles, Sheds, Spills, import_key, imported_as, owed_as}
 use Rattle.world_core.specs.Sound.{names_of}
 use Rattle.world_core.proofs.Pure.{map_set}
 use Rattle.world_core.proofs.Settling.{conf_settled}
@@ -22,6 +21,11 @@ pub names_does : (event : Event) (past later : Past) → Does event past later
 names_does (Owes rank token id) past later d =
     names_put past later rank d.peer _ d.here
     (owed_conf (past.last + 1) token id d.peer (owed_as (past.last + 1) d.peer)) d.changed
+names_does (Imports rank number token id) past later d =
+    names_put past later rank d.peer _ d.here
+    (owed_conf (import_key number d.peer) token id d.peer (imported_as number d.peer)) d.changed
+names_does (Closes rank) past later d = names_put past later rank d.peer _ d.here refl d.changed
+names_does (Spills rank) past later d = names_put past later rank d.peer _ d.here refl d.changed
 names_does (Parts rank) past later d = names_put past later rank d.peer _ d.here refl d.changed
 names_does (Rotates rank generation) past later d = names_put past later rank d.peer _ d.here refl d.changed
 names_does (Sheds rank numbers) past later d = names_put past later rank d.peer _ d.here refl d.changed
@@ -34,24 +38,3 @@ names_does (Sees number) past later d = ap (λ (p : Past). names_of p.peers) d.c
 names_does Acknowledges past later d = ap (λ (p : Past). names_of p.peers) d.changed
 names_does (Opens rank) past later d = names_put past later rank d.peer _ d.here refl d.changed
 names_does OpensIntake past later d = ap (λ (p : Past). names_of p.peers) d.changed
-
-pub names_all : (begun later : Past) (events : List Event) → AllDo begun events later
-    → names_of later.peers ≡ names_of begun.peers
-names_all begun later events Start = refl
-names_all begun later events (Next before event past last did does safe) =
-    names_does event past later does ∙ names_all begun past before did
-
-pub names_refuses : (event : Event) (past later : Past) (fault : _) → Refuses event past fault later
-    → names_of later.peers ≡ names_of past.peers
-names_refuses (Owes rank token id) past later fault d = names_put past later rank d.peer _ d.here refl d.changed
-names_refuses (Parts rank) past later fault d = names_put past later rank d.peer _ d.here refl d.changed
-names_refuses (Rotates rank generation) past later fault d = names_put past later rank d.peer _ d.here refl d.changed
-names_refuses (Sheds rank numbers) past later fault d = names_put past later rank d.peer _ d.here refl d.changed
-names_refuses (Claims rank id now) past later fault d = names_put past later rank d.peer _ d.here refl d.changed
-names_refuses (Returns rank id number) past later fault d = names_put past later rank d.peer _ d.here refl d.changed
-names_refuses (Settles rank id now outcome) past later fault d =
-    names_put past later rank d.peer _ d.here refl d.changed
-names_refuses (Sees number) past later fault d = ap (λ (p : Past). names_of p.peers) d.changed
-names_refuses Acknowledges past later fault d = ap (λ (p : Past). names_of p.peers) d.changed
-names_refuses (Opens rank) past later fault d = names_put past later rank d.peer _ d.here refl d.changed
-names_refuses OpensIntake past later fault d = ap (λ (p : Past). names_of p.peers) d.changed

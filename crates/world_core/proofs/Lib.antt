@@ -1,9 +1,11 @@
 pub mod Acknowledged
 pub mod Pure
+pub mod ImportEvents
 pub mod Sound
 pub mod Begins
 pub mod Peers
 pub mod Owing
+pub mod Closing
 pub mod Stationed
 pub mod Intake
 pub mod Seeing
@@ -15,7 +17,10 @@ pub mod Stepping
 pub mod Naming
 pub mod Lining
 pub mod Reading
+pub mod Listing
 pub mod Keeping
+pub mod Walking
+pub mod Traversal
 pub mod Running
 pub mod Zips
 pub mod Halting
@@ -48,6 +53,7 @@ pub mod Pairing
 pub mod Breaking
 pub mod Handing
 pub mod Lifting
+pub mod Importing
 pub mod Joining
 pub mod Reaching
 pub mod Acting

@@ -28,9 +28,8 @@ use Rattle.peer_queue.specs.declared.fault.StationFault.TheVariants.{NotHeld, Br
 use Rattle.peer_queue.specs.declared.limits.Owed.{Owed}
 use Rattle.peer_queue.specs.declared.limits.Owed.TheVariants.{Already, New}
 use Rattle.peer_queue.specs.declared.station.Station.{Station}
-use Rattle.world_core.specs.Past.{PeerPast, TapePast, mark_at}
+use Rattle.world_core.specs.Past.{PeerPast, TapePast, ledger_at}
 use Rattle.world_core.specs.Tapes.{HasRoom, RefusesOwe, noted_at}
-use Rattle.world_core.specs.Events.{owed_as}
 use Rattle.world_core.specs.Fault.{fault_of, fault_of_station}
 use Rattle.world_core.specs.Stands.{OwedNot, OwedTo, PeerStands, TapeStands}
 use Rattle.world_core.specs.declared.fault.Fault.{Fault}
@@ -38,9 +37,17 @@ use Rattle.world_core.specs.declared.peer.Peer.{Peer}
 use Rattle.world_core.proofs.Placed.{no_place}
 use Rattle.world_core.proofs.Peers.{same_tape, same_truth, tape_broken, tape_works}
 
-new_where : (number : ℕ) (past : PeerPast) (above : Bool) → nat_lt (mark_at past.tape) number ≡ above
-    → owed_as number past ≡ (if above then New else Already)
-new_where number past above e = ap (λ (b : Bool). if b then New else Already) e
+-- What a line of this number is at a peer whose ledger has its source's mark, and its key there.
+abbrev answer_by : (State → ℕ) → ℕ → PeerPast → Owed
+answer_by mark number past = if nat_lt (mark (ledger_at past.tape)) number then New else Already
+
+abbrev key_by : (State → ℕ) → PeerPast → ℕ
+key_by own past = own (ledger_at past.tape)
+
+new_where : (mark : State → ℕ) (number : ℕ) (past : PeerPast) (above : Bool)
+    → nat_lt (mark (ledger_at past.tape)) number ≡ above
+    → answer_by mark number past ≡ (if above then New else Already)
+new_where mark number past above e = ap (λ (b : Bool). if b then New else Already) e
 
 module _ {D : Type 0} {g : Ghosts D} where
   -- one note more
@@ -96,81 +103,83 @@ module _ {D : Type 0} {g : Ghosts D} where
       (no_place (places_of peer.station) number (keys state) are
       (next-apart (marks_of state) number (keys state) next whole.debts.past))
 
-  owed_new : (number : ℕ) (past : PeerPast) (token id : List ℕ) (old new : Peer D g) → PeerStands past old
-      → (IsBroken (tape_of old.station) → ⊥)
-      → (ledger_of (tape_of old.station)).mark < number → pending_of (tape_of old.station) ≢ most_pending
-      → (Overflows (ledger_of (tape_of old.station)) (Owe number token id) → ⊥)
-      → placed (places_of old.station) ≡ keys (ledger_of (tape_of old.station))
-      → Notes old.station new.station (Owe number token id)
-      → places_of new.station ≡ with_place (places_of old.station) number Ready → new.conf ≡ old.conf
-      → new.parted ≡ old.parted
-      → OwedTo number token id past New new
-  owed_new number past token id old new stands works above room fits are notes places conf parts =
-      let mark : mark_at past.tape < number =
-      subst (λ (state : State). state.mark < number) stands.tape.stands.ledger above in
-      record {
-        works = tape_works past.tape (tape_of old.station) stands.tape works;
-        owed_is = sym (new_where number past true (lt-ltb _ _ mark));
-        apart = λ _. unplaced number past old stands are notes.legal.0;
-        room = λ _. (
-          room_here past.tape (tape_of old.station) stands.tape works room,
-          subst (λ (state : State). Overflows state (Owe number token id) → ⊥) stands.tape.stands.ledger fits,
-        );
-        stands = record {
-          conf = conf ∙ stands.conf;
-          limits = notes.limits ∙ stands.limits;
-          tape = noted_tape past.tape old.station new.station (Owe number token id) stands.tape notes;
-          places = places ∙ ap (λ (l : Places). with_place l number Ready) stands.places;
-          parted = parts ∙ stands.parted;
-        };
-      }
-
-  owed_old : (number : ℕ) (past : PeerPast) (token id : List ℕ) (peer : Peer D g) → PeerStands past peer
-      → (IsBroken (tape_of peer.station) → ⊥)
-      → number ≤ (ledger_of (tape_of peer.station)).mark → OwedTo number token id past Already peer
-  owed_old number past token id peer stands works below =
-      let mark : number ≤ mark_at past.tape =
-      subst (λ (state : State). number ≤ state.mark) stands.tape.stands.ledger below in
-      record {
-        works = tape_works past.tape (tape_of peer.station) stands.tape works;
-        owed_is = sym (new_where number past false (le-ltb _ _ mark));
-        apart = λ e. cc;
-        room = λ e. cc;
-        stands = stands;
-      }
-
-  -- what a station answered
-  pub owed_answered : (number : ℕ) (past : PeerPast) (token id : List ℕ) (old new : Peer D g) (owed : Owed)
-      → PeerStands past old
-      → (IsBroken (tape_of old.station) → ⊥) → (owed ≡ Already → number ≤ (ledger_of (tape_of old.station)).mark)
-      → (owed ≡ New → number ≤ (ledger_of (tape_of old.station)).mark → ⊥)
-      → placed (places_of old.station) ≡ keys (ledger_of (tape_of old.station))
-      → (owed ≡ Already → new.station ≡ old.station)
-      → (owed ≡ New → Notes old.station new.station (Owe number token id))
-      → (owed ≡ New → places_of new.station ≡ with_place (places_of old.station) number Ready)
-      → (Overflows (ledger_of (tape_of old.station)) (Owe number token id) → ⊥)
-      → ((ledger_of (tape_of old.station)).mark < number → pending_of (tape_of old.station) ≢ most_pending)
-      → new.conf ≡ old.conf → new.parted ≡ old.parted → OwedTo number token id past owed new
-  owed_answered number past token id old new New stands works below never are same notes places fits room conf parts =
-      let above : (ledger_of (tape_of old.station)).mark < number =
-      elim (cases_lt (ledger_of (tape_of old.station)).mark number) [
-        | inl over ↦ over
-        | inr under ↦ absurd (never refl under)
-      ] in
-      owed_new number past token id old new stands works above (room above) fits are (notes refl) (places refl) conf
-      parts
-  owed_answered number past token id old new Already stands works below never are same notes places fits room conf
-      parts =
-      let st = same refl in
-      let stays : PeerStands past new = record {
+  module _ (mark own : State → ℕ) (number : ℕ) where
+    owed_new : (past : PeerPast) (token id : List ℕ) (old new : Peer D g) → PeerStands past old
+        → (IsBroken (tape_of old.station) → ⊥)
+        → mark (ledger_at past.tape) < number → pending_of (tape_of old.station) ≢ most_pending
+        → (Overflows (ledger_at past.tape) (Owe (key_by own past) token id) → ⊥)
+        → placed (places_of old.station) ≡ keys (ledger_of (tape_of old.station))
+        → Notes old.station new.station (Owe (key_by own past) token id)
+        → places_of new.station ≡ with_place (places_of old.station) (key_by own past) Ready → new.conf ≡ old.conf
+        → new.parted ≡ old.parted
+        → OwedTo (answer_by mark number) (key_by own) token id past New new
+    owed_new past token id old new stands works above room fits are notes places conf parts = record {
+      works = tape_works past.tape (tape_of old.station) stands.tape works;
+      owed_is = sym (new_where mark number past true (lt-ltb _ _ above));
+      apart = λ _. unplaced (key_by own past) past old stands are notes.legal.0;
+      room = λ _. (room_here past.tape (tape_of old.station) stands.tape works room, fits);
+      stands = record {
         conf = conf ∙ stands.conf;
-        limits = ap (λ (s : Station D g). station_limits s) st ∙ stands.limits;
-        tape = subst (λ (s : Station D g). TapeStands past.tape s.tape) (sym st) stands.tape;
-        places = ap (λ (s : Station D g). places_of s) st ∙ stands.places;
+        limits = notes.limits ∙ stands.limits;
+        tape = noted_tape past.tape old.station new.station (Owe (key_by own past) token id) stands.tape notes;
+        places = places ∙ ap (λ (l : Places). with_place l (key_by own past) Ready) stands.places;
         parted = parts ∙ stands.parted;
-      } in
-      owed_old number past token id new stays (subst (λ (s : Station D g). IsBroken s.tape → ⊥) (sym st) works)
-      (subst (λ (s : Station D g). number ≤ (ledger_of s.tape).mark) (sym st) (below refl))
+      };
+    }
+
+    owed_old : (past : PeerPast) (token id : List ℕ) (peer : Peer D g) → PeerStands past peer
+        → (IsBroken (tape_of peer.station) → ⊥)
+        → number ≤ mark (ledger_of (tape_of peer.station))
+        → OwedTo (answer_by mark number) (key_by own) token id past Already peer
+    owed_old past token id peer stands works below =
+        let there : number ≤ mark (ledger_at past.tape) =
+        subst (λ (state : State). number ≤ mark state) stands.tape.stands.ledger below in
+        record {
+          works = tape_works past.tape (tape_of peer.station) stands.tape works;
+          owed_is = sym (new_where mark number past false (le-ltb _ _ there));
+          apart = λ e. cc;
+          room = λ e. cc;
+          stands = stands;
+        }
+
+    -- what a station answered
+    pub owed_answered : (past : PeerPast) (token id : List ℕ) (old new : Peer D g) (owed : Owed)
+        → PeerStands past old
+        → (IsBroken (tape_of old.station) → ⊥)
+        → (owed ≡ Already → number ≤ mark (ledger_of (tape_of old.station)))
+        → (owed ≡ New → number ≤ mark (ledger_of (tape_of old.station)) → ⊥)
+        → placed (places_of old.station) ≡ keys (ledger_of (tape_of old.station))
+        → (owed ≡ Already → new.station ≡ old.station)
+        → (owed ≡ New → Notes old.station new.station (Owe (own (ledger_of (tape_of old.station))) token id))
+        → (owed ≡ New → places_of new.station
+        ≡ with_place (places_of old.station) (own (ledger_of (tape_of old.station))) Ready)
+        → (Overflows (ledger_of (tape_of old.station)) (Owe (own (ledger_of (tape_of old.station))) token id) → ⊥)
+        → (mark (ledger_of (tape_of old.station)) < number → pending_of (tape_of old.station) ≢ most_pending)
+        → new.conf ≡ old.conf → new.parted ≡ old.parted
+        → OwedTo (answer_by mark number) (key_by own) token id past owed new
+    owed_answered past token id old new New stands works below never are same notes places fits room conf parts =
+        let is = stands.tape.stands.ledger in
+        let above : mark (ledger_of (tape_of old.station)) < number =
+        elim (cases_lt (mark (ledger_of (tape_of old.station))) number) [
+          | inl over ↦ over
+          | inr under ↦ absurd (never refl under)
+        ] in
+        owed_new past token id old new stands works (subst (λ (state : State). mark state < number) is above)
+        (room above) (subst (λ (state : State). Overflows state (Owe (own state) token id) → ⊥) is fits) are
+        (subst (λ (state : State). Notes old.station new.station (Owe (own state) token id)) is (notes refl))
+        (subst (λ (state : State). places_of new.station ≡ with_place (places_of old.station) (own state) Ready) is
+        (places refl)) conf parts
+    owed_answered past token id old new Already stands works below never are same notes places fits room conf parts =
+        let st = same refl in
+        let stays : PeerStands past new = record {
+          conf = conf ∙ stands.conf;
+          limits = ap (λ (s : Station D g). station_limits s) st ∙ stands.limits;
+          tape = subst (λ (s : Station D g). TapeStands past.tape s.tape) (sym st) stands.tape;
+          places = ap (λ (s : Station D g). places_of s) st ∙ stands.places;
+          parted = parts ∙ stands.parted;
+        } in
+        owed_old past token id new stays (subst (λ (s : Station D g). IsBroken s.tape → ⊥) (sym st) works)
+        (subst (λ (s : Station D g). number ≤ mark (ledger_of s.tape)) (sym st) (below refl))
 
   -- ---- refused
 
@@ -213,31 +222,36 @@ module _ {D : Type 0} {g : Ghosts D} where
     unowed NoMemory told e broken full pending kind =
         inr (inr (inr (e, tape_works past old.tape stands (λ b. let is : NoMemory ≡ Broken = broken.1 b in cc))))
 
-  pub owed_refused : (past : PeerPast) (old new : Peer D g) (number : ℕ) (token id : List ℕ) → PeerStands past old
+  pub owed_refused : (mark own : State → ℕ) (past : PeerPast) (old new : Peer D g) (number : ℕ) (token id : List ℕ)
+      → PeerStands past old
       → IsSame old.station new.station
       → new.conf ≡ old.conf → new.parted ≡ old.parted → (fault : StationFault) (told : Fault)
       → told ≡ fault_of_station fault
       → ((fault ≡ Broken) ↔ IsBroken (tape_of old.station))
       → (fault ≡ TapeRefused (RefusedNote CountFull)
-      → Overflows (ledger_of (tape_of old.station)) (Owe number token id))
+      → Overflows (ledger_of (tape_of old.station)) (Owe (own (ledger_of (tape_of old.station))) token id))
       → (fault ≡ TapeRefused PendingFull
       → (pending_of (tape_of old.station) ≡ most_pending)
-      × (Overflows (ledger_of (tape_of old.station)) (Owe number token id) → ⊥))
-      → IsOweFault fault → ((IsBroken (tape_of old.station) → ⊥) → number ≤ (ledger_of (tape_of old.station)).mark → ⊥)
-      → OwedNot number token id past told new
-  owed_refused past old new number token id stands same conf parts fault told e broken full pending kind never =
+      × (Overflows (ledger_of (tape_of old.station)) (Owe (own (ledger_of (tape_of old.station))) token id) → ⊥))
+      → IsOweFault fault
+      → ((IsBroken (tape_of old.station) → ⊥) → number ≤ mark (ledger_of (tape_of old.station)) → ⊥)
+      → OwedNot (answer_by mark number) (key_by own) token id past told new
+  owed_refused mark own past old new number token id stands same conf parts fault told e broken full pending kind over =
       record {
         refused = (
           λ works. above_mark (λ b. let told_so = tape_broken past.tape (tape_of old.station) stands.tape b in cc),
-          unowed past.tape old.station (Owe number token id) stands.tape fault told e broken full pending kind,
+          subst (λ (state : State). RefusesOwe past.tape (Owe (own state) token id) told) stands.tape.stands.ledger
+              (unowed past.tape old.station (Owe (own (ledger_of (tape_of old.station))) token id) stands.tape fault
+              told
+              e broken full pending kind),
           refl,
         );
         stands = same_peer past old new stands same conf parts;
       }
     where
-      above_mark : (IsBroken (tape_of old.station) → ⊥) → owed_as number past ≡ New
-      above_mark works = elim (cases_lt (mark_at past.tape) number) [
-        | inl above ↦ new_where number past true (lt-ltb _ _ above)
-        | inr below ↦ absurd (never works
-            (subst (λ (state : State). number ≤ state.mark) (sym stands.tape.stands.ledger) below))
+      above_mark : (IsBroken (tape_of old.station) → ⊥) → answer_by mark number past ≡ New
+      above_mark works = elim (cases_lt (mark (ledger_at past.tape)) number) [
+        | inl above ↦ new_where mark number past true (lt-ltb _ _ above)
+        | inr below ↦ absurd (over works
+            (subst (λ (state : State). number ≤ mark state) (sym stands.tape.stands.ledger) below))
       ]

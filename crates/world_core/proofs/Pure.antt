@@ -47,6 +47,23 @@ module _ {A : Type 0} (P : A → Type 0) where
   all_push [] x all one = (one, tt)
   all_push (a ∷ xs) x all one = (all.0, all_push xs x all.1 one)
 
+  pub front_all : (xs ys : List A) → AllByRecursion P (xs ++ ys) → AllByRecursion P xs
+  front_all [] ys all = tt
+  front_all (x ∷ xs) ys all = (all.0, front_all xs ys all.1)
+
+  pub last_all : (xs : List A) (y : A) → AllByRecursion P (xs ++ y ∷ []) → P y
+  last_all [] y all = all.0
+  last_all (x ∷ xs) y all = last_all xs y all.1
+
+  pub both_all : (xs ys : List A) → AllByRecursion P xs → AllByRecursion P ys → AllByRecursion P (xs ++ ys)
+  both_all [] ys one other = other
+  both_all (x ∷ xs) ys one other = (one.0, both_all xs ys one.1 other)
+
+  pub first_all : (n : ℕ) (xs : List A) → AllByRecursion P xs → AllByRecursion P (take n xs)
+  first_all zero xs all = tt
+  first_all (suc n) [] all = tt
+  first_all (suc n) (x ∷ xs) all = (all.0, first_all n xs all.1)
+
 pub all_weaker : {A : Type 0} (P Q : A → Type 0) → ((x : A) → P x → Q x) → (xs : List A) → AllByRecursion P xs
     → AllByRecursion Q xs
 all_weaker P Q weaker [] all = tt
@@ -112,7 +129,7 @@ pub acknowledged_less : (low high : ℕ) → low ≤ high → (peer : PeerPast) 
 acknowledged_less low high less peer has =
     all_weaker (IsAbove high) (IsAbove low) (above_less low high less) (pending_notes peer.tape.history) has
 
-drop_push : {A : Type 0} (k : ℕ) (xs : List A) (x : A) → k ≤ length xs → drop k (xs ++ x ∷ []) ≡ drop k xs ++ x ∷ []
+pub drop_push : {A : Type 0} (k : ℕ) (xs : List A) (x : A) → k ≤ length xs → drop k (xs ++ x ∷ []) ≡ drop k xs ++ x ∷ []
 drop_push zero xs x le = refl
 drop_push (suc k) [] x le = absurd (omega arith)
 drop_push (suc k) (a ∷ xs) x le = drop_push k xs x (omega arith)
@@ -125,7 +142,7 @@ above_noted mark h note within all one =
     subst (AllByRecursion (IsAbove mark)) (sym (drop_push h.kept h.notes note within))
     (all_push (IsAbove mark) (pending_notes h) note all one)
 
-drop_all : {A : Type 0} (xs : List A) → drop (length xs) xs ≡ []
+pub drop_all : {A : Type 0} (xs : List A) → drop (length xs) xs ≡ []
 drop_all [] = refl
 drop_all (x ∷ xs) = drop_all xs
 

@@ -100,7 +100,7 @@ module _ (o : Options) where
   goes_broken waiting h mid some =
       goes_then o h mid (after o mid Broke) (goes_some waiting h mid some) (goes_after o mid Broke tt)
 
-  pub arises_broken : (waiting : List ℕ) (h mid : List Happening) → Arises o h → ReceivesSome o waiting h mid
+  arises_broken : (waiting : List ℕ) (h mid : List Happening) → Arises o h → ReceivesSome o waiting h mid
       → Arises o (after o mid Broke)
   arises_broken waiting h mid arises some =
       subst (Arises o) (alive_outside mid Broke (alive_some waiting h mid some))
@@ -233,7 +233,7 @@ module _ (o : Options) where
       ∙ (find-left_from (is_of number) handed 0 wants ∙ ap (option_map (λ (x : ℕ × Want). x.1)) none)) in
       cc
 
-  pub wanted_step : (b : Bool) (wants : List Want) (handed : List ℕ) (number : ℕ)
+  wanted_step : (b : Bool) (wants : List Want) (handed : List ℕ) (number : ℕ)
       → (if b then None else option_map (λ (want : Want). want.key) (slice_get (left_from 0 wants handed) 0))
       ≡ Some number
       → (if b then None else first_left (is_of number) handed 0 wants) ≡ None → ⊥

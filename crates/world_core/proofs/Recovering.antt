@@ -1,7 +1,7 @@
 -- Whatever a stop leaves behind any steps is the tape of the first of a peer's notes, every acknowledged one among
 -- them, and what was acknowledged is owed there or has ended.
-use Rattle.std.proofs.Common.{◌≡◌, ◌⊎◌, ℕ, zero, suc, ◌<◌, Bool, true, false, cond, not, Some, List, [], ◌∷◌, ◌++◌}
-use Rattle.std.proofs.Common.{take, refl, sym, ap, ◌∙◌, subst, inl, inr, arith}
+use Rattle.std.proofs.Common.{◌≡◌, ◌⊎◌, ℕ, zero, suc, ◌<◌, Bool, true, false, cond, not, Some, List}
+use Rattle.std.proofs.Common.{[], ◌∷◌, ◌++◌, take, refl, sym, ap, ◌∙◌, subst, inl, inr, arith}
 use Rattle.std.specs.Prelude.{◌==◌, Contains}
 use Rattle.std.proofs.lemmas.Bool.{cases_eq, eqb-true}
 use Rattle.std.specs.List.{AllByRecursion, AllZip, slice_get}
@@ -19,6 +19,7 @@ use Rattle.world_core.specs.Safe.{IsSafe, KeepsNotes}
 use Rattle.world_core.specs.Laws.{AllAreRecovered, Comes, HasEnded, IsRecovered, OverRuns, StillOwes}
 use Rattle.world_core.specs.Laws.Comes.{No_step, Step_taken, Step_refused}
 use Rattle.world_core.specs.Keeping.{PeerStays}
+use Rattle.world_core.specs.Sound.{IsSoundLife}
 use Rattle.world_core.specs.Told.{Said}
 use Rattle.world_core.specs.declared.step.Step.{Step}
 use Rattle.world_core.proofs.Chains.{get_left}
@@ -28,12 +29,6 @@ use Rattle.world_core.proofs.Running.{all_stay}
 -- ---- the elements of a list
 
 module _ {A : Type 0} where
-  pub contains_left : (xs ys : List A) (x : A) → Contains xs x → Contains (xs ++ ys) x
-  contains_left [] ys x (k, below, is) = absurd (omega (arith, below))
-  contains_left (y ∷ xs) ys x (zero, below, is) = (zero, omega arith, is)
-  contains_left (y ∷ xs) ys x (suc k, below, is) =
-      contains_more (xs ++ ys) y x (contains_left xs ys x (k, omega (arith, below), is))
-
   -- one more among them
   contains_put : (xs ys : List A) (x y : A) → Contains (xs ++ ys) y → Contains (xs ++ x ∷ ys) y
   contains_put [] ys x y has = contains_more ys x y has
@@ -227,9 +222,15 @@ all_recovered (a ∷ was) (b ∷ now) stay safe = (recovered a b stay.0 safe.0, 
 
 pub comes_safe : (begun : Life) (steps : List Step) (lines : List (List Said)) (later : Life)
     → Comes begun steps lines later → IsSafe later.past
-comes_safe begun _ _ _ (No_step safe) = safe
-comes_safe begun _ _ _ (Step_taken steps step lines told life later comes takes safe) = safe
-comes_safe begun _ _ _ (Step_refused steps step lines fault life later comes refuses safe) = safe
+comes_safe begun _ _ _ (No_step safe sound) = safe
+comes_safe begun _ _ _ (Step_taken steps step lines told life later comes takes safe sound) = safe
+comes_safe begun _ _ _ (Step_refused steps step lines fault life later comes refuses safe sound) = safe
+
+pub comes_sound : (begun : Life) (steps : List Step) (lines : List (List Said)) (later : Life)
+    → Comes begun steps lines later → IsSoundLife later
+comes_sound begun _ _ _ (No_step safe sound) = sound
+comes_sound begun _ _ _ (Step_taken steps step lines told life later comes takes safe sound) = sound
+comes_sound begun _ _ _ (Step_refused steps step lines fault life later comes refuses safe sound) = sound
 
 pub recover_all : OverRuns AllAreRecovered
 recover_all = λ begun later steps lines comes.

@@ -1,17 +1,22 @@
 -- Worked scripts, computed: what each step tells, what each peer has noted, and how much of it is acknowledged.
 use Rattle.std.proofs.Common.{◌≡◌, ℕ, ◌+◌, true, false, None, Some, List, [], ◌∷◌, ◌++◌, length, map, refl}
-use Rattle.std.specs.Prelude.{codes, if◌then◌else◌}
+use Rattle.std.specs.Prelude.{◌-◌, ◌^◌, codes, if◌then◌else◌}
 use Rattle.disk_model.specs.declared.choice.Choice.{Choice}
 use Rattle.disk_model.specs.Disk.Event.{Made, Synced, Wrote}
 use Rattle.feed_conf.specs.declared.conf.PeerConf.{PeerConf}
 use Rattle.ledger_core.specs.State.{keys}
-use Rattle.recovery.specs.Notes.{begun as begun_history, flushed, recovered}
+use Rattle.recovery.specs.Notes.{begun as begun_history, flushed, most_pending, recovered}
 use Rattle.peer_queue.specs.Place.{Ready}
 use Rattle.peer_queue.specs.declared.limits.Owed.TheVariants.{Already, New}
 use Rattle.world_core.specs.Past.{Armed, Life, Past, PeerPast, TapePast, ledger_at, mark_at}
-use Rattle.world_core.specs.Events.{Acknowledges, Opens, OpensIntake, Owes, Parts, Sees, opened_peer, owed_as, owing_as}
+use Rattle.world_core.specs.Events.{Acknowledges, Closes, Imports, Opens, OpensIntake, Owes, Parts, Sees, Spills}
+use Rattle.world_core.specs.Events.{closing}
+use Rattle.world_core.specs.Events.{import_key, import_mark_at, imported_as, open_source, opened_peer, owed_as}
+use Rattle.world_core.specs.Events.{owing_as}
 use Rattle.world_core.specs.Events.{parted, seen}
 use Rattle.world_core.specs.Halts.{AtRest, ByChoice, armed_with, halted, left, restart_events}
+use Rattle.world_core.specs.Imports.{Good, count_new, import_events}
+use Rattle.world_core.specs.Tapes.{noted_at}
 use Rattle.world_core.specs.Steps.{begun_at, flush_events, is_named, line_events, owed_there}
 use Rattle.world_core.specs.Told.{Mark, Owed, Said, lines_in, mark_said}
 
@@ -166,6 +171,53 @@ module _ (conf : PeerConf) where
   -- a second begin forgets the parts, and keeps the later number
   begun_again : map (λ (p : PeerPast). p.parted) (begun_at between).peers ≡ false ∷ []
   begun_again = refl
+
+  -- ---- a backlog file
+
+  -- line 1 and line 3 of it, of which line 2 is not good: two notes, the close of the source, and the flush
+  abbrev articles : List Good
+  articles = (1, (codes "a/1", codes "<x@y>")) ∷ (3, (codes "a/2", codes "<z@y>")) ∷ []
+
+  import_has : import_events 0 0 0 articles ≡ Imports 0 1 (codes "a/1") (codes "<x@y>")
+      ∷ Imports 0 3 (codes "a/2") (codes "<z@y>") ∷ Closes 0 ∷ Spills 0 ∷ []
+  import_has = refl
+
+  import_counts : count_new 0 articles ≡ 2
+  import_counts = refl
+
+  -- where as many notes pend as may, or one fewer, room is made before the note that finds none
+  import_of_full : import_events 0 most_pending 0 articles ≡ Spills 0 ∷ Imports 0 1 (codes "a/1") (codes "<x@y>")
+      ∷ Imports 0 3 (codes "a/2") (codes "<z@y>") ∷ Closes 0 ∷ Spills 0 ∷ []
+  import_of_full = refl
+
+  import_of_nearly_full : import_events 0 (most_pending - 1) 0 articles ≡ Imports 0 1 (codes "a/1") (codes "<x@y>")
+      ∷ Spills 0 ∷ Imports 0 3 (codes "a/2") (codes "<z@y>") ∷ Closes 0 ∷ Spills 0 ∷ []
+  import_of_nearly_full = refl
+
+  -- a line at or below the mark makes no note, whatever the mark
+  import_again : import_events 0 most_pending 3 articles ≡ Imports 0 1 (codes "a/1") (codes "<x@y>")
+      ∷ Imports 0 3 (codes "a/2") (codes "<z@y>") ∷ Spills 0 ∷ Closes 0 ∷ Spills 0 ∷ []
+  import_again = refl
+
+  counts_again : (count_new 3 articles ≡ 0) × (count_new 1 articles ≡ 1)
+  counts_again = (refl, refl)
+
+  abbrev import_one : (number : ℕ) → List ℕ → List ℕ → PeerPast → PeerPast
+  import_one number token id p = owing_as (imported_as number p) (import_key number p) token id p
+
+  abbrev closed : PeerPast → PeerPast
+  closed p = record p { tape = noted_at p.tape (closing p) }
+
+  abbrev imported : PeerPast
+  imported = closed (import_one 3 (codes "a/2") (codes "<z@y>")
+      (import_one 1 (codes "a/1") (codes "<x@y>") (peer (codes "p"))))
+
+  -- what is owed, and which source is open then
+  import_leaves : keys (ledger_at imported.tape) ≡ (2 ^ 64 + 1) ∷ (2 ^ 64 + 3) ∷ []
+  import_leaves = refl
+
+  import_opens : (open_source imported ≡ 2) × (import_mark_at imported ≡ 0)
+  import_opens = (refl, refl)
 
   -- ---- stops
 

@@ -32,7 +32,7 @@ ran_none steps life lines world none empty stands = record {
   later = life;
   runs = subst (λ (s : List Step). Runs life s (said_by lines) life) (sym none)
       (subst (λ (l : List (List Said)). Runs life [] l life) (sym (ap said_by empty))
-      (Start (world_safe world life stands)));
+      (Start (world_safe world life stands) stands.sound));
   stands = stands;
 }
 
@@ -52,7 +52,7 @@ ran_more steps all step life lines now told world later is more ran took = recor
       (subst (λ (l : List (List Said)). Runs life (steps ++ step ∷ []) l took.later)
       (sym (ap said_by more ∙ said_push lines told))
       (Next steps step (said_by lines) (map said_of told.items) ran.later took.later ran.runs took.takes
-      (world_safe later took.later took.stands)));
+      (world_safe later took.later took.stands) took.stands.sound));
   stands = took.stands;
 }
 

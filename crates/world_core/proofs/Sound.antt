@@ -1,5 +1,5 @@
 -- What holds of all tapes of each world that steps have made is kept by each event.
-use Rattle.std.proofs.Common.{◌≡◌, ℕ, ◌+◌, ◌^◌, ◌<◌, ◌≤◌, true, false, Some, List, [], ◌∷◌, length, map, refl, sym, ap}
+use Rattle.std.proofs.Common.{◌≡◌, ℕ, ◌^◌, ◌<◌, ◌≤◌, true, false, Some, List, [], ◌∷◌, length, map, refl, sym, ap}
 use Rattle.std.proofs.Common.{◌∙◌, subst, arith}
 use Rattle.std.specs.List.{AllByRecursion, AllZip, slice_get}
 use Rattle.disk_model.specs.declared.Disk.{Ghosts}
@@ -15,7 +15,7 @@ use Rattle.recovery.specs.Notes.{History, flushed}
 use Rattle.recovery.specs.declared.tape.Tape.{Tape}
 use Rattle.world_core.specs.Past.{Past, PeerPast, TapePast, mark_at, with_intake, with_last, with_peer, with_tape}
 use Rattle.world_core.specs.Safe.{HasAcknowledged, IsAbove, IsSafe, KeepsNotes}
-use Rattle.world_core.specs.Events.{owing_as, parted}
+use Rattle.world_core.specs.Events.{closing, owing_as, parted}
 use Rattle.world_core.specs.Tapes.{noted_at}
 use Rattle.world_core.specs.Steps.{IsSealable, begun_at}
 use Rattle.world_core.specs.Sound.{HasParted, IsSound, NamesRise, names_of}
@@ -53,25 +53,48 @@ pub owed_conf : (number : ℕ) (token id : List ℕ) (peer : PeerPast) (owed : O
 owed_conf number token id peer New = refl
 owed_conf number token id peer Already = refl
 
-pub sound_line : (past : Past) (rank : ℕ) (peer : PeerPast) (token id : List ℕ) (owed : Owed) → IsSound past
-    → slice_get past.peers rank ≡ Some peer → peer.tape.history.kept ≤ length peer.tape.history.notes
-    → IsSound (with_peer past rank (owing_as owed (past.last + 1) token id peer))
-sound_line past rank peer token id owed sound here within = record {
-  names = names_set past rank peer _ sound.names here (owed_conf (past.last + 1) token id peer owed);
+-- A peer becomes another, whose notes that pend were made by no line up to a mark where those of the first were not.
+sound_kept : (past : Past) (rank : ℕ) (peer now : PeerPast) → IsSound past → slice_get past.peers rank ≡ Some peer
+    → now.conf ≡ peer.conf → now.parted ≡ peer.parted
+    → ((mark : ℕ) → mark ≤ past.last → HasAcknowledged mark peer → HasAcknowledged mark now)
+    → IsSound (with_peer past rank now)
+sound_kept past rank peer now sound here conf parts has = record {
+  names = names_set past rank peer now sound.names here conf;
   fits = sound.fits;
   marked = sound.marked;
-  acknowledged = all_set (HasAcknowledged (mark_at past.intake)) past.peers rank _ sound.acknowledged
-      (has_owed (mark_at past.intake) (past.last + 1) token id peer owed within (omega (arith, sound.marked))
+  acknowledged = all_set (HasAcknowledged (mark_at past.intake)) past.peers rank now sound.acknowledged
+      (has (mark_at past.intake) sound.marked
       (all_at (HasAcknowledged (mark_at past.intake)) past.peers rank peer sound.acknowledged here));
   kept = sound.kept;
   parted = λ number is.
-      all_set (HasParted number) past.peers rank _ (sound.parted number is)
-      (λ e. has_owed number (past.last + 1) token id peer owed within (omega (arith, sound.kept number is))
-      (all_at (HasParted number) past.peers rank peer (sound.parted number is) here
-      (sym (owed_parted (past.last + 1) token id peer owed) ∙ e)));
+      all_set (HasParted number) past.peers rank now (sound.parted number is)
+      (λ e. has number (sound.kept number is)
+      (all_at (HasParted number) past.peers rank peer (sound.parted number is) here (sym parts ∙ e)));
 }
 
+-- a line under a key above all numbers of lines
+pub sound_owed : (past : Past) (rank : ℕ) (peer : PeerPast) (key : ℕ) (token id : List ℕ) (owed : Owed) → IsSound past
+    → slice_get past.peers rank ≡ Some peer → peer.tape.history.kept ≤ length peer.tape.history.notes
+    → past.last < key → IsSound (with_peer past rank (owing_as owed key token id peer))
+sound_owed past rank peer key token id owed sound here within above =
+    sound_kept past rank peer _ sound here (owed_conf key token id peer owed) (owed_parted key token id peer owed)
+    (λ mark below has. has_owed mark key token id peer owed within (omega (arith, below, above)) has)
+
+-- the close of a source
+pub sound_closed : (past : Past) (rank : ℕ) (peer : PeerPast) → IsSound past → slice_get past.peers rank ≡ Some peer
+    → peer.tape.history.kept ≤ length peer.tape.history.notes
+    → IsSound (with_peer past rank (with_tape peer (noted_at peer.tape (closing peer))))
+sound_closed past rank peer sound here within =
+    sound_kept past rank peer _ sound here refl refl
+    (λ mark below has. above_noted mark peer.tape.history (closing peer) within has tt)
+
 -- ---- a peer whose pending notes are no more than they were, or none
+
+-- none pends behind a flush
+flushed_has : (mark : ℕ) (peer : PeerPast) (tape : TapePast) → tape.history ≡ flushed peer.tape.history
+    → AllByRecursion (IsAbove mark) (pending_notes tape.history)
+flushed_has mark peer tape is = subst (λ (h : History). AllByRecursion (IsAbove mark) (pending_notes h)) (sym is)
+    (above_flushed mark peer.tape.history)
 
 pub sound_flushed : (past : Past) (rank : ℕ) (peer : PeerPast) (tape : TapePast) → IsSound past
     → slice_get past.peers rank ≡ Some peer
@@ -81,32 +104,25 @@ sound_flushed past rank peer tape sound here is = record {
   fits = sound.fits;
   marked = sound.marked;
   acknowledged = all_set (HasAcknowledged (mark_at past.intake)) past.peers rank _ sound.acknowledged
-      (has (mark_at past.intake));
+      (flushed_has (mark_at past.intake) peer tape is);
   kept = sound.kept;
-  parted = λ number e. all_set (HasParted number) past.peers rank _ (sound.parted number e) (λ _. has number);
+  parted = λ number e. all_set (HasParted number) past.peers rank _ (sound.parted number e)
+      (λ _. flushed_has number peer tape is);
 }
-  where
-    has : (mark : ℕ) → HasAcknowledged mark (parted peer tape)
-    has mark = subst (λ (h : History). AllByRecursion (IsAbove mark) (pending_notes h)) (sym is)
-        (above_flushed mark peer.tape.history)
+
+-- a flush while a backlog file is taken in
+pub sound_spilled : (past : Past) (rank : ℕ) (peer : PeerPast) (tape : TapePast) → IsSound past
+    → slice_get past.peers rank ≡ Some peer
+    → tape.history ≡ flushed peer.tape.history → IsSound (with_peer past rank (with_tape peer tape))
+sound_spilled past rank peer tape sound here is =
+    sound_kept past rank peer _ sound here refl refl (λ mark below has. flushed_has mark peer tape is)
 
 pub sound_same : (past : Past) (rank : ℕ) (peer : PeerPast) (tape : TapePast) → IsSound past
     → slice_get past.peers rank ≡ Some peer
     → tape.history ≡ peer.tape.history → IsSound (with_peer past rank (with_tape peer tape))
-sound_same past rank peer tape sound here same = record {
-  names = names_set past rank peer _ sound.names here refl;
-  fits = sound.fits;
-  marked = sound.marked;
-  acknowledged = all_set (HasAcknowledged (mark_at past.intake)) past.peers rank _ sound.acknowledged
-      (has (mark_at past.intake)
-      (all_at (HasAcknowledged (mark_at past.intake)) past.peers rank peer sound.acknowledged here));
-  kept = sound.kept;
-  parted = λ number is. all_set (HasParted number) past.peers rank _ (sound.parted number is)
-      (λ e. has number (all_at (HasParted number) past.peers rank peer (sound.parted number is) here e));
-}
-  where
-    has : (mark : ℕ) → HasAcknowledged mark peer → HasAcknowledged mark (with_tape peer tape)
-    has mark was = subst (λ (h : History). AllByRecursion (IsAbove mark) (pending_notes h)) (sym same) was
+sound_same past rank peer tape sound here same =
+    sound_kept past rank peer _ sound here refl refl
+    (λ mark below has. subst (λ (h : History). AllByRecursion (IsAbove mark) (pending_notes h)) (sym same) has)
 
 -- ---- the intake
 

@@ -1,6 +1,6 @@
 -- What the calls of its peers make of all stations.
 use Rattle.std.proofs.Common.{◌≡◌, ℕ, zero, suc, ◌+◌, ◌<◌, Some, Result, Ok, Err, IfErr, OnOk, List, [], ◌∷◌, length}
-use Rattle.std.proofs.Common.{get_or, refl, sym, ap, ◌∙◌, subst, inl, inr}
+use Rattle.std.proofs.Common.{get_or, refl, sym, ap, ◌∙◌, subst, inl, inr, arith}
 use Rattle.std.specs.Prelude.{IfOk}
 use Rattle.std.proofs.Math.ListN.{set}
 use Rattle.std.specs.List.{AllZip, slice_get}
@@ -9,16 +9,18 @@ use Rattle.ledger_core.specs.State.{State}
 use Rattle.peer_queue.specs.declared.limits.Owed.{Owed}
 use Rattle.world_core.specs.Past.{Past, PeerPast, TapePast, with_peer, with_tape}
 use Rattle.world_core.specs.Safe.{KeepsNotes}
-use Rattle.world_core.specs.Tapes.{RefusesFlush}
-use Rattle.world_core.specs.Events.{Owes, Parts, owed_as, owing_as, parted}
+use Rattle.world_core.specs.Tapes.{RefusesFlush, noted_at}
+use Rattle.world_core.specs.Events.{Closes, Imports, Owes, OwesAs, Parts, RefusesAt, RefusesLineAt, Spills, closing}
+use Rattle.world_core.specs.Events.{import_key, imported_as, owed_as, owing_as, parted}
 use Rattle.world_core.specs.Sound.{IsSound}
-use Rattle.world_core.specs.Stands.{DidOne, FailedOne, FlushedPeer, OwedNot, OwedOne, OwedTo, PeerStands, Stands}
-use Rattle.world_core.specs.Stands.{TapeStands, UnflushedPeer}
+use Rattle.world_core.specs.Stands.{ClosedOne, ClosedPeer, DidOne, FailedOne, FlushedPeer, ImportedOne, OwedNot}
+use Rattle.world_core.specs.Stands.{OwedOne}
+use Rattle.world_core.specs.Stands.{OwedTo, PeerStands, SpilledPeer, Stands, TapeStands, UnclosedPeer, UnflushedPeer}
 use Rattle.world_core.specs.declared.fault.Fault.{Fault}
 use Rattle.world_core.specs.declared.peer.Peer.{Peer}
 use Rattle.world_core.specs.declared.stations.Stations.{Stations}
 use Rattle.world_core.proofs.Pure.{zip_at, zip_set}
-use Rattle.world_core.proofs.Sound.{sound_flushed, sound_line, sound_same}
+use Rattle.world_core.proofs.Sound.{sound_closed, sound_flushed, sound_owed, sound_same, sound_spilled}
 
 pub on_ok_each : {T E X : Type 0} (r : Result T E) (S A : X → Type 0) (B : Type 0) → ((x : X) → S x → OnOk r (A x))
     → (((x : X) → S x → A x) → B) → OnOk r B
@@ -111,59 +113,161 @@ module _ {D : Type 0} {g : Ghosts D} where
               (same_history (KeepsNotes here.0) here.0.tape fault is.later is.refused));
         }
 
-    module _ (number : ℕ) (token id : List ℕ) (numbered : number ≡ old.last + 1) where
-      next : number ≡ past.last + 1
-      next = numbered ∙ ap (λ (n : ℕ). n + 1) stands.last
+    -- the peer is as it was
+    stays : PeerStands here.0 peer → Stands new past
+    stays one = record {
+      peers = subst (λ (peers : List (Peer D g)). AllZip PeerStands past.peers peers) (sym same.peers)
+          (zip_set_same PeerStands past.peers old.peers.items rank here.0 peer here.1 stands.peers one);
+      intake = subst (λ t. TapeStands past.intake t) (sym same.intake) stands.intake;
+      last = same.last ∙ stands.last;
+      begun = same.begun ∙ stands.begun;
+      sound = stands.sound;
+    }
 
-      pub did_owe : (owed : Owed) → ((p : PeerPast) → PeerStands p was → OwedTo number token id p owed peer)
-          → OwedOne past rank token id owed new
-      did_owe owed tells =
-          let is = subst (λ (n : ℕ). OwedTo n token id here.0 owed peer) next (tells here.0 here.2) in
-          let as_is : PeerStands (owing_as (owed_as (past.last + 1) here.0) (past.last + 1) token id here.0) peer =
-          subst (λ (o : Owed). PeerStands (owing_as o (past.last + 1) token id here.0) peer) is.owed_is is.stands in
+    back : past ≡ with_peer past rank here.0
+    back = sym (ap (λ peers. record past { peers = peers }) (set_same past.peers rank here.0 here.1))
+
+    pub did_spill : ((p : PeerPast) → PeerStands p was → SpilledPeer p peer) → DidOne past (Spills rank) new
+    did_spill tells =
+        let is = tells here.0 here.2 in
+        record {
+          later = with_peer past rank (with_tape here.0 is.later);
+          does = record { peer = here.0; tape = is.later; here = here.1; flushes = is.flushes; changed = refl };
+          stands = stands_with old new past rank _ peer stands same is.stands
+              (sound_spilled past rank here.0 is.later stands.sound here.1
+              (ap (λ (t : TapePast). t.history) is.flushes.all));
+        }
+
+    pub failed_spill : (fault : Fault) → ((p : PeerPast) → PeerStands p was → UnflushedPeer p fault peer)
+        → FailedOne past (Spills rank) fault new
+    failed_spill fault tells =
+        let is = failed_part fault tells in
+        record { later = is.later; refused = is.refused; stands = is.stands }
+
+    pub did_close : (source : ℕ) → ((p : PeerPast) → PeerStands p was → ClosedPeer p source peer)
+        → ClosedOne past rank source new
+    did_close source tells =
+        let is = tells here.0 here.2 in
+        record {
+          peer = here.0;
+          here = here.1;
+          source_is = is.source_is;
+          did = record {
+            later = with_peer past rank (with_tape here.0 (noted_at here.0.tape (closing here.0)));
+            does = record {
+              peer = here.0;
+              here = here.1;
+              works = is.works;
+              room = is.room;
+              fits = is.fits;
+              changed = refl;
+            };
+            stands = stands_with old new past rank _ peer stands same is.stands
+                (sound_closed past rank here.0 stands.sound here.1 here.2.tape.stands.kept_within);
+          };
+        }
+
+    pub failed_close : (fault : Fault) → ((p : PeerPast) → PeerStands p was → UnclosedPeer p fault peer)
+        → FailedOne past (Closes rank) fault new
+    failed_close fault tells =
+        let is = tells here.0 here.2 in
+        record {
+          later = past;
+          refused = record {
+            peer = here.0;
+            tape = here.0.tape;
+            here = here.1;
+            refused = (is.refused, refl);
+            changed = back;
+          };
+          stands = stays is.stands;
+        }
+
+    -- a line is owed under a key above all numbers of lines
+    module _ (answer : PeerPast → Owed) (key : PeerPast → ℕ) (token id : List ℕ) where
+      owes_as : (owed : Owed) → OwedTo answer key token id here.0 owed peer → past.last < key here.0
+          → (later : Past) × OwesAs answer key rank token id past later × Stands new later
+      owes_as owed is above = (
+        with_peer past rank (owing_as (answer here.0) (key here.0) token id here.0),
+        record {
+          peer = here.0;
+          here = here.1;
+          works = is.works;
+          apart = (λ e. is.apart (is.owed_is ∙ e));
+          room = (λ e. is.room (is.owed_is ∙ e));
+          changed = refl;
+        },
+        stands_with old new past rank _ peer stands same
+            (subst (λ (o : Owed). PeerStands (owing_as o (key here.0) token id here.0) peer) is.owed_is is.stands)
+            (sound_owed past rank here.0 (key here.0) token id (answer here.0) stands.sound here.1
+            here.2.tape.stands.kept_within above),
+      )
+
+      owes_not : (fault : Fault) → OwedNot answer key token id here.0 fault peer
+          → RefusesAt (RefusesLineAt answer key token id) rank past fault past
+      owes_not fault is = record {
+        peer = here.0;
+        tape = here.0.tape;
+        here = here.1;
+        refused = is.refused;
+        changed = back;
+      }
+
+    module _ (number : ℕ) (token id : List ℕ) where
+      pub did_import : (owed : Owed)
+          → ((p : PeerPast) → PeerStands p was → OwedTo (imported_as number) (import_key number) token id p owed peer)
+          → ImportedOne past rank number token id owed new
+      did_import owed tells =
+          let is = tells here.0 here.2 in
+          let done = owes_as (imported_as number) (import_key number) token id owed is
+          (omega (arith, stands.sound.fits)) in
           record {
             peer = here.0;
             here = here.1;
             owed_is = is.owed_is;
-            did = record {
-              later = with_peer past rank (owing_as (owed_as (past.last + 1) here.0) (past.last + 1) token id here.0);
-              does = record {
-                peer = here.0;
-                here = here.1;
-                works = is.works;
-                apart = (λ e. is.apart (is.owed_is ∙ e));
-                room =
-                    (λ e. is.room (is.owed_is ∙ e));
-                changed = refl;
-              };
-              stands = stands_with old new past rank _ peer stands same as_is
-                  (sound_line past rank here.0 token id (owed_as (past.last + 1) here.0) stands.sound here.1
-                  here.2.tape.stands.kept_within);
-            };
+            did = record { later = done.0; does = done.1; stands = done.2 };
           }
 
-      pub failed_owe : (fault : Fault) → ((p : PeerPast) → PeerStands p was → OwedNot number token id p fault peer)
-          → FailedOne past (Owes rank token id) fault new
-      failed_owe fault tells =
-          let is = subst (λ (n : ℕ). OwedNot n token id here.0 fault peer) next (tells here.0 here.2) in
-          let back : with_peer past rank here.0 ≡ past =
-          ap (λ peers. record past { peers = peers }) (set_same past.peers rank here.0 here.1) in
+      pub failed_import : (fault : Fault)
+          → ((p : PeerPast) → PeerStands p was → OwedNot (imported_as number) (import_key number) token id p fault peer)
+          → FailedOne past (Imports rank number token id) fault new
+      failed_import fault tells =
+          let is = tells here.0 here.2 in
           record {
             later = past;
-            refused = record {
-              peer = here.0;
-              tape = here.0.tape;
-              here = here.1;
-              refused = is.refused;
-              changed =
-                  sym back;
-            };
-            stands = record {
-              peers = subst (λ (peers : List (Peer D g)). AllZip PeerStands past.peers peers) (sym same.peers)
-                  (zip_set_same PeerStands past.peers old.peers.items rank here.0 peer here.1 stands.peers is.stands);
-              intake = subst (λ t. TapeStands past.intake t) (sym same.intake) stands.intake;
-              last = same.last ∙ stands.last;
-              begun = same.begun ∙ stands.begun;
-              sound = stands.sound;
-            };
+            refused = owes_not (imported_as number) (import_key number) token id fault is;
+            stands = stays is.stands;
+          }
+
+    module _ (number : ℕ) (token id : List ℕ) (numbered : number ≡ old.last + 1) where
+      next : number ≡ past.last + 1
+      next = numbered ∙ ap (λ (n : ℕ). n + 1) stands.last
+
+      pub did_owe : (owed : Owed)
+          → ((p : PeerPast) → PeerStands p was
+          → OwedTo (owed_as number) (λ (q : PeerPast). number) token id p owed peer)
+          → OwedOne past rank token id owed new
+      did_owe owed tells =
+          let is = subst (λ (n : ℕ). OwedTo (owed_as n) (λ (q : PeerPast). n) token id here.0 owed peer) next
+          (tells here.0 here.2) in
+          let done = owes_as (owed_as (past.last + 1)) (λ (q : PeerPast). past.last + 1) token id owed is (omega
+          arith) in
+          record {
+            peer = here.0;
+            here = here.1;
+            owed_is = is.owed_is;
+            did = record { later = done.0; does = done.1; stands = done.2 };
+          }
+
+      pub failed_owe : (fault : Fault)
+          → ((p : PeerPast) → PeerStands p was
+          → OwedNot (owed_as number) (λ (q : PeerPast). number) token id p fault peer)
+          → FailedOne past (Owes rank token id) fault new
+      failed_owe fault tells =
+          let is = subst (λ (n : ℕ). OwedNot (owed_as n) (λ (q : PeerPast). n) token id here.0 fault peer) next
+          (tells here.0 here.2) in
+          record {
+            later = past;
+            refused = owes_not (owed_as (past.last + 1)) (λ (q : PeerPast). past.last + 1) token id fault is;
+            stands = stays is.stands;
           }

@@ -1,27 +1,22 @@
 -- Events on tapes leave to each connection what it holds.
-use Rattle.std.proofs.Common.{◌≡◌, ◌↔◌, ℕ, zero, suc, ◌+◌, Bool, true, false, cond, Option, None, Some, List, [], ◌∷◌}
-use Rattle.std.proofs.Common.{◌++◌, length, take, map, refl, sym, ap, ◌∙◌, subst, inl, inr}
-use Rattle.std.specs.Prelude.{◌==◌, if◌then◌else◌}
+use Rattle.std.proofs.Common.{◌≡◌, ◌↔◌, ℕ, zero, suc, ◌+◌, false, None, Some, List, [], ◌∷◌}
+use Rattle.std.proofs.Common.{map, refl, sym, ap, ◌∙◌, subst, inl, inr}
 use Rattle.std.proofs.Math.ListN.{set}
 use Rattle.std.proofs.lemmas.Bool.{cases_eq}
-use Rattle.std.specs.List.{AllByRecursion, AllZip, slice_get}
+use Rattle.std.specs.List.{AllZip, slice_get}
 use Rattle.peer_queue.specs.Place.{AreUnheld, Held, IsHeldBy, IsUnheld, Places, Ready, all_gone, gone, place_at}
 use Rattle.peer_queue.specs.Place.{with_place}
 use Rattle.peer_queue.specs.declared.limits.Owed.{Owed}
 use Rattle.peer_queue.specs.declared.limits.Owed.TheVariants.{New, Already}
 use Rattle.world_core.specs.Past.{Past, PeerPast, TapePast, with_peer, with_tape}
-use Rattle.world_core.specs.Events.{Acknowledges, AllDo, Claims, Does, Event, Fails, Opens, OpensIntake, Owes, Parts}
-use Rattle.world_core.specs.Events.{Refuses, Returns, Rotates, Sees, Settles, Sheds}
-use Rattle.world_core.specs.Events.{each_rank, owed_as, owing_as, parted}
-use Rattle.world_core.specs.Events.AllDo.{Start, Next}
-use Rattle.world_core.specs.Steps.{Good, NotGood, Reading, RefusesFlushing, RefusesLine, RefusesPart, RefusesRotation}
-use Rattle.world_core.specs.Steps.{RefusesSeal, RefusesShed, TakesFlush, TakesLine}
-use Rattle.world_core.specs.Steps.{TakesPart, TakesReading, TakesRotate, TakesSeal, TakesShed, begun_at, flush_events}
-use Rattle.world_core.specs.Steps.{is_named, owes_from, seal_events}
-use Rattle.world_core.specs.Told.{Said}
-use Rattle.world_core.specs.declared.fault.Fault.{Fault}
+use Rattle.world_core.specs.Events.{Acknowledges, Claims, Closes, Does, Event, Imports, Opens, OpensIntake, Owes, Parts}
+use Rattle.world_core.specs.Events.{Returns, Rotates, Sees, Settles, Sheds, Spills, closing, import_key, imported_as}
+use Rattle.world_core.specs.Events.{owed_as, owing_as, parted}
+use Rattle.world_core.specs.Steps.{begun_at}
+use Rattle.world_core.specs.Tapes.{noted_at}
 use Rattle.world_core.proofs.Holding.{gone_none, gone_other}
 use Rattle.world_core.proofs.Placed.{with_here, with_other}
+use Rattle.world_core.proofs.Walking.{Keeper, OnTape}
 
 -- ---- one peer
 
@@ -53,11 +48,11 @@ hold_then was mid now one other = (
 
 -- ---- all peers
 
-pub all_same : (peers : List PeerPast) → AllZip HoldsSame peers peers
+all_same : (peers : List PeerPast) → AllZip HoldsSame peers peers
 all_same [] = tt
 all_same (peer ∷ peers) = (hold_same peer, all_same peers)
 
-pub all_then : (was mid now : List PeerPast) → AllZip HoldsSame was mid → AllZip HoldsSame mid now
+all_then : (was mid now : List PeerPast) → AllZip HoldsSame was mid → AllZip HoldsSame mid now
     → AllZip HoldsSame was now
 all_then [] [] [] one other = tt
 all_then [] [] (c ∷ now) one other = absurd other
@@ -88,6 +83,9 @@ one_put past later rank was now here same is =
 pub none_put : (past later : Past) → later.peers ≡ past.peers → AllHold past later
 none_put past later same =
     subst (λ (ps : List PeerPast). AllZip HoldsSame past.peers ps) (sym same) (all_same past.peers)
+
+pub hold_joined : (was mid now : Past) → AllHold was mid → AllHold mid now → AllHold was now
+hold_joined was mid now one other = all_then was.peers mid.peers now.peers one other
 
 -- ---- a line, and what is dropped
 
@@ -145,24 +143,18 @@ all_gone_on (number ∷ numbers) p id m free is =
 
 -- ---- events
 
--- an event on a tape that is open
-abbrev pub OnTape : Event → Type 0
-OnTape (Owes rank token id) = Unit {0}
-OnTape (Parts rank) = Unit {0}
-OnTape (Rotates rank generation) = Unit {0}
-OnTape (Sheds rank numbers) = Unit {0}
-OnTape (Claims rank id now) = ⊥
-OnTape (Returns rank id number) = ⊥
-OnTape (Settles rank id now outcome) = ⊥
-OnTape (Sees number) = Unit {0}
-OnTape Acknowledges = Unit {0}
-OnTape (Opens rank) = ⊥
-OnTape OpensIntake = ⊥
-
-holds_does : (event : Event) → OnTape event → (past later : Past) → Does event past later → AllHold past later
+pub holds_does : (event : Event) → OnTape event → (past later : Past) → Does event past later → AllHold past later
 holds_does (Owes rank token id) on past later d =
     one_put past later rank d.peer _ d.here
     (owing_holds (owed_as (past.last + 1) d.peer) (past.last + 1) token id d.peer d.apart) d.changed
+holds_does (Imports rank number token id) on past later d =
+    one_put past later rank d.peer _ d.here
+    (owing_holds (imported_as number d.peer) (import_key number d.peer) token id d.peer d.apart) d.changed
+holds_does (Closes rank) on past later d =
+    one_put past later rank d.peer _ d.here
+    (hold_places d.peer (with_tape d.peer (noted_at d.peer.tape (closing d.peer))) refl refl) d.changed
+holds_does (Spills rank) on past later d =
+    one_put past later rank d.peer _ d.here (hold_places d.peer (with_tape d.peer d.tape) refl refl) d.changed
 holds_does (Parts rank) on past later d =
     one_put past later rank d.peer _ d.here (hold_places d.peer (parted d.peer d.tape) refl refl) d.changed
 holds_does (Rotates rank generation) on past later d =
@@ -179,85 +171,11 @@ holds_does Acknowledges on past later d = none_put past later (ap (λ (p : Past)
 holds_does (Opens rank) on past later d = absurd on
 holds_does OpensIntake on past later d = absurd on
 
-tape_put : (past later : Past) (rank : ℕ) (peer : PeerPast) (tape : TapePast) → slice_get past.peers rank ≡ Some peer
-    → later ≡ with_peer past rank (with_tape peer tape) → AllHold past later
-tape_put past later rank peer tape here is =
+pub tape_put : (past later : Past) (rank : ℕ) (peer : PeerPast) (tape : TapePast)
+    → slice_get past.peers rank ≡ Some peer → later ≡ with_peer past rank (with_tape peer tape)
+    → tape.history ≡ peer.tape.history → AllHold past later
+tape_put past later rank peer tape here is same =
     one_put past later rank peer _ here (hold_places peer (with_tape peer tape) refl refl) is
-
--- a refused event moves no number
-holds_refuses : (event : Event) (past : Past) (fault : Fault) (later : Past) → Refuses event past fault later
-    → AllHold past later
-holds_refuses (Owes rank token id) past fault later r = tape_put past later rank r.peer r.tape r.here r.changed
-holds_refuses (Parts rank) past fault later r = tape_put past later rank r.peer r.tape r.here r.changed
-holds_refuses (Rotates rank generation) past fault later r = tape_put past later rank r.peer r.tape r.here r.changed
-holds_refuses (Sheds rank numbers) past fault later r = tape_put past later rank r.peer r.tape r.here r.changed
-holds_refuses (Claims rank id now) past fault later r = tape_put past later rank r.peer r.tape r.here r.changed
-holds_refuses (Returns rank id number) past fault later r = tape_put past later rank r.peer r.tape r.here r.changed
-holds_refuses (Settles rank id now outcome) past fault later r =
-    tape_put past later rank r.peer r.tape r.here r.changed
-holds_refuses (Sees number) past fault later r = none_put past later (ap (λ (p : Past). p.peers) r.changed)
-holds_refuses Acknowledges past fault later r = none_put past later (ap (λ (p : Past). p.peers) r.changed)
-holds_refuses (Opens rank) past fault later r = tape_put past later rank r.peer r.tape r.here r.changed
-holds_refuses OpensIntake past fault later r = none_put past later (ap (λ (p : Past). p.peers) r.changed)
-
--- ---- one after another
-
-module _ {A : Type 0} (P : A → Type 0) where
-  pub front_all : (xs ys : List A) → AllByRecursion P (xs ++ ys) → AllByRecursion P xs
-  front_all [] ys all = tt
-  front_all (x ∷ xs) ys all = (all.0, front_all xs ys all.1)
-
-  pub last_all : (xs : List A) (y : A) → AllByRecursion P (xs ++ y ∷ []) → P y
-  last_all [] y all = all.0
-  last_all (x ∷ xs) y all = last_all xs y all.1
-
-  pub both_all : (xs ys : List A) → AllByRecursion P xs → AllByRecursion P ys → AllByRecursion P (xs ++ ys)
-  both_all [] ys one other = other
-  both_all (x ∷ xs) ys one other = (one.0, both_all xs ys one.1 other)
-
-  pub first_all : (n : ℕ) (xs : List A) → AllByRecursion P xs → AllByRecursion P (take n xs)
-  first_all zero xs all = tt
-  first_all (suc n) [] all = tt
-  first_all (suc n) (x ∷ xs) all = (all.0, first_all n xs all.1)
-
-holds_all : (begun later : Past) (events : List Event) → AllDo begun events later → AllByRecursion OnTape events
-    → AllHold begun later
-holds_all begun _ _ Start on = all_same begun.peers
-holds_all begun later _ (Next events event past _ does one safe) on =
-    all_then begun.peers past.peers later.peers
-    (holds_all begun past events does (front_all OnTape events (event ∷ []) on))
-    (holds_does event (last_all OnTape events event on) past later one)
-
-holds_fails : (begun later : Past) (events : List Event) (fault : Fault) → AllByRecursion OnTape events
-    → Fails begun events fault later → AllHold begun later
-holds_fails begun later events fault on fails =
-    all_then begun.peers fails.mid.peers later.peers
-    (holds_all begun fails.mid _ fails.front (first_all OnTape fails.count events on))
-    (holds_refuses fails.event fails.mid fault later fails.refused)
-
--- ---- lists of events
-
-owes_step : (b : Bool) (x : Event) (xs : List Event) → OnTape x → AllByRecursion OnTape xs
-    → AllByRecursion OnTape (if b then x ∷ xs else xs)
-owes_step true x xs one all = (one, all)
-owes_step false x xs one all = all
-
-owes_on : (rank : ℕ) (token id : List ℕ) (named : List (List ℕ)) (peers : List PeerPast)
-    → AllByRecursion OnTape (owes_from rank token id named peers)
-owes_on rank token id named [] = tt
-owes_on rank token id named (peer ∷ peers) =
-    owes_step (is_named named peer) (Owes rank token id) (owes_from (rank + 1) token id named peers) tt
-    (owes_on (rank + 1) token id named peers)
-
-parts_on : (n : ℕ) → AllByRecursion OnTape (each_rank Parts n)
-parts_on zero = tt
-parts_on (suc n) = both_all OnTape (each_rank Parts n) (Parts n ∷ []) (parts_on n) (tt, tt)
-
-flush_on : (past : Past) → AllByRecursion OnTape (flush_events past)
-flush_on past = both_all OnTape (each_rank Parts (length past.peers)) (seal_events past.last)
-    (parts_on (length past.peers)) (tt, (tt, tt))
-
--- ---- steps
 
 begun_holds : (peers : List PeerPast)
     → AllZip HoldsSame peers (map (λ (peer : PeerPast). record peer { parted = false }) peers)
@@ -267,70 +185,15 @@ begun_holds (peer ∷ peers) = (hold_places peer (record peer { parted = false }
 pub holds_begin : (past : Past) → AllHold past (begun_at past)
 holds_begin past = begun_holds past.peers
 
-reading_holds : (reading : Reading) (past later : Past) (told : List Said) → TakesReading reading past told later
-    → AllHold past later
-reading_holds (Good token id named) past later told (said, (mid, does, changed)) =
-    subst (AllHold past) (sym changed) (holds_all past mid _ does (owes_on 0 token id named past.peers))
-reading_holds (NotGood fault) past later told (said, changed) = none_put past later (ap (λ (p : Past). p.peers) changed)
-
-pub holds_line : (text : List ℕ) (past later : Past) (told : List Said) → TakesLine text past told later
-    → AllHold past later
-holds_line text past later told takes = reading_holds takes.reading past later told takes.takes
-
-same_past : (past later : Past) → later ≡ past → AllHold past later
-same_past past later same = none_put past later (ap (λ (p : Past). p.peers) same)
-
-pub holds_line_not : (text : List ℕ) (past later : Past) (fault : Fault) → RefusesLine text past fault later
-    → AllHold past later
-holds_line_not text past later fault (inl full) = same_past past later full.2
-holds_line_not text past later fault (inr (inl memory)) = same_past past later memory.2
-holds_line_not text past later fault (inr (inr (fits, (token, id, named, reads, fails)))) =
-    holds_fails past later _ fault (owes_on 0 token id named past.peers) fails
-
-pub holds_part : (name : List ℕ) (past later : Past) (told : List Said) → TakesPart name past told later
-    → AllHold past later
-holds_part name past later told (rank, here, does, said) = holds_all past later _ does (tt, tt)
-
-pub holds_part_not : (name : List ℕ) (past later : Past) (fault : Fault) → RefusesPart name past fault later
-    → AllHold past later
-holds_part_not name past later fault (inl none) = same_past past later none.2
-holds_part_not name past later fault (inr (rank, here, fails)) = holds_fails past later _ fault (tt, tt) fails
-
-pub holds_seal : (past later : Past) (told : List Said) → TakesSeal past told later → AllHold past later
-holds_seal past later told (number, may, does, said) = holds_all past later _ does (tt, (tt, tt))
-
-pub holds_seal_not : (past later : Past) (fault : Fault) → RefusesSeal past fault later → AllHold past later
-holds_seal_not past later fault (inl none) = same_past past later none.2
-holds_seal_not past later fault (inr (number, may, inl memory)) = same_past past later memory.1
-holds_seal_not past later fault (inr (number, may, inr fails)) = holds_fails past later _ fault (tt, (tt, tt)) fails
-
-pub holds_flush : (past later : Past) (told : List Said) → TakesFlush past told later → AllHold past later
-holds_flush past later told (does, said) =
-    all_then past.peers (begun_at past).peers later.peers (holds_begin past)
-    (holds_all (begun_at past) later _ does (flush_on past))
-
-pub holds_flush_not : (past later : Past) (fault : Fault) → RefusesFlushing past fault later → AllHold past later
-holds_flush_not past later fault (inl memory) = same_past past later memory.1
-holds_flush_not past later fault (inr fails) =
-    all_then past.peers (begun_at past).peers later.peers (holds_begin past)
-    (holds_fails (begun_at past) later _ fault (flush_on past) fails)
-
-pub holds_shed : (name : List ℕ) (past later : Past) (told : List Said) → TakesShed name past told later
-    → AllHold past later
-holds_shed name past later told (rank, numbers, here, does, said) = holds_all past later _ does (tt, tt)
-
-pub holds_shed_not : (name : List ℕ) (past later : Past) (fault : Fault) → RefusesShed name past fault later
-    → AllHold past later
-holds_shed_not name past later fault (inl none) = same_past past later none.2
-holds_shed_not name past later fault (inr (rank, here, inl memory)) = same_past past later memory.1
-holds_shed_not name past later fault (inr (rank, here, inr fails)) = holds_fails past later _ fault (tt, tt) fails
-
-pub holds_rotate : (name : List ℕ) (past later : Past) (told : List Said) → TakesRotate name past told later
-    → AllHold past later
-holds_rotate name past later told (rank, generation, here, does, said) = holds_all past later _ does (tt, tt)
-
-pub holds_rotate_not : (name : List ℕ) (past later : Past) (fault : Fault) → RefusesRotation name past fault later
-    → AllHold past later
-holds_rotate_not name past later fault (inl none) = same_past past later none.2
-holds_rotate_not name past later fault (inr (rank, here, inl memory)) = same_past past later memory.1
-holds_rotate_not name past later fault (inr (rank, here, inr fails)) = holds_fails past later _ fault (tt, tt) fails
+-- so do the steps on tapes, taken or refused
+abbrev pub steady : Keeper
+steady = record {
+  ON = OnTape;
+  on_tape = λ event on. on;
+  KEEPS = AllHold;
+  alike = none_put;
+  joined = hold_joined;
+  at_same = tape_put;
+  event_does = holds_does;
+  keeps_begun = holds_begin;
+}

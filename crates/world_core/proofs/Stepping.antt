@@ -86,7 +86,7 @@ flush_is past number is =
     ∙ ap (λ (n : ℕ). each_rank Parts (length past.peers) ++ seal_events n) is
 
 -- no note is refused for a disk
-note_not : (tape : TapePast) → RefusesNote tape (Tape Disk) → ⊥
+pub note_not : (tape : TapePast) → RefusesNote tape (Tape Disk) → ⊥
 note_not tape (inl broken) = absurd (let no = broken.0 in cc)
 note_not tape (inr (inl full)) = absurd (let no = full.0 in cc)
 note_not tape (inr (inr memory)) = absurd (let no = memory.0 in cc)

@@ -1,13 +1,20 @@
 -- What the steps on tapes, and a stop that is met in one, make of a world.
 use Rattle.std.proofs.Common.{◌≡◌, ℕ, zero, suc, true, false, Option, None, Some, List, [], ◌∷◌, map, refl, sym, ap}
 use Rattle.std.proofs.Common.{◌∙◌, subst, inl, inr}
-use Rattle.std.specs.Prelude.{Contains, IfErr, OnOk, Result, option_map}
+use Rattle.std.specs.Prelude.{Contains, IfErr, OnOk, Result, Vec, option_map}
+use Rattle.std.specs.declared.alloc.Global.{Global}
 use Rattle.std.specs.List.{AllByRecursion, AllZip, slice_get}
 use Rattle.recovery.specs.declared.fault.TapeFault.TheVariants.{Disk}
-use Rattle.world_core.specs.Past.{Armed, ConnPast, Life, Past, PeerPast, options_of, rank_of, with_past}
+use Rattle.world_core.specs.Past.{Armed, ConnPast, Life, Past, PeerPast, TapePast, options_of, rank_of, with_past}
+use Rattle.ledger_core.specs.declared.note.Note.{Note}
+use Rattle.ledger_core.specs.declared.note.Note.TheVariants.{Owe}
+use Rattle.world_core.specs.Tapes.{RefusesClose, RefusesOwe}
 use Rattle.world_core.specs.Events.{Event, Fails, Parts, Refuses as RefusesEvent, Rotates, calls_disk}
-use Rattle.world_core.specs.Steps.{RefusesFlushing, RefusesPart, RefusesRotation, RefusesSeal, begun_at, flush_events}
-use Rattle.world_core.specs.Steps.{seal_events}
+use Rattle.world_core.specs.Events.{closing, import_key}
+use Rattle.world_core.specs.Imports.{IsImport, import_events}
+use Rattle.world_core.specs.Opening.{FailsAt}
+use Rattle.world_core.specs.Steps.{RefusesFlushing, RefusesImport, RefusesPart, RefusesRotation, RefusesSeal, begun_at}
+use Rattle.world_core.specs.Steps.{flush_events, seal_events}
 use Rattle.world_core.specs.Halts.{AtRest, ByChoice, Meets, halted}
 use Rattle.world_core.specs.Runs.{Does, OnTapes, Refuses, RefusesTapes}
 use Rattle.world_core.specs.Sound.{AreTied, HasNumber, IsSoundConn, numbers_at}
@@ -21,7 +28,7 @@ use Rattle.world_core.specs.declared.fault.Fault.{Fault}
 use Rattle.world_core.specs.declared.fault.Fault.TheVariants.{Tape, Stopped as HasStopped}
 use Rattle.world_core.specs.declared.fault.Halt.{Halt}
 use Rattle.world_core.specs.declared.step.Step.{Step}
-use Rattle.world_core.specs.declared.step.Step.TheVariants.{Begin, Flush, Part, Rotate, Seal}
+use Rattle.world_core.specs.declared.step.Step.TheVariants.{Begin, Flush, Import, Part, Rotate, Seal}
 use Rattle.world_core.specs.declared.stop.StopDisk.{StopDisk}
 use Rattle.world_core.specs.declared.stations.Stations.{Stations}
 use Rattle.world_core.specs.declared.told.Told.{Told}
@@ -29,8 +36,11 @@ use Rattle.world_core.specs.declared.world.Arming.{Arming}
 use Rattle.world_core.specs.declared.world.Stage.{Stage}
 use Rattle.world_core.specs.declared.world.Stage.TheVariants.{Running, Stopped}
 use Rattle.world_core.specs.declared.world.World.{World}
-use Rattle.world_core.proofs.Steady.{AllHold, HoldsSame, holds_begin, holds_flush_not}
-use Rattle.world_core.proofs.Stepping.{seal_at}
+use Rattle.world_core.proofs.Steady.{AllHold, HoldsSame, holds_begin, steady}
+use Rattle.world_core.proofs.Acknowledged.{all_at}
+use Rattle.world_core.proofs.ImportEvents.{all_import}
+use Rattle.world_core.proofs.Stepping.{note_not, seal_at}
+use Rattle.world_core.proofs.Walking.{flush_refused}
 
 -- ---- what connections hold stays
 
@@ -322,7 +332,7 @@ module _ (old new : World) (life : Life) (stations now : Stations StopDisk _) (c
       → (Stands stations life.past
       → HaltedAs RefusesFlushing (begun_at life.past) (flush_events life.past) life.past halt now)
       → WasHalted Flush life halt new
-  flush_was_halted halt took = was_halted Flush RefusesFlushing halt (λ later r. r) holds_flush_not
+  flush_was_halted halt took = was_halted Flush RefusesFlushing halt (λ later r. r) (flush_refused steady)
       (λ on.
       let t = took on in (
         record { later = t.later; refuses = t.refuses; stands = t.stands },
@@ -384,6 +394,49 @@ rotate_fails life name halt later at runs (inr (rank, here, inr fails)) disk = r
         ∙ ap (λ (o : Option ℕ). Some o) (sym here ∙ at);
   };
 }
+
+-- of an import only a flush of its peer is refused for a disk
+owe_not : (tape : TapePast) (note : Note) → RefusesOwe tape note (Tape Disk) → ⊥
+owe_not tape note (inl broken) = let no = broken.0 in cc
+owe_not tape note (inr (inl full)) = let no = full.0 in cc
+owe_not tape note (inr (inr (inl pending))) = let no = pending.0 in cc
+owe_not tape note (inr (inr (inr memory))) = let no = memory.0 in cc
+
+close_not : (tape : TapePast) (note : Note) → RefusesClose tape note (Tape Disk) → ⊥
+close_not tape note (inl full) = let no = full.0 in cc
+close_not tape note (inr refused) = note_not tape refused.1
+
+import_at : (name text : List ℕ) (past later : Past) (events : List Event) (is : IsImport name text past events)
+    (fails : Fails past events (Tape Disk) later) → calls_disk fails.event ≡ Some (Some is.rank)
+import_at name text past later events is fails =
+    all_at (λ (e : Event). (mid : Past) → RefusesEvent e mid (Tape Disk) later → calls_disk e ≡ Some (Some is.rank))
+    (import_events is.rank _ _ is.lines) fails.count fails.event
+    (all_import (λ (e : Event). (mid : Past) → RefusesEvent e mid (Tape Disk) later
+    → calls_disk e ≡ Some (Some is.rank)) is.rank (λ mid refused. refl)
+    (λ mid refused. absurd (close_not refused.peer.tape (closing refused.peer) refused.refused.0))
+    (λ number token id mid refused. absurd (owe_not refused.peer.tape
+    (Owe (import_key number refused.peer) token id) refused.refused.1)) _ _ is.lines)
+    (ap (λ (es : List Event). slice_get es fails.count) (sym is.events_are) ∙ fails.here) fails.mid fails.refused
+
+pub import_fails : (life : Life) (name : List ℕ) (text : Vec ℕ Global) (halt : Halt) (later : Past)
+    → rank_of life.past name ≡ halt.rank → life.running ≡ true
+    → RefusesImport name text.items life.past halt.fault later → halt.fault ≡ Tape Disk
+    → DiskFails (Import name text) life halt later
+import_fails life name text halt later at runs (inl none) disk = absurd (let no = none.0 in cc)
+import_fails life name text halt later at runs (inr (rank, here, inl memory)) disk = absurd (let no = memory.0 in cc)
+import_fails life name text halt later at runs (inr (rank, here, inr (events, is, fails))) disk =
+    let failed = subst (λ (f : Fault). Fails life.past events f later) disk fails in
+    record {
+      begun = life.past;
+      events = events;
+      calls = (runs, refl, is);
+      fails = subst (λ (f : Fault). FailsAt life.past events (record { rank = halt.rank; fault = f }) later) (sym disk)
+          (record {
+            fails = failed;
+            at = import_at name text.items life.past later events is failed
+                ∙ ap (λ (o : Option ℕ). Some o) (sym is.named ∙ at);
+          });
+    }
 
 pub seal_fails : (life : Life) (halt : Halt) (later : Past) → halt.rank ≡ None → life.running ≡ true
     → RefusesSeal life.past halt.fault later → halt.fault ≡ Tape Disk → DiskFails Seal life halt later

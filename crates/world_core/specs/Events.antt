@@ -1,7 +1,9 @@
 -- What happens to a world: events, each on one tape (profile). Each later state is an equation, so that all else stays.
 use Rattle.std.specs.Prelude.{◌≡◌, ◌⊎◌, ◌+◌, ◌-◌, ◌<◌, ℕ, zero, suc, true, false, nat_lt, if◌then◌else◌, Option, None}
 use Rattle.std.specs.Prelude.{Some, List, [], ◌∷◌, ◌++◌, length, take, slice_get, Contains}
-use Rattle.ledger_core.specs.declared.note.Note.TheVariants.{Drop, Final, Owe, Seen}
+use Rattle.ledger_core.specs.declared.note.Note.{Note}
+use Rattle.ledger_core.specs.declared.note.Note.TheVariants.{Closed, Drop, Final, Owe, Seen}
+use Rattle.ledger_core.specs.Keys.{key_of}
 use Rattle.ledger_core.specs.State.{Overflows, Owing, keys}
 use Rattle.recovery.specs.Leaving.{pending_notes}
 use Rattle.recovery.specs.Notes.{most_pending, noted_all}
@@ -19,14 +21,18 @@ use Rattle.peer_queue.specs.declared.settled.Settled.TheVariants.{Answered, Drop
 use Rattle.world_core.specs.Past.{Past, PeerPast, TapePast, ledger_at, limits_of, mark_at, with_intake, with_peer}
 use Rattle.world_core.specs.Past.{with_places, with_tape}
 use Rattle.world_core.specs.Safe.{IsSafe, KeepsLines, KeepsNotes}
-use Rattle.world_core.specs.Tapes.{IsFlushed, HasRoom, IsReadTape, IsReopened, RefusesFlush, RefusesNote, RefusesOpen}
-use Rattle.world_core.specs.Tapes.{RefusesOwe, RefusesRotate, IsRotated, noted_at}
+use Rattle.world_core.specs.Tapes.{IsFlushed, HasRoom, IsReadTape, IsReopened, RefusesClose, RefusesFlush, RefusesNote}
+use Rattle.world_core.specs.Tapes.{RefusesOpen, RefusesOwe, RefusesRotate, IsRotated, noted_at}
 use Rattle.world_core.specs.declared.fault.Fault.{Fault}
 use Rattle.world_core.specs.declared.fault.Fault.TheVariants.{NoMemory, Tape}
 
 -- One event.
 pub data Event : Type 0 where
   Owes : (rank : ℕ) (token id : List ℕ) → Event  -- the next line at a peer that it names
+  -- the line of this number of a backlog file at its peer
+  Imports : (rank number : ℕ) (token id : List ℕ) → Event
+  Closes : (rank : ℕ) → Event  -- the source that is open at a peer is closed
+  Spills : (rank : ℕ) → Event  -- the flush of a peer while a backlog file of its is taken in
   Parts : (rank : ℕ) → Event  -- the flush of a peer
   Rotates : (rank generation : ℕ) → Event  -- what a peer is owed is written anew
   Sheds : (rank : ℕ) (numbers : List ℕ) → Event  -- these numbers of a peer's backlog are dropped
@@ -43,6 +49,26 @@ pub data Event : Type 0 where
 -- what a line of this number that names a peer is there: new where the number is above the mark
 abbrev pub owed_as : ℕ → PeerPast → Owed
 owed_as number peer = if nat_lt (mark_at peer.tape) number then New else Already
+
+-- the greatest number that a peer has noted of the source that is open
+abbrev pub import_mark_at : PeerPast → ℕ
+import_mark_at peer = (ledger_at peer.tape).import_mark
+
+-- the source that is open at a peer
+abbrev pub open_source : PeerPast → ℕ
+open_source peer = (ledger_at peer.tape).closed + 1
+
+-- what a line of this number of the source that is open is there: new if the number is above its mark
+abbrev pub imported_as : ℕ → PeerPast → Owed
+imported_as number peer = if nat_lt (import_mark_at peer) number then New else Already
+
+-- the key of such a line
+abbrev pub import_key : ℕ → PeerPast → ℕ
+import_key number peer = key_of (open_source peer) number
+
+-- the note that closes the source that is open
+abbrev pub closing : PeerPast → Note
+closing peer = Closed (open_source peer)
 
 -- one note more, and the debt is ready, in its place by its key; or nothing
 abbrev pub owing_as : Owed → ℕ → List ℕ → List ℕ → PeerPast → PeerPast
@@ -114,15 +140,41 @@ pub record IsShedAt (peer : PeerPast) (numbers : List ℕ) : Type 0 where
 
 -- ---- events
 
--- the line is owed at the peer of this rank, where its number has no place yet
-pub record DoesOwe (rank : ℕ) (token id : List ℕ) (past later : Past) : Type 0 where
+-- A line is owed at the peer of this rank under a key, which has no place yet if the line is new.
+pub record OwesAs (owed : PeerPast → Owed) (key : PeerPast → ℕ) (rank : ℕ) (token id : List ℕ) (past later : Past) :
+    Type 0 where
   pub peer : PeerPast
   pub here : slice_get past.peers rank ≡ Some peer
   pub works : peer.tape.broken ≡ false
-  pub apart : owed_as (past.last + 1) peer ≡ New → place_at peer.places (past.last + 1) ≡ None
-  pub room : owed_as (past.last + 1) peer ≡ New
-      → HasRoom peer.tape × (Overflows (ledger_at peer.tape) (Owe (past.last + 1) token id) → ⊥)
-  pub changed : later ≡ with_peer past rank (owing_as (owed_as (past.last + 1) peer) (past.last + 1) token id peer)
+  pub apart : owed peer ≡ New → place_at peer.places (key peer) ≡ None
+  pub room : owed peer ≡ New → HasRoom peer.tape × (Overflows (ledger_at peer.tape) (Owe (key peer) token id) → ⊥)
+  pub changed : later ≡ with_peer past rank (owing_as (owed peer) (key peer) token id peer)
+
+-- the next line of the funnel, under its number
+abbrev pub DoesOwe : ℕ → List ℕ → List ℕ → Past → Past → Type 0
+DoesOwe rank token id past later =
+    OwesAs (owed_as (past.last + 1)) (λ (peer : PeerPast). past.last + 1) rank token id past later
+
+-- the line of this number of the source that is open
+abbrev pub DoesImport : ℕ → ℕ → List ℕ → List ℕ → Past → Past → Type 0
+DoesImport rank number token id past later =
+    OwesAs (imported_as number) (import_key number) rank token id past later
+
+pub record DoesClose (rank : ℕ) (past later : Past) : Type 0 where
+  pub peer : PeerPast
+  pub here : slice_get past.peers rank ≡ Some peer
+  pub works : peer.tape.broken ≡ false
+  pub room : HasRoom peer.tape
+  pub fits : Overflows (ledger_at peer.tape) (closing peer) → ⊥
+  pub changed : later ≡ with_peer past rank (with_tape peer (noted_at peer.tape (closing peer)))
+
+-- it is no flush since a number was kept
+pub record DoesSpill (rank : ℕ) (past later : Past) : Type 0 where
+  pub peer : PeerPast
+  pub tape : TapePast
+  pub here : slice_get past.peers rank ≡ Some peer
+  pub flushes : IsFlushed (KeepsNotes peer) peer.tape tape
+  pub changed : later ≡ with_peer past rank (with_tape peer tape)
 
 pub record DoesPart (rank : ℕ) (past later : Past) : Type 0 where
   pub peer : PeerPast
@@ -196,6 +248,9 @@ pub record DoesOpenIntake (past later : Past) : Type 0 where
 -- what an event makes of all tapes
 abbrev pub Does : Event → Past → Past → Type 0
 Does (Owes rank token id) past later = DoesOwe rank token id past later
+Does (Imports rank number token id) past later = DoesImport rank number token id past later
+Does (Closes rank) past later = DoesClose rank past later
+Does (Spills rank) past later = DoesSpill rank past later
 Does (Parts rank) past later = DoesPart rank past later
 Does (Rotates rank generation) past later = DoesRotate rank generation past later
 Does (Sheds rank numbers) past later = DoesShed rank numbers past later
@@ -232,10 +287,10 @@ pub record RefusesIntake (R : TapePast → Fault → TapePast → Type 0) (past 
   pub refused : R past.intake fault tape
   pub changed : later ≡ with_intake past tape
 
--- a line that a peer is not owed yet; a broken tape refuses any
-abbrev pub RefusesLineAt : ℕ → List ℕ → List ℕ → PeerPast → Fault → TapePast → Type 0
-RefusesLineAt number token id peer fault tape =
-    (peer.tape.broken ≡ false → owed_as number peer ≡ New) × RefusesOwe peer.tape (Owe number token id) fault
+-- a line that a peer is not owed yet, under this key; a broken tape refuses any
+abbrev pub RefusesLineAt : (PeerPast → Owed) → (PeerPast → ℕ) → List ℕ → List ℕ → PeerPast → Fault → TapePast → Type 0
+RefusesLineAt owed key token id peer fault tape =
+    (peer.tape.broken ≡ false → owed peer ≡ New) × RefusesOwe peer.tape (Owe (key peer) token id) fault
     × (tape ≡ peer.tape)
 
 -- an outcome: the tape is broken, or the debt would end, and its note is refused
@@ -261,7 +316,16 @@ RefusesClaim now peer fault tape =
 -- An event is refused for this fault, and nothing of it has happened, but that a disk's fault breaks its tape.
 abbrev pub Refuses : Event → Past → Fault → Past → Type 0
 Refuses (Owes rank token id) past fault later =
-    RefusesAt (RefusesLineAt (past.last + 1) token id) rank past fault later
+    RefusesAt (RefusesLineAt (owed_as (past.last + 1)) (λ (peer : PeerPast). past.last + 1) token id) rank past fault
+    later
+Refuses (Imports rank number token id) past fault later =
+    RefusesAt (RefusesLineAt (imported_as number) (import_key number) token id) rank past fault later
+Refuses (Closes rank) past fault later =
+    RefusesAt (λ (peer : PeerPast) (f : Fault) (tape : TapePast). RefusesClose peer.tape (closing peer) f
+    × (tape ≡ peer.tape)) rank past fault later
+Refuses (Spills rank) past fault later =
+    RefusesAt (λ (peer : PeerPast) (f : Fault) (tape : TapePast). RefusesFlush (KeepsNotes peer) peer.tape f tape)
+    rank past fault later
 Refuses (Parts rank) past fault later =
     RefusesAt (λ (peer : PeerPast) (f : Fault) (tape : TapePast). RefusesFlush (KeepsNotes peer) peer.tape f tape)
     rank past fault later
@@ -304,6 +368,9 @@ each_rank event (suc n) = each_rank event n ++ event n ∷ []
 -- the tape whose disks an event calls: a peer's by its rank, or the intake's
 abbrev pub calls_disk : Event → Option (Option ℕ)
 calls_disk (Owes rank token id) = None
+calls_disk (Imports rank number token id) = None
+calls_disk (Closes rank) = None
+calls_disk (Spills rank) = Some (Some rank)
 calls_disk (Parts rank) = Some (Some rank)
 calls_disk (Rotates rank generation) = Some (Some rank)
 calls_disk (Sheds rank numbers) = None

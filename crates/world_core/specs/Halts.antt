@@ -9,13 +9,14 @@ use Rattle.world_core.specs.Past.{Armed, Life, Past, PeerPast, TapePast, rank_of
 use Rattle.world_core.specs.Safe.{IsSafe}
 use Rattle.world_core.specs.Events.{AllDo, Event, Fails, Opens, OpensIntake, Parts, Refuses, Rotates, calls_disk}
 use Rattle.world_core.specs.Events.{each_rank}
+use Rattle.world_core.specs.Imports.{IsImport}
 use Rattle.world_core.specs.Steps.{IsSealable, begun_at, flush_events, seal_events}
 use Rattle.world_core.specs.Told.{Said, Stopped, mark_said}
 use Rattle.world_core.specs.declared.fault.Fault.{Fault}
 use Rattle.world_core.specs.declared.fault.Fault.TheVariants.{NoMemory, NoPeer, Running, Stopped as HasStopped, Tape}
 use Rattle.world_core.specs.declared.step.Step.{Step}
 use Rattle.world_core.specs.declared.step.Step.TheVariants.{Line, Flush, Begin, Part, Seal, Connect, Hand, Bytes}
-use Rattle.world_core.specs.declared.step.Step.TheVariants.{Article, Break, Tick, Shed}
+use Rattle.world_core.specs.declared.step.Step.TheVariants.{Article, Break, Tick, Shed, Import}
 use Rattle.world_core.specs.declared.step.Step.TheVariants.{Rotate, Stop, Restart}
 
 -- ---- what a stop makes of a world
@@ -136,6 +137,8 @@ CallsDisks (Shed name) life begun events = ⊥
 CallsDisks (Rotate name) life begun events =
     (life.running ≡ true) × (begun ≡ life.past)
     × ((rank : ℕ) × (rank_of life.past name ≡ Some rank) × (events ≡ Rotates rank 0 ∷ []))
+CallsDisks (Import name text) life begun events =
+    (life.running ≡ true) × (begun ≡ life.past) × IsImport name text.items life.past events
 CallsDisks (Stop peer call choice) life begun events = ⊥
 CallsDisks Restart life begun events = (life.running ≡ false) × (begun ≡ life.past)
     × (events ≡ restart_events life.past)

@@ -24,16 +24,18 @@ use Rattle.world_core.specs.declared.step.Step.{Step}
 use Rattle.world_core.specs.declared.step.Step.TheVariants.{Hand}
 
 -- What comes of a world by these steps, one after another: each is taken, and tells this, or is refused, and tells
--- nothing. A run ends at the first that is refused, and another may go on from there. Before and behind each step
--- whatever a stop leaves is safe.
+-- nothing. A run ends at the first that is refused, and another may go on from there. Before and after each step the
+-- world is sound, and whatever a stop leaves is safe.
 pub data Comes (begun : Life) : List Step → List (List Said) → Life → Type 0 where
-  No_step : IsSafe begun.past → Comes begun [] [] begun
+  No_step : IsSafe begun.past → IsSoundLife begun → Comes begun [] [] begun
   Step_taken : (steps : List Step) (step : Step) (lines : List (List Said)) (told : List Said) (life later : Life)
       → Comes begun steps lines life
-      → Takes step life told later → IsSafe later.past → Comes begun (steps ++ step ∷ []) (lines ++ told ∷ []) later
+      → Takes step life told later → IsSafe later.past → IsSoundLife later
+      → Comes begun (steps ++ step ∷ []) (lines ++ told ∷ []) later
   Step_refused : (steps : List Step) (step : Step) (lines : List (List Said)) (fault : Fault) (life later : Life)
       → Comes begun steps lines life
-      → RefusesStep step life fault later → IsSafe later.past → Comes begun (steps ++ step ∷ []) lines later
+      → RefusesStep step life fault later → IsSafe later.past → IsSoundLife later
+      → Comes begun (steps ++ step ∷ []) lines later
 
 -- what holds of any two worlds of which the one comes of the other by steps
 abbrev pub OverRuns : (Life → Life → Type 0) → Type 0
@@ -129,7 +131,7 @@ HasFinal life rank number code = (peer : PeerPast) × (slice_get life.past.peers
 
 -- a final answer among a peer's notes was there before the steps, or has its verdict
 abbrev pub AllFinalsAreRight : Type 0
-AllFinalsAreRight = (begun later : Life) (steps : List Step) (lines : List (List Said)) → IsSoundLife begun
+AllFinalsAreRight = (begun later : Life) (steps : List Step) (lines : List (List Said))
     → Comes begun steps lines later
     → (rank number : ℕ) (code : FinalCode) → HasFinal later rank number code
     → HasFinal begun rank number code ⊎ HasVerdict begun steps lines later rank number code

@@ -3,6 +3,7 @@ pub mod Safe
 pub mod Told
 pub mod Tapes
 pub mod Events
+pub mod Imports
 pub mod Steps
 pub mod Exchange
 pub mod Halts
@@ -14,6 +15,7 @@ pub mod StopDisk
 pub mod Trigger
 pub mod Stands
 pub mod Stepped
+pub mod Importing
 pub mod Keeping
 pub mod Halting
 pub mod Turn

@@ -1,8 +1,8 @@
 -- What steps tell, as the lines of the script's format (docs/FORMATS.md), each with its LF.
-use Rattle.std.specs.Prelude.{ℕ, ◌^◌, List, [], ◌∷◌, ◌++◌, codes, decimal, flat_map, if◌then◌else◌, nat_lt}
+use Rattle.std.specs.Prelude.{ℕ, List, [], ◌∷◌, ◌++◌, codes, decimal, flat_map}
 use Rattle.funnel.specs.Faults.{line_fault_name}
 use Rattle.ledger_core.specs.Codes.{cause_name, code_number}
-use Rattle.ledger_core.specs.Keys.{number_of, source_of}
+use Rattle.ledger_core.specs.Keys.{key_text}
 use Rattle.reply_reader.specs.Faults.{reply_fault_name}
 use Rattle.conn_core.specs.declared.reason.Reason.{Reason}
 use Rattle.conn_core.specs.declared.reason.Reason.TheVariants.{Greeting, Reader, Unmatched, Ended, Timeout, Broken}
@@ -11,8 +11,8 @@ use Rattle.peer_queue.specs.declared.limits.Owed.{Owed as Answer}
 use Rattle.peer_queue.specs.declared.limits.Owed.TheVariants.{New, Already}
 use Rattle.peer_queue.specs.declared.settled.Settled.{Settled as Settling}
 use Rattle.peer_queue.specs.declared.settled.Settled.TheVariants.{Answered, Dropped, Later, Ready}
-use Rattle.world_core.specs.Told.{Bad, Closed, Connected, Handed, Mark, Need, Output, Owed, Rotated, Said, Settled}
-use Rattle.world_core.specs.Told.{Shed, Stopped, Taken}
+use Rattle.world_core.specs.Told.{Bad, Closed, Connected, Handed, Imported, Mark, Need, Output, Owed, Rotated, Said}
+use Rattle.world_core.specs.Told.{Settled, Shed, Stopped, Taken}
 use Rattle.world_core.specs.declared.told.Handed.{Handed as Handover}
 use Rattle.world_core.specs.declared.told.Handed.TheVariants.{Busy, Closed as HasClosed, Debt, Nothing}
 
@@ -20,11 +20,6 @@ use Rattle.world_core.specs.declared.told.Handed.TheVariants.{Busy, Closed as Ha
 abbrev pub owed_text : List ℕ × Answer → List ℕ
 owed_text (name, New) = 32 ∷ name ++ codes " new"
 owed_text (name, Already) = 32 ∷ name ++ codes " already"
-
--- the key of a debt: a line of the funnel by its number, one of another source as source, slash, number
-abbrev pub key_text : ℕ → List ℕ
-key_text key =
-    if nat_lt key (2 ^ 64) then decimal key else decimal (source_of key) ++ 47 ∷ decimal (number_of key)
 
 -- what became of the debt of this key
 abbrev pub settled_text : ℕ → Settling → List ℕ
@@ -68,6 +63,7 @@ told_text (Need connection key) = 99 ∷ decimal connection ++ codes " need " ++
 told_text (Closed connection reason) = 99 ∷ decimal connection ++ codes " closed " ++ reason_text reason
 told_text (Shed name keys) = name ++ codes " shed" ++ keys_text keys
 told_text (Rotated name generation) = name ++ codes " rotated " ++ decimal generation
+told_text (Imported name source new) = name ++ codes " imported " ++ decimal source ++ 32 ∷ decimal new
 told_text Stopped = codes "stopped"
 told_text (Mark name mark owes) = name ++ codes " mark " ++ decimal mark ++ codes " owes" ++ keys_text owes
 

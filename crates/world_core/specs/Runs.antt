@@ -2,18 +2,21 @@
 use Rattle.std.specs.Prelude.{◌≡◌, ◌⊎◌, ℕ, true, false, List, [], ◌∷◌, ◌++◌}
 use Rattle.world_core.specs.Past.{ConnPast, Life, Past, PeerPast, with_past}
 use Rattle.world_core.specs.Safe.{IsSafe}
-use Rattle.world_core.specs.Steps.{RefusesFlushing, RefusesLine, RefusesPart, RefusesRotation, RefusesSeal, RefusesShed}
-use Rattle.world_core.specs.Steps.{TakesBegin, TakesFlush, TakesLine, TakesPart, TakesRotate, TakesSeal, TakesShed}
+use Rattle.world_core.specs.Steps.{RefusesFlushing, RefusesImport, RefusesLine, RefusesPart, RefusesRotation}
+use Rattle.world_core.specs.Steps.{RefusesSeal, RefusesShed}
+use Rattle.world_core.specs.Steps.{TakesBegin, TakesFlush, TakesImport, TakesLine, TakesPart, TakesRotate, TakesSeal}
+use Rattle.world_core.specs.Steps.{TakesShed}
 use Rattle.world_core.specs.Exchange.{FailsToBreak, FailsToHand, FailsToRead, FailsToSupply, RefusesConnect, RefusesOn}
 use Rattle.world_core.specs.Exchange.{RefusesTick}
 use Rattle.world_core.specs.Exchange.{TakesArticle, TakesBreak, TakesBytes, TakesConnect, TakesHand, TakesTick}
 use Rattle.world_core.specs.Halts.{RefusesRestart, RefusesStop, Strikes, StrikesUntold, TakesRestart, TakesStop}
+use Rattle.world_core.specs.Sound.{IsSoundLife}
 use Rattle.world_core.specs.Told.{Said}
 use Rattle.world_core.specs.declared.fault.Fault.{Fault}
 use Rattle.world_core.specs.declared.fault.Fault.TheVariants.{Stopped}
 use Rattle.world_core.specs.declared.step.Step.{Step}
 use Rattle.world_core.specs.declared.step.Step.TheVariants.{Line, Flush, Begin, Part, Seal, Connect, Hand, Bytes}
-use Rattle.world_core.specs.declared.step.Step.TheVariants.{Article, Break, Tick, Shed}
+use Rattle.world_core.specs.declared.step.Step.TheVariants.{Article, Break, Tick, Shed, Import}
 use Rattle.world_core.specs.declared.step.Step.TheVariants.{Rotate, Stop, Restart}
 
 -- the world runs, and the step makes this of all tapes; all else stays
@@ -40,6 +43,7 @@ Does (Break id) life told later = OnWorld (TakesBreak id) life told later
 Does (Tick now) life told later = OnWorld (TakesTick now) life told later
 Does (Shed name) life told later = OnTapes (TakesShed name) life told later
 Does (Rotate name) life told later = OnTapes (TakesRotate name) life told later
+Does (Import name text) life told later = OnTapes (TakesImport name text.items) life told later
 Does (Stop peer call choice) life told later = TakesStop peer call choice life told later
 Does Restart life told later = TakesRestart life told later
 
@@ -80,6 +84,7 @@ Refuses (Break id) life fault later = RefusesConn id (FailsToBreak id) life faul
 Refuses (Tick now) life fault later = RefusesWorld (RefusesTick now) life fault later
 Refuses (Shed name) life fault later = RefusesTapes (RefusesShed name) life fault later
 Refuses (Rotate name) life fault later = RefusesTapes (RefusesRotation name) life fault later
+Refuses (Import name text) life fault later = RefusesTapes (RefusesImport name text.items) life fault later
 Refuses (Stop peer call choice) life fault later = RefusesStop peer call life fault later
 Refuses Restart life fault later = RefusesRestart life fault later
 
@@ -89,10 +94,11 @@ RefusesStep step life fault later = Refuses step life fault later ⊎ StrikesUnt
 
 -- ---- runs
 
--- These steps were taken, one after another, and this is what each told. Before and behind each, behind each event in
--- it, and at each moment within an event, whatever a stop leaves is safe.
+-- These steps were taken, one after another, and this is what each told. Before and after each step the world is sound,
+-- and whatever a stop leaves is safe, as it is after each event in a step, and at each moment within an event.
 pub data Runs (begun : Life) : List Step → List (List Said) → Life → Type 0 where
-  Start : IsSafe begun.past → Runs begun [] [] begun
+  Start : IsSafe begun.past → IsSoundLife begun → Runs begun [] [] begun
   Next : (steps : List Step) (step : Step) (lines : List (List Said)) (told : List Said) (life later : Life)
       → Runs begun steps lines life
-      → Takes step life told later → IsSafe later.past → Runs begun (steps ++ step ∷ []) (lines ++ told ∷ []) later
+      → Takes step life told later → IsSafe later.past → IsSoundLife later
+      → Runs begun (steps ++ step ∷ []) (lines ++ told ∷ []) later

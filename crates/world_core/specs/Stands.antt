@@ -24,9 +24,11 @@ use Rattle.peer_queue.specs.declared.limits.Owed.TheVariants.{New}
 use Rattle.world_core.specs.Past.{Armed, ConnPast, Life, Past, PeerPast, TapePast, ledger_at, limits_of, options_of}
 use Rattle.world_core.specs.Past.{with_tape}
 use Rattle.world_core.specs.Safe.{IsSafe, KeepsLines, KeepsNotes}
-use Rattle.world_core.specs.Tapes.{HasRoom, IsFlushed, IsReopened, IsRotated, RefusesFlush, RefusesOpen, RefusesRotate}
-use Rattle.world_core.specs.Events.{Does, Event, IsShedAt, Owes, Refuses, RefusesCall, RefusesLineAt, opened_peer}
-use Rattle.world_core.specs.Events.{owed_as, owing_as, parted, shed_peer}
+use Rattle.world_core.specs.Tapes.{HasRoom, IsFlushed, IsReopened, IsRotated, RefusesClose, RefusesFlush, RefusesOpen}
+use Rattle.world_core.specs.Tapes.{RefusesRotate, noted_at}
+use Rattle.world_core.specs.Events.{Closes, Does, Event, Imports, IsShedAt, Owes, Refuses, RefusesCall, RefusesLineAt}
+use Rattle.world_core.specs.Events.{closing, imported_as, open_source, opened_peer, owed_as, owing_as, parted}
+use Rattle.world_core.specs.Events.{shed_peer}
 use Rattle.world_core.specs.Runs.{RefusesStep, Runs}
 use Rattle.world_core.specs.Sound.{IsSound, IsSoundLife}
 use Rattle.world_core.specs.StopDisk.{all_faults, happened}
@@ -71,22 +73,43 @@ module _ {D : Type 0} {g : Ghosts D} where
 
   -- ---- what the calls of a peer make of it
 
-  -- a line is owed at the peer, and this came of it
-  pub record OwedTo (number : ℕ) (token id : List ℕ) (past : PeerPast) (owed : Owed) (peer : Peer D g) : Type 0 where
+  -- a line is owed at the peer under a key, and this came of it
+  pub record OwedTo (answer : PeerPast → Owed) (key : PeerPast → ℕ) (token id : List ℕ) (past : PeerPast) (owed : Owed)
+      (peer : Peer D g) : Type 0 where
     pub works : past.tape.broken ≡ false
-    pub owed_is : owed ≡ owed_as number past
-    pub apart : owed ≡ New → place_at past.places number ≡ None
-    pub room : owed ≡ New → HasRoom past.tape × (Overflows (ledger_at past.tape) (Owe number token id) → ⊥)
-    pub stands : PeerStands (owing_as owed number token id past) peer
+    pub owed_is : owed ≡ answer past
+    pub apart : owed ≡ New → place_at past.places (key past) ≡ None
+    pub room : owed ≡ New → HasRoom past.tape × (Overflows (ledger_at past.tape) (Owe (key past) token id) → ⊥)
+    pub stands : PeerStands (owing_as owed (key past) token id past) peer
 
-  pub record OwedNot (number : ℕ) (token id : List ℕ) (past : PeerPast) (fault : Fault) (peer : Peer D g) : Type 0 where
-    pub refused : RefusesLineAt number token id past fault past.tape
+  pub record OwedNot (answer : PeerPast → Owed) (key : PeerPast
+      → ℕ) (token id : List ℕ) (past : PeerPast) (fault : Fault)
+      (peer : Peer D g) : Type 0 where
+    pub refused : RefusesLineAt answer key token id past fault past.tape
+    pub stands : PeerStands past peer
+
+  -- the source that is open at the peer is closed
+  pub record ClosedPeer (past : PeerPast) (source : ℕ) (peer : Peer D g) : Type 0 where
+    pub works : past.tape.broken ≡ false
+    pub source_is : source ≡ open_source past
+    pub room : HasRoom past.tape
+    pub fits : Overflows (ledger_at past.tape) (closing past) → ⊥
+    pub stands : PeerStands (with_tape past (noted_at past.tape (closing past))) peer
+
+  pub record UnclosedPeer (past : PeerPast) (fault : Fault) (peer : Peer D g) : Type 0 where
+    pub refused : RefusesClose past.tape (closing past) fault
     pub stands : PeerStands past peer
 
   pub record FlushedPeer (past : PeerPast) (peer : Peer D g) : Type 0 where
     pub later : TapePast
     pub flushes : IsFlushed (KeepsNotes past) past.tape later
     pub stands : PeerStands (parted past later) peer
+
+  -- the same while a backlog file is taken in, which is no flush since a number was kept
+  pub record SpilledPeer (past : PeerPast) (peer : Peer D g) : Type 0 where
+    pub later : TapePast
+    pub flushes : IsFlushed (KeepsNotes past) past.tape later
+    pub stands : PeerStands (with_tape past later) peer
 
   pub record UnflushedPeer (past : PeerPast) (fault : Fault) (peer : Peer D g) : Type 0 where
     pub later : TapePast
@@ -138,6 +161,21 @@ module _ {D : Type 0} {g : Ghosts D} where
     pub here : slice_get past.peers rank ≡ Some peer
     pub owed_is : owed ≡ owed_as (past.last + 1) peer
     pub did : DidOne past (Owes rank token id) stations
+
+  -- a line of a backlog file is owed there, and this came of it
+  pub record ImportedOne (past : Past) (rank number : ℕ) (token id : List ℕ) (owed : Owed) (stations : Stations D g) :
+      Type 0 where
+    pub peer : PeerPast
+    pub here : slice_get past.peers rank ≡ Some peer
+    pub owed_is : owed ≡ imported_as number peer
+    pub did : DidOne past (Imports rank number token id) stations
+
+  -- the source that is open there is closed: this one
+  pub record ClosedOne (past : Past) (rank source : ℕ) (stations : Stations D g) : Type 0 where
+    pub peer : PeerPast
+    pub here : slice_get past.peers rank ≡ Some peer
+    pub source_is : source ≡ open_source peer
+    pub did : DidOne past (Closes rank) stations
 
   -- a peer that was not flushed since a number was kept
   abbrev pub unparted : Peer D g → Peer D g

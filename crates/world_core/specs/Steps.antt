@@ -11,8 +11,9 @@ use Rattle.funnel.specs.declared.line.LineFault.TheVariants.{NoMemory as NoLineM
 use Rattle.peer_queue.specs.declared.limits.Owed.{Owed as Answer}
 use Rattle.world_core.specs.Past.{Past, PeerPast, mark_at, rank_of, with_last}
 use Rattle.world_core.specs.Events.{Acknowledges, AllDo, Event, Fails, Owes, Parts, Rotates, Sees, Sheds, each_rank}
-use Rattle.world_core.specs.Events.{owed_as}
-use Rattle.world_core.specs.Told.{Bad, Owed, Rotated, Said, Shed, Taken}
+use Rattle.world_core.specs.Events.{import_mark_at, open_source, owed_as}
+use Rattle.world_core.specs.Imports.{IsImport, count_new}
+use Rattle.world_core.specs.Told.{Bad, Imported, Owed, Rotated, Said, Shed, Taken}
 use Rattle.world_core.specs.declared.fault.Fault.{Fault}
 use Rattle.world_core.specs.declared.fault.Fault.TheVariants.{CountFull, NoMemory, NoPeer, NotFlushed}
 
@@ -114,6 +115,12 @@ TakesRotate name past told later =
     (rank generation : ℕ) × (rank_of past name ≡ Some rank) × AllDo past (Rotates rank generation ∷ []) later
     × (told ≡ Rotated name generation ∷ [])
 
+-- what is told: the source under which the lines are owed, and how many of them are new
+abbrev pub TakesImport : (name text : List ℕ) → Past → List Said → Past → Type 0
+TakesImport name text past told later =
+    (events : List Event) × (is : IsImport name text past events) × AllDo past events later
+    × (told ≡ Imported name (open_source is.peer) (count_new (import_mark_at is.peer) is.lines) ∷ [])
+
 -- ---- how each is refused
 
 -- The line has no number; or memory was refused before any event; or an event was refused, and those before it stand.
@@ -157,3 +164,9 @@ abbrev pub RefusesRotation : List ℕ → Past → Fault → Past → Type 0
 RefusesRotation name past fault later =
     RefusesNamed name past (λ rank. RefusesTelling (Fails past (Rotates rank 0 ∷ []) fault later) past fault later)
     fault later
+
+abbrev pub RefusesImport : (name text : List ℕ) → Past → Fault → Past → Type 0
+RefusesImport name text past fault later =
+    RefusesNamed name past (λ rank. RefusesTelling
+    ((events : List Event) × IsImport name text past events × Fails past events fault later) past fault later) fault
+    later

@@ -39,6 +39,12 @@ RefusesOwe tape note fault =
     ⊎ ((fault ≡ Tape PendingFull) × (tape.broken ≡ false) × (Overflows (ledger_at tape) note → ⊥) × (HasRoom tape → ⊥))
     ⊎ ((fault ≡ NoMemory) × (tape.broken ≡ false))
 
+-- the note that closes a source is refused: its source is the last one, or else as any note is
+abbrev pub RefusesClose : TapePast → Note → Fault → Type 0
+RefusesClose tape note fault =
+    ((fault ≡ Tape (RefusedNote CountFull)) × (tape.broken ≡ false) × Overflows (ledger_at tape) note)
+    ⊎ ((tape.broken ≡ false → Overflows (ledger_at tape) note → ⊥) × RefusesNote tape fault)
+
 -- ---- a reading
 
 -- it was read: a disk may have told a fault, and nothing else has happened

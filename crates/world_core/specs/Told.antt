@@ -16,7 +16,8 @@ use Rattle.world_core.specs.declared.told.Told.TheVariants.{Connected as ToldCon
 use Rattle.world_core.specs.declared.told.Told.TheVariants.{Handed as ToldHanded, Settled as ToldSettled}
 use Rattle.world_core.specs.declared.told.Told.TheVariants.{Output as ToldOutput, Need as ToldNeed}
 use Rattle.world_core.specs.declared.told.Told.TheVariants.{Closed as ToldClosed, Shed as ToldShed}
-use Rattle.world_core.specs.declared.told.Told.TheVariants.{Rotated as ToldRotated, Stopped as ToldStopped}
+use Rattle.world_core.specs.declared.told.Told.TheVariants.{Rotated as ToldRotated, Imported as ToldImported}
+use Rattle.world_core.specs.declared.told.Told.TheVariants.{Stopped as ToldStopped}
 use Rattle.world_core.specs.declared.told.Told.TheVariants.{Mark as ToldMark}
 
 -- One thing that a step tells.
@@ -33,6 +34,7 @@ pub data Said : Type 0 where
   Closed : (connection : ℕ) (reason : Reason) → Said  -- a connection closed
   Shed : (name : List ℕ) (keys : List ℕ) → Said  -- what of a peer's backlog was dropped
   Rotated : (name : List ℕ) (generation : ℕ) → Said  -- what a peer is owed was written anew
+  Imported : (name : List ℕ) (source new : ℕ) → Said  -- a backlog file was taken in
   Stopped : Said  -- all has stopped
   Mark : (name : List ℕ) (mark : ℕ) (owes : List ℕ) → Said  -- a peer's tape was opened
 
@@ -49,6 +51,7 @@ said_of (ToldNeed connection key) = Need connection key
 said_of (ToldClosed connection reason) = Closed connection reason
 said_of (ToldShed name debts) = Shed name debts.items
 said_of (ToldRotated name generation) = Rotated name generation
+said_of (ToldImported name source new) = Imported name source new
 said_of ToldStopped = Stopped
 said_of (ToldMark name mark owes) = Mark name mark owes.items
 

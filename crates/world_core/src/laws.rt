@@ -6,7 +6,6 @@ ghost use Rattle.world_core.specs.Laws.{AllAreRecovered, AllFinalsAreRight, AllS
 ghost use Rattle.world_core.specs.Laws.{Comes, LinesAreAcknowledged, OverRuns, StillOwes};
 ghost use Rattle.world_core.specs.Past.{Life, Past, PeerPast};
 ghost use Rattle.world_core.specs.Safe.{IsSafe};
-ghost use Rattle.world_core.specs.Sound.{IsSoundLife};
 ghost use Rattle.world_core.specs.Stands.{Ran, WasRefused, WorldStands};
 ghost use Rattle.world_core.specs.Told.{Said, said_by};
 
@@ -36,19 +35,20 @@ pub fn acknowledged_debts_stay_owed()
 {}
 
 /// The world behind a run has come about by the run's steps, whatever came before; where one was refused, by those up
-/// to that one, and it. So the laws over any steps hold of it. It is sound, so that the next run begins from it.
+/// to that one, and it. So the laws over any steps hold of it. By `Comes` it is sound, so that the next run begins from
+/// it.
 pub fn each_run_comes_about()
     ensures begins { (life : Life) (world : World) → WorldStands world life
         → Comes life [] [] life }
     ensures reports { (begun life : Life) (before steps : List Step)
         (told lines : List (List Said)) (new : World)
         → Comes begun before told life → (ran : Ran steps life lines new)
-        → Comes begun (before ++ steps) (told ++ lines) ran.later × IsSoundLife ran.later }
+        → Comes begun (before ++ steps) (told ++ lines) ran.later }
     ensures ends { (begun life : Life) (before steps : List Step)
         (told : List (List Said)) (fault : WorldFault) (new : World)
         → Comes begun before told life → (was : WasRefused steps life fault new)
         → Comes begun (before ++ take (was.index + 1) steps)
-        (told ++ said_by fault.lines.items) was.later × IsSoundLife was.later }
+        (told ++ said_by fault.lines.items) was.later }
 {}
 
 /// Over any steps, taken or refused, stops and restarts among them, what was acknowledged of each peer's notes stays

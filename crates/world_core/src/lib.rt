@@ -11,6 +11,7 @@ mod connection;
 mod connections;
 mod fault;
 mod halt;
+mod imports;
 pub mod laws;
 mod lines;
 mod make;

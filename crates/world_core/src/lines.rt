@@ -1,7 +1,8 @@
 // What steps tell, as the lines of the script's format (docs/FORMATS.md).
 ghost use Rattle.std.specs.Prelude.{◌≡◌, [], ◌∷◌, ◌++◌, decimal as digits_of, flat_map, map, IfOk};
 ghost use Rattle.std.specs.Prelude.{OnOk};
-ghost use Rattle.world_core.specs.Lines.{handed_text, key_text, keys_text, line_text, owed_text};
+ghost use Rattle.ledger_core.specs.Keys.{key_text};
+ghost use Rattle.world_core.specs.Lines.{handed_text, keys_text, line_text, owed_text};
 ghost use Rattle.world_core.specs.Lines.{reason_text, settled_text, told_text};
 ghost use Rattle.world_core.specs.Told.{said_of};
 ghost use Rattle.world_core.specs.declared.told.OwedAt.{OwedAt};
@@ -70,7 +71,7 @@ fn add_told(out: &mut Vec<u8>, told: &Told) -> Result<(), AllocError>
         Told::Need { connection, key } => {
             add_connection(out, *connection)?;
             out.extend_from_slice(b" need ")?;
-            add_key(out, *key)
+            key.add_text(out)
         }
         Told::Closed { connection, reason } => {
             add_connection(out, *connection)?;
@@ -86,6 +87,13 @@ fn add_told(out: &mut Vec<u8>, told: &Told) -> Result<(), AllocError>
             out.extend_from_slice(name.bytes())?;
             out.extend_from_slice(b" rotated ")?;
             add_number(out, *generation)
+        }
+        Told::Imported { name, source, new } => {
+            out.extend_from_slice(name.bytes())?;
+            out.extend_from_slice(b" imported ")?;
+            add_number(out, u64::from(*source))?;
+            out.push(b' ')?;
+            add_number(out, *new)
         }
         Told::Stopped => out.extend_from_slice(b"stopped"),
         Told::Mark { name, mark, owes } => {
@@ -103,17 +111,6 @@ fn add_number(out: &mut Vec<u8>, number: u64) -> Result<(), AllocError>
     ensures { OnOk result (out.new.items ≡ out.old.items ++ digits_of number) }
 {
     out.extend_from_slice(itoa::Buffer::new().format(number).as_bytes())
-}
-
-// The key of a debt: a line of the funnel by its number, one of another source as source, slash, number.
-fn add_key(out: &mut Vec<u8>, key: Key) -> Result<(), AllocError>
-    ensures { OnOk result (out.new.items ≡ out.old.items ++ key_text key) }
-{
-    if key.source() != 0 {
-        add_number(out, u64::from(key.source()))?;
-        out.push(b'/')?;
-    }
-    add_number(out, key.number())
 }
 
 // A connection: c and its number.
@@ -154,7 +151,7 @@ fn add_handed(out: &mut Vec<u8>, handed: Handed) -> Result<(), AllocError>
     match handed {
         Handed::Debt(key) => {
             out.extend_from_slice(b" hand ")?;
-            add_key(out, key)
+            key.add_text(out)
         }
         Handed::Nothing => out.extend_from_slice(b" none"),
         Handed::Busy => out.extend_from_slice(b" busy"),
@@ -181,7 +178,7 @@ fn add_settled(out: &mut Vec<u8>, key: Key, settled: Settled) -> Result<(), Allo
         }
         Settled::Ready => {
             out.extend_from_slice(b" back ")?;
-            add_key(out, key)
+            key.add_text(out)
         }
     }
 }
@@ -192,7 +189,7 @@ fn add_pair(out: &mut Vec<u8>, word: &[u8], key: Key) -> Result<(), AllocError>
         ≡ out.old.items ++ (word.now ++ (key_text key ++ 32 ∷ []))) }
 {
     out.extend_from_slice(word)?;
-    add_key(out, key)?;
+    key.add_text(out)?;
     out.push(b' ')?;
     Ok(())
 }
@@ -230,7 +227,7 @@ fn add_keys(out: &mut Vec<u8>, keys: &[Key]) -> Result<(), AllocError>
     }
     for key in keys {
         out.push(b' ')?;
-        add_key(out, *key)?;
+        key.add_text(out)?;
     }
     Ok(())
 }

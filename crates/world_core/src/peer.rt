@@ -36,20 +36,63 @@ pub(crate) struct StoppedPeer {
 
 impl<D: Disk> Peer<D> {
     ghost use Rattle.world_core.specs.Past.{PeerPast};
-    ghost use Rattle.world_core.specs.Stands.{FlushedPeer, OwedNot, OwedTo, PeerStands};
-    ghost use Rattle.world_core.specs.Stands.{RotatedPeer, ShedPeer, UnflushedPeer, UnrotatedPeer, UnshedPeer};
+    ghost use Rattle.world_core.specs.Events.{import_key, imported_as, owed_as};
+    ghost use Rattle.world_core.specs.Stands.{ClosedPeer, FlushedPeer, OwedNot, OwedTo, PeerStands};
+    ghost use Rattle.world_core.specs.Stands.{RotatedPeer, ShedPeer, SpilledPeer, UnclosedPeer, UnflushedPeer};
+    ghost use Rattle.world_core.specs.Stands.{UnrotatedPeer, UnshedPeer};
 
     // Owes a line that names it, and tells what came of it.
     pub(crate) fn owe(&mut self, number: u64, token: &Token, id: &MsgId) -> Result<Owed, Fault>
-        ensures ok { (past : PeerPast) → PeerStands past self.old
-            → IfOk result (λ owed. OwedTo number token.now id.now past owed self.new) }
-        ensures err { (past : PeerPast) → PeerStands past self.old
-            → IfErr result (λ fault. OwedNot number token.now id.now past fault self.new) }
+        ensures ok { (past : PeerPast) → PeerStands past self.old → IfOk result (λ owed.
+            OwedTo (owed_as number) (λ peer. number) token.now id.now past owed self.new) }
+        ensures err { (past : PeerPast) → PeerStands past self.old → IfErr result (λ fault.
+            OwedNot (owed_as number) (λ peer. number) token.now id.now past fault self.new) }
     {
         // proof: a number above the mark has no place yet.
         each_number_has_one_place(&self.station);
         match self.station.owe(number, token, id) {
             Ok(owed) => Ok(owed),
+            Err(fault) => Err(Fault::from_station(fault)),
+        }
+    }
+
+    // Owes a line of a backlog file of its, and tells what came of it.
+    pub(crate) fn import(&mut self, number: u64, token: &Token, id: &MsgId) -> Result<Owed, Fault>
+        ensures ok { (past : PeerPast) → PeerStands past self.old → IfOk result (λ owed.
+            OwedTo (imported_as number) (import_key number) token.now id.now past owed self.new) }
+        ensures err { (past : PeerPast) → PeerStands past self.old → IfErr result (λ fault.
+            OwedNot (imported_as number) (import_key number) token.now id.now past fault self.new) }
+    {
+        // proof: a number above the mark has no place yet.
+        each_number_has_one_place(&self.station);
+        match self.station.import(number, token, id) {
+            Ok(owed) => Ok(owed),
+            Err(fault) => Err(Fault::from_station(fault)),
+        }
+    }
+
+    // Closes the source that is open, and gives it.
+    pub(crate) fn close(&mut self) -> Result<u32, Fault>
+        ensures ok { (past : PeerPast) → PeerStands past self.old
+            → IfOk result (λ source. ClosedPeer past source self.new) }
+        ensures err { (past : PeerPast) → PeerStands past self.old
+            → IfErr result (λ fault. UnclosedPeer past fault self.new) }
+    {
+        match self.station.close_import() {
+            Ok(source) => Ok(source),
+            Err(fault) => Err(Fault::from_station(fault)),
+        }
+    }
+
+    // Flushes its station while a backlog file of its is taken in.
+    pub(crate) fn spill(&mut self) -> Result<(), Fault>
+        ensures ok { (past : PeerPast) → PeerStands past self.old
+            → OnOk result (SpilledPeer past self.new) }
+        ensures err { (past : PeerPast) → PeerStands past self.old
+            → IfErr result (λ fault. UnflushedPeer past fault self.new) }
+    {
+        match self.station.flush() {
+            Ok(_) => Ok(()),
             Err(fault) => Err(Fault::from_station(fault)),
         }
     }
@@ -61,13 +104,9 @@ impl<D: Disk> Peer<D> {
         ensures err { (past : PeerPast) → PeerStands past self.old
             → IfErr result (λ fault. UnflushedPeer past fault self.new) }
     {
-        match self.station.flush() {
-            Ok(_) => {
-                self.parted = true;
-                Ok(())
-            }
-            Err(fault) => Err(Fault::from_station(fault)),
-        }
+        self.spill()?;
+        self.parted = true;
+        Ok(())
     }
 
     // Writes what it is owed anew, and tells the generation.

@@ -121,6 +121,7 @@ impl World {
             Step::Tick(now) => self.tick(*now, out),
             Step::Shed(name) => self.shed(name, out),
             Step::Rotate(name) => self.rotate(name, out),
+            Step::Import { peer, text } => self.import(peer, text, out),
             Step::Stop { peer, call, choice } => self.stop(peer, *call, *choice, out),
             Step::Restart => self.restart(out),
         }

@@ -32,6 +32,14 @@ pub enum Step {
     Shed(PeerName),
     /// What this peer is owed is written anew.
     Rotate(PeerName),
+    /// A backlog file of this peer is taken in: its good lines are owed as one source, behind what was taken in of that
+    /// source before, the source is closed, and the peer is flushed.
+    Import {
+        /// The peer.
+        peer: PeerName,
+        /// What the file has: lines that end in LF.
+        text: Vec<u8>,
+    },
     /// All stops. At call 0 it is a stop at rest, whose tape and choice are not looked at; else a stop is armed, which
     /// comes at that counted call of that tape's disks.
     Stop {

@@ -10,7 +10,8 @@ impl World {
     ghost use Rattle.world_core.specs.Past.{Life};
     ghost use Rattle.world_core.specs.Stands.{WorldStands};
     ghost use Rattle.world_core.specs.Turn.{Took, WasNotTaken};
-    ghost use Rattle.world_core.specs.declared.step.Step.TheVariants.{Begin, Flush, Line, Part, Rotate, Seal, Shed};
+    ghost use Rattle.world_core.specs.declared.step.Step.TheVariants.{Begin, Flush, Import, Line, Part, Rotate, Seal};
+    ghost use Rattle.world_core.specs.declared.step.Step.TheVariants.{Shed};
 
     // Takes a funnel line, without its LF.
     pub(crate) fn line(&mut self, text: &Vec<u8>, out: &mut Vec<Told>) -> Result<(), Fault>
@@ -131,6 +132,32 @@ impl World {
         };
         let rank = stations.rank_of(name);
         match stations.rotate(name) {
+            Ok(told) => {
+                *out = told;
+                Ok(())
+            }
+            Err(fault) => self.settle(Halt { rank, fault }, out),
+        }
+    }
+
+    // Takes in a backlog file of this peer, which has this text.
+    pub(crate) fn import(
+        &mut self,
+        name: &PeerName,
+        text: &Vec<u8>,
+        out: &mut Vec<Told>,
+    ) -> Result<(), Fault>
+        requires { out.old.items ≡ [] }
+        ensures ok { (life : Life) → WorldStands self.old life
+            → OnOk result (Took (Import name.now text.now) life out.new.items self.new) }
+        ensures err { (life : Life) → WorldStands self.old life
+            → IfErr result (λ fault. WasNotTaken (Import name.now text.now) life fault self.new) }
+    {
+        let Stage::Running(stations, _) = &mut self.stage else {
+            return Err(Fault::Stopped);
+        };
+        let rank = stations.rank_of(name);
+        match stations.import(name, text) {
             Ok(told) => {
                 *out = told;
                 Ok(())

@@ -84,6 +84,12 @@ pub enum Told {
         name: PeerName,
         generation: u64,
     },
+    /// A backlog file of a peer was taken in as this source, and so many of its lines are new.
+    Imported {
+        name: PeerName,
+        source: u32,
+        new: u64,
+    },
     /// All has stopped.
     Stopped,
     /// A peer's tape was opened: its mark, and the keys that are owed, rising.

@@ -12,4 +12,4 @@ returns-in_default-Some c =
     (λ (same : c.args.word.now ≡ codes "shed"). grind arith)
     (λ (same : c.args.word.now ≡ codes "rotate"). grind arith)
     (λ (same : c.args.word.now ≡ codes "tick"). grind arith) (λ (same : c.args.word.now ≡ codes "stop"). grind arith)
-    (λ t. t.now) c.args.text _ c.step_on.result c.step_on.ensures (grind arith)
+    (λ t. t.now) c.args.text _ c.step_behind.result c.step_behind.ensures (grind arith)

@@ -1,5 +1,5 @@
 use Rattle.std.proofs.Common.{◌≡◌, ℕ, ◌∷◌, ◌++◌, flat_map, take}
-use Rattle.world_core.specs.Lines.{key_text}
+use Rattle.ledger_core.specs.Keys.{key_text}
 use Rattle.world_core.proofs.lines.add_keys.Given as goal
 
 -- the keys so far were added

@@ -1,58 +1,26 @@
--- A flush of the station is one of the peer's tape.
-use Rattle.std.proofs.Common.{◌∙◌, ap, refl}
-use Rattle.world_core.specs.Safe.{KeepsNotes}
-use Rattle.world_core.proofs.Peers.{flushed_as, keeps_moments, unflushed_as}
+-- The peer was flushed, and that since a number was kept.
+use Rattle.std.proofs.Common.{refl, subst, sym}
+use Rattle.world_core.specs.Stands.{UnflushedPeer}
+use Rattle.world_core.proofs.Stepping.{if_err}
 use Rattle.world_core.proofs.peer.Peer.flush.Goals as goal
-use Rattle.peer_queue.specs.Words.{tape_of}
 
-pub returns-in-Ok-clause-ok : goal.returns-in-Ok-clause-ok
-returns-in-Ok-clause-ok g c = λ past stands.
-    let is = c.in-Ok.ensures in
-    let h = past.tape.history in
-    let done = flushed_as g.met.D.Disk.content_is_image (KeepsNotes past) past.tape (tape_of c.args.self.now.station)
-    c.flush.new.self.tape stands.tape
-    (keeps_moments past _ _ ((is.flushes h stands.tape.stands).moments))
-    (λ b. let never = is.refuses.broken.1 b in cc) is.refuses.works
-    (λ full. let never = is.refuses.full.1 ((λ b. let broken = is.refuses.broken.1 b in cc), full) in
-    cc) (λ none. ap (λ s. s.tape) (is.empty none)) ((is.flushes h stands.tape.stands).ok) is.quiet in
-    record {
-      later = _;
-      flushes = done.0;
-      stands = record {
-        conf = stands.conf;
-        limits = is.keeps.limits ∙ stands.limits;
-        tape = done.1;
-        places =
-            is.keeps.places ∙ stands.places;
-        parted = refl;
-      };
-    }
+pub returns-in_err-spill-clause-err : goal.returns-in_err-spill-clause-err
+returns-in_err-spill-clause-err g c = λ past stands.
+    if_err c.from_residual.result _ _ c.from_residual.ensures.1
+    (λ fault same. subst (λ f. UnflushedPeer past f c.spill.new.self) (sym same)
+    (c.in_err-spill.ensures.err past stands))
 
-pub returns-in-Err-clause-err : goal.returns-in-Err-clause-err
-returns-in-Err-clause-err g c = λ past stands.
-    let is = c.in-Err.ensures in
-    let h = past.tape.history in
-    let done = unflushed_as g.met.D.Disk.content_is_image (KeepsNotes past) past.tape c.args.self.now.station
-    c.flush.new.self stands.tape
-    (keeps_moments past _ _ ((is.flushes h stands.tape.stands).moments)) ((is.flushes h stands.tape.stands).stays)
-    c.in-Err.fault c.from_station.result c.from_station.ensures (
-      (λ e. is.refuses.broken.0 cc),
-      λ b. let e = is.refuses.broken.1 b in cc,
-    ) (
-      (λ e. is.refuses.full.0 cc),
-      λ both. let e = is.refuses.full.1 both in
-          cc,
-    ) (λ none works. let never = is.empty_ok none works in cc)
-    is.refuses.kinds is.refuses.unchanged (λ e. is.refuses.breaks cc) (λ e. (is.flushes h stands.tape.stands).cause cc) in
+pub returns-clause-ok : goal.returns-clause-ok
+returns-clause-ok g c = λ past stands.
+    let done = c.in_ok-spill.ensures.ok past stands in
     record {
       later = done.later;
-      refused = done.refused;
+      flushes = done.flushes;
       stands = record {
-        conf = stands.conf;
-        limits = is.keeps.limits ∙ stands.limits;
-        tape = done.stands;
-        places =
-            is.keeps.places ∙ stands.places;
-        parted = stands.parted;
+        conf = done.stands.conf;
+        limits = done.stands.limits;
+        tape = done.stands.tape;
+        places = done.stands.places;
+        parted = refl;
       };
     }

@@ -6,7 +6,8 @@ use Rattle.world_core.proofs.peer.Peer.owe.Goals as goal
 pub returns-in-Ok-clause-ok : goal.returns-in-Ok-clause-ok
 returns-in-Ok-clause-ok g c = λ past stands.
     let is = c.in-Ok.ensures in
-    owed_answered c.args.number past c.args.token.now c.args.id.now c.args.self.now _ c.in-Ok.owed stands
+    owed_answered (λ state. state.mark) (λ state. c.args.number) c.args.number past c.args.token.now c.args.id.now
+    c.args.self.now _ c.in-Ok.owed stands
     (λ b. let never = is.refuses.broken.1 b in cc)
     (λ e. let own = is.already.0 cc in own.1)
     (λ e below. let never = is.already.1 ((λ b. let no = is.refuses.broken.1 b in cc), below) in cc)
@@ -17,7 +18,8 @@ returns-in-Ok-clause-ok g c = λ past stands.
 pub returns-in-Err-clause-err : goal.returns-in-Err-clause-err
 returns-in-Err-clause-err g c = λ past stands.
     let is = c.in-Err.ensures in
-    owed_refused past c.args.self.now _ c.args.number c.args.token.now c.args.id.now stands is.refuses.unchanged refl
+    owed_refused (λ state. state.mark) (λ state. c.args.number) past c.args.self.now _ c.args.number c.args.token.now
+    c.args.id.now stands is.refuses.unchanged refl
     refl
     c.in-Err.fault c.from_station.result c.from_station.ensures (
       (λ e. is.refuses.broken.0 cc),

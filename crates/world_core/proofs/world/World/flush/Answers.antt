@@ -2,15 +2,17 @@
 use Rattle.std.proofs.Common.{refl}
 use Rattle.world_core.specs.Steps.{TakesFlush}
 use Rattle.world_core.specs.declared.step.Step.TheVariants.{Flush}
-use Rattle.world_core.proofs.Steady.{holds_flush}
+use Rattle.world_core.proofs.Steady.{steady}
 use Rattle.world_core.proofs.Taking.{flush_was_halted, took_tapes}
+use Rattle.world_core.proofs.Walking.{flush_keeps}
 use Rattle.world_core.proofs.world.World.flush.Goals as goal
 
 pub returns-in-Ok-clause-ok : goal.returns-in-Ok-clause-ok
 returns-in-Ok-clause-ok c = λ life stands.
     took_tapes c.args.self.now _ life c.in-Running.stations c.flush.new.self c.in-Running.field-1 stands
     c.in-Running.is refl refl refl refl
-    Flush TakesFlush c.in-Ok.told.items (λ told later t. t) holds_flush (λ on. c.in-Ok.ensures.ok life.past on)
+    Flush TakesFlush c.in-Ok.told.items (λ told later t. t) (flush_keeps steady)
+    (λ on. c.in-Ok.ensures.ok life.past on)
 
 pub returns-in-Err-clause-ok : goal.returns-in-Err-clause-ok
 returns-in-Err-clause-ok c = λ life stands.

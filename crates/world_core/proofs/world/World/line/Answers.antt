@@ -3,9 +3,10 @@ use Rattle.std.proofs.Common.{List, ℕ, refl, sym, subst}
 use Rattle.world_core.specs.Steps.{RefusesLine, TakesLine}
 use Rattle.world_core.specs.Stepped.{Took as TookTapes, TookNot}
 use Rattle.world_core.specs.declared.step.Step.TheVariants.{Line}
-use Rattle.world_core.proofs.Steady.{holds_line, holds_line_not}
+use Rattle.world_core.proofs.Steady.{steady}
 use Rattle.world_core.proofs.Stepping.{if_err}
 use Rattle.world_core.proofs.Taking.{took_not, took_tapes}
+use Rattle.world_core.proofs.Walking.{line_keeps, line_refused}
 use Rattle.world_core.proofs.world.World.line.Goals as goal
 
 pub returns-in_err-out-clause-err : goal.returns-in_err-out-clause-err
@@ -14,7 +15,7 @@ returns-in_err-out-clause-err c = λ life stands.
     if_err c.from_residual.result _ _ c.from_residual.ensures.1
     (λ fault same. took_not c.args.self.now _ life c.in-Running.stations c.line.new.self c.in-Running.field-1 stands
     c.in-Running.is refl refl refl refl
-    (Line text) (RefusesLine text.items) fault (λ later r. r) (holds_line_not text.items)
+    (Line text) (RefusesLine text.items) fault (λ later r. r) (line_refused steady text.items)
     (λ on. subst (λ f. TookNot (RefusesLine text.items) life.past f c.line.new.self) (sym same)
     (subst (λ (t : List ℕ). TookNot (RefusesLine t) life.past c.in_err-out.field-0.0 c.line.new.self)
     c.deref.ensures.value (c.in_err-out.ensures.err life.past on))))
@@ -24,6 +25,6 @@ returns-clause-ok c = λ life stands.
     let text = c.args.text.now in
     took_tapes c.args.self.now _ life c.in-Running.stations c.line.new.self c.in-Running.field-1 stands
     c.in-Running.is refl refl refl refl
-    (Line text) (TakesLine text.items) c.in_ok-out.field-0.items (λ told later t. t) (holds_line text.items)
+    (Line text) (TakesLine text.items) c.in_ok-out.field-0.items (λ told later t. t) (line_keeps steady text.items)
     (λ on. subst (λ (t : List ℕ). TookTapes (TakesLine t) life.past c.in_ok-out.field-0.items c.line.new.self)
     c.deref.ensures.value (c.in_ok-out.ensures.ok life.past on))

@@ -2,9 +2,10 @@
 use Rattle.std.proofs.Common.{refl, sym, ◌∙◌}
 use Rattle.world_core.specs.Steps.{RefusesPart, TakesPart}
 use Rattle.world_core.specs.declared.step.Step.TheVariants.{Part}
-use Rattle.world_core.proofs.Steady.{holds_part, holds_part_not}
+use Rattle.world_core.proofs.Steady.{steady}
 use Rattle.world_core.proofs.Stepping.{rank_same}
 use Rattle.world_core.proofs.Taking.{part_fails, took_tapes, was_halted}
+use Rattle.world_core.proofs.Walking.{part_keeps, part_refused}
 use Rattle.world_core.proofs.world.World.part.Goals as goal
 
 pub returns-in-Ok-clause-ok : goal.returns-in-Ok-clause-ok
@@ -12,7 +13,7 @@ returns-in-Ok-clause-ok c = λ life stands.
     let name = c.args.name.now in
     took_tapes c.args.self.now _ life c.in-Running.stations c.part.new.self c.in-Running.field-1 stands
     c.in-Running.is refl refl refl refl
-    (Part name) (TakesPart name) c.in-Ok.told.items (λ told later t. t) (holds_part name)
+    (Part name) (TakesPart name) c.in-Ok.told.items (λ told later t. t) (part_keeps steady name)
     (λ on. c.in-Ok.ensures.ok life.past on)
 
 pub returns-in-Err-clause-ok : goal.returns-in-Err-clause-ok
@@ -22,7 +23,7 @@ returns-in-Err-clause-ok c = λ life stands.
     (was_halted c.args.self.now _ life c.in-Running.stations c.part.new.self c.in-Running.field-1 stands
     c.in-Running.is refl refl refl refl
     (Part name) (RefusesPart name) (record { rank = c.rank_of-rank.result; fault = c.in-Err.fault }) (λ later r. r)
-    (holds_part_not name)
+    (part_refused steady name)
     (λ on.
     let t = c.in-Err.ensures.err life.past on in (
       t,
@@ -37,7 +38,7 @@ returns-in-Err-clause-err c = λ life stands.
     (was_halted c.args.self.now _ life c.in-Running.stations c.part.new.self c.in-Running.field-1 stands
     c.in-Running.is refl refl refl refl
     (Part name) (RefusesPart name) (record { rank = c.rank_of-rank.result; fault = c.in-Err.fault }) (λ later r. r)
-    (holds_part_not name)
+    (part_refused steady name)
     (λ on.
     let t = c.in-Err.ensures.err life.past on in (
       t,

@@ -2,9 +2,10 @@
 use Rattle.std.proofs.Common.{refl, sym, ◌∙◌}
 use Rattle.world_core.specs.Steps.{RefusesRotation, TakesRotate}
 use Rattle.world_core.specs.declared.step.Step.TheVariants.{Rotate}
-use Rattle.world_core.proofs.Steady.{holds_rotate, holds_rotate_not}
+use Rattle.world_core.proofs.Steady.{steady}
 use Rattle.world_core.proofs.Stepping.{rank_same}
 use Rattle.world_core.proofs.Taking.{rotate_fails, took_tapes, was_halted}
+use Rattle.world_core.proofs.Walking.{rotate_keeps, rotate_refused}
 use Rattle.world_core.proofs.world.World.rotate.Goals as goal
 
 pub returns-in-Ok-clause-ok : goal.returns-in-Ok-clause-ok
@@ -12,7 +13,7 @@ returns-in-Ok-clause-ok c = λ life stands.
     let name = c.args.name.now in
     took_tapes c.args.self.now _ life c.in-Running.stations c.rotate.new.self c.in-Running.field-1 stands
     c.in-Running.is refl refl refl refl
-    (Rotate name) (TakesRotate name) c.in-Ok.told.items (λ told later t. t) (holds_rotate name)
+    (Rotate name) (TakesRotate name) c.in-Ok.told.items (λ told later t. t) (rotate_keeps steady name)
     (λ on. c.in-Ok.ensures.ok life.past on)
 
 pub returns-in-Err-clause-ok : goal.returns-in-Err-clause-ok
@@ -22,7 +23,7 @@ returns-in-Err-clause-ok c = λ life stands.
     (was_halted c.args.self.now _ life c.in-Running.stations c.rotate.new.self c.in-Running.field-1 stands
     c.in-Running.is refl refl refl refl
     (Rotate name) (RefusesRotation name) (record { rank = c.rank_of-rank.result; fault = c.in-Err.fault })
-    (λ later r. r) (holds_rotate_not name)
+    (λ later r. r) (rotate_refused steady name)
     (λ on.
     let t = c.in-Err.ensures.err life.past on in (
       t,
@@ -37,7 +38,7 @@ returns-in-Err-clause-err c = λ life stands.
     (was_halted c.args.self.now _ life c.in-Running.stations c.rotate.new.self c.in-Running.field-1 stands
     c.in-Running.is refl refl refl refl
     (Rotate name) (RefusesRotation name) (record { rank = c.rank_of-rank.result; fault = c.in-Err.fault })
-    (λ later r. r) (holds_rotate_not name)
+    (λ later r. r) (rotate_refused steady name)
     (λ on.
     let t = c.in-Err.ensures.err life.past on in (
       t,

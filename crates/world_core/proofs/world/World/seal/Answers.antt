@@ -2,22 +2,23 @@
 use Rattle.std.proofs.Common.{None, refl}
 use Rattle.world_core.specs.Steps.{RefusesSeal, TakesSeal}
 use Rattle.world_core.specs.declared.step.Step.TheVariants.{Seal}
-use Rattle.world_core.proofs.Steady.{holds_seal, holds_seal_not}
+use Rattle.world_core.proofs.Steady.{steady}
 use Rattle.world_core.proofs.Taking.{seal_fails, took_tapes, was_halted}
+use Rattle.world_core.proofs.Walking.{seal_keeps, seal_refused}
 use Rattle.world_core.proofs.world.World.seal.Goals as goal
 
 pub returns-in-Ok-clause-ok : goal.returns-in-Ok-clause-ok
 returns-in-Ok-clause-ok c = λ life stands.
     took_tapes c.args.self.now _ life c.in-Running.stations c.seal.new.self c.in-Running.field-1 stands
     c.in-Running.is refl refl refl refl
-    Seal TakesSeal c.in-Ok.told.items (λ told later t. t) holds_seal (λ on. c.in-Ok.ensures.ok life.past on)
+    Seal TakesSeal c.in-Ok.told.items (λ told later t. t) (seal_keeps steady) (λ on. c.in-Ok.ensures.ok life.past on)
 
 pub returns-in-Err-clause-ok : goal.returns-in-Err-clause-ok
 returns-in-Err-clause-ok c = λ life stands.
     c.settle.ensures.ok Seal life
     (was_halted c.args.self.now _ life c.in-Running.stations c.seal.new.self c.in-Running.field-1 stands
     c.in-Running.is refl refl refl refl
-    Seal RefusesSeal (record { rank = None; fault = c.in-Err.fault }) (λ later r. r) holds_seal_not
+    Seal RefusesSeal (record { rank = None; fault = c.in-Err.fault }) (λ later r. r) (seal_refused steady)
     (λ on. let t = c.in-Err.ensures.err life.past on in
     (t, λ disk runs. seal_fails life _ t.later refl runs t.refuses disk)))
 
@@ -26,6 +27,6 @@ returns-in-Err-clause-err c = λ life stands.
     c.settle.ensures.err Seal life
     (was_halted c.args.self.now _ life c.in-Running.stations c.seal.new.self c.in-Running.field-1 stands
     c.in-Running.is refl refl refl refl
-    Seal RefusesSeal (record { rank = None; fault = c.in-Err.fault }) (λ later r. r) holds_seal_not
+    Seal RefusesSeal (record { rank = None; fault = c.in-Err.fault }) (λ later r. r) (seal_refused steady)
     (λ on. let t = c.in-Err.ensures.err life.past on in
     (t, λ disk runs. seal_fails life _ t.later refl runs t.refuses disk)))

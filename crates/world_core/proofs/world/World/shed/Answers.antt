@@ -3,9 +3,10 @@ use Rattle.std.proofs.Common.{refl, sym, subst}
 use Rattle.world_core.specs.Steps.{RefusesShed, TakesShed}
 use Rattle.world_core.specs.Stepped.{TookNot}
 use Rattle.world_core.specs.declared.step.Step.TheVariants.{Shed}
-use Rattle.world_core.proofs.Steady.{holds_shed, holds_shed_not}
+use Rattle.world_core.proofs.Steady.{steady}
 use Rattle.world_core.proofs.Stepping.{if_err}
 use Rattle.world_core.proofs.Taking.{took_not, took_tapes}
+use Rattle.world_core.proofs.Walking.{shed_keeps, shed_refused}
 use Rattle.world_core.proofs.world.World.shed.Goals as goal
 
 pub returns-in_err-out-clause-err : goal.returns-in_err-out-clause-err
@@ -14,7 +15,7 @@ returns-in_err-out-clause-err c = λ life stands.
     if_err c.from_residual.result _ _ c.from_residual.ensures.1
     (λ fault same. took_not c.args.self.now _ life c.in-Running.stations c.shed.new.self c.in-Running.field-1 stands
     c.in-Running.is refl refl refl refl
-    (Shed name) (RefusesShed name) fault (λ later r. r) (holds_shed_not name)
+    (Shed name) (RefusesShed name) fault (λ later r. r) (shed_refused steady name)
     (λ on. subst (λ f. TookNot (RefusesShed name) life.past f c.shed.new.self) (sym same)
     (c.in_err-out.ensures.err life.past on)))
 
@@ -23,5 +24,5 @@ returns-clause-ok c = λ life stands.
     let name = c.args.name.now in
     took_tapes c.args.self.now _ life c.in-Running.stations c.shed.new.self c.in-Running.field-1 stands
     c.in-Running.is refl refl refl refl
-    (Shed name) (TakesShed name) c.in_ok-out.field-0.items (λ told later t. t) (holds_shed name)
+    (Shed name) (TakesShed name) c.in_ok-out.field-0.items (λ told later t. t) (shed_keeps steady name)
     (λ on. c.in_ok-out.ensures.ok life.past on)

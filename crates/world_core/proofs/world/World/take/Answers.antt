@@ -148,3 +148,12 @@ pub returns-in-Restart-clause-err : goal.returns-in-Restart-clause-err
 returns-in-Restart-clause-err c =
     λ life stands. as_step_not c.args.step.now _ c.restart.result life _ c.in-Restart.is
     (c.restart.ensures.err life stands)
+
+pub returns-in-Import-clause-ok : goal.returns-in-Import-clause-ok
+returns-in-Import-clause-ok c =
+    λ life stands. as_step c.args.step.now _ c.import.result life _ _ c.in-Import.is (c.import.ensures.ok life stands)
+
+pub returns-in-Import-clause-err : goal.returns-in-Import-clause-err
+returns-in-Import-clause-err c =
+    λ life stands. as_step_not c.args.step.now _ c.import.result life _ c.in-Import.is
+    (c.import.ensures.err life stands)
