@@ -16,10 +16,7 @@
 #
 # Other programs that run at the same time move the time. It fails on none.
 . "$(dirname "$(readlink -f "${BASH_SOURCE[0]}")")/lib.sh"
-if [ $# -gt 0 ] && (top=$1 && stale bench); then
-  echo "debt.sh: the program of the benchmarks is missing in $1, or older than its sources: build it there" >&2
-  exit 70
-fi
+[ $# -eq 0 ] || built "$1"
 build bench
 run=$(mktemp -d)
 memory=/dev/shm

@@ -1,7 +1,7 @@
 /*
- * What a flush of 256 notes asks of a file, with nothing around it: in each of COUNT rounds one
- * write of OCTETS octets behind what is there, an fdatasync, 256 writes of one octet each, spread
- * over those, and an fdatasync.
+ * What a flush of one batch asks of a file, with nothing around it: in each of COUNT rounds one
+ * write of OCTETS octets after what is there, an fdatasync, a write of one octet at the first of
+ * those, and an fdatasync.
  *
  *   flushes FILE COUNT OCTETS
  *
@@ -12,8 +12,6 @@
 #include <stdlib.h>
 #include <time.h>
 #include <unistd.h>
-
-#define NOTES 256
 
 static void fail(const char *what) {
   perror(what);
@@ -27,9 +25,7 @@ static void write_at(int file, const void *octets, size_t count, off_t at) {
 static void flush(int file, const char *block, size_t octets, off_t at) {
   write_at(file, block, octets, at);
   if (fdatasync(file) != 0) fail("fdatasync");
-  for (int note = 0; note < NOTES; note++) {
-    write_at(file, "\xa5", 1, at + (off_t)(octets / NOTES * note));
-  }
+  write_at(file, "\xa5", 1, at);
   if (fdatasync(file) != 0) fail("fdatasync");
 }
 

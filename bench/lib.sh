@@ -9,6 +9,18 @@ commit=$(git -C "$top" rev-parse --short HEAD)$([ -z "$(git -C "$top" status --p
 # bench NAME WORD ..: one run of a benchmark, which prints `COUNT WHAT N nanoseconds`.
 bench() { "$top/crates/bench/out/bench" "$@"; }
 
+# other NAME WORD ..: the same of the program in the checkout that $BEFORE names.
+other() { "$BEFORE/crates/bench/out/bench" "$@"; }
+
+# built CHECKOUT: ends the script with 70 if another checkout's program of the benchmarks is missing, or older than its
+# sources.
+built() {
+  if (top=$1 && stale bench); then
+    echo "${0##*/}: the program of the benchmarks is missing in $1, or older than its sources: build it there" >&2
+    exit 70
+  fi
+}
+
 # processor TIMES COMMAND ..: the same of the processor time that one of so many runs takes, its start included.
 processor() {
   local TIMEFORMAT='%3U %3S' times=$1 run
@@ -23,6 +35,9 @@ best() {
   shift
   for ((run = 0; run < runs; run++)); do "$@"; done | awk 'NR == 1 || $3 < least { least = $3 } END { print least }'
 }
+
+# beyond OURS LESS: what ours takes more than that, in nanoseconds, and one at least.
+beyond() { echo $(($1 > $2 ? $1 - $2 : 1)); }
 
 # ratio WORDS OURS OTHER: prints what is measured, how many times the other time ours is, and the commit.
 ratio() {

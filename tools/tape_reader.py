@@ -8,8 +8,12 @@ LAST_SOURCE = 2 ** 32 - 1
 COUNTS = 2 ** 64
 FINALS = {235, 239, 435, 437, 438, 439}
 CAUSES = {1: "Limit", 2: "Deferred", 3: "Missing", 4: "Unsendable"}
-OWE, FINAL, DROP, BASE, SEEN, CLOSED, LONG_BASE = 1, 2, 3, 4, 5, 9, 10
+OWE, FINAL, DROP, BASE, SEEN, CLOSED, LONG_BASE, BATCH = 1, 2, 3, 4, 5, 9, 10, 11
 FROM_SOURCE = 5  # what the tag of a note about a debt of a backlog file has more
+LONGEST_BATCH = 65536
+KEYS = {tag + more: 9 + length for tag in (OWE, FINAL, DROP) for more, length in ((0, 0), (FROM_SOURCE, 4))}
+LENGTHS = {SEEN: 9, CLOSED: 5} | {tag: key + (2 if tag in (FINAL, FINAL + FROM_SOURCE) else 1)
+                                  for tag, key in KEYS.items() if tag not in (OWE, OWE + FROM_SOURCE)}
 
 
 class Damaged(Exception):
@@ -55,6 +59,38 @@ def payloads_of(octets, segment):
         found.append((at, octets[at + 5:at + 5 + length]))
         at += 5 + length
     return found, at
+
+
+def note_end(octets, at):
+    """Where the note ends that begins at an offset, by its tag and the lengths of its texts."""
+    tag = octets[at] if at < len(octets) else 0
+    if tag in (OWE, OWE + FROM_SOURCE):
+        token = at + KEYS[tag]
+        message_id = token + 1 + number(octets[token:token + 1])
+        end = message_id + 1 + number(octets[message_id:message_id + 1])
+    elif tag in LENGTHS:
+        end = at + LENGTHS[tag]
+    else:
+        raise NoPayload(f"no note in a batch: {octets[at:at + 20].hex()}")
+    if end > len(octets):
+        raise NoPayload("a note that its batch cuts short")
+    return end
+
+
+def notes_of(payload):
+    """The notes of a payload, each as a payload of its own: those of a batch, or the one that the payload is."""
+    if payload[:1] != bytes([BATCH]):
+        return [payload]
+    count, at, notes = number(payload[1:5]), 5, []
+    if len(payload) > LONGEST_BATCH or count < 2:
+        raise NoPayload(f"a batch of {count} in {len(payload)} octets")
+    while at < len(payload):
+        end = note_end(payload, at)
+        notes.append(payload[at:end])
+        at = end
+    if len(notes) != count:
+        raise NoPayload(f"a batch of {len(notes)} that says {count}")
+    return notes
 
 
 class Base:
@@ -108,7 +144,7 @@ class Tape:
         if base:
             payloads = self.begin(base, payloads, end)
         for at, payload in payloads:
-            self.judge(at, self.apply, payload)
+            self.judge(at, self.apply_each, payload)
 
     @classmethod
     def of(cls, path):
@@ -160,6 +196,11 @@ class Tape:
         if not id_length or len(message_id) != id_length[0] or not is_token(token) or not is_message_id(message_id):
             raise NoPayload(f"the texts of {key}")
         return key, (token.decode(), message_id.decode())
+
+    def apply_each(self, payload):
+        """Takes the notes of a payload, each of which has to be legal in its turn."""
+        for note in notes_of(payload):
+            self.apply(note)
 
     def apply(self, payload):
         """Takes a note, which has to be legal."""

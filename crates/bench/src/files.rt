@@ -1,10 +1,11 @@
 // How fast a tape in files flushes its notes, and how fast it is opened.
 //
-// `flush DIRECTORY COUNT` flushes 256 notes so many times to a new tape in two files of this
-// directory; the making of the notes is not in the time. `fill DIRECTORY COUNT` leaves the tape of
-// so many debts there, 51,200 to a flush, and prints how much memory the program took at most, as
-// Linux tells it. `open DIRECTORY` opens it, and `memory DIRECTORY` prints the same of that. `rotate
-// DIRECTORY COUNT` rotates the tape there so many times; its opening is not in the time.
+// `flush DIRECTORY COUNT NOTES` flushes so many notes so many times to a new tape in two files of
+// this directory, 256 if no number of notes is given; the making of the notes is not in the time.
+// `fill DIRECTORY COUNT` leaves the tape of so many debts there, 51,200 to a flush, and prints how
+// much memory the program took at most, as Linux tells it. `open DIRECTORY` opens it, and `memory
+// DIRECTORY` prints the same of that. `rotate DIRECTORY COUNT` rotates the tape there so many times;
+// its opening is not in the time.
 use crate::openings::{open, owe};
 use crate::time::{number, tell};
 use anyhow::{Context, Result, bail};
@@ -14,8 +15,8 @@ use std::fs::{self, File};
 use std::rt::Files;
 use std::time::{Clock, Duration, Instant};
 
-// How many notes are flushed at once.
-const BATCH: u64 = 256;
+// How many notes are flushed at once if no number is given.
+const NOTES: u64 = 256;
 
 // The files of the tape.
 const FIRST: &str = "bench~a";
@@ -32,38 +33,46 @@ pub fn run<R: AllocGlobal + Print + Clock + Files<File = File>>(
         [work, path] if work.as_str() == "memory" => tell_memory(rt, &tape_in(rt, path)?),
         [work, path, count] if work.as_str() == "flush" => {
             let count = number(count)?;
-            tell(rt, count, "flushes", flushed_in(rt, path, count)?)
+            tell(rt, count, "flushes", flushed_in(rt, path, count, NOTES)?)
+        }
+        [work, path, count, notes] if work.as_str() == "flush" => {
+            let count = number(count)?;
+            let time = flushed_in(rt, path, count, number(notes)?)?;
+            tell(rt, count, "flushes", time)
         }
         [work, path, count] if work.as_str() == "fill" => {
             let mut tape = emptied(rt, path)?;
-            fill(rt, &mut tape, number(count)? / BATCH)?;
+            fill(rt, &mut tape, number(count)? / NOTES)?;
             tell_memory(rt, &tape)
         }
         [work, path, count] if work.as_str() == "rotate" => {
             let count = number(count)?;
             tell(rt, count, "rotations", rotated_in(rt, path, count)?)
         }
-        _ => bail!("disk_model [flush|fill|rotate DIRECTORY COUNT | open|memory DIRECTORY]"),
+        _ => bail!(
+            "disk_model [flush DIRECTORY COUNT [NOTES] | fill|rotate DIRECTORY COUNT | open|memory DIRECTORY]"
+        ),
     }
 }
 
 fn small<R: AllocGlobal + Print + Clock + Files<File = File>>(rt: &R) -> Result<()> {
-    flushed_in(rt, ".", 4)?;
+    flushed_in(rt, ".", 4, NOTES)?;
     rotated_in(rt, ".", 3)?;
     let owed = owed_in(rt, ".")?;
     println!(rt; "disk_model: a tape in a file owes {owed}")?;
     remove(rt, ".")
 }
 
-// Flushes so many batches to a new tape in this directory, and gives the time that the flushes took.
+// Flushes so many notes so many times to a new tape in this directory, and gives the time that the flushes took.
 //
 // proof: the tape of each of these in a frame of its own, so that no way out of its caller drops it.
 fn flushed_in<R: AllocGlobal + Clock + Files<File = File>>(
     rt: &R,
     path: &str,
     count: u64,
+    notes: u64,
 ) -> Result<Duration> {
-    flushed(rt, &mut emptied(rt, path)?, count)
+    flushed(rt, &mut emptied(rt, path)?, count, notes)
 }
 
 // Rotates the tape in this directory so many times, and gives the time that it took.
@@ -118,15 +127,16 @@ pub fn remove<R: AllocGlobal + Files<File = File>>(rt: &R, path: &str) -> Result
     Ok(())
 }
 
-// Flushes so many batches, and gives the time that the flushes took.
+// Flushes so many notes so many times, and gives the time that the flushes took.
 fn flushed<R: AllocGlobal + Clock>(
     rt: &R,
     tape: &mut Tape<FileDisk<TapeFile>>,
     count: u64,
+    notes: u64,
 ) -> Result<Duration> {
     let mut time = Duration::ZERO;
     for _ in 0..count {
-        note_batch(rt, tape)?;
+        note_all(rt, tape, notes)?;
         let start = Instant::now(rt)?;
         flush(tape)?;
         time = time.saturating_add(start.elapsed(rt)?);
@@ -147,19 +157,20 @@ fn rotated<R: AllocGlobal + Clock>(
     Ok(start.elapsed(rt)?)
 }
 
-// Owes so many batches, with a flush now and then.
+// Owes 256 debts so many times, with a flush now and then.
 fn fill<R: AllocGlobal>(rt: &R, tape: &mut Tape<FileDisk<TapeFile>>, count: u64) -> Result<()> {
-    for batch in 0..count {
-        note_batch(rt, tape)?;
-        if batch % 200 == 0 {
+    for round in 0..count {
+        note_all(rt, tape, NOTES)?;
+        if round % 200 == 0 {
             flush(tape)?;
         }
     }
     flush(tape)
 }
 
-fn note_batch<R: AllocGlobal>(rt: &R, tape: &mut Tape<FileDisk<TapeFile>>) -> Result<()> {
-    for _ in 0..BATCH {
+// So many debts more.
+fn note_all<R: AllocGlobal>(rt: &R, tape: &mut Tape<FileDisk<TapeFile>>, notes: u64) -> Result<()> {
+    for _ in 0..notes {
         note(rt, tape)?;
     }
     Ok(())

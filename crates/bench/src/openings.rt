@@ -1,17 +1,20 @@
 // How the opening of a tape grows with its notes, and how many disk calls a flush makes.
 //
-// `open NOTES TIMES` opens a tape of so many notes so many times; the building of the tape is not in the time. `due
-// NOTES TIMES` asks of such a tape so many times whether a rotation is due; its building and opening is not in the
-// time.
+// `open NOTES TIMES` opens a tape of so many notes so many times, as flushes have left it, 51,200 notes to each; the
+// building of the tape is not in the time. `due NOTES TIMES` asks of such a tape so many times whether a rotation is
+// due; its building and opening is not in the time.
 use crate::counted::CountedDisk;
 use crate::time::{number, tell};
 use anyhow::{Context, Result, bail};
 use disk_model::{Disk, MemDisk};
 use funnel::{MsgId, Token};
-use ledger_core::{Key, Note, encode};
+use ledger_core::{Key, Note};
 use recovery::Tape;
 use std::alloc::Global;
 use std::time::{Clock, Instant};
+
+// How many notes of a tape are flushed at once.
+const TOGETHER: u64 = 51200;
 
 pub fn run<R: AllocGlobal + Print + Clock>(rt: &R, words: &[String]) -> Result<()> {
     match words {
@@ -31,7 +34,7 @@ fn small<R: AllocGlobal + Print>(rt: &R) -> Result<()> {
     let owed = opened(alloc, disk_with(alloc, 1000)?, 2)?;
     println!(rt; "recovery: opened 2 times, {owed} owed")?;
     let opening = calls_of(alloc, 0)?;
-    for notes in [1, 10, 100] {
+    for notes in [1, 10, 100, 10000] {
         let calls = calls_of(alloc, notes)?.saturating_sub(opening);
         println!(rt; "recovery: a flush of {notes} notes makes {calls} calls")?;
     }
@@ -69,27 +72,26 @@ pub fn owe(alloc: Global, number: u64) -> Result<Note> {
     })
 }
 
-// Appends the record of a note.
-fn push_record(octets: &mut Vec<u8>, payload: &[u8]) -> Result<()> {
-    let size = u32::try_from(payload.len())?;
-    octets.push(0xa5)?;
-    octets.extend_from_slice(&size.to_be_bytes())?;
-    octets.extend_from_slice(payload)?;
+// Owes so many debts, with a flush now and then.
+fn owe_all<D: Disk>(alloc: Global, tape: &mut Tape<D>, notes: u64) -> Result<()> {
+    for number in 1..=notes {
+        if let Err((_, fault)) = tape.note(owe(alloc, number)?) {
+            return Err(fault.into());
+        }
+        if number % TOGETHER == 0 {
+            tape.flush()?;
+        }
+    }
+    tape.flush()?;
     Ok(())
 }
 
-// A disk with the tape of so many debts, written at once.
+// A disk with the tape of so many debts.
 fn disk_with(alloc: Global, notes: u64) -> Result<MemDisk> {
-    let mut octets = Vec::new(alloc);
-    for number in 0..notes {
-        let payload = encode(alloc, &owe(alloc, number.saturating_add(1))?)?;
-        push_record(&mut octets, &payload)?;
-    }
-    octets.push(0)?;
-    let mut disk = MemDisk::new(alloc);
-    disk.write_at(0, &octets)?;
-    disk.sync()?;
-    Ok(disk)
+    let mut tape = open(alloc, MemDisk::new(alloc), MemDisk::new(alloc))?;
+    owe_all(alloc, &mut tape, notes)?;
+    let (first, _) = tape.into_disks();
+    Ok(first)
 }
 
 /// The tape of these two disks.
@@ -118,12 +120,7 @@ fn calls_of(alloc: Global, notes: u64) -> Result<u64> {
     let a = CountedDisk::new(MemDisk::new(alloc));
     let b = CountedDisk::new(MemDisk::new(alloc));
     let mut tape = open(alloc, a, b)?;
-    for number in 0..notes {
-        if let Err((_, fault)) = tape.note(owe(alloc, number.saturating_add(1))?) {
-            return Err(fault.into());
-        }
-    }
-    tape.flush()?;
+    owe_all(alloc, &mut tape, notes)?;
     let (a, b) = tape.into_disks();
     Ok(a.calls().saturating_add(b.calls()))
 }

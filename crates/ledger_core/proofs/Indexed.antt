@@ -4,24 +4,26 @@ use Rattle.std.proofs.Common.{Result, Ok, Err, refl, sym, ap, ◌∙◌, subst, 
 use Rattle.std.proofs.Common.{take-append-drop}
 use Rattle.std.proofs.lemmas.List.{append_assoc, take_more}
 use Rattle.std.specs.Prelude.{OnErr, OnOk, Bool, true, false, if◌then◌else◌}
-use Rattle.std.specs.List.{All}
 use Rattle.std.specs.Int.{to_be_bytes, w32, w64}
 use Rattle.ledger_core.specs.declared.base.Base.{Base}
 use Rattle.ledger_core.specs.Base.{base_spelling, has_imports, is_told, owe, told_imports}
 use Rattle.ledger_core.specs.Spelling.{spelling}
-use Rattle.ledger_core.specs.Spots.{PointsAt, StandsAt, debt_of, records_length}
+use Rattle.ledger_core.specs.Spots.{IsFound, PointsAt, StandsAt, debt_of, records_length}
 use Rattle.ledger_core.specs.declared.note.Note.TheVariants.{Owe}
 use Rattle.ledger_core.specs.declared.spot.Entry.{Entry}
 
 -- what was added points where it was told to
-pub points-new : (kept : ℕ) (payloads : List (List ℕ)) (number at slot : ℕ) (entry : Entry) (token id : List ℕ)
-    → entry.spot.at ≡ at → entry.spot.slot ≡ slot → entry.token.value ≡ token → entry.id.value ≡ id
-    → StandsAt kept payloads at slot (spelling (Owe number token id)) → PointsAt kept payloads (number, entry)
-points-new kept payloads number at slot entry token id a s t i stands =
-    subst (λ (n : ℕ). StandsAt kept payloads n entry.spot.slot (spelling (owe (debt_of (number, entry))))) (sym a)
-    (subst (λ (n : ℕ). StandsAt kept payloads at n (spelling (owe (debt_of (number, entry))))) (sym s)
-    (subst (λ (x : List ℕ). StandsAt kept payloads at slot (spelling (Owe number x entry.id.value))) (sym t)
-    (subst (λ (x : List ℕ). StandsAt kept payloads at slot (spelling (Owe number token x))) (sym i) stands)))
+pub points-new : (kept : ℕ) (payloads : List (List ℕ)) (number at slot within : ℕ) (entry : Entry) (token id : List ℕ)
+    → entry.spot.at ≡ at → entry.spot.slot ≡ slot → entry.spot.within ≡ within
+    → entry.token.value ≡ token → entry.id.value ≡ id
+    → IsFound kept payloads at slot within (spelling (Owe number token id)) → PointsAt kept payloads (number, entry)
+points-new kept payloads number at slot within entry token id a s w t i found =
+    let octets = spelling (owe (debt_of (number, entry))) in
+    subst (λ (n : ℕ). IsFound kept payloads n entry.spot.slot entry.spot.within octets) (sym a)
+    (subst (λ (n : ℕ). IsFound kept payloads at n entry.spot.within octets) (sym s)
+    (subst (λ (n : ℕ). IsFound kept payloads at slot n octets) (sym w)
+    (subst (λ (x : List ℕ). IsFound kept payloads at slot within (spelling (Owe number x entry.id.value))) (sym t)
+    (subst (λ (x : List ℕ). IsFound kept payloads at slot within (spelling (Owe number token x))) (sym i) found))))
 
 pub on-err : {T E : Type 0} (r : Result T E) {P : Type 0} → P → OnErr r P
 on-err (Ok value) p = tt
@@ -80,10 +82,7 @@ next-here front payloads index at next within is step =
     ∙ records-push (front ++ take index payloads) (get_or payloads index []) in
     omega (arith, is, step, more)
 
--- ---- no debts
-
-pub all-none : {X : Type 0} (P : X → Type 0) (xs : List X) → xs ≡ [] → All P xs
-all-none P xs none = subst (All P) (sym none) (λ k d within. absurd (omega arith))
+-- ---- the record of a Base
 
 told-length : (closed import_mark : ℕ) → length (told_imports closed import_mark)
     ≡ (if is_told closed import_mark then 12 else 0)

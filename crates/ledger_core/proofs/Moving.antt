@@ -11,8 +11,10 @@ use Rattle.ledger_core.specs.SpellingLaws.{key-length}
 use Rattle.std.specs.List.{All}
 use Rattle.std.specs.Map.Calls.{RetainsPairs}
 use Rattle.ledger_core.specs.Base.{base_spelling, owe, owes}
+use Rattle.ledger_core.specs.IndexLaws.{found-alone}
 use Rattle.ledger_core.specs.Spelling.{key_head, sized_text, spelling, spellings}
-use Rattle.ledger_core.specs.Spots.{Entries, PointsAt, beyond, debt_of, debts_of, moved_to, owe_octets, records_length}
+use Rattle.ledger_core.specs.Spots.{Entries, IsFound, PointsAt, beyond, debt_of, debts_of, moved_to, owe_octets}
+use Rattle.ledger_core.specs.Spots.{records_length}
 use Rattle.ledger_core.specs.State.{Owing, State, import_count, imports_in, line_octets, octets_of_debts}
 use Rattle.ledger_core.specs.Written.{base_of, written_octets}
 use Rattle.ledger_core.specs.declared.base.Base.{Base}
@@ -95,6 +97,7 @@ points-anew (entry ∷ entries) (spot ∷ spots) front at is same =
     let moved : ◌≡◌ {A = ℕ × Spot} (spot_at entry) (spot.0, moved_to at spot.1) = cc same in
     let behind : map spot_at entries ≡ anew (beyond at spot) spots = cc same in
     let at_is : entry.1.spot.at ≡ at = ap (λ (s : ℕ × Spot). s.1.at) moved in
+    let within_is : entry.1.spot.within ≡ 0 = ap (λ (s : ℕ × Spot). s.1.within) moved in
     let token_len : spot.1.token_len ≡ length entry.1.token.value =
     sym (ap (λ (s : ℕ × Spot). s.1.token_len) moved) ∙ entry.1.token_len in
     let id_len : spot.1.id_len ≡ length entry.1.id.value =
@@ -104,13 +107,15 @@ points-anew (entry ∷ entries) (spot ∷ spots) front at is same =
     omega (arith, is, records-push front payload, owe-length (debt_of entry), token_len, id_len, ap owe_octets same_key) in
     let split : (front ++ payload ∷ []) ++ rest ≡ whole = append_assoc front (payload ∷ []) rest in
     All-cons (PointsAt (length whole) whole) entry entries
+    (subst (λ (n : ℕ). IsFound (length whole) whole entry.1.spot.at entry.1.spot.slot n payload) (sym within_is)
+    (found-alone (length whole) whole entry.1.spot.at entry.1.spot.slot (owe (debt_of entry))
     (record {
       front = front;
       behind = rest;
       split = refl;
       at_is = at_is ∙ is;
       slot_is = λ pends. absurd (omega (arith, pends, length-append front (payload ∷ rest)));
-    })
+    })))
     (subst (λ (w : List (List ℕ)). All (PointsAt (length w) w) entries) split
     (points-anew entries spots (front ++ payload ∷ []) (beyond at spot) next behind))
 

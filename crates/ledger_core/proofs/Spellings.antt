@@ -1,7 +1,7 @@
 -- No two notes have one spelling.
-use Rattle.std.proofs.Common.{false, true, ◌==◌, Option, None, IsSome, is_some, ◌≡◌, ℕ, zero, suc, ◌<◌, ◌≤◌, ◌+◌, ◌*◌}
-use Rattle.std.proofs.Common.{◌^◌, List, [], ◌∷◌, ◌++◌, length, get_or, take, drop, IsTrue, refl, sym, ap, ◌∙◌, arith}
-use Rattle.std.proofs.Common.{length-take}
+use Rattle.std.proofs.Common.{false, true, ◌==◌, Option, None, IsSome, is_some, ◌≡◌, ℕ, zero, suc, ◌<◌, ◌≤◌}
+use Rattle.std.proofs.Common.{◌+◌, ◌*◌, ◌^◌, List, [], ◌∷◌, ◌++◌, length, get_or, take, drop, IsTrue, refl, sym, ap}
+use Rattle.std.proofs.Common.{◌∙◌, arith, length-take}
 use Rattle.std.proofs.lemmas.List.{append-nil, append_assoc, nil_from_length, take-append-drop}
 use Rattle.std.specs.Int.{to_be_bytes, from_be_bytes, w16, w32, w64}
 use Rattle.std.proofs.lemmas.Nat.{be_bytes_2, be_bytes_4, be_bytes_8}
@@ -84,7 +84,7 @@ owe-apart octets rest read key token_len id_len is_read is_key split is =
     key-apart 1 6 read key rest (sized_text is.token ++ sized_text is.id) (λ e. omega (arith, e)) is_read is_key
     (sym split ∙ is.spelled)
 
--- a source that was read is spelled as what it was read of
+-- a source or a count that was read is spelled as what it was read of
 pub source-read : (octets bytes behind : List ℕ) (source : ℕ)
     → bytes ≡ take 4 octets → behind ≡ drop 4 octets → 4 ≤ length octets
     → ((i : ℕ) → get_or octets i 0 < 256) → source ≡ from_be_bytes w32 bytes

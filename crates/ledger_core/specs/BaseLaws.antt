@@ -18,6 +18,8 @@ use Rattle.ledger_core.specs.Base.{IsBase, base_spelling, imports_tag, is_told, 
 use Rattle.ledger_core.specs.Base.{AreDebts, HasDebts}
 use Rattle.ledger_core.specs.Base.{LeavesBehind, BeginsWith, HasNoBase, Restores, DebtsEnd}
 use Rattle.ledger_core.specs.Base.{StopsBehind, RestoreStopsAt, based_on}
+use Rattle.ledger_core.specs.Batch.{notes_of, payload_of}
+use Rattle.ledger_core.specs.BatchLaws.{same-batches}
 use Rattle.ledger_core.specs.Note.{AreNotes}
 use Rattle.ledger_core.specs.Replay.{LeavesFrom, StopsFrom}
 use Rattle.ledger_core.specs.ReplayLaws.{never, never_from}
@@ -110,6 +112,16 @@ base-no-note base note e =
     by-tag (Drop key cause) tag false is told = grind (arith, is, told)
     by-tag (Seen number) tag false is told = omega (arith, is, told)
     by-tag (Closed source) tag false is told = omega (arith, is, told)
+
+-- and no batch has it
+pub base-no-batch : (base : Base) (batch : List Note) → base_spelling base ≡ payload_of batch → ⊥
+base-no-batch base [] e = cc e
+base-no-batch base (note ∷ []) e = base-no-note base note e
+base-no-batch base (note ∷ next ∷ notes) e = by-flag (is_told base.closed base.import_mark) (cc e)
+  where
+    by-flag : (b : Bool) → ◌≡◌ {A = ℕ} (if b then 10 else 4) 11 → ⊥
+    by-flag true e = omega (arith, e)
+    by-flag false e = omega (arith, e)
 
 -- ---- a front of debts
 
@@ -234,7 +246,8 @@ ended marks behind debts others end few has =
 from-once : (first : State) (payloads : List (List ℕ)) (state other : State)
     → LeavesFrom first payloads state → LeavesFrom first payloads other → state ≡ other
 from-once first payloads state other a b = a.4
-    ∙ ap (after first) (same-notes a.0 b.0 a.1 b.1 (sym a.2 ∙ b.2)) ∙ sym b.4
+    ∙ ap (λ (bs : List (List Note)). after first (notes_of bs)) (same-batches a.0 b.0 a.1 b.1 (sym a.2 ∙ b.2))
+    ∙ sym b.4
 
 behind-once : (base : Base) (behind : List (List ℕ)) (state other : State)
     → LeavesBehind base behind state → LeavesBehind base behind other → state ≡ other

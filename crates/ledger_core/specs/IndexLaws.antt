@@ -1,9 +1,11 @@
 -- Laws of ledgers as indexes, for this crate and those above.
-use Rattle.std.specs.Prelude.{◌≡◌, ◌==◌, ℕ, zero, suc, ◌+◌, ◌-◌, ◌<◌, ◌^◌, min, Bool, true, false, cond, Option, Some}
-use Rattle.std.specs.Prelude.{find, List, [], ◌∷◌, ◌++◌, length, refl}
-use Rattle.std.proofs.Common.{sym, ap, ◌∙◌, arith, get_or, length-append, subst}
+use Rattle.std.specs.Prelude.{◌≡◌, ◌==◌, ℕ, zero, suc, ◌+◌, ◌-◌, ◌<◌, ◌≤◌, ◌^◌, min, Bool, true, false, cond}
+use Rattle.std.specs.Prelude.{Option, Some, find, List, [], ◌∷◌, ◌++◌, length, refl}
+use Rattle.std.proofs.Common.{◌⊎◌, inl, inr, sym, ap, ◌∙◌, arith, drop, take, get_or, length-append, subst}
 use Rattle.std.proofs.lemmas.Bool.Decides.{nat_tests}
-use Rattle.std.proofs.lemmas.List.{append_assoc, get_or-map, length-map}
+use Rattle.std.proofs.lemmas.List.{append-nil, append_assoc, drop-drop, drop-take, get_or-map, length-map}
+use Rattle.std.proofs.lemmas.List.{nil_from_length, take_at}
+use Rattle.std.proofs.Math.Seq.{take-append-add}
 use Rattle.std.proofs.lemmas.Map.Keys.{below_from_sorted, sorted_from_strictly_increasing, sorted_tail}
 use Rattle.std.specs.List.Sorted.{IsStrictlyIncreasing, IsStrictlySortedBy}
 use Rattle.std.specs.Ordering.{nat_cmp}
@@ -13,10 +15,13 @@ use Rattle.ledger_core.specs.declared.note.Note.{Note}
 use Rattle.ledger_core.specs.declared.note.Note.TheVariants.{Owe, Final, Drop, Seen, Closed}
 use Rattle.ledger_core.specs.declared.spot.Entry.{Entry}
 use Rattle.ledger_core.specs.Base.{owe}
+use Rattle.std.specs.Int.{to_be_bytes, w32}
+use Rattle.ledger_core.specs.Batch.{StandsIn, batch_spelling, body_of, together}
+use Rattle.ledger_core.specs.BatchLaws.{body-alone, together-append}
 use Rattle.ledger_core.specs.Index.{Indexes, IsSpotOf, debt_at, spots_of}
 use Rattle.ledger_core.specs.Ledger.{state_of}
 use Rattle.ledger_core.specs.Spelling.{spelling}
-use Rattle.ledger_core.specs.Spots.{IsPlaced, PointsAt, StandsAt, Entries, debt_of, debts_of, records_length}
+use Rattle.ledger_core.specs.Spots.{IsFound, IsPlaced, PointsAt, StandsAt, Entries, debt_of, debts_of, records_length}
 use Rattle.ledger_core.specs.State.{Owing, keys, keys_in}
 use Rattle.ledger_core.specs.declared.spot.Spot.{Spot}
 
@@ -48,8 +53,11 @@ pub indexes-more : (kept : ℕ) (payloads more : List (List ℕ)) (ledger : Ledg
     → Indexes kept (payloads ++ more) ledger
 indexes-more kept payloads more ledger indexes =
     All-weaker (PointsAt kept payloads) (PointsAt kept (payloads ++ more))
-    (λ entry stands. stands-more kept payloads more entry.1.spot.at entry.1.spot.slot (spelling (owe (debt_of entry)))
-    stands)
+    (λ entry found. record {
+      payload = found.payload;
+      stands = stands-more kept payloads more entry.1.spot.at entry.1.spot.slot found.payload found.stands;
+      inside = found.inside;
+    })
     ledger.debts.entries indexes
 
 -- and of the same when what pended is on the tape
@@ -57,18 +65,52 @@ pub indexes-flushed : (kept : ℕ) (payloads : List (List ℕ)) (ledger : Ledger
     → Indexes (length payloads) payloads ledger
 indexes-flushed kept payloads ledger indexes =
     All-weaker (PointsAt kept payloads) (PointsAt (length payloads) payloads)
-    (λ entry stands. stands-flushed kept payloads entry.1.spot.at entry.1.spot.slot (spelling (owe (debt_of entry)))
-    stands)
+    (λ entry found. record {
+      payload = found.payload;
+      stands = stands-flushed kept payloads entry.1.spot.at entry.1.spot.slot found.payload found.stands;
+      inside = found.inside;
+    })
     ledger.debts.entries indexes
 
--- a note stands where its payload does
-pub placed : (kept : ℕ) (payloads : List (List ℕ)) (at slot : ℕ) (note : Note)
-    → StandsAt kept payloads at slot (spelling note) → IsPlaced kept payloads at slot note
-placed kept payloads at slot (Owe number token id) stands = stands
-placed kept payloads at slot (Final number code) stands = tt
-placed kept payloads at slot (Drop number cause) stands = tt
-placed kept payloads at slot (Seen number) stands = tt
-placed kept payloads at slot (Closed source) stands = tt
+-- a note that comes alone stands first in its payload
+pub found-alone : (kept : ℕ) (payloads : List (List ℕ)) (at slot : ℕ) (note : Note)
+    → StandsAt kept payloads at slot (spelling note) → IsFound kept payloads at slot 0 (spelling note)
+found-alone kept payloads at slot note stands = record {
+  payload = spelling note;
+  stands = stands;
+  inside = record {
+    before = [];
+    behind = [];
+    split = body-alone note ∙ sym (append-nil (spelling note));
+    within_is = refl;
+    headed = inl refl;
+  };
+}
+
+-- and one of several stands behind those before it
+pub found-among : (kept : ℕ) (payloads : List (List ℕ)) (at slot within : ℕ) (front : List Note) (note : Note)
+    (behind : List Note) → StandsAt kept payloads at slot (batch_spelling (front ++ note ∷ behind))
+    → within ≡ length (together front) → IsFound kept payloads at slot within (spelling note)
+found-among kept payloads at slot within front note behind stands is = record {
+  payload = batch_spelling (front ++ note ∷ behind);
+  stands = stands;
+  inside = record {
+    before = together front;
+    behind = together behind;
+    split = together-append front (note ∷ behind);
+    within_is = is;
+    headed = inr (to_be_bytes w32 (length (front ++ note ∷ behind)) ++ together (front ++ note ∷ behind), refl);
+  };
+}
+
+-- a note stands where it is found
+pub placed : (kept : ℕ) (payloads : List (List ℕ)) (at slot within : ℕ) (note : Note)
+    → IsFound kept payloads at slot within (spelling note) → IsPlaced kept payloads at slot within note
+placed kept payloads at slot within (Owe key token id) found = found
+placed kept payloads at slot within (Final key code) found = tt
+placed kept payloads at slot within (Drop key cause) found = tt
+placed kept payloads at slot within (Seen number) found = tt
+placed kept payloads at slot within (Closed source) found = tt
 
 -- what comes behind all payloads stands there, and pends
 pub stands-last : (kept : ℕ) (front : List (List ℕ)) (at slot : ℕ) (payload : List ℕ)
@@ -82,6 +124,115 @@ pub records_length-append : (front behind : List (List ℕ))
     → records_length (front ++ behind) ≡ records_length front + records_length behind
 records_length-append [] behind = omega arith
 records_length-append (payload ∷ front) behind = omega (arith, records_length-append front behind)
+
+-- ---- the last payload grows
+
+-- the one that stands here is one of the others, or the last
+record Before (others : List (List ℕ)) (front : List (List ℕ)) (payload last : List ℕ) (behind : List (List ℕ))
+    : Type 0 where
+  rest : List (List ℕ)
+  others_are : others ≡ front ++ payload ∷ rest
+  behind_is : behind ≡ rest ++ last ∷ []
+
+record Last (others front : List (List ℕ)) (payload last : List ℕ) : Type 0 where
+  front_is : front ≡ others
+  payload_is : payload ≡ last
+
+before_or_last : (others front behind : List (List ℕ)) (payload last : List ℕ)
+    → others ++ last ∷ [] ≡ front ++ payload ∷ behind → Before others front payload last behind
+    ⊎ Last others front payload last
+before_or_last [] [] [] payload last split = inr (record { front_is = refl; payload_is = cc split })
+before_or_last [] [] (b ∷ behind) payload last split = absurd (cc split)
+before_or_last [] (f ∷ []) behind payload last split = absurd (cc split)
+before_or_last [] (f ∷ g ∷ front) behind payload last split = absurd (cc split)
+before_or_last (o ∷ others) [] behind payload last split =
+    let same : o ≡ payload = cc split in
+    let rest : others ++ last ∷ [] ≡ behind = cc split in
+    inl (record {
+      rest = others;
+      others_are = ap (λ (p : List ℕ). p ∷ others) same;
+      behind_is = sym rest;
+    })
+before_or_last (o ∷ others) (f ∷ front) behind payload last split =
+    let same : o ≡ f = cc split in
+    let rest : others ++ last ∷ [] ≡ front ++ payload ∷ behind = cc split in
+    elim (before_or_last others front behind payload last rest) [
+      | inl b ↦ inl (record {
+        rest = b.rest;
+        others_are = ap (λ (p : List ℕ). p ∷ others) same ∙ ap (λ (l : List (List ℕ)). f ∷ l) b.others_are;
+        behind_is = b.behind_is;
+      })
+      | inr l ↦ inr (record {
+        front_is = ap (λ (p : List ℕ). p ∷ front) (sym same) ∙ ap (λ (fs : List (List ℕ)). o ∷ fs) l.front_is;
+        payload_is = l.payload_is;
+      })
+    ]
+
+-- what stands in a payload stands there when more notes come behind
+stands-in-more : (payload grown more octets : List ℕ) (within : ℕ) → body_of grown ≡ body_of payload ++ more
+    → (rest : List ℕ) → grown ≡ 11 ∷ rest
+    → StandsIn payload within octets → StandsIn grown within octets
+stands-in-more payload grown more octets within longer rest headed stands = record {
+  before = stands.before;
+  behind = stands.behind ++ more;
+  split = longer ∙ (ap (λ (l : List ℕ). l ++ more) stands.split
+      ∙ (append_assoc stands.before (octets ++ stands.behind) more
+      ∙ ap (λ (l : List ℕ). stands.before ++ l) (append_assoc octets stands.behind more)));
+  within_is = stands.within_is;
+  headed = inr (rest, headed);
+}
+
+-- what is found is found where the last payload, which pends, has grown
+pub found-grown : (kept : ℕ) (others : List (List ℕ)) (last grown more : List ℕ) (at slot within : ℕ) (octets : List ℕ)
+    → body_of grown ≡ body_of last ++ more → (rest : List ℕ) → grown ≡ 11 ∷ rest
+    → IsFound kept (others ++ last ∷ []) at slot within octets
+    → IsFound kept (others ++ grown ∷ []) at slot within octets
+found-grown kept others last grown more at slot within octets longer rest headed found =
+    let stands = found.stands in
+    elim (before_or_last others stands.front stands.behind found.payload last stands.split) [
+      | inl b ↦ record {
+        payload = found.payload;
+        stands = record {
+          front = stands.front;
+          behind = b.rest ++ grown ∷ [];
+          split = ap (λ (l : List (List ℕ)). l ++ grown ∷ []) b.others_are
+              ∙ append_assoc stands.front (found.payload ∷ b.rest) (grown ∷ []);
+          at_is = stands.at_is;
+          slot_is = stands.slot_is;
+        };
+        inside = found.inside;
+      }
+      | inr l ↦ record {
+        payload = grown;
+        stands = record {
+          front = stands.front;
+          behind = [];
+          split = ap (λ (fs : List (List ℕ)). fs ++ grown ∷ []) (sym l.front_is);
+          at_is = stands.at_is;
+          slot_is = stands.slot_is;
+        };
+        inside = stands-in-more last grown more octets within longer rest headed
+            (subst (λ (p : List ℕ). StandsIn p within octets) l.payload_is found.inside);
+      }
+    ]
+
+pub indexes-grown : (kept : ℕ) (others : List (List ℕ)) (last grown more : List ℕ) (ledger : Ledger)
+    → body_of grown ≡ body_of last ++ more → (rest : List ℕ) → grown ≡ 11 ∷ rest
+    → Indexes kept (others ++ last ∷ []) ledger → Indexes kept (others ++ grown ∷ []) ledger
+indexes-grown kept others last grown more ledger longer rest headed indexes =
+    All-weaker (PointsAt kept (others ++ last ∷ [])) (PointsAt kept (others ++ grown ∷ []))
+    (λ entry found. found-grown kept others last grown more entry.1.spot.at entry.1.spot.slot entry.1.spot.within
+    (spelling (owe (debt_of entry))) longer rest headed found)
+    ledger.debts.entries indexes
+
+-- and the new note is found behind those that were there
+pub found-joined : (kept : ℕ) (others : List (List ℕ)) (batch : List Note) (note : Note) (at slot within : ℕ)
+    → at ≡ min (records_length others) (2 ^ 64 - 1) → (kept ≤ length others → slot + kept ≡ length others)
+    → within ≡ length (together batch)
+    → IsFound kept (others ++ batch_spelling (batch ++ note ∷ []) ∷ []) at slot within (spelling note)
+found-joined kept others batch note at slot within at_is slot_is is =
+    found-among kept (others ++ batch_spelling (batch ++ note ∷ []) ∷ []) at slot within batch note []
+    (record { front = others; behind = []; split = refl; at_is = at_is; slot_is = slot_is }) is
 
 -- ---- the spots, one by one
 
@@ -161,3 +312,60 @@ pub spots-length : (ledger : Ledger) → length (spots_of ledger) ≡ length (st
 spots-length ledger =
     length-map {B = ℕ × Spot} ledger.debts.entries (λ (entry : ℕ × Entry). (entry.0, entry.1.spot))
     ∙ sym (length-map ledger.debts.entries debt_of)
+
+-- ---- a note in a part of its payload
+
+front-case : (b : Bool) (tag : ℕ) (rest octets behind : List ℕ) (len : ℕ) → length octets ≡ len
+    → cond b (drop 4 rest) (tag ∷ rest) ≡ octets ++ behind
+    → (more : List ℕ) × (cond b (drop 4 (take (4 + len) rest)) (tag ∷ take (4 + len) rest) ≡ octets ++ more)
+front-case true tag rest octets behind len long split = (
+  [],
+  drop-take 4 len rest ∙ (ap (take len) split ∙ (take_at octets behind len long ∙ sym (append-nil octets))),
+)
+front-case false tag rest octets behind len long split =
+    let count : suc (4 + len) ≡ length octets + 5 = omega (arith, long) in (
+      take 5 behind,
+      ap (take (suc (4 + len))) split
+          ∙ (ap (λ (n : ℕ). take n (octets ++ behind)) count ∙ take-append-add octets behind 5),
+    )
+
+stands-first : (payload octets behind : List ℕ) (len : ℕ) → length octets ≡ len → body_of payload ≡ octets ++ behind
+    → (more : List ℕ) × (body_of (take (suc (4 + len)) payload) ≡ octets ++ more)
+stands-first [] octets behind len long split = (behind, split)
+stands-first (tag ∷ rest) octets behind len long split = front-case (tag == 11) tag rest octets behind len long split
+
+-- at the front of the first octets
+pub stands-front : (payload octets : List ℕ) (len : ℕ) → length octets ≡ len → StandsIn payload 0 octets
+    → StandsIn (take (len + 5) payload) 0 octets
+stands-front payload octets len long stands =
+    let none : stands.before ≡ [] = nil_from_length stands.before (sym stands.within_is) in
+    let first = stands-first payload octets stands.behind len long
+    (stands.split ∙ ap (λ (l : List ℕ). l ++ (octets ++ stands.behind)) none) in
+    let count : suc (4 + len) ≡ len + 5 = omega arith in
+    record {
+      before = [];
+      behind = first.0;
+      split = ap (λ (n : ℕ). body_of (take n payload)) (sym count) ∙ first.1;
+      within_is = refl;
+      headed = inl refl;
+    }
+
+-- behind others, in a payload of several
+pub stands-behind : (payload octets : List ℕ) (within len : ℕ) → length octets ≡ len → StandsIn payload within octets
+    → (within ≡ 0 → ⊥) → take len (drop (5 + within) payload) ≡ octets
+stands-behind payload octets within len long stands some =
+    elim stands.headed [
+      | inl none ↦ absurd (some none)
+      | inr headed ↦
+          let body : drop 5 payload ≡ stands.before ++ (octets ++ stands.behind) =
+          ap (drop 5) headed.1 ∙ (sym (ap body_of headed.1) ∙ stands.split) in
+          sym (ap (take len) (drop-drop within 5 payload))
+          ∙ (ap (λ (l : List ℕ). take len (drop within l)) body
+          ∙ (ap (λ (n : ℕ). take len (drop n (stands.before ++ (octets ++ stands.behind)))) stands.within_is
+          ∙ (ap (take len) (drop-at stands.before (octets ++ stands.behind))
+          ∙ take_at octets stands.behind len long)))
+    ]
+  where
+    drop-at : (xs ys : List ℕ) → drop (length xs) (xs ++ ys) ≡ ys
+    drop-at [] ys = refl
+    drop-at (x ∷ xs) ys = drop-at xs ys

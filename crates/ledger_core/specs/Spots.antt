@@ -6,6 +6,7 @@ use Rattle.ledger_core.specs.declared.note.Note.TheVariants.{Owe, Final, Drop, S
 use Rattle.ledger_core.specs.declared.spot.Entry.{Entry}
 use Rattle.ledger_core.specs.declared.spot.Spot.{Spot}
 use Rattle.ledger_core.specs.Base.{owe}
+use Rattle.ledger_core.specs.Batch.{StandsIn}
 use Rattle.ledger_core.specs.Spelling.{spelling}
 use Rattle.ledger_core.specs.State.{Owing}
 
@@ -44,21 +45,29 @@ pub record Follows (kept : ℕ) (front payloads : List (List ℕ)) (at : ℕ) : 
   pub at_is : at ≡ min (records_length front) (2 ^ 64 - 1)
   pub on_tape : length front + length payloads ≤ kept
 
+-- these octets stand in one of these payloads, at that place and behind so many octets of its notes
+pub record IsFound (kept : ℕ) (payloads : List (List ℕ)) (at slot within : ℕ) (octets : List ℕ) : Type 0 where
+  pub payload : List ℕ
+  pub stands : StandsAt kept payloads at slot payload
+  pub inside : StandsIn payload within octets
+
 -- where the note stands; of a note that owes nothing nothing is asked
-abbrev pub IsPlaced : ℕ → List (List ℕ) → ℕ → ℕ → Note → Type 0
-IsPlaced kept payloads at slot (Owe key token id) = StandsAt kept payloads at slot (spelling (Owe key token id))
-IsPlaced kept payloads at slot (Final key code) = Unit {0}
-IsPlaced kept payloads at slot (Drop key cause) = Unit {0}
-IsPlaced kept payloads at slot (Seen number) = Unit {0}
-IsPlaced kept payloads at slot (Closed source) = Unit {0}
+abbrev pub IsPlaced : ℕ → List (List ℕ) → ℕ → ℕ → ℕ → Note → Type 0
+IsPlaced kept payloads at slot within (Owe key token id) =
+    IsFound kept payloads at slot within (spelling (Owe key token id))
+IsPlaced kept payloads at slot within (Final key code) = Unit {0}
+IsPlaced kept payloads at slot within (Drop key cause) = Unit {0}
+IsPlaced kept payloads at slot within (Seen number) = Unit {0}
+IsPlaced kept payloads at slot within (Closed source) = Unit {0}
 
 -- the note that owes this debt stands at this spot
 abbrev pub PointsAt : ℕ → List (List ℕ) → ℕ × Entry → Type 0
-PointsAt kept payloads entry = StandsAt kept payloads entry.1.spot.at entry.1.spot.slot (spelling (owe (debt_of entry)))
+PointsAt kept payloads entry =
+    IsFound kept payloads entry.1.spot.at entry.1.spot.slot entry.1.spot.within (spelling (owe (debt_of entry)))
 
--- the spot of the same debt at this offset of the tape
+-- the spot of the same debt at this offset of the tape, alone in its record
 abbrev pub moved_to : ℕ → Spot → Spot
-moved_to at spot = record spot { at = at; slot = 0 }
+moved_to at spot = record spot { at = at; slot = 0; within = 0 }
 
 -- how many octets the note of a debt of this key has on a tape beside its texts, with its record's gate and length
 abbrev pub owe_octets : ℕ → ℕ

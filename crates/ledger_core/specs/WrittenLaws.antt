@@ -1,6 +1,6 @@
 -- A ledger is restored from what it writes of itself, and goes on from there.
 use Rattle.std.specs.Prelude.{◌≡◌, ◌==◌, ℕ, zero, suc, ◌+◌, ◌<◌, ◌≤◌, ◌^◌, Bool, true, false, cond}
-use Rattle.std.specs.Prelude.{not, List, [], ◌∷◌, ◌++◌, length, filter, refl}
+use Rattle.std.specs.Prelude.{not, List, [], ◌∷◌, ◌++◌, length, drop, filter, refl}
 use Rattle.std.proofs.Common.{inl, inr, sym, ◌∙◌, ap, subst, arith, get_or, add-one, length-take}
 use Rattle.std.proofs.lemmas.Bool.{cases_lt, lt-ltb, le-ltb}
 use Rattle.std.proofs.lemmas.Bool.Decides.{nat_tests}
@@ -16,15 +16,19 @@ use Rattle.ledger_core.specs.declared.note.Note.{Note}
 use Rattle.ledger_core.specs.declared.note.Note.TheVariants.{Owe, Final, Drop, Seen, Closed}
 use Rattle.ledger_core.specs.declared.marks.Marks.{Marks}
 use Rattle.ledger_core.specs.Base.{AreDebts, HasNoBase, Restores, based_on, owe, owes}
-use Rattle.ledger_core.specs.BaseLaws.{base-no-note, length-owes, owes-append}
+use Rattle.ledger_core.specs.BaseLaws.{base-no-batch, length-owes, owes-append}
+use Rattle.ledger_core.specs.Batch.{AreBatches, notes_of, payloads_of}
+use Rattle.ledger_core.specs.BatchLaws.{AreBatches-append, all-notes-are, notes_of-append, payloads_of-append}
+use Rattle.ledger_core.specs.BatchLaws.{singly, singly-are, singly-notes, singly-payloads}
 use Rattle.ledger_core.specs.KeyLaws.{key-is}
 use Rattle.ledger_core.specs.Keys.{number_of}
 use Rattle.ledger_core.specs.StateLaws.{AllLegal-append, after-append, all-with, all-without, import-fits, keys-without}
 use Rattle.ledger_core.specs.StateLaws.{length-with, length-without, next-apart, octets-with, past-closed, past-kept}
 use Rattle.ledger_core.specs.StateLaws.{past-more, past-new, put, rising-with, step-marks}
 use Rattle.ledger_core.specs.Note.{AreNotes, IsNote, IsNumber}
+use Rattle.ledger_core.specs.Replay.{LeavesFrom}
 use Rattle.ledger_core.specs.Spelling.{spellings}
-use Rattle.ledger_core.specs.SpellingLaws.{AreNotes-append, AreNotes-back, AreNotes-front, spellings-append}
+use Rattle.ledger_core.specs.SpellingLaws.{AreNotes-append, AreNotes-back, AreNotes-front}
 use Rattle.ledger_core.specs.State.{Owing, State, AllLegal, IsLegal, IsNext, IsPast, after, line_octets, keys, marks_of}
 use Rattle.ledger_core.specs.State.{with_debt}
 use Rattle.ledger_core.specs.State.{keys_in, octets_of_debts, start, step, without}
@@ -277,8 +281,8 @@ whole-after state (note ∷ notes) are legal whole = whole-after (step state not
 -- each ledger that is restored is whole
 pub restored-whole : (payloads : List (List ℕ)) (generation : ℕ) (state : State)
     → Restores payloads generation state → IsWhole state
-restored-whole payloads generation state (inl (none, is, (notes, are, spelled, legal, left))) =
-    subst IsWhole (sym left) (whole-after start notes are legal whole-start)
+restored-whole payloads generation state (inl (none, is, (batches, are, spelled, legal, left))) =
+    subst IsWhole (sym left) (whole-after start (notes_of batches) (all-notes-are batches are) legal whole-start)
 restored-whole payloads generation state (inr (base, behind, begins, is, leaves)) =
     let notes = leaves.notes in
     let whole : IsWhole (based_on base leaves.debts) = record {
@@ -290,37 +294,41 @@ restored-whole payloads generation state (inr (base, behind, begins, is, leaves)
       import_mark = begins.is.import_mark;
     }
     in
-    subst IsWhole (sym notes.4) (whole-after (based_on base leaves.debts) notes.0 notes.1 notes.3
-    whole)
+    subst IsWhole (sym notes.4) (whole-after (based_on base leaves.debts) (notes_of notes.0)
+    (all-notes-are notes.0 notes.1) notes.3 whole)
 
--- ---- notes behind it
+-- ---- batches behind it
 
-no_base-append : (payloads : List (List ℕ)) (notes : List Note) → HasNoBase payloads → HasNoBase
-    (payloads ++ spellings notes)
-no_base-append [] [] none = tt
-no_base-append [] (note ∷ notes) none = λ base is same. base-no-note base note same
-no_base-append (first ∷ payloads) notes none = none
-
--- Notes that are legal behind what payloads leave go on behind them.
-pub restores-on : (payloads : List (List ℕ)) (generation : ℕ) (state : State) (notes : List Note)
-    → Restores payloads generation state → AreNotes notes → AllLegal state notes
-    → Restores (payloads ++ spellings notes) generation (after state notes)
-restores-on payloads generation state notes (inl (none, lowest, (front, are, spelled, legal, left))) more lawful =
-    inl (
-      no_base-append payloads notes none,
-      lowest,
-      (
-        front ++ notes,
-        AreNotes-append front notes are more,
-        ap (λ (l : List (List ℕ)). l ++ spellings notes) spelled ∙ sym (spellings-append front notes),
-        AllLegal-append start front notes legal (subst (λ (s : State). AllLegal s notes) left lawful),
-        ap (λ (s : State). after s notes) left ∙ sym (after-append start front notes),
-      ),
+leaves-on : (first : State) (payloads : List (List ℕ)) (state : State) (batches : List (List Note))
+    → LeavesFrom first payloads state → AreBatches batches → AllLegal state (notes_of batches)
+    → LeavesFrom first (payloads ++ payloads_of batches) (after state (notes_of batches))
+leaves-on first payloads state batches (front, are, spelled, legal, left) more lawful =
+    let notes = notes_of batches in
+    let whole = notes_of-append front batches in (
+      front ++ batches,
+      AreBatches-append front batches are more,
+      ap (λ (l : List (List ℕ)). l ++ payloads_of batches) spelled ∙ sym (payloads_of-append front batches),
+      subst (AllLegal first) (sym whole)
+          (AllLegal-append first (notes_of front) notes legal (subst (λ (s : State). AllLegal s notes) left lawful)),
+      ap (λ (s : State). after s notes) left
+          ∙ (sym (after-append first (notes_of front) notes) ∙ ap (after first) (sym whole)),
     )
-restores-on payloads generation state notes (inr (base, behind, begins, is, leaves)) more lawful =
+
+no_base-append : (payloads : List (List ℕ)) (batches : List (List Note)) → HasNoBase payloads → HasNoBase
+    (payloads ++ payloads_of batches)
+no_base-append [] [] none = tt
+no_base-append [] (batch ∷ batches) none = λ base is same. base-no-batch base batch same
+no_base-append (first ∷ payloads) batches none = none
+
+-- Batches whose notes are legal behind what payloads leave go on behind them.
+pub restores-on : (payloads : List (List ℕ)) (generation : ℕ) (state : State) (batches : List (List Note))
+    → Restores payloads generation state → AreBatches batches → AllLegal state (notes_of batches)
+    → Restores (payloads ++ payloads_of batches) generation (after state (notes_of batches))
+restores-on payloads generation state batches (inl (none, lowest, leaves)) more lawful =
+    inl (no_base-append payloads batches none, lowest, leaves-on start payloads state batches leaves more lawful)
+restores-on payloads generation state batches (inr (base, behind, begins, is, leaves)) more lawful =
     let from = based_on base leaves.debts in
-    let all = spellings notes in
-    let behind-notes = leaves.notes in
+    let all = payloads_of batches in
     let few : length leaves.debts ≤ length behind =
     omega (arith, length-take (length leaves.debts) behind, ap length leaves.has.spelled, length-owes leaves.debts) in
     inr (
@@ -339,15 +347,19 @@ restores-on payloads generation state notes (inr (base, behind, begins, is, leav
           are = leaves.has.are;
           spelled = take-append-le (length leaves.debts) behind all few ∙ leaves.has.spelled;
         };
-        notes = (
-          behind-notes.0 ++ notes,
-          AreNotes-append behind-notes.0 notes behind-notes.1 more,
-          drop-append-le (length leaves.debts) behind all few
-              ∙ (ap (λ (l : List (List ℕ)). l ++ all) behind-notes.2
-              ∙ sym (spellings-append behind-notes.0 notes)),
-          AllLegal-append from behind-notes.0 notes behind-notes.3
-              (subst (λ (s : State). AllLegal s notes) behind-notes.4 lawful),
-          ap (λ (s : State). after s notes) behind-notes.4 ∙ sym (after-append from behind-notes.0 notes),
-        );
+        notes = subst (λ (l : List (List ℕ)). LeavesFrom from l (after state (notes_of batches)))
+            (sym (drop-append-le (length leaves.debts) behind all few))
+            (leaves-on from (drop (length leaves.debts) behind) state batches leaves.notes more lawful);
       },
     )
+
+-- Notes that are legal behind what payloads leave go on behind them, one by one.
+pub restores-on-notes : (payloads : List (List ℕ)) (generation : ℕ) (state : State) (notes : List Note)
+    → Restores payloads generation state → AreNotes notes → AllLegal state notes
+    → Restores (payloads ++ spellings notes) generation (after state notes)
+restores-on-notes payloads generation state notes restores are lawful =
+    let same = singly-notes notes in
+    subst (λ (l : List (List ℕ)). Restores (payloads ++ l) generation (after state notes)) (singly-payloads notes)
+    (subst (λ (l : List Note). Restores (payloads ++ payloads_of (singly notes)) generation (after state l)) same
+    (restores-on payloads generation state (singly notes) restores (singly-are notes are)
+    (subst (λ (l : List Note). AllLegal state l) (sym same) lawful)))

@@ -103,7 +103,7 @@ fn owe_len(key: Key, token: &Token, id: &MsgId) -> usize
 }
 
 // The length of a tag and a key.
-fn key_len(key: Key) -> usize
+pub(crate) fn key_len(key: Key) -> usize
     ensures len { (line imported : ℕ) → result ≡ length (key_head line imported key) }
     ensures short { result ≤ 13 }
 {
@@ -111,7 +111,7 @@ fn key_len(key: Key) -> usize
 }
 
 // The length of a note's spelling.
-fn spelled_len(note: &Note) -> usize
+pub(crate) fn spelled_len(note: &Note) -> usize
     ensures { result ≡ length (spelling note.now) }
 {
     match note {
@@ -123,7 +123,7 @@ fn spelled_len(note: &Note) -> usize
     }
 }
 
-fn push_note(octets: &mut Vec<u8>, note: &Note) -> Result<(), AllocError>
+pub(crate) fn push_note(octets: &mut Vec<u8>, note: &Note) -> Result<(), AllocError>
     ensures octets { OnOk result (octets.new.items ≡ octets.old.items ++ spelling note.now) }
     ensures note { OnOk result (IsNote note.now) }
 {

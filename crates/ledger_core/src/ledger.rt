@@ -8,7 +8,8 @@ ghost use Rattle.ledger_core.specs.Faults.{ledger_fault_name};
 ghost use Rattle.ledger_core.specs.Spots.{debts_of, lacking};
 ghost use Rattle.ledger_core.specs.State.{IsPast, import_count, imports_in, keys_in, line_octets, octets_of_debts};
 
-use crate::codec::decode;
+use crate::batch::decode_batch;
+use crate::codec::{decode, spelled_len};
 use crate::key::Key;
 use crate::marks::Marks;
 use crate::note::Note;
@@ -75,7 +76,8 @@ impl<T: Drop> From<AllocFailed<T>> for LedgerFault {
 /// Why payloads are no list of legal notes.
 #[derive(Clone, Copy, Debug, PartialEq, Eq, Error)]
 pub enum ReplayFault {
-    /// The payload at this index, from 0, is no note, or its note is refused by the ledger that those before it leave.
+    /// The payload at this index, from 0, is no note and no batch, or a note of it is refused by the ledger that those
+    /// before it leave.
     #[error("Refused {index}")]
     Refused { index: usize },
     /// Memory was refused.
@@ -135,12 +137,12 @@ impl Ledger {
     ghost use Rattle.ledger_core.specs.declared.note.FinalCode.{FinalCode};
     ghost use Rattle.ledger_core.specs.declared.note.Cause.{Cause};
     ghost use Rattle.ledger_core.specs.declared.note.Note.{Note};
-    ghost use Rattle.ledger_core.specs.Note.{IsNote, IsOwe};
+    ghost use Rattle.ledger_core.specs.Batch.{AreSeveral, IsBatch, batch_spelling, payload_of};
+    ghost use Rattle.ledger_core.specs.Note.{IsOwe};
     ghost use Rattle.ledger_core.specs.Replay.{Leaves, LeavesFrom, SpellsNoLegal, StopsAt};
     ghost use Rattle.ledger_core.specs.Replay.{StopsFrom};
-    ghost use Rattle.ledger_core.specs.Spelling.{spelling};
-    ghost use Rattle.ledger_core.specs.State.{State, IsLegal, IsOld, IsOwed, LacksDebt, Overflows, Owing, keys};
-    ghost use Rattle.ledger_core.specs.State.{marks_of, start, step};
+    ghost use Rattle.ledger_core.specs.State.{State, AllLegal, IsLegal, IsOld, IsOwed, LacksDebt, Overflows, Owing};
+    ghost use Rattle.ledger_core.specs.State.{after, keys, marks_of, start, step};
     ghost use Rattle.ledger_core.specs.Index.{Indexes, IsSpotOf, debt_at};
     ghost use Rattle.ledger_core.specs.Ledger.{IsApplied, IsJudged, Puts, state_of, totals_of};
     ghost use Rattle.ledger_core.specs.Spots.{Follows, IsPlaced, StandsAt};
@@ -254,14 +256,21 @@ impl Ledger {
             → IsOwe note.now × IsLegal (state_of self.old) note.now }
         ensures unchanged { OnErr result (state_of self.new ≡ state_of self.old) }
     {
-        self.apply_at(note, 0, 0)
+        self.apply_at(note, 0, 0, 0)
     }
 
-    /// Takes a note whose record is at this offset, or pends in this slot: each debt stays told of where it stands.
+    /// Takes a note whose record is at this offset, or is pending in this slot, and that stands there after so many
+    /// octets of other notes: each debt stays told of where it stands.
     ///
     /// # Errors
     /// Those of `apply`.
-    pub fn apply_at(&mut self, note: &Note, at: u64, slot: u32) -> Result<(), LedgerFault>
+    pub fn apply_at(
+        &mut self,
+        note: &Note,
+        at: u64,
+        slot: u32,
+        within: u16,
+    ) -> Result<(), LedgerFault>
         ensures ok { OnOk result
             (IsLegal (state_of self.old) note.now
             × (state_of self.new ≡ step (state_of self.old) note.now)) }
@@ -275,12 +284,12 @@ impl Ledger {
             → IsOwe note.now × IsLegal (state_of self.old) note.now }
         ensures unchanged { OnErr result (state_of self.new ≡ state_of self.old) }
         ensures indexes { (kept : ℕ) (payloads : List (List ℕ)) → Indexes kept payloads self.old
-            → IsPlaced kept payloads at slot note.now → Indexes kept payloads self.new }
+            → IsPlaced kept payloads at slot within note.now → Indexes kept payloads self.new }
         ensures stays { (kept : ℕ) (payloads : List (List ℕ)) → Indexes kept payloads self.old
             → OnErr result (Indexes kept payloads self.new) }
     {
         match note {
-            Note::Owe { key, token, id } => self.owe_at(*key, token, id, at, slot),
+            Note::Owe { key, token, id } => self.owe_at(*key, token, id, at, slot, within),
             Note::Final { key, .. } => self.answer(*key),
             Note::Drop { key, .. } => self.discard(*key),
             Note::Seen { number } => self.see(*number),
@@ -311,11 +320,11 @@ impl Ledger {
         }
     }
 
-    /// The ledger that these payloads leave, each the spelling of a note that is legal in its turn.
+    /// The ledger that these payloads leave: each is a note, or a batch of several, that are legal in their turn.
     ///
     /// # Errors
-    /// - `Refused` with the index of the first payload that is no note, or whose note is not legal behind those before
-    ///   it.
+    /// - `Refused` with the index of the first payload that is no note and no batch, or of which a note is not legal
+    ///   after those before it.
     /// - `NoMemory` where memory was refused.
     pub fn replay(alloc: Global, payloads: &[Vec<u8>]) -> Result<Ledger, ReplayFault>
         // What is read is a list of legal notes, and the ledger is its fold.
@@ -367,8 +376,8 @@ impl Ledger {
         Ok(())
     }
 
-    // Takes the note that the payload at this index spells, whose record is at this offset.
-    fn apply_payload(
+    // Takes the notes that the payload at this index spells, whose record is at this offset.
+    pub(crate) fn apply_payload(
         &mut self,
         alloc: Global,
         index: usize,
@@ -376,26 +385,49 @@ impl Ledger {
         payload: &[u8],
     ) -> Result<(), ReplayFault>
         ensures ok { OnOk result
-            ((note : Note) × IsNote note × (payload.now ≡ spelling note)
-            × IsLegal (state_of self.old) note
-            × (state_of self.new ≡ step (state_of self.old) note)) }
+            ((batch : List Note) × IsBatch batch × (payload.now ≡ payload_of batch)
+            × AllLegal (state_of self.old) batch
+            × (state_of self.new ≡ after (state_of self.old) batch)) }
         ensures refused { (told : ℕ) → IsErrOf result (ReplayFault.Refused told)
             → (told ≡ index) × SpellsNoLegal (state_of self.old) payload.now }
         ensures indexes { (kept : ℕ) (payloads : List (List ℕ)) → Indexes kept payloads self.old
             → StandsAt kept payloads at 0 payload.now
             → OnOk result (Indexes kept payloads self.new) }
     {
+        if let Some(notes) = decode_batch(alloc, payload)? {
+            return self.apply_several(index, at, &notes);
+        }
         let Some(note) = decode(alloc, payload)? else {
             return Err(ReplayFault::Refused { index });
         };
-        self.apply_note(index, at, &note)
+        self.apply_note(index, at, 0, &note)
     }
 
-    // Takes the note of the payload at this index, whose record is at this offset.
+    // Takes the notes of the batch at this index, whose record is at this offset; some of them if it is refused.
+    fn apply_several(&mut self, index: usize, at: u64, notes: &[Note]) -> Result<(), ReplayFault>
+        requires { AreSeveral notes.now }
+        ensures ok { OnOk result (AllLegal (state_of self.old) notes.now
+            × (state_of self.new ≡ after (state_of self.old) notes.now)) }
+        ensures refused { (told : ℕ) → IsErrOf result (ReplayFault.Refused told)
+            → (told ≡ index) × (AllLegal (state_of self.old) notes.now → ⊥) }
+        ensures indexes { (kept : ℕ) (payloads : List (List ℕ)) → Indexes kept payloads self.old
+            → StandsAt kept payloads at 0 (batch_spelling notes.now)
+            → OnOk result (Indexes kept payloads self.new) }
+    {
+        let mut within = 0;
+        for note in notes {
+            self.apply_note(index, at, within as u16, note)?;
+            within += spelled_len(note);
+        }
+        Ok(())
+    }
+
+    // Takes a note of the payload at this index, whose record is at this offset, after so many octets of other notes.
     pub(crate) fn apply_note(
         &mut self,
         index: usize,
         at: u64,
+        within: u16,
         note: &Note,
     ) -> Result<(), ReplayFault>
         ensures ok { OnOk result (IsLegal (state_of self.old) note.now
@@ -403,9 +435,10 @@ impl Ledger {
         ensures refused { (told : ℕ) → IsErrOf result (ReplayFault.Refused told)
             → (told ≡ index) × (IsLegal (state_of self.old) note.now → ⊥) }
         ensures indexes { (kept : ℕ) (payloads : List (List ℕ)) → Indexes kept payloads self.old
-            → IsPlaced kept payloads at 0 note.now → OnOk result (Indexes kept payloads self.new) }
+            → IsPlaced kept payloads at 0 within note.now
+            → OnOk result (Indexes kept payloads self.new) }
     {
-        match self.apply_at(note, at, 0) {
+        match self.apply_at(note, at, 0, within) {
             Ok(()) => Ok(()),
             Err(LedgerFault::NoMemory) => Err(ReplayFault::NoMemory),
             Err(_) => Err(ReplayFault::Refused { index }),
@@ -468,8 +501,7 @@ impl Ledger {
         Ok(())
     }
 
-    /// Takes the note that owes a debt, whose record is at this offset, or pends in this slot, as `apply_at` does; its
-    /// texts are looked at, and not kept.
+    /// Takes the note that owes a debt, as `apply_at` does at the same place; its texts are looked at, and not kept.
     ///
     /// # Errors
     /// Those of `apply` for that note: `OldNumber`, `CountFull`, `NoMemory`.
@@ -480,11 +512,12 @@ impl Ledger {
         id: &MsgId,
         at: u64,
         slot: u32,
+        within: u16,
     ) -> Result<(), LedgerFault>
         ensures applied { IsApplied result (state_of self.old) (state_of self.new)
             (Note.Owe key token.now id.now) }
         ensures indexes { (kept : ℕ) (payloads : List (List ℕ)) → Indexes kept payloads self.old
-            → IsPlaced kept payloads at slot (Note.Owe key token.now id.now)
+            → IsPlaced kept payloads at slot within (Note.Owe key token.now id.now)
             → Indexes kept payloads self.new }
         ensures stays { (kept : ℕ) (payloads : List (List ℕ)) → Indexes kept payloads self.old
             → OnErr result (Indexes kept payloads self.new) }
@@ -493,10 +526,10 @@ impl Ledger {
             return Err(LedgerFault::OldNumber);
         }
         let marks = self.marks.with(key);
-        self.put(marks, key, token, id, at, slot)
+        self.put(marks, key, token, id, at, slot, within)
     }
 
-    // Puts a debt in that is not owed, whose record is at this offset, or pends in this slot; the marks are these then.
+    // Puts a debt in that is not owed, and that stands at this place; the marks are these then.
     pub(crate) fn put(
         &mut self,
         marks: Marks,
@@ -505,6 +538,7 @@ impl Ledger {
         id: &MsgId,
         at: u64,
         slot: u32,
+        within: u16,
     ) -> Result<(), LedgerFault>
         requires absent { IsOwed (state_of self.old) key → ⊥ }
         requires past { IsPast marks key }
@@ -513,7 +547,7 @@ impl Ledger {
         ensures puts { Puts result (state_of self.old) (state_of self.new) marks
             (key, (token.now, id.now)) }
         ensures indexes { (kept : ℕ) (payloads : List (List ℕ)) → Indexes kept payloads self.old
-            → IsPlaced kept payloads at slot (Note.Owe key token.now id.now)
+            → IsPlaced kept payloads at slot within (Note.Owe key token.now id.now)
             → Indexes kept payloads self.new }
         ensures stays { (kept : ℕ) (payloads : List (List ℕ)) → Indexes kept payloads self.old
             → OnErr result (Indexes kept payloads self.new) }
@@ -524,7 +558,8 @@ impl Ledger {
         let Some(owed_bytes) = self.owed_bytes.checked_add(line_octets(token, id)) else {
             return Err(LedgerFault::CountFull);
         };
-        self.debts.insert(key, Entry::of(at, slot, token, id))?;
+        self.debts
+            .insert(key, Entry::of(at, slot, within, token, id))?;
         self.marks = marks;
         self.taken = taken;
         self.owed_bytes = owed_bytes;

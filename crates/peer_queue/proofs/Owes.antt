@@ -1,6 +1,6 @@
 -- Places and the ledger, where a debt is owed anew, and where one may be claimed.
-use Rattle.std.proofs.Common.{◌≡◌, ℕ, ◌+◌, ◌<◌, ◌^◌, List, [], ◌∷◌, length, map, None}
-use Rattle.std.proofs.Common.{refl, inl, inr, sym, ap, ◌∙◌, subst, arith}
+use Rattle.std.proofs.Common.{◌≡◌, ℕ, ◌+◌, ◌<◌, ◌^◌, List, [], ◌∷◌, None}
+use Rattle.std.proofs.Common.{refl, inl, inr, sym, ap, subst, arith}
 use Rattle.std.specs.List.{All}
 use Rattle.ledger_core.specs.declared.ledger.LedgerFault.{LedgerFault}
 use Rattle.ledger_core.specs.declared.ledger.LedgerFault.TheVariants.{OldNumber, NotOwed, CountFull, NoMemory as NoLedgerMemory}
@@ -13,9 +13,6 @@ use Rattle.ledger_core.specs.StateLaws.{next-apart}
 use Rattle.recovery.specs.declared.fault.TapeFault.{TapeFault}
 use Rattle.recovery.specs.declared.fault.TapeFault.TheVariants.{Damaged, Disk, Broken, TapeFull, GenerationFull, PendingFull, NoMemory, Note as RefusedNote}
 use Rattle.recovery.specs.Words.{IsNoteFault, RefusesNote}
-use Rattle.std.proofs.lemmas.List.{length-map}
-use Rattle.std.specs.Prelude.{Vec}
-use Rattle.std.specs.declared.alloc.Global.{Global}
 use Rattle.peer_queue.specs.Faults.{IsOweFault, station_fault}
 use Rattle.peer_queue.specs.declared.fault.StationFault.TheVariants.{Tape as TapeRefused}
 use Rattle.peer_queue.specs.Place.{Places, Ready, all_ready, place_at, placed, with_place}
@@ -83,8 +80,3 @@ told_fault GenerationFull other e = cc
 told_fault PendingFull other e = cc
 told_fault NoMemory other e = cc
 told_fault (RefusedNote refused) other e = cc
-
--- as many pend where the same octets pend
-pub pending_same : (old new : List (Vec ℕ Global)) → map (λ (v : Vec ℕ Global). v.items) new ≡ map (λ (v : Vec ℕ Global). v.items) old → length new ≡ length old
-pending_same old new same =
-    sym (length-map new (λ (v : Vec ℕ Global). v.items)) ∙ (ap length same ∙ length-map old (λ (v : Vec ℕ Global). v.items))

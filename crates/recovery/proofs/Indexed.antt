@@ -1,17 +1,12 @@
 -- A ledger that tells where its debts stand, as notes come and go.
-use Rattle.std.proofs.Common.{◌≡◌, ℕ, ◌+◌, ◌-◌, ◌<◌, ◌≤◌, ◌^◌, List, [], ◌∷◌, ◌++◌, length, refl, sym, ap, ◌∙◌, subst, arith, length-append}
+use Rattle.std.proofs.Common.{◌≡◌, ℕ, ◌+◌, ◌-◌, ◌<◌, ◌≤◌, ◌^◌, List, [], ◌∷◌, ◌++◌, length, refl, ap, ◌∙◌, subst, arith}
+use Rattle.std.proofs.Common.{length-append}
 use Rattle.std.specs.Prelude.{min, Result, Ok, Err, OnErr}
-use Rattle.std.proofs.lemmas.List.{append_assoc}
 use Rattle.tape_journal.specs.Segment.{gated, open_gate, records}
 use Rattle.tape_journal.specs.SegmentLaws.{length-sized}
-use Rattle.std.specs.Prelude.{Vec, map, vec_items}
-use Rattle.std.specs.declared.alloc.Global.{Global}
 use Rattle.std.proofs.Common.{get_or}
-use Rattle.std.proofs.lemmas.List.{length-map}
-use Rattle.ledger_core.specs.declared.ledger.Ledger.{Ledger}
 use Rattle.ledger_core.specs.declared.note.Note.{Note}
-use Rattle.ledger_core.specs.Index.{Indexes}
-use Rattle.ledger_core.specs.IndexLaws.{indexes-more, placed, records_length-append, stands-last}
+use Rattle.ledger_core.specs.IndexLaws.{found-alone, placed, stands-last}
 use Rattle.ledger_core.specs.Spelling.{spelling}
 use Rattle.ledger_core.specs.Spots.{IsPlaced, StandsAt, records_length}
 
@@ -33,45 +28,18 @@ pub next_end : (payloads : List (List ℕ)) (end next : ℕ) → next ≡ end �
     → next ≡ min (records_length payloads) (2 ^ 64 - 1)
 next_end payloads end next is ends fits = omega (arith, is, ends, fits, records-long payloads)
 
--- as many payloads as vectors
-pub indexed_all : (vectors : List (Vec ℕ Global)) (ledger : Ledger) → Indexes (length vectors) (map vec_items vectors)
-    ledger
-    → Indexes (length (map vec_items vectors)) (map vec_items vectors) ledger
-indexed_all vectors ledger indexes =
-    subst (λ (n : ℕ). Indexes n (map vec_items vectors) ledger) (sym (length-map vectors vec_items))
-    indexes
-
--- ---- what pends grows
-
--- a ledger that tells where its debts stand, and where the next record will be
-pub record Tells (kept pending : List (List ℕ)) (ledger : Ledger) (next : ℕ) : Type 0 where
-  pub indexes : Indexes (length kept) (kept ++ pending) ledger
-  pub next_is : next ≡ min (records_length (kept ++ pending)) (2 ^ 64 - 1)
-
-pub tells-more : (kept pending more pending' : List (List ℕ)) (ledger ledger' : Ledger) (next next' : ℕ)
-    → Tells kept pending ledger next → pending' ≡ pending ++ more
-    → (Indexes (length kept) ((kept ++ pending) ++ more) ledger → Indexes (length kept) ((kept ++ pending) ++ more)
-    ledger')
-    → next' ≡ min (next + records_length more) (2 ^ 64 - 1) → Tells kept pending' ledger' next'
-tells-more kept pending more pending' ledger ledger' next next' was grown step further =
-    let whole : (kept ++ pending) ++ more ≡ kept ++ pending' =
-    append_assoc kept pending more ∙ ap (λ (l : List (List ℕ)). kept ++ l) (sym grown) in
-    record {
-      indexes = subst (λ (l : List (List ℕ)). Indexes (length kept) l ledger') whole
-          (step (indexes-more (length kept) (kept ++ pending) more ledger was.indexes));
-      next_is = subst (λ (l : List (List ℕ)). next' ≡ min (records_length l) (2 ^ 64 - 1)) whole
-          (omega (arith, further, was.next_is, records_length-append (kept ++ pending) more));
-    }
+-- ---- what pends
 
 -- a note that comes behind all that pends
 pub placed-last : (kept pending : List (List ℕ)) (next slot : ℕ) (note : Note) (payload : List ℕ)
     → next ≡ min (records_length (kept ++ pending)) (2 ^ 64 - 1) → slot ≡ length pending → payload ≡ spelling note
-    → IsPlaced (length kept) ((kept ++ pending) ++ payload ∷ []) next slot note
+    → IsPlaced (length kept) ((kept ++ pending) ++ payload ∷ []) next slot 0 note
 placed-last kept pending next slot note payload next_is slot_is spelled =
     let front = kept ++ pending in
-    placed (length kept) (front ++ payload ∷ []) next slot note
+    placed (length kept) (front ++ payload ∷ []) next slot 0 note
+    (found-alone (length kept) (front ++ payload ∷ []) next slot note
     (subst (λ (p : List ℕ). StandsAt (length kept) (front ++ payload ∷ []) next slot p) spelled
-    (stands-last (length kept) front next slot payload next_is (omega (arith, slot_is, length-append kept pending))))
+    (stands-last (length kept) front next slot payload next_is (omega (arith, slot_is, length-append kept pending)))))
 
 -- ---- what stands there
 

@@ -1,7 +1,10 @@
 pub mod Counts
 pub mod Drops
 pub mod Opens
+pub mod Judging
 pub mod Payloads
+pub mod Pends
+pub mod Places
 pub mod Rotates
 pub mod Stands
 mod Rows

@@ -1,15 +1,15 @@
 -- How what a tape stands for goes on.
-use Rattle.std.proofs.Common.{◌≡◌, ℕ, zero, suc, ◌+◌, ◌-◌, ◌≤◌, ◌^◌, true, List, [], ◌∷◌, ◌++◌, length, take, drop, refl, sym, ◌∙◌, ap, subst, arith, length-append, length-drop}
-use Rattle.std.specs.Prelude.{Vec, min, map, vec_items}
+use Rattle.std.proofs.Common.{◌≡◌, ℕ, zero, suc, ◌+◌, ◌-◌, ◌≤◌, ◌^◌, true, List, [], ◌∷◌, ◌++◌, length, take, drop}
+use Rattle.std.proofs.Common.{take-append-drop, refl, sym, ◌∙◌, ap, subst, arith, length-append, length-drop}
+use Rattle.std.specs.Prelude.{min, map, vec_items}
 use Rattle.std.proofs.Math.Bridge.{le_prop}
 use Rattle.std.proofs.Math.Seq.{take-add, take-append-add}
-use Rattle.std.specs.declared.alloc.Global.{Global}
-use Rattle.std.proofs.lemmas.List.{append-nil, map-append, length-map, take_all, drop_all, take-append-le, drop-append-le}
+use Rattle.std.proofs.lemmas.List.{append-nil, take_all, take_at, drop_all, take-append-le, drop-append-le}
 use Rattle.disk_model.specs.Disk.{Event, EachImage, Image, Leaves}
 use Rattle.disk_model.specs.MomentLaws.{Leaves-weaker}
 use Rattle.disk_model.specs.declared.Disk.{Ghosts}
 use Rattle.tape_journal.specs.Journal.{Holds, disk_of as journal_disk}
-use Rattle.tape_journal.specs.Segment.{Reads, ReadsFrom, AllShort, IsShort}
+use Rattle.tape_journal.specs.Segment.{Reads, ReadsFrom, IsShort}
 use Rattle.tape_journal.specs.SegmentLaws.{reads_rest}
 use Rattle.ledger_core.specs.declared.note.Note.{Note}
 use Rattle.ledger_core.specs.Base.{Restores}
@@ -17,49 +17,43 @@ use Rattle.ledger_core.specs.Index.{Indexes}
 use Rattle.ledger_core.specs.Spots.{records_length}
 use Rattle.ledger_core.specs.StateLaws.{after-append, AllLegal-back}
 use Rattle.ledger_core.specs.Note.{AreNotes, IsNote}
-use Rattle.ledger_core.specs.Spelling.{spelling, spellings}
-use Rattle.ledger_core.specs.SpellingLaws.{AreNotes-back, spellings-append, spelling-short}
+use Rattle.ledger_core.specs.Batch.{AreBatches, notes_of, payload_of, payloads_of}
+use Rattle.ledger_core.specs.BatchLaws.{AreBatches-front, notes_of-append}
+use Rattle.ledger_core.specs.Spelling.{spelling}
+use Rattle.ledger_core.specs.SpellingLaws.{spelling-short}
 use Rattle.ledger_core.specs.State.{State, AllLegal, after}
 use Rattle.ledger_core.specs.WrittenLaws.{restores-on}
 use Rattle.recovery.specs.Notes.{AreLegal, History, flushed, ledger_after, most_pending, noted_all}
-use Rattle.recovery.specs.ShortLaws.{AllShort-prop}
 use Rattle.recovery.specs.Image.{EachTape, IsTape, Survives, TapeLeaves}
 use Rattle.recovery.specs.TapeLaws.{AreLegal-append, AreLegal-take, Survives-noted_all, Survives-whole, tape_placed}
 use Rattle.recovery.specs.PairLaws.{live_leaves, pair-placed, pairs-now}
 use Rattle.recovery.specs.Pairs.{placed}
+use Rattle.recovery.specs.Pending.{Holds as HoldsNotes, payloads_in}
 use Rattle.recovery.specs.Tape.{IsIndexed, StandsFor, StaysBehind}
-use Rattle.recovery.specs.Words.{AreHonest, IsBroken, generation_of, ledger_of, live_log, live_segment, log_of, other_log}
+use Rattle.recovery.specs.Words.{AreHonest, IsBroken, generation_of, ledger_of, live_log, live_segment, log_of}
+use Rattle.recovery.specs.Words.{other_log}
+use Rattle.recovery.specs.Words.{pending_of}
 use Rattle.recovery.specs.declared.segments.Segments.{Segments}
 use Rattle.recovery.specs.declared.tape.Tape.{Tape}
+use Rattle.recovery.proofs.Pends.{ends-none, holds-none, holds-same}
 
--- ---- payloads
+-- ---- what pends
 
-pub spellings-length : (notes : List Note) → length (spellings notes) ≡ length notes
-spellings-length [] = refl
-spellings-length (note ∷ notes) = omega (arith, spellings-length notes)
+-- the first of the payloads are of the first of the batches
+pub payloads_of-take : (batches : List (List Note)) (n : ℕ) → take n (payloads_of batches) ≡ payloads_of (take n batches)
+payloads_of-take batches zero = refl
+payloads_of-take [] (suc n) = refl
+payloads_of-take (batch ∷ batches) (suc n) =
+    ap (λ (l : List (List ℕ)). payload_of batch ∷ l) (payloads_of-take batches n)
 
-pub spellings-take : (notes : List Note) (n : ℕ) → take n (spellings notes) ≡ spellings (take n notes)
-spellings-take notes zero = refl
-spellings-take [] (suc n) = refl
-spellings-take (note ∷ notes) (suc n) = ap (λ (l : List (List ℕ)). spelling note ∷ l) (spellings-take notes n)
+notes_of-split : (batches : List (List Note)) (n : ℕ)
+    → notes_of batches ≡ notes_of (take n batches) ++ notes_of (drop n batches)
+notes_of-split batches n =
+    ap notes_of (sym (take-append-drop n batches)) ∙ notes_of-append (take n batches) (drop n batches)
 
--- how many notes pend
-pub pending_count : (notes : List Note) (kept : ℕ) (pending : List (Vec ℕ Global)) → map vec_items pending ≡ spellings (drop kept notes) → kept ≤ length notes → length pending + kept ≡ length notes
-pending_count notes kept pending is within =
-    omega (arith, ap length is, length-map pending (λ (v : Vec ℕ Global). v.items), spellings-length (drop kept notes), length-drop kept notes)
-
--- one payload more
-pub items-push : (vectors : List (Vec ℕ Global)) (v : Vec ℕ Global)
-    → map vec_items (vectors ++ v ∷ []) ≡ map vec_items vectors ++ v.items ∷ []
-items-push vectors v = map-append (λ (w : Vec ℕ Global). w.items) vectors (v ∷ [])
-
-pub items-append : (one other : List (Vec ℕ Global))
-    → map vec_items (one ++ other) ≡ map vec_items one ++ map vec_items other
-items-append one other = map-append (λ (w : Vec ℕ Global). w.items) one other
-
-pub AllShort-push : (payloads : List (List ℕ)) (payload : List ℕ) → AllShort payloads → IsShort payload → AllShort (payloads ++ payload ∷ [])
-AllShort-push [] payload all one = (one, tt)
-AllShort-push (p ∷ payloads) payload all one = (all.0, AllShort-push payloads payload all.1 one)
+AreBatches-take : (batches : List (List Note)) (n : ℕ) → AreBatches batches → AreBatches (take n batches)
+AreBatches-take batches n are =
+    AreBatches-front (take n batches) (drop n batches) (subst AreBatches (sym (take-append-drop n batches)) are)
 
 pub note_short : (note : Note) → IsNote note → IsShort (spelling note)
 note_short note is = omega (arith, spelling-short note is)
@@ -73,14 +67,15 @@ module _ {D : Type 0} {g : Ghosts D} (tape : Tape D g) (h : History) where
       → (payloads : List (List ℕ)) → Holds (live_segment tape) payloads → Restores payloads (generation_of tape)
       (ledger_after h)
       → EachImage (StaysBehind tape.segments.second (generation_of tape)) (other_log tape)
-      → tape.pending.items ≡ [] → tape.flushed ≡ min (h.kept - h.opened) (2 ^ 64 - 1) → h.opened ≤ h.kept
+      → tape.pending.payloads.items ≡ [] → pending_of tape ≡ 0 → tape.flushed ≡ min (h.kept - h.opened) (2 ^ 64 - 1) → h.opened ≤ h.kept
       → Indexes (length payloads) payloads tape.ledger → tape.next ≡ min (records_length payloads) (2 ^ 64 - 1) →
       StandsFor tape h
-  stands_whole honest legal all ledger payloads holds restores other none count opened indexes next =
+  stands_whole honest legal all ledger payloads holds restores other none no_note count opened indexes next =
       let here : take h.kept h.notes ≡ h.notes = take_all h.kept h.notes (omega (arith, all)) in
       let rest : drop h.kept h.notes ≡ [] = drop_all h.kept h.notes (omega (arith, all)) in
-      let whole : payloads ++ map vec_items tape.pending.items ≡ payloads =
-      ap (λ (l : List (Vec ℕ Global)). payloads ++ map vec_items l) none ∙ append-nil payloads in
+      let nothing : payloads_in tape.pending ≡ [] = ap (map vec_items) none in
+      let whole : payloads ++ payloads_in tape.pending ≡ payloads =
+      ap (λ (l : List (List ℕ)). payloads ++ l) nothing ∙ append-nil payloads in
       record {
         honest = honest;
         are_legal = legal;
@@ -100,10 +95,11 @@ module _ {D : Type 0} {g : Ghosts D} (tape : Tape D g) (h : History) where
           restores = subst (λ (notes : List Note). Restores payloads (generation_of tape) (after h.base notes))
               (sym here) restores;
           other = other;
-          pending = ap (map vec_items) none ∙ ap spellings (sym rest);
+          pending = subst (HoldsNotes tape.pending) (sym rest) (holds-none tape.pending none);
+          pending_count = omega (arith, no_note, ap length rest);
           indexed = record {
             indexes = subst (λ (l : List (List ℕ)). Indexes (length payloads) l tape.ledger) (sym whole) indexes;
-            next = next ∙ ap (λ (l : List (List ℕ)). min (records_length l) (2 ^ 64 - 1)) (sym whole);
+            ends = ends-none payloads (payloads_in tape.pending) tape.last tape.next nothing next;
           };
           count = count;
           opened = opened;
@@ -114,91 +110,90 @@ module _ {D : Type 0} {g : Ghosts D} (tape : Tape D g) (h : History) where
   appended : StandsFor tape h → (works : IsBroken tape → ⊥) → (payloads : List (List ℕ)) → Restores payloads
       (generation_of tape) (after h.base (take h.kept h.notes))
       → EachImage (StaysBehind tape.segments.second (generation_of tape)) (other_log tape)
-      → map vec_items tape.pending.items ≡ spellings (drop h.kept h.notes)
-      → (c : List ℕ) → ReadsFrom (length payloads) (payloads ++ map vec_items tape.pending.items) c
+      → HoldsNotes tape.pending (drop h.kept h.notes)
+      → (c : List ℕ) → ReadsFrom (length payloads) (payloads ++ payloads_in tape.pending) c
       → (d : List ℕ) → Image (other_log tape) d → Survives h (placed tape.segments.second c d)
   appended stands works payloads restores other pending c (n, low, high, reads) d is =
       let m = n - length payloads in
+      let batches = pending.batches in
+      let first = take m batches in
+      let count = length (notes_of first) in
       let more = drop h.kept h.notes in
       let state = after h.base (take h.kept h.notes) in
       let behind = other d is in
       let plus : n ≡ length payloads + m = omega (arith, low) in
-      let few : h.kept + m ≤ length h.notes =
+      let split : more ≡ notes_of first ++ notes_of (drop m batches) = sym pending.cut.whole ∙ notes_of-split batches m in
+      let few : h.kept + count ≤ length h.notes =
       omega (
         arith,
-        high,
-        length-append payloads (map vec_items tape.pending.items),
-        ap length pending,
-        spellings-length
-            more,
+        ap length split,
+        length-append (notes_of first) (notes_of (drop m batches)),
         length-drop h.kept h.notes,
         stands.kept_within,
       ) in
-      let front : take (h.kept + m) h.notes ≡ take h.kept h.notes ++ take m more = take-add h.kept m h.notes in
-      let legal : AreLegal h.base (take (h.kept + m) h.notes) = AreLegal-take h.base h.notes (h.kept + m)
+      let front : take (h.kept + count) h.notes ≡ take h.kept h.notes ++ notes_of first =
+      take-add h.kept count h.notes ∙ ap (λ (l : List Note). take h.kept h.notes ++ l)
+      (ap (take count) split ∙ take_at (notes_of first) (notes_of (drop m batches)) count refl) in
+      let legal : AreLegal h.base (take (h.kept + count) h.notes) = AreLegal-take h.base h.notes (h.kept + count)
       stands.are_legal in
-      let notes_are : AreNotes (take m more) =
-      AreNotes-back (take h.kept h.notes) (take m more) (subst AreNotes front legal.notes_are) in
-      let lawful : AllLegal state (take m more) =
-      AllLegal-back h.base (take h.kept h.notes) (take m more) (subst (AllLegal h.base) front legal.legal) in
-      let here : take n (payloads ++ map vec_items tape.pending.items) ≡ payloads ++ spellings (take m more) =
-      ap (λ (k : ℕ). take k (payloads ++ map vec_items tape.pending.items)) plus
-      ∙ (take-append-add payloads (map vec_items tape.pending.items) m
-      ∙ ap (λ (l : List (List ℕ)). payloads ++ l) (ap (take m) pending ∙ spellings-take more m)) in
-      let left : after state (take m more) ≡ after h.base (take (h.kept + m) h.notes) =
-      sym (after-append h.base (take h.kept h.notes) (take m more)) ∙ ap (after h.base) (sym front) in
+      let lawful : AllLegal state (notes_of first) =
+      AllLegal-back h.base (take h.kept h.notes) (notes_of first) (subst (AllLegal h.base) front legal.legal) in
+      let here : take n (payloads ++ payloads_in tape.pending) ≡ payloads ++ payloads_of first =
+      ap (λ (k : ℕ). take k (payloads ++ payloads_in tape.pending)) plus
+      ∙ (take-append-add payloads (payloads_in tape.pending) m
+      ∙ ap (λ (l : List (List ℕ)). payloads ++ l) (ap (take m) pending.payloads ∙ payloads_of-take batches m)) in
+      let left : after state (notes_of first) ≡ after h.base (take (h.kept + count) h.notes) =
+      sym (after-append h.base (take h.kept h.notes) (notes_of first)) ∙ ap (after h.base) (sym front) in
       record {
-        count = h.kept + m;
+        count = h.kept + count;
         enough = omega arith;
         within = few;
         legal = legal;
         tape = subst (IsTape (placed tape.segments.second c d)) left
-            (tape_placed tape.segments.second c d (payloads ++ spellings (take m more)) (generation_of tape)
+            (tape_placed tape.segments.second c d (payloads ++ payloads_of first) (generation_of tape)
             behind.other
-            (after state (take m more)) (subst (Reads c) here reads)
-            (restores-on payloads (generation_of tape) state (take m more) restores notes_are lawful) behind.has
+            (after state (notes_of first)) (subst (Reads c) here reads)
+            (restores-on payloads (generation_of tape) state first restores
+            (AreBatches-take batches m pending.cut.are) lawful) behind.has
             behind.behind);
       }
 
   -- at each moment of a flush of a tape that works
   pub flush_moments : (new : List Event) → StandsFor tape h → (IsBroken tape → ⊥)
       → ((all : List (List ℕ)) → Holds (live_segment tape) all → Leaves
-      (ReadsFrom (length all) (all ++ map vec_items tape.pending.items)) (live_log tape) new)
+      (ReadsFrom (length all) (all ++ payloads_in tape.pending)) (live_log tape) new)
       → TapeLeaves (Survives h) (log_of tape) (placed tape.segments.second new (other_log tape))
   flush_moments new stands works moments =
       let w = stands.working works in
       live_leaves (Survives h) tape.segments.second (live_log tape) new (other_log tape)
-      (Leaves-weaker (ReadsFrom (length w.payloads) (w.payloads ++ map vec_items tape.pending.items))
+      (Leaves-weaker (ReadsFrom (length w.payloads) (w.payloads ++ payloads_in tape.pending))
       (λ c. (d : List ℕ) → Image (other_log tape) d → Survives h (placed tape.segments.second c d))
       (λ c reads. appended stands works w.payloads w.restores w.other w.pending c reads)
       (live_log tape) new (moments w.payloads w.holds))
 
   -- where nothing pends all is acknowledged
-  pub stands_idle : StandsFor tape h → (IsBroken tape → ⊥) → length tape.pending.items ≡ 0 → StandsFor tape (flushed h)
+  pub stands_idle : StandsFor tape h → (IsBroken tape → ⊥) → pending_of tape ≡ 0 → StandsFor tape (flushed h)
   stands_idle stands works none =
       let w = stands.working works in
-      let all : h.kept ≡ length h.notes = omega (
-        arith,
-        none,
-        pending_count h.notes h.kept tape.pending.items
-            w.pending stands.kept_within,
-      ) in
+      let all : h.kept ≡ length h.notes =
+      omega (arith, none, w.pending_count, length-drop h.kept h.notes, stands.kept_within) in
       subst (λ (k : ℕ). StandsFor tape (record h { kept = k })) all stands
 
-  pub idle_count : StandsFor tape h → (IsBroken tape → ⊥) → length tape.pending.items ≡ 0
+  pub idle_count : StandsFor tape h → (IsBroken tape → ⊥) → pending_of tape ≡ 0
       → tape.flushed ≡ min (length h.notes - h.opened) (2 ^ 64 - 1)
   idle_count stands works none =
       let w = stands.working works in
-      omega (arith, none, w.count, pending_count h.notes h.kept tape.pending.items w.pending stands.kept_within)
+      omega (arith, none, w.count, w.pending_count, length-drop h.kept h.notes, stands.kept_within)
 
 -- some notes more, which pend
 pub stands_noted_all : {D : Type 0} {g : Ghosts D} (old new : Tape D g) (h : History) (notes : List Note)
-    (payloads : List (Vec ℕ Global)) → StandsFor old h → new.segments ≡ old.segments → AreNotes notes → AllLegal
+    → StandsFor old h → new.segments ≡ old.segments → AreNotes notes → AllLegal
     (ledger_of old) notes → ledger_of new ≡ after (ledger_of old) notes
-    → new.pending.items ≡ old.pending.items ++ payloads → map vec_items payloads ≡ spellings notes → new.flushed ≡
-    old.flushed
-    → ((kept : List (List ℕ)) → IsIndexed old kept → IsIndexed new kept) → StandsFor new (noted_all h notes)
-stands_noted_all {D} {g} old new h notes payloads stands same are legal stepped pending spelled flushed grows =
+    → new.flushed ≡ old.flushed → pending_of new ≡ pending_of old + length notes
+    → ((more : List Note) → HoldsNotes old.pending more → HoldsNotes new.pending (more ++ notes))
+    → ((kept : List (List ℕ)) (more : List Note) → HoldsNotes old.pending more → IsIndexed old kept → IsIndexed new kept)
+    → StandsFor new (noted_all h notes)
+stands_noted_all {D} {g} old new h notes stands same are legal stepped flushed count holds grows =
     let here : AllLegal (ledger_after h) notes = subst (λ (s : State). AllLegal s notes) stands.ledger legal in
     let front : take h.kept (h.notes ++ notes) ≡ take h.kept h.notes = take-append-le h.kept h.notes notes
     stands.kept_within in
@@ -223,11 +218,15 @@ stands_noted_all {D} {g} old new h notes payloads stands same are legal stepped 
                 w.restores);
             other = subst (λ (s : Segments D g). EachImage (StaysBehind s.second s.generation) (g.log s.other))
                 (sym same) w.other;
-            pending = ap (map vec_items) pending ∙ (items-append old.pending.items payloads ∙
-                (ap (λ (l : List (List ℕ)). l ++ map vec_items payloads) w.pending ∙
-                (ap (λ (p : List (List ℕ)). spellings (drop h.kept h.notes) ++ p) spelled ∙
-                (sym (spellings-append (drop h.kept h.notes) notes) ∙ sym (ap spellings back)))));
-            indexed = grows w.payloads w.indexed;
+            pending = subst (HoldsNotes new.pending) (sym back) (holds (drop h.kept h.notes) w.pending);
+            pending_count = omega (
+              arith,
+              count,
+              w.pending_count,
+              ap length back,
+              length-append (drop h.kept h.notes) notes,
+            );
+            indexed = grows w.payloads (drop h.kept h.notes) w.pending w.indexed;
             count = flushed ∙ w.count;
             opened = w.opened;
           };
@@ -235,11 +234,11 @@ stands_noted_all {D} {g} old new h notes payloads stands same are legal stepped 
 
 -- after a call that was refused
 pub stands_refused : {D : Type 0} {g : Ghosts D} (old new : Tape D g) (h : History) → StandsFor old h → AreHonest new
-    → ledger_of new ≡ ledger_of old → map vec_items new.pending.items ≡ map vec_items old.pending.items → new.flushed ≡
-    old.flushed
+    → ledger_of new ≡ ledger_of old → payloads_in new.pending ≡ payloads_in old.pending → pending_of new ≡ pending_of old
+    → new.flushed ≡ old.flushed
     → TapeLeaves (Survives h) (log_of old) (log_of new) → ((IsBroken new → ⊥) → new.segments ≡ old.segments)
     → ((kept : List (List ℕ)) → IsIndexed old kept → IsIndexed new kept) → StandsFor new h
-stands_refused {D} {g} old new h stands honest ledger pending flushed moments same still = record {
+stands_refused {D} {g} old new h stands honest ledger pending pends flushed moments same still = record {
   honest = honest;
   are_legal = stands.are_legal;
   kept_within = stands.kept_within;
@@ -255,19 +254,17 @@ stands_refused {D} {g} old new h stands honest ledger pending flushed moments sa
             (sym stay) w.restores;
         other = subst (λ (s : Segments D g). EachImage (StaysBehind s.second s.generation) (g.log s.other)) (sym stay)
             w.other;
-        pending = pending ∙ w.pending;
+        pending = holds-same old.pending new.pending (drop h.kept h.notes) pending w.pending;
+        pending_count = pends ∙ w.pending_count;
         indexed = still w.payloads w.indexed;
         count = flushed ∙ w.count;
         opened = w.opened;
       };
 }
 
--- A tape whose segments are the same is the same: what else it keeps are facts.
+-- A tape whose segments are the same is the same: what else it keeps is a fact.
 pub same_tape : {D : Type 0} {g : Ghosts D} (tape : Tape D g) (segments : Segments D g) → segments ≡ tape.segments
-    → (few : length tape.pending.items ≤ most_pending) (short : AllShort (map vec_items tape.pending.items))
-    → record tape { segments = segments; few = few; short = short } ≡ tape
-same_tape {D} {g} tape segments same few short =
-    ap (λ (s : Segments D g). record tape { segments = s; few = few; short = short }) same
-    ∙ ap (λ (x : length tape.pending.items ≤ most_pending). record tape { few = x; short = short }) (le_prop few tape.few)
-    ∙ ap (λ (x : AllShort (map vec_items tape.pending.items)). record tape { short = x })
-    (AllShort-prop (map vec_items tape.pending.items) short tape.short)
+    → (few : pending_of tape ≤ most_pending) → record tape { segments = segments; few = few } ≡ tape
+same_tape {D} {g} tape segments same few =
+    ap (λ (s : Segments D g). record tape { segments = s; few = few }) same
+    ∙ ap (λ (x : pending_of tape ≤ most_pending). record tape { few = x }) (le_prop few tape.few)

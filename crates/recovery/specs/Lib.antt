@@ -1,5 +1,5 @@
 pub mod Notes
-pub mod ShortLaws
+pub mod Pending
 pub mod Pairs
 pub mod PairLaws
 pub mod Image
@@ -12,6 +12,7 @@ pub mod LeavingLaws
 pub mod Texts
 pub mod Flushes
 pub mod Opens
+pub mod Judging
 pub mod Rotates
 pub mod Takes
 pub mod Faults

@@ -1,6 +1,11 @@
 -- What is read back of a debt (profile), whatever a disk gives.
-use Rattle.std.specs.Prelude.{◌≡◌, ℕ, Option, option_map, length}
-use Rattle.ledger_core.specs.Index.{debt_at}
+use Rattle.std.specs.Prelude.{◌≡◌, ℕ, List, Option, option_map, length}
+use Rattle.ledger_core.specs.declared.ledger.Ledger.{Ledger}
+use Rattle.ledger_core.specs.declared.spot.Spot.{Spot}
+use Rattle.ledger_core.specs.Base.{owe}
+use Rattle.ledger_core.specs.Index.{Indexes, debt_at}
+use Rattle.ledger_core.specs.Spelling.{spelling}
+use Rattle.ledger_core.specs.Spots.{IsFound}
 use Rattle.ledger_core.specs.State.{Owing, State}
 
 -- the key of a debt, and how long its texts are
@@ -10,3 +15,12 @@ lengths_of debt = (debt.0, (length debt.1.0, length debt.1.1))
 -- what was read is a debt of this key exactly where it is owed, and its texts are as long as those that are owed
 abbrev pub HasLengths : State → ℕ → Option Owing → Type 0
 HasLengths state key debt = option_map lengths_of debt ≡ option_map lengths_of (debt_at state key)
+
+-- where the ledger tells where its debts stand, this debt, of this key, stands at this spot, which tells how long its
+-- texts are
+pub record IsAt (ledger : Ledger) (key : ℕ) (spot : Spot) (debt : Owing) : Type 0 where
+  pub is : debt.0 ≡ key
+  pub token_len : spot.token_len ≡ length debt.1.0
+  pub id_len : spot.id_len ≡ length debt.1.1
+  pub stands : (kept : ℕ) (payloads : List (List ℕ)) → Indexes kept payloads ledger
+      → IsFound kept payloads spot.at spot.slot spot.within (spelling (owe debt))

@@ -1,31 +1,26 @@
 // Tapes.
 ghost use Rattle.std.specs.Prelude.{◌≡◌, ◌≢◌, ◌+◌, ◌-◌, ◌*◌, ◌^◌, ◌≤◌, ◌<◌};
 ghost use Rattle.std.specs.Prelude.{◌↔◌, ℕ, List, length, IsTrue};
-ghost use Rattle.tape_journal.specs.Segment.{AllShort};
 ghost use Rattle.recovery.specs.Notes.{most_pending};
-ghost use Rattle.recovery.specs.ShortLaws.{AllShort-prop};
-ghost use Rattle.std.specs.Prelude.{IfOk, OnOk, map, vec_items};
+ghost use Rattle.std.specs.Prelude.{IfOk, OnOk};
 ghost use Rattle.std.specs.List.{All, Contains};
 ghost use Rattle.ledger_core.specs.Index.{Indexes};
 ghost use Rattle.ledger_core.specs.Ledger.{state_of};
 ghost use Rattle.tape_journal.specs.Journal.{end_of as journal_end};
-ghost use Rattle.ledger_core.specs.Note.{AreNotes};
-ghost use Rattle.ledger_core.specs.Spelling.{spellings};
 ghost use Rattle.ledger_core.specs.State.{AllLegal, after};
 ghost use Rattle.recovery.specs.Notes.{drops};
 ghost use Rattle.recovery.specs.declared.fault.TapeFault.TheVariants.{Broken};
 
 use crate::TapeFault;
-use crate::fault::{append_fault, open_fault};
+use crate::fault::append_fault;
+use crate::pending::Pending;
 use crate::read::read_ledger;
 use crate::segments::{Segments, is_second_live};
 use disk_model::Disk;
 use funnel::{MsgId, Token};
-use ledger_core::{
-    Cause, Key, Ledger, LedgerFault, Note, Totals, encode, encode_owe, offset_behind,
-};
+use ledger_core::{Cause, Key, Ledger, LedgerFault, Note, Totals, encode, encode_owe};
 use std::alloc::{AllocError, Global};
-use tape_journal::{Journal, LONGEST_SEGMENT, records_len};
+use tape_journal::{Journal, LONGEST_SEGMENT, SegmentReader};
 
 /// How many notes may pend.
 pub const MOST_PENDING: usize = 65536;
@@ -81,14 +76,16 @@ pub struct Tape<D: Disk> {
     pub(crate) alloc: Global,
     pub(crate) segments: Segments<D>,
     pub(crate) ledger: Ledger,
-    // The spellings of the notes that pend.
-    pub(crate) pending: Vec<Vec<u8>>,
-    // The offset at which the record of the next note will be, or the greatest u64 where that is less.
+    // The notes that pend.
+    pub(crate) pending: Pending,
+    // The offset at which the last record of what pends will be, or the greatest u64 where that is less. It means
+    // nothing while nothing pends.
+    pub(crate) last: u64,
+    // The offset at which the record behind all of what pends will be, or the greatest u64 where that is less.
     pub(crate) next: u64,
     // How many notes were put on the disks since the tape was opened.
     pub(crate) flushed: u64,
-    ghost few: { length pending.items ≤ most_pending },
-    ghost short: { AllShort (map vec_items pending.items) } by { AllShort-prop (map vec_items pending.items) },
+    ghost few: { pending.count ≤ most_pending },
 }
 
 impl<D: Disk> Tape<D> {
@@ -96,7 +93,6 @@ impl<D: Disk> Tape<D> {
     ghost use Rattle.std.specs.Prelude.{MatchResult, IfErr, OnErr, IsOk, IsErrOf, IsSome, option_map};
     ghost use Rattle.std.specs.List.Sorted.{IsStrictlyIncreasing};
     ghost use Rattle.ledger_core.specs.Ledger.{totals_of};
-    ghost use Rattle.ledger_core.specs.Spelling.{spellings};
     ghost use Rattle.ledger_core.specs.declared.ledger.LedgerFault.{LedgerFault};
     ghost use Rattle.ledger_core.specs.declared.note.Note.{Note};
     ghost use Rattle.ledger_core.specs.State.{IsLegal, IsOwed, Owing, keys, line_octets, step};
@@ -117,14 +113,16 @@ impl<D: Disk> Tape<D> {
     /// Opens the tape of two disks, empty ones among them: of their segments the one of greater generation lives, on a
     /// tie the first. Its ledger is what that leaves; all notes are acknowledged, and none pends. The disks are read
     /// and judged first, which changes nothing; then the other disk is synced, and the end of the segment that lives is
-    /// repaired. Linear in the segment that lives.
+    /// repaired. Linear in the segment that lives. Each payload is judged as it is read, and none is kept: beside the
+    /// ledger it takes room for a piece of the segment, of at most 131,072 octets.
     ///
     /// # Errors
     /// The disks are handed back. Tried in this order: what the reading of the first record of the first disk meets,
     /// and then of the second, `Damaged` at 0 where it tells no generation, `Disk`, or `NoMemory`; the same of the
     /// reading of the segment that lives; `Damaged` at its first payload at which no reading goes on, or at its end
-    /// where a debt of its Base is missing, or `NoMemory` of judging. These leave the disks as they were, octet for
-    /// octet. Then `Disk` of the sync and the repair, which leave a tape of the same ledger.
+    /// where a debt of its Base is missing, or `NoMemory` of judging. The segment is read on to its end before one of
+    /// the last two comes. These leave the disks as they were, octet for octet. Then `Disk` of the sync and the repair,
+    /// which leave a tape of the same ledger.
     pub fn open(alloc: Global, mut a: D, mut b: D) -> Result<Tape<D>, RefusedTape<D>>
         ensures opens { D.honest a → D.honest b → Opens (λ tape. tape) (D.log a, D.log b) result }
 
@@ -185,27 +183,28 @@ impl<D: Disk> Tape<D> {
             × ((placed second (D.told live) (D.told other)).1 ≤ D.told e.b)) }
     {
         let segment = if second { 1 } else { 0 };
-        let (unrepaired, payloads) = match Journal::read(alloc, live) {
-            Ok(read) => read,
+        let mut reader = match SegmentReader::begin(alloc, live) {
+            Ok(reader) => reader,
             Err(refused) => {
-                let fault = open_fault(segment, refused.fault);
+                let fault = TapeFault::NoMemory;
                 return Err(RefusedTape::of(second, refused.disk, other, fault));
             }
         };
-        let restored = match read_ledger(alloc, segment, &payloads) {
+        let restored = match read_ledger(alloc, segment, &mut reader) {
             Ok(restored) => restored,
-            Err(fault) => return Err(RefusedTape::of(second, unrepaired.into_disk(), other, fault)),
+            Err(fault) => return Err(RefusedTape::of(second, reader.into_disk(), other, fault)),
         };
         match other.sync() {
             Ok(()) => {}
             Err(_) => {
                 let fault = TapeFault::Disk;
-                return Err(RefusedTape::of(second, unrepaired.into_disk(), other, fault));
+                return Err(RefusedTape::of(second, reader.into_disk(), other, fault));
             }
         }
-        match unrepaired.repair() {
+        match reader.finish().repair() {
             Ok(live) => Ok(Tape {
                 alloc,
+                last: 0,
                 next: end_of(&live),
                 segments: Segments {
                     live,
@@ -214,7 +213,7 @@ impl<D: Disk> Tape<D> {
                     generation: restored.generation,
                 },
                 ledger: restored.ledger,
-                pending: Vec::new(alloc),
+                pending: Pending::new(alloc),
                 flushed: 0,
             }),
             Err(refused) => Err(RefusedTape::of(second, refused.disk, other, TapeFault::Disk)),
@@ -306,7 +305,7 @@ impl<D: Disk> Tape<D> {
         if let Err(fault) = self.ledger.check(note) {
             return Err(TapeFault::Note(fault));
         }
-        if self.pending.len() >= MOST_PENDING {
+        if self.pending.count >= MOST_PENDING {
             return Err(TapeFault::PendingFull);
         }
         self.pend(note)
@@ -325,20 +324,21 @@ impl<D: Disk> Tape<D> {
         ensures kinds { IfErr result (λ fault. fault ≡ TapeFault.NoMemory) }
         ensures segments { self.new.segments ≡ self.old.segments }
     {
-        let payload = encode(self.alloc, note)?;
-        let at = self.next;
-        let slot = self.pending.len() as u32;
-        let next = offset_behind(at, &payload);
-        self.pending.push(payload)?;
-        match self.ledger.apply_at(note, at, slot) {
+        let spelling = encode(self.alloc, note)?;
+        let len = spelling.len();
+        self.pending.make_room(len)?;
+        let place = self.pending.place_for(self.last, self.next, len);
+        match self
+            .ledger
+            .apply_at(note, place.at, place.slot, place.within)
+        {
             Ok(()) => {
-                self.next = next;
+                self.pending.push(spelling);
+                self.last = place.at;
+                self.next = place.next;
                 Ok(())
             }
-            Err(_) => {
-                self.pending.pop();
-                Err(TapeFault::NoMemory)
-            }
+            Err(_) => Err(TapeFault::NoMemory),
         }
     }
 
@@ -356,20 +356,21 @@ impl<D: Disk> Tape<D> {
         ensures kinds { IfErr result (λ fault. fault ≡ TapeFault.NoMemory) }
         ensures segments { self.new.segments ≡ self.old.segments }
     {
-        let spelling = encode_owe(self.alloc, key, token, id)?;
-        let at = self.next;
-        let count = self.pending.len();
-        let next = offset_behind(at, &spelling);
-        self.pending.push(spelling)?;
-        match self.ledger.owe_at(key, token, id, at, count as u32) {
+        let octets = encode_owe(self.alloc, key, token, id)?;
+        let len = octets.len();
+        self.pending.make_room(len)?;
+        let place = self.pending.place_for(self.last, self.next, len);
+        match self
+            .ledger
+            .owe_at(key, token, id, place.at, place.slot, place.within)
+        {
             Ok(()) => {
-                self.next = next;
+                self.pending.push(octets);
+                self.last = place.at;
+                self.next = place.next;
                 Ok(())
             }
-            Err(_) => {
-                self.pending.truncate(count);
-                Err(TapeFault::NoMemory)
-            }
+            Err(_) => Err(TapeFault::NoMemory),
         }
     }
 
@@ -434,12 +435,13 @@ impl<D: Disk> Tape<D> {
         ensures kinds { IfErr result (λ fault. fault ≡ TapeFault.NoMemory) }
         ensures segments { self.new.segments ≡ self.old.segments }
     {
-        let mut payloads = spelled_drops(self.alloc, keys, cause)?;
+        let ends = self
+            .pending
+            .push_drops(self.alloc, keys, cause, self.last, self.next)?;
+        self.last = ends.0;
+        self.next = ends.1;
         // What was taken, all of it, is a sum with what was dropped, so that no count passes the greatest number.
         let _taken = taken_of(&self.ledger);
-        let next = self.next.saturating_add(records_len(&payloads));
-        self.pending.append(&mut payloads)?;
-        self.next = next;
         apply_drops(&mut self.ledger, keys, cause);
         Ok(())
     }
@@ -474,7 +476,7 @@ impl<D: Disk> Tape<D> {
     fn nothing_pends(&self) -> bool
         ensures { IsTrue result ↔ pending_of self.now ≡ 0 }
     {
-        self.pending.is_empty()
+        self.pending.count == 0
     }
 
     // Puts the notes that pend on the disk, where there are some and the tape is not broken.
@@ -489,9 +491,9 @@ impl<D: Disk> Tape<D> {
         ensures continues { Continues self.old self.new }
         ensures quiet { OnOk result (told_of self.new ≡ told_of self.old) }
     {
-        match self.segments.live.append_all(&self.pending) {
+        match self.segments.live.append_all(self.pending.payloads()) {
             Ok(()) => {
-                self.flushed = self.flushed.saturating_add(self.pending.len() as u64);
+                self.flushed = self.flushed.saturating_add(self.pending.count as u64);
                 self.pending.clear();
                 Ok(self.flushed)
             }
@@ -615,7 +617,7 @@ impl<D: Disk> Tape<D> {
     pub fn room(&self) -> usize
         ensures { result + pending_of self.now ≡ most_pending }
     {
-        MOST_PENDING - self.pending.len()
+        MOST_PENDING - self.pending.count
     }
 
     /// The disks beneath, the first and the second. Notes that pend are gone; a stop leaves of them what it could leave
@@ -658,7 +660,7 @@ fn apply_drops(ledger: &mut Ledger, keys: &[Key], cause: Cause)
 {
     for key in keys {
         let drop = Note::Drop { key: *key, cause };
-        let _ = ledger.apply_at(&drop, 0, 0);
+        let _ = ledger.apply_at(&drop, 0, 0, 0);
     }
 }
 
@@ -676,19 +678,4 @@ fn taken_of(ledger: &Ledger) -> u64
 {
     let totals = ledger.totals();
     totals.taken
-}
-
-// The spellings of the notes that drop these debts.
-fn spelled_drops(alloc: Global, keys: &[Key], cause: Cause) -> Result<Vec<Vec<u8>>, AllocError>
-    ensures spelled { IfOk result
-        (λ v. map vec_items v.items ≡ spellings (drops cause keys.now)) }
-    ensures notes { OnOk result (AreNotes (drops cause keys.now)) }
-{
-    let mut payloads = Vec::with_capacity(alloc, keys.len())?;
-    for key in keys {
-        let drop = Note::Drop { key: *key, cause };
-        let payload = encode(alloc, &drop)?;
-        payloads.push(payload)?;
-    }
-    Ok(payloads)
 }

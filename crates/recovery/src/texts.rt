@@ -11,9 +11,9 @@ ghost use Rattle.recovery.specs.Words.{IsReadFault};
 use crate::TapeFault;
 use crate::tape::{Tape, end_of};
 use disk_model::Disk;
-use ledger_core::{Debt, Key, Note, Spot, decode, encode_base, spells_owe};
+use ledger_core::{Debt, Key, Note, Spot, decode, encode_base, note_in, owed_len, spells_owe};
 use std::alloc::{AllocError, Global};
-use tape_journal::{Batch, ReadFault};
+use tape_journal::{Gathered, ReadFault};
 
 // The debt that a payload owes, where it is that of this key with texts of these lengths.
 fn debt_of(alloc: Global, key: Key, spot: Spot, payload: &[u8]) -> Result<Debt, TapeFault>
@@ -64,20 +64,24 @@ fn debt_as(key: Key, spot: Spot, debt: Debt) -> Result<Debt, TapeFault>
 }
 
 impl<D: Disk> Tape<D> {
-    ghost use Rattle.std.specs.Prelude.{[], ◌==◌, find, option_map, OnErr, OnOk, IfNone, IsSome};
+    ghost use Rattle.std.specs.Prelude.{[], ◌==◌, ◌∷◌, ◌++◌, take, drop, find, option_map};
+    ghost use Rattle.std.specs.Prelude.{OnErr, OnOk, IfNone, IsSome};
     ghost use Rattle.ledger_core.specs.Base.{base_spelling};
-    ghost use Rattle.ledger_core.specs.Index.{Indexes, IsSpotOf, debt_at, spots_of};
-    ghost use Rattle.ledger_core.specs.Spots.{StandsAt};
-    ghost use Rattle.std.specs.Prelude.{List, slice_index_or, map, vec_items};
+    ghost use Rattle.ledger_core.specs.Index.{IsSpotOf, debt_at, spots_of};
+    ghost use Rattle.tape_journal.specs.Journal.{Holds};
+    ghost use Rattle.ledger_core.specs.Batch.{StandsIn};
+    ghost use Rattle.tape_journal.specs.Segment.{records};
+    ghost use Rattle.std.specs.Prelude.{List, slice_index_or};
+    ghost use Rattle.recovery.specs.Pending.{payloads_in};
     ghost use Rattle.ledger_core.specs.Ledger.{state_of};
     ghost use Rattle.std.specs.List.Sorted.{IsStrictlyIncreasing};
     ghost use Rattle.ledger_core.specs.State.{IsOwed, keys};
-    ghost use Rattle.tape_journal.specs.Batch.{octets_in};
+    ghost use Rattle.tape_journal.specs.Gathered.{octets_in};
     ghost use Rattle.recovery.specs.Notes.{History};
     ghost use Rattle.recovery.specs.Tape.{IsRead, StandsFor};
-    ghost use Rattle.recovery.specs.Texts.{HasLengths};
+    ghost use Rattle.recovery.specs.Texts.{HasLengths, IsAt};
     ghost use Rattle.recovery.specs.Words.{IsBroken, IsDebtFault, OneHasRisen, Writes, generation_of, ledger_of};
-    ghost use Rattle.recovery.specs.Words.{told_of};
+    ghost use Rattle.recovery.specs.Words.{live_segment, told_of};
 
     /// The debt of this key, where it is owed. Its note is read back from the disk, unless it pends. Logarithmic in
     /// what is owed, and one reading of the disk.
@@ -107,11 +111,11 @@ impl<D: Disk> Tape<D> {
         let Some(spot) = self.ledger.spot(key) else {
             return Ok(None);
         };
-        let payload = match self.payload_of(spot) {
-            Ok(payload) => payload,
+        let note = match self.note_octets(key, spot) {
+            Ok(note) => note,
             Err(fault) => return Err(fault),
         };
-        match debt_of(self.alloc, key, spot, &payload) {
+        match debt_of(self.alloc, key, spot, &note) {
             Ok(debt) => Ok(Some(debt)),
             Err(fault) => Err(fault),
         }
@@ -130,37 +134,65 @@ impl<D: Disk> Tape<D> {
         ensures reads { IsRead self.old self.new }
         ensures quiet { OnOk result (told_of self.new ≡ told_of self.old) }
     {
-        let payload = match self.payload_of(spot) {
-            Ok(payload) => payload,
+        let note = match self.note_octets(key, spot) {
+            Ok(note) => note,
             Err(fault) => return Err(fault),
         };
-        if spells_owe(&payload, key, spot.token_len, spot.id_len) {
-            Ok(payload)
+        if spells_owe(&note, key, spot.token_len, spot.id_len) {
+            Ok(note)
         } else {
             Err(TapeFault::Disk)
         }
     }
 
-    // The payload of the note that stands there, on the disk or among those that pend.
-    fn payload_of(&mut self, spot: Spot) -> Result<Vec<u8>, TapeFault>
+    // The octets of the note that owes the debt of this key, which stands at this spot: on the disk, or among what
+    // pends.
+    fn note_octets(&mut self, key: Key, spot: Spot) -> Result<Vec<u8>, TapeFault>
         requires works { IsBroken self.old → ⊥ }
-        ensures note { (h : History) (payload : List ℕ) → StandsFor self.old h
-            → ((kept : ℕ) (payloads : List (List ℕ)) → Indexes kept payloads self.old.ledger
-            → StandsAt kept payloads spot.at spot.slot payload)
-            → IfOk result (λ v. v.items ≡ payload) }
-        ensures cause { (h : History) (payload : List ℕ) → StandsFor self.old h
-            → ((kept : ℕ) (payloads : List (List ℕ)) → Indexes kept payloads self.old.ledger
-            → StandsAt kept payloads spot.at spot.slot payload)
+        ensures note { (h : History) (debt : Owing) → StandsFor self.old h
+            → IsAt self.old.ledger key spot debt
+            → IfOk result (λ v. v.items ≡ spelling (owe debt)) }
+        ensures cause { (h : History) (debt : Owing) → StandsFor self.old h
+            → IsAt self.old.ledger key spot debt
             → IsErrOf result TapeFault.Disk → OneHasRisen (told_of self.old) (told_of self.new) }
         ensures kinds { IfErr result IsReadFault }
         ensures reads { IsRead self.old self.new }
         ensures quiet { OnOk result (told_of self.new ≡ told_of self.old) }
     {
+        let len = owed_len(key, spot.token_len, spot.id_len);
         if spot.at >= end_of(&self.segments.live) {
-            return self.pending_at(spot.slot);
+            return self.pending_note(spot.slot, spot.within, len);
         }
-        match self.segments.live.payload_at(spot.at) {
-            Ok(payload) => Ok(payload),
+        if spot.within > 0 {
+            return self.part_of(spot.at, 5 + u32::from(spot.within), len as u32);
+        }
+        let part = match self.part_of(spot.at, 0, len as u32 + 5) {
+            Ok(part) => part,
+            Err(fault) => return Err(fault),
+        };
+        match note_in(&part, 0, len) {
+            Some(note) => Ok(Vec::from_slice(self.alloc, note)?),
+            None => Err(TapeFault::Disk),
+        }
+    }
+
+    // So many octets at most, from this one on, of the payload of the record at this offset of the disk.
+    fn part_of(&mut self, at: u64, from: u32, most: u32) -> Result<Vec<u8>, TapeFault>
+        requires works { IsBroken self.old → ⊥ }
+        ensures part { (front more : List (List ℕ)) (payload : List ℕ)
+            → Holds (live_segment self.old) (front ++ payload ∷ more)
+            → at ≡ length (records front)
+            → IfOk result (λ v. v.items ≡ take most (drop from payload)) }
+        ensures cause { (front more : List (List ℕ)) (payload : List ℕ)
+            → Holds (live_segment self.old) (front ++ payload ∷ more)
+            → at ≡ length (records front)
+            → IsErrOf result TapeFault.Disk → OneHasRisen (told_of self.old) (told_of self.new) }
+        ensures kinds { IfErr result IsReadFault }
+        ensures reads { IsRead self.old self.new }
+        ensures quiet { OnOk result (told_of self.new ≡ told_of self.old) }
+    {
+        match self.segments.live.part_at(at, from, most) {
+            Ok(part) => Ok(part),
             Err(ReadFault::NoMemory) => Err(TapeFault::NoMemory),
             Err(ReadFault::Disk) => Err(TapeFault::Disk),
             // The journal works.
@@ -168,17 +200,21 @@ impl<D: Disk> Tape<D> {
         }
     }
 
-    // A copy of the payload that pends in this slot.
-    fn pending_at(&self, slot: u32) -> Result<Vec<u8>, TapeFault>
-        ensures payload { IfOk result (λ v. (slot < length self.now.pending.items)
-            × (v.items ≡ slice_index_or (map vec_items self.now.pending.items) slot [])) }
-        ensures none { IsErrOf result TapeFault.Disk → length self.now.pending.items ≤ slot }
+    // The octets of a note in the payload that pends in this slot.
+    fn pending_note(&self, slot: u32, within: u16, len: usize) -> Result<Vec<u8>, TapeFault>
+        ensures note { (octets : List ℕ) → slot < length (payloads_in self.now.pending) → StandsIn
+            (slice_index_or (payloads_in self.now.pending) slot []) within octets
+            → length octets ≡ len
+            → IfOk result (λ v. v.items ≡ octets) × (IsErrOf result TapeFault.Disk → ⊥) }
         ensures kinds { IfErr result IsReadFault }
     {
-        match self.pending.get(slot as usize) {
-            Some(payload) => Ok(Vec::from_slice(self.alloc, payload)?),
-            None => Err(TapeFault::Disk),
-        }
+        let Some(payload) = self.pending.payloads().get(slot as usize) else {
+            return Err(TapeFault::Disk);
+        };
+        let Some(note) = note_in(payload, within, len) else {
+            return Err(TapeFault::Disk);
+        };
+        Ok(Vec::from_slice(self.alloc, note)?)
     }
 
     // The keys that are owed, rising, each with where it stands.
@@ -191,14 +227,14 @@ impl<D: Disk> Tape<D> {
 
     // Reads back the notes of all debts, whose spots are these, behind the Base of the next generation. The segment
     // that lives is read in pieces.
-    pub(crate) fn read_back(&mut self, spots: &[(Key, Spot)]) -> Result<Batch, TapeFault>
+    pub(crate) fn read_back(&mut self, spots: &[(Key, Spot)]) -> Result<Gathered, TapeFault>
         requires works { IsBroken self.old → ⊥ }
         requires room { generation_of self.old < 2 ^ 64 - 1 }
         requires spots { spots.now ≡ spots_of self.old.ledger }
         requires rising { IsStrictlyIncreasing (keys (ledger_of self.old)) }
         ensures written { (h : History) → StandsFor self.old h → IfOk result
             (Writes self.old) }
-        ensures some { IfOk result (λ batch. 0 < octets_in batch) }
+        ensures some { IfOk result (λ gathered. 0 < octets_in gathered) }
         ensures cause { (h : History) → StandsFor self.old h
             → IsErrOf result TapeFault.Disk → OneHasRisen (told_of self.old) (told_of self.new) }
         ensures kinds { IfErr result IsReadFault }
@@ -228,31 +264,31 @@ impl<D: Disk> Tape<D> {
     }
 
     // Reads back the notes of all debts, whose spots are these, behind the Base of the next generation, one by one.
-    fn read_each(&mut self, spots: &[(Key, Spot)]) -> Result<Batch, TapeFault>
+    fn read_each(&mut self, spots: &[(Key, Spot)]) -> Result<Gathered, TapeFault>
         requires works { IsBroken self.old → ⊥ }
         requires room { generation_of self.old < 2 ^ 64 - 1 }
         requires spots { spots.now ≡ spots_of self.old.ledger }
         requires rising { IsStrictlyIncreasing (keys (ledger_of self.old)) }
         ensures written { (h : History) → StandsFor self.old h → IfOk result
             (Writes self.old) }
-        ensures some { IfOk result (λ batch. 0 < octets_in batch) }
+        ensures some { IfOk result (λ gathered. 0 < octets_in gathered) }
         ensures cause { (h : History) → StandsFor self.old h
             → IsErrOf result TapeFault.Disk → OneHasRisen (told_of self.old) (told_of self.new) }
         ensures kinds { IfErr result IsReadFault }
         ensures reads { IsRead self.old self.new }
         ensures quiet { OnOk result (told_of self.new ≡ told_of self.old) }
     {
-        let mut batch = Batch::with_room(self.alloc, self.rotated_len() as usize)?;
+        let mut gathered = Gathered::with_room(self.alloc, self.rotated_len() as usize)?;
         let base = self.ledger.base(self.segments.generation + 1);
-        batch.push(&encode_base(self.alloc, &base)?)?;
+        gathered.push(&encode_base(self.alloc, &base)?)?;
         for index in 0..spots.len() {
             let (key, spot) = spots[index];
             let payload = match self.note_at(key, spot) {
                 Ok(payload) => payload,
                 Err(fault) => return Err(fault),
             };
-            batch.push(&payload)?;
+            gathered.push(&payload)?;
         }
-        Ok(batch)
+        Ok(gathered)
     }
 }

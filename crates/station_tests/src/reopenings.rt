@@ -10,10 +10,10 @@ use std::alloc::Global;
 use std::process::Abort;
 use std::test::Fail;
 
-// The tape of the Owe 1 of token `a/1` and id `<x@y>`, and of its Final with 239.
+// The tape of the Owe 1 of token `a/1` and id `<x@y>`, and of its Final with 239, in one batch.
 const ANSWERED: [u8; 41] = [
-    0xa5, 0, 0, 0, 0x13, 1, 0, 0, 0, 0, 0, 0, 0, 1, 3, 0x61, 0x2f, 0x31, 5, 0x3c, 0x78, 0x40, 0x79,
-    0x3e, 0xa5, 0, 0, 0, 0x0b, 2, 0, 0, 0, 0, 0, 0, 0, 1, 0, 0xef, 0,
+    0xa5, 0, 0, 0, 0x23, 0x0b, 0, 0, 0, 2, 1, 0, 0, 0, 0, 0, 0, 0, 1, 3, 0x61, 0x2f, 0x31, 5, 0x3c,
+    0x78, 0x40, 0x79, 0x3e, 2, 0, 0, 0, 0, 0, 0, 0, 1, 0, 0xef, 0,
 ];
 
 // What a first rotation makes of the Owes 1 and 2 of that token and id.
@@ -295,7 +295,7 @@ const FAILS: &[Step] = &[
 const KEEPS: &[Step] = &[Step::ListBetween(&[1, 2, 3], &[1, 2, 3, 4, 5])];
 
 // A flush of the numbers 4 and 5 that fails after so many calls of the first disk keeps the three before them, and
-// nothing else that was not owed: one write, a sync, a write for the gate of each of two notes, and a sync.
+// nothing else that was not owed: one write, a sync, a write for the gate of their batch, and a sync.
 const CUT: &[Script] = &[
     Script {
         name: "a flush that fails after no call",
@@ -342,13 +342,22 @@ const CUT: &[Script] = &[
         tape: None,
     },
     Script {
-        name: "a flush that fails after 4 calls",
+        name: "a flush that makes its 4 calls",
         owed: 3,
         limits: UNLIMITED,
         steps: &[Step::Flush(Ok(3))],
         opened: &[
-            (Opening::Fused(UNLIMITED, 4), FAILS),
-            (Opening::Again(UNLIMITED), KEEPS),
+            (
+                Opening::Fused(UNLIMITED, 4),
+                &[
+                    Step::Owe(4, Ok(Owed::New)),
+                    Step::Owe(5, Ok(Owed::New)),
+                    Step::Flush(Ok(2)),
+                    Step::Owe(6, Ok(Owed::New)),
+                    Step::Flush(Err(DISK)),
+                ],
+            ),
+            (Opening::Again(UNLIMITED), &[Step::List(&[1, 2, 3, 4, 5])]),
         ],
         tape: None,
     },
@@ -525,7 +534,8 @@ fn assert_damaged<A: Abort>(
 #[test]
 fn damaged_disks_are_handed_back(rt: HostRuntime) -> Result<(), Fail> {
     const ROWS: &[(&[u8], &[u8], u8, u64)] = &[(&[], &[0xa5, 0], 1, 0), (&[0xa5, 0], &[], 0, 0)];
-    assert_damaged(&rt, rt.alloc(), (&ANSWERED[..30], &[]), 0, 24)?;
+    assert_damaged(&rt, rt.alloc(), (&ANSWERED[..30], &[]), 0, 0)?;
+    assert_damaged(&rt, rt.alloc(), (&ANSWERED[..40], &[]), 0, 40)?;
     assert_damaged(&rt, rt.alloc(), (&ANSWERED, &ROTATED[..102]), 1, 102)?;
     for (first, second, segment, at) in ROWS {
         assert_damaged(&rt, rt.alloc(), (first, second), *segment, *at)?;

@@ -218,12 +218,12 @@ fn calls_of<A: Abort>(rt: &A, alloc: Global, second: bool) -> Result<u64, Fail> 
     Err(Fail::from("no end of calls"))
 }
 
-// Of the first disk the opening makes five calls, the flush of two notes five, and that of one four; two calls read a
-// debt that is told, two one that is claimed, and one all that a rotation writes anew. Of the second the opening makes
-// one, and the rotation eight.
+// Of the first disk the opening makes five calls, and each flush four, of two notes or of one; two calls read a debt
+// that is told, two one that is claimed, and one all that a rotation writes anew. Of the second the opening makes one,
+// and the rotation eight.
 #[test]
 fn a_fault_at_any_call_leaves_a_front(rt: HostRuntime) -> Result<(), Fail> {
-    assert_eq!(rt; calls_of(&rt, rt.alloc(), false)?, 19);
+    assert_eq!(rt; calls_of(&rt, rt.alloc(), false)?, 18);
     assert_eq!(rt; calls_of(&rt, rt.alloc(), true)?, 9);
     Ok(())
 }

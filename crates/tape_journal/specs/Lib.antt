@@ -1,10 +1,12 @@
 pub mod Append
-pub mod Batch
+pub mod Gathered
+pub mod Given
 pub mod Head
 pub mod Journal
 pub mod Kept
 pub mod Open
 pub mod Read
+pub mod Records
 pub mod Renew
 pub mod Rewrite
 pub mod Segment
@@ -13,3 +15,4 @@ pub mod Stage
 pub mod Unrepaired
 pub mod Window
 pub mod Words
+pub mod Part

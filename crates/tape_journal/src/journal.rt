@@ -6,7 +6,7 @@ ghost use Rattle.tape_journal.specs.Window.{held_by, shown_by, start_of};
 ghost use Rattle.tape_journal.specs.declared.fault.OpenFault.TheVariants.{Damaged};
 
 use crate::append::{add_records, are_short, records_len, staging_of};
-use crate::read::{payloads_of, record_at};
+use crate::read::{part_of, payloads_of, record_at};
 use crate::window::Window;
 use crate::{AppendFault, OpenFault, ReadFault, Unrepaired};
 use disk_model::Disk;
@@ -58,6 +58,7 @@ impl<D: Disk> Journal<D> {
     ghost use Rattle.disk_model.specs.Disk.{ToldFault};
     ghost use Rattle.tape_journal.specs.Segment.{AllShort, IsRecord, records, longest_segment};
     ghost use Rattle.tape_journal.specs.Append.{Appends, Continues, RefusesAppend};
+    ghost use Rattle.tape_journal.specs.Part.{IsPart};
     ghost use Rattle.tape_journal.specs.Read.{Keeps};
     ghost use Rattle.tape_journal.specs.Journal.{disk_of, end_of, IsBroken, Holds, IsOpened, IsRefused};
     ghost use Rattle.tape_journal.specs.Open.{HasCause, IsReturned};
@@ -225,8 +226,49 @@ impl<D: Disk> Journal<D> {
         }
     }
 
-    /// Reads ahead from now on: `payload_at` takes up the disk in pieces of 65,536 octets, and reads no more where the
-    /// last of them has what is asked. What it answers stays the same. Takes room for a piece.
+    /// The octets of a payload from `from` on, `most` of them at most, of the record whose gate stands at this offset:
+    /// fewer, or none, if the payload ends sooner. The rest of the payload is not read.
+    ///
+    /// # Errors
+    /// Those of `payload_at`, in the same order, for the same causes.
+    pub fn part_at(&mut self, offset: u64, from: u32, most: u32) -> Result<Vec<u8>, ReadFault>
+        ensures part { (front more : List (List ℕ)) (payload : List ℕ)
+            → Holds self.old (front ++ payload ∷ more) → offset ≡ length (records front)
+            → IfOk result (λ v. v.items ≡ take most (drop from payload)) }
+        ensures cause { (front more : List (List ℕ)) (payload : List ℕ)
+            → Holds self.old (front ++ payload ∷ more) → offset ≡ length (records front)
+            → IsErrOf result ReadFault.Disk
+            → ToldFault (D.told (disk_of self.old)) (D.told (disk_of self.new)) }
+
+        // At any offset an honest disk gives a part of a whole open record's payload, or none.
+        ensures record { D.honest (disk_of self.old)
+            → IfOk result (λ v. IsPart v.items from most
+            (drop offset (content (D.log (disk_of self.old))))) }
+
+        ensures broken { IsErrOf result ReadFault.Broken ↔ IsBroken self.old }
+        ensures unchanged { IsErrOf result ReadFault.Broken → self.new ≡ self.old }
+        ensures keeps { Keeps self.old self.new }
+        ensures continues { Continues self.old self.new }
+        ensures quiet { OnOk result (D.told (disk_of self.new) ≡ D.told (disk_of self.old)) }
+    {
+        if self.broken {
+            return Err(ReadFault::Broken);
+        }
+        let len = self.disk.len();
+        if len <= offset {
+            return Err(ReadFault::Disk);
+        }
+        let window = &mut self.window;
+        let found = part_of(self.alloc, window, &mut self.disk, offset, len, from, most);
+        match found {
+            Ok(Some(part)) => Ok(part),
+            Ok(None) => Err(ReadFault::Disk),
+            Err(fault) => Err(read_fault_of(fault)),
+        }
+    }
+
+    /// Reads ahead from now on: `payload_at` and `part_at` take up the disk in pieces of 131,072 octets, and read no
+    /// more if the last of them has what is asked. What they answer stays the same. Takes room for a piece.
     ///
     /// # Errors
     /// `NoMemory` where memory was refused; nothing changes.

@@ -1,11 +1,13 @@
 // Reading a segment, front to back.
 ghost use Rattle.std.specs.Prelude.{◌≡◌, ◌+◌, ◌-◌, ◌^◌, ◌<◌, ◌≤◌, ◌↔◌, ℕ, List};
-ghost use Rattle.std.specs.Prelude.{length, min, take, drop, IfOk, OnOk, IsErrOf, MatchOption, IfSome, map, vec_items};
+ghost use Rattle.std.specs.Prelude.{length, min, take, drop, IfOk, IfErr, OnOk, IsErrOf, MatchOption, IfSome};
+ghost use Rattle.std.specs.Prelude.{map, vec_items};
 ghost use Rattle.std.specs.Int.{to_be_bytes, from_be_bytes, w32};
 ghost use Rattle.disk_model.specs.Disk.{ToldFault, content};
 ghost use Rattle.tape_journal.specs.Head.{IsHead, FitsHead};
 ghost use Rattle.tape_journal.specs.Segment.{Ends, IsRecord, IsCutShort, IsDamagedAt, HasPayloads};
-ghost use Rattle.tape_journal.specs.Window.{Shows};
+ghost use Rattle.tape_journal.specs.Part.{IsPart};
+ghost use Rattle.tape_journal.specs.Window.{Shows, room_of};
 
 use crate::OpenFault;
 use crate::window::Window;
@@ -85,6 +87,35 @@ fn head_of(octets: &[u8], left: u64) -> Head
     Head::Record(size)
 }
 
+// What stands at an offset before the disk's end.
+pub(crate) fn head_at<D: Disk>(
+    window: &mut Window,
+    disk: &mut D,
+    at: u64,
+    len: u64,
+) -> Result<Head, OpenFault>
+    requires inside { at < len }
+    requires shows { D.honest disk.old → Shows window.old (content (D.log disk.old)) }
+    ensures shows { D.honest disk.old → Shows window.new (content (D.log disk.old)) }
+    ensures honest { D.honest disk.old ↔ D.honest disk.new }
+    ensures log { D.honest disk.old → D.log disk.new ≡ D.log disk.old }
+    ensures is { D.honest disk.old → len ≡ length (content (D.log disk.old))
+        → IfOk result (λ head. IsHead head (drop at (content (D.log disk.old)))) }
+    ensures fits { IfOk result (λ head. FitsHead head (len - at)) }
+    ensures kinds { IfErr result (λ e. e ≡ OpenFault.Disk) }
+    ensures room { room_of window.new ≡ room_of window.old }
+    ensures later { D.told disk.old ≤ D.told disk.new }
+    ensures cause { D.honest disk.old → len ≡ length (content (D.log disk.old))
+        → IsErrOf result OpenFault.Disk → ToldFault (D.told disk.old) (D.told disk.new) }
+    ensures quiet { OnOk result (D.told disk.new ≡ D.told disk.old) }
+{
+    let left = len - at;
+    let mut octets = [0u8; 5];
+    let first = &mut octets[..left.min(RECORD_HEAD) as usize];
+    window.fill(disk, at, first)?;
+    Ok(head_of(first, left))
+}
+
 // The record at an offset before the segment's end, or None where the segment ends there.
 pub(crate) fn record_at<D: Disk>(
     alloc: Global,
@@ -110,11 +141,7 @@ pub(crate) fn record_at<D: Disk>(
         → IsErrOf result OpenFault.Disk → ToldFault (D.told disk.old) (D.told disk.new) }
     ensures quiet { OnOk result (D.told disk.new ≡ D.told disk.old) }
 {
-    let left = len - at;
-    let mut octets = [0u8; 5];
-    let first = &mut octets[..left.min(RECORD_HEAD) as usize];
-    window.fill(disk, at, first)?;
-    match head_of(first, left) {
+    match head_at(window, disk, at, len)? {
         Head::End => Ok(None),
         Head::CutShort => Err(OpenFault::Damaged { at }),
         Head::Record(size) => {
@@ -122,6 +149,45 @@ pub(crate) fn record_at<D: Disk>(
             Ok(Some(payload))
         }
     }
+}
+
+// The octets from `from` on, `most` of them at most, of the payload of the record at an offset before the segment's
+// end, or None if the segment ends there.
+pub(crate) fn part_of<D: Disk>(
+    alloc: Global,
+    window: &mut Window,
+    disk: &mut D,
+    at: u64,
+    len: u64,
+    from: u32,
+    most: u32,
+) -> Result<Option<Vec<u8>>, OpenFault>
+    requires inside { at < len }
+    requires shows { D.honest disk.old → Shows window.old (content (D.log disk.old)) }
+    ensures shows { D.honest disk.old → Shows window.new (content (D.log disk.old)) }
+    ensures honest { D.honest disk.old ↔ D.honest disk.new }
+    ensures log { D.honest disk.old → D.log disk.new ≡ D.log disk.old }
+    ensures reads { D.honest disk.old → len ≡ length (content (D.log disk.old))
+        → IfOk result (λ o. MatchOption o (Ends (drop at (content (D.log disk.old))))
+        (λ part. IsPart part.items from most (drop at (content (D.log disk.old))))) }
+    ensures damaged { D.honest disk.old → len ≡ length (content (D.log disk.old)) → (e : ℕ)
+        → IsErrOf result (OpenFault.Damaged e)
+        → (e ≡ at) × IsCutShort (drop at (content (D.log disk.old))) }
+    ensures later { D.told disk.old ≤ D.told disk.new }
+    ensures cause { D.honest disk.old → len ≡ length (content (D.log disk.old))
+        → IsErrOf result OpenFault.Disk → ToldFault (D.told disk.old) (D.told disk.new) }
+    ensures quiet { OnOk result (D.told disk.new ≡ D.told disk.old) }
+{
+    let size = match head_at(window, disk, at, len)? {
+        Head::Record(size) => size,
+        Head::End => return Ok(None),
+        Head::CutShort => return Err(OpenFault::Damaged { at }),
+    };
+    let start = from.min(size);
+    let count = most.min(size - start);
+    let behind = at + RECORD_HEAD + u64::from(start);
+    let part = octets_at(alloc, window, disk, behind, count as usize)?;
+    Ok(Some(part))
 }
 
 // The payloads, front to back, and where the segment ends.

@@ -7,8 +7,8 @@ use std::alloc::Global;
 use std::process::Abort;
 use std::test::Fail;
 use tape_journal::{
-    AppendFault, Batch, BatchFault, Journal, NotRenewed, OpenFault, ReadFault, Refused, RenewFault,
-    peek_first,
+    AppendFault, GatherFault, Gathered, Journal, NotRenewed, OpenFault, ReadFault, Refused,
+    RenewFault, peek_first,
 };
 
 // A payload of 19 octets, and the segments that have it once and twice.
@@ -34,6 +34,8 @@ enum Step {
     Append(u64, Result<(), AppendFault>),
     // The payload is read back at this offset.
     ReadBack(u64, Result<(), ReadFault>),
+    // The octets of the payload at this offset, from that one on, so many at most.
+    ReadPart(u64, u32, u32, Result<&'static [u8], ReadFault>),
     ReadAhead,
     ReadSingly,
     IsBroken(bool),
@@ -89,6 +91,22 @@ fn read_back<D: Disk>(
     }
 }
 
+// The part of the payload at this offset has to be answered as is wanted.
+fn assert_part<A: Abort, D: Disk>(
+    rt: &A,
+    at: usize,
+    journal: &mut Journal<D>,
+    (offset, from, most): (u64, u32, u32),
+    want: Result<&[u8], ReadFault>,
+) -> Result<(), Fail> {
+    match journal.part_at(offset, from, most) {
+        Ok(part) => assert_answer(rt, at, &Ok(part.as_slice()), &want),
+        Err(ReadFault::NoMemory) => return Err(Fail::from(ReadFault::NoMemory)),
+        Err(fault) => assert_answer(rt, at, &Err(fault), &want),
+    }
+    Ok(())
+}
+
 fn take<A: Abort, D: Disk>(
     rt: &A,
     alloc: Global,
@@ -99,6 +117,9 @@ fn take<A: Abort, D: Disk>(
     match step {
         Step::Append(count, want) => assert_answer(rt, at, &append(alloc, journal, count)?, &want),
         Step::ReadBack(offset, want) => assert_answer(rt, at, &read_back(journal, offset)?, &want),
+        Step::ReadPart(offset, from, most, want) => {
+            assert_part(rt, at, journal, (offset, from, most), want)?
+        }
         Step::ReadAhead => journal.read_ahead()?,
         Step::ReadSingly => journal.read_singly(),
         Step::IsBroken(want) => assert_answer(rt, at, &journal.is_broken(), &want),
@@ -215,6 +236,28 @@ fn steps_are_taken_at_a_journal(rt: HostRuntime) -> Result<(), Fail> {
             &[Step::Append(2, Ok(())), Step::ReadBack(24, Ok(()))],
             Some(&TWICE),
         ),
+        // A part of a payload is read: fewer octets where the payload ends sooner.
+        (
+            &SEGMENT,
+            u64::MAX,
+            &[
+                Step::ReadPart(0, 0, 19, Ok(&PAYLOAD)),
+                Step::ReadPart(0, 9, 4, Ok(&[3, 0x61, 0x2f, 0x31])),
+                Step::ReadPart(0, 17, 9, Ok(&[0x79, 0x3e])),
+                Step::ReadPart(0, 19, 1, Ok(&[])),
+                Step::ReadPart(0, 4294967295, 4294967295, Ok(&[])),
+                Step::ReadPart(0, 3, 0, Ok(&[])),
+                Step::ReadPart(24, 0, 1, Err(ReadFault::Disk)),
+                Step::ReadPart(1, 0, 1, Err(ReadFault::Disk)),
+                Step::ReadAhead,
+                Step::ReadPart(0, 9, 4, Ok(&[3, 0x61, 0x2f, 0x31])),
+                Step::ReadPart(24, 0, 1, Err(ReadFault::Disk)),
+                Step::Append(1, Ok(())),
+                Step::ReadPart(24, 8, 2, Ok(&[1, 3])),
+                Step::ReadPart(0, 8, 2, Ok(&[1, 3])),
+            ],
+            Some(&TWICE),
+        ),
         // A journal that reads ahead reads back what it adds, too.
         (
             &SEGMENT,
@@ -243,6 +286,7 @@ fn steps_are_taken_at_a_journal(rt: HostRuntime) -> Result<(), Fail> {
                 Step::Append(1, Err(AppendFault::Broken)),
                 Step::Append(0, Err(AppendFault::Broken)),
                 Step::ReadBack(0, Err(ReadFault::Broken)),
+                Step::ReadPart(0, 0, 1, Err(ReadFault::Broken)),
             ],
             None,
         ),
@@ -292,15 +336,15 @@ fn renewed<D: Disk + Drop>(
     first: &[u8],
     others: &[&[u8]],
 ) -> Result<Result<Journal<D>, (RenewFault, D)>, Fail> {
-    let mut batch = Batch::with_room(alloc, 0)?;
-    batch.push(first)?;
+    let mut gathered = Gathered::with_room(alloc, 0)?;
+    gathered.push(first)?;
     for payload in others {
-        batch.push(payload)?;
+        gathered.push(payload)?;
     }
-    if batch.is_empty() {
+    if gathered.is_empty() {
         return Err(Fail::from("a payload"));
     }
-    match Journal::renew(alloc, disk, batch) {
+    match Journal::renew(alloc, disk, gathered) {
         Ok(journal) => Ok(Ok(journal)),
         Err(refused) => {
             let NotRenewed { disk, fault, .. } = refused;
@@ -368,14 +412,15 @@ fn no_whole_segment_is_written(rt: HostRuntime) -> Result<(), Fail> {
 }
 
 #[test]
-fn a_batch_takes_no_payload_too_long(rt: HostRuntime) -> Result<(), Fail> {
+fn no_payload_too_long_is_gathered(rt: HostRuntime) -> Result<(), Fail> {
     let alloc = rt.alloc();
     let long = vec![in alloc; 0u8; 16777217]?;
-    let mut batch = Batch::with_room(alloc, 0)?;
-    assert_answer(&rt, 0, &batch.push(&long), &Err(BatchFault::PayloadTooLong));
-    assert_answer(&rt, 0, &batch.is_empty(), &true);
-    assert_answer(&rt, 1, &batch.push(&long[1..]), &Ok(()));
-    assert_answer(&rt, 1, &batch.is_empty(), &false);
+    let mut gathered = Gathered::with_room(alloc, 0)?;
+    let refused = gathered.push(&long);
+    assert_answer(&rt, 0, &refused, &Err(GatherFault::PayloadTooLong));
+    assert_answer(&rt, 0, &gathered.is_empty(), &true);
+    assert_answer(&rt, 1, &gathered.push(&long[1..]), &Ok(()));
+    assert_answer(&rt, 1, &gathered.is_empty(), &false);
     Ok(())
 }
 
@@ -524,7 +569,7 @@ fn a_fault_at_any_call_leaves_a_front(rt: HostRuntime) -> Result<(), Fail> {
 }
 
 // A segment of so many payloads, each of this length.
-fn segment_of(alloc: Global, count: u64, len: u32) -> Result<Vec<u8>, Fail> {
+pub(crate) fn segment_of(alloc: Global, count: u64, len: u32) -> Result<Vec<u8>, Fail> {
     let mut segment = Vec::new(alloc);
     for _ in 0..count {
         segment.push(0xa5)?;
@@ -552,16 +597,16 @@ fn reading_of(alloc: Global, segment: &[u8]) -> Result<(usize, u64), Fail> {
 
 #[test]
 fn a_long_segment_is_read_in_pieces(rt: HostRuntime) -> Result<(), Fail> {
-    // How many payloads there are, the length of each, and how many reads they take. A piece has 65,536 octets. A
+    // How many payloads there are, the length of each, and how many reads they take. A piece has 131,072 octets. A
     // payload that passes its end is read again with the next, and one that is as long is read by itself.
     const ROWS: &[(usize, u32, u64)] = &[
         (0, 0, 1),
-        (1_365, 43, 1),
-        (1_366, 43, 2),
-        (4_000, 49, 4),
-        (3, 40_000, 3),
-        (1, 65_535, 2),
-        (1, 65_536, 3),
+        (2_730, 43, 1),
+        (2_731, 43, 2),
+        (8_000, 49, 4),
+        (3, 80_000, 3),
+        (1, 131_071, 2),
+        (1, 131_072, 3),
     ];
     let alloc = rt.alloc();
     for (at, (count, len, reads)) in ROWS.iter().enumerate() {

@@ -29,7 +29,7 @@ fn apply(
     at: u64,
     sample: Sample,
 ) -> Result<Result<(), LedgerFault>, Fail> {
-    match ledger.apply_at(&note_of(alloc, sample)?, at, 0) {
+    match ledger.apply_at(&note_of(alloc, sample)?, at, 0, 0) {
         Err(LedgerFault::NoMemory) => Err(Fail::from(LedgerFault::NoMemory)),
         answer => Ok(answer),
     }

@@ -9,6 +9,8 @@
 #[cfg(test)]
 mod answers;
 #[cfg(test)]
+mod batches;
+#[cfg(test)]
 mod disks;
 #[cfg(test)]
 mod faults;
@@ -20,6 +22,8 @@ mod ledgers;
 mod planned_file;
 #[cfg(test)]
 mod read_only;
+#[cfg(test)]
+mod readers;
 #[cfg(test)]
 mod rotations;
 #[cfg(test)]

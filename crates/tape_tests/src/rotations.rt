@@ -21,14 +21,13 @@ pub(crate) const ROTATED: [u8; 79] = [
     0, 0, 0, 0, 0, 0, 0, 1, 3, 0x61, 0x2f, 0x31, 5, 0x3c, 0x78, 0x40, 0x79, 0x3e, 0,
 ];
 
-// Six notes: three debts of five are owed.
-const NOTED: [u8; 128] = [
-    0xa5, 0, 0, 0, 0x13, 1, 0, 0, 0, 0, 0, 0, 0, 1, 3, 0x61, 0x2f, 0x31, 5, 0x3c, 0x78, 0x40, 0x79,
-    0x3e, 0xa5, 0, 0, 0, 0x13, 1, 0, 0, 0, 0, 0, 0, 0, 2, 3, 0x61, 0x2f, 0x31, 5, 0x3c, 0x78, 0x40,
-    0x79, 0x3e, 0xa5, 0, 0, 0, 0x13, 1, 0, 0, 0, 0, 0, 0, 0, 3, 3, 0x61, 0x2f, 0x31, 5, 0x3c, 0x78,
-    0x40, 0x79, 0x3e, 0xa5, 0, 0, 0, 0x13, 1, 0, 0, 0, 0, 0, 0, 0, 5, 3, 0x61, 0x2f, 0x31, 5, 0x3c,
-    0x78, 0x40, 0x79, 0x3e, 0xa5, 0, 0, 0, 0x0b, 2, 0, 0, 0, 0, 0, 0, 0, 1, 0, 0xef, 0xa5, 0, 0, 0,
-    0x0a, 3, 0, 0, 0, 0, 0, 0, 0, 2, 3, 0,
+// Six notes in one batch: two debts of four are owed.
+const NOTED: [u8; 108] = [
+    0xa5, 0, 0, 0, 0x66, 0x0b, 0, 0, 0, 6, 1, 0, 0, 0, 0, 0, 0, 0, 1, 3, 0x61, 0x2f, 0x31, 5, 0x3c,
+    0x78, 0x40, 0x79, 0x3e, 1, 0, 0, 0, 0, 0, 0, 0, 2, 3, 0x61, 0x2f, 0x31, 5, 0x3c, 0x78, 0x40,
+    0x79, 0x3e, 1, 0, 0, 0, 0, 0, 0, 0, 3, 3, 0x61, 0x2f, 0x31, 5, 0x3c, 0x78, 0x40, 0x79, 0x3e, 1,
+    0, 0, 0, 0, 0, 0, 0, 5, 3, 0x61, 0x2f, 0x31, 5, 0x3c, 0x78, 0x40, 0x79, 0x3e, 2, 0, 0, 0, 0, 0,
+    0, 0, 1, 0, 0xef, 3, 0, 0, 0, 0, 0, 0, 0, 2, 3, 0,
 ];
 
 // What the first rotation makes of them, of the Owe 7 and of the Final 3.
@@ -39,13 +38,13 @@ const ONCE: [u8; 103] = [
     0x13, 1, 0, 0, 0, 0, 0, 0, 0, 7, 3, 0x61, 0x2f, 0x31, 5, 0x3c, 0x78, 0x40, 0x79, 0x3e, 0,
 ];
 
-// That segment with the Seen 8 and the Owe 9 behind.
+// That segment with the Seen 8 and the Owe 9 after it, in a batch.
 const ONCE_NOTED: [u8; 141] = [
     0xa5, 0, 0, 0, 0x31, 4, 0, 0, 0, 0, 0, 0, 0, 1, 0, 0, 0, 0, 0, 0, 0, 7, 0, 0, 0, 0, 0, 0, 0, 5,
     0, 0, 0, 0, 0, 0, 0, 2, 0, 0, 0, 0, 0, 0, 0, 1, 0, 0, 0, 0, 0, 0, 0, 2, 0xa5, 0, 0, 0, 0x13, 1,
     0, 0, 0, 0, 0, 0, 0, 5, 3, 0x61, 0x2f, 0x31, 5, 0x3c, 0x78, 0x40, 0x79, 0x3e, 0xa5, 0, 0, 0,
     0x13, 1, 0, 0, 0, 0, 0, 0, 0, 7, 3, 0x61, 0x2f, 0x31, 5, 0x3c, 0x78, 0x40, 0x79, 0x3e, 0xa5, 0,
-    0, 0, 9, 5, 0, 0, 0, 0, 0, 0, 0, 8, 0xa5, 0, 0, 0, 0x13, 1, 0, 0, 0, 0, 0, 0, 0, 9, 3, 0x61,
+    0, 0, 0x21, 0x0b, 0, 0, 0, 2, 5, 0, 0, 0, 0, 0, 0, 0, 8, 1, 0, 0, 0, 0, 0, 0, 0, 9, 3, 0x61,
     0x2f, 0x31, 5, 0x3c, 0x78, 0x40, 0x79, 0x3e, 0,
 ];
 
@@ -182,20 +181,19 @@ const YOUNGER: [u8; 119] = [
     0, 0, 0x0b, 2, 0, 0, 0, 0, 0, 0, 0, 1, 0, 0xef, 0,
 ];
 
-// A note of each kind: the line 3 is owed, the line 3 of a backlog file that was taken in, and the line 4 of the next.
-const IMPORTED: [u8; 279] = [
-    0xa5, 0, 0, 0, 0x13, 1, 0, 0, 0, 0, 0, 0, 0, 1, 3, 0x61, 0x2f, 0x31, 5, 0x3c, 0x78, 0x40, 0x79,
-    0x3e, 0xa5, 0, 0, 0, 0x13, 1, 0, 0, 0, 0, 0, 0, 0, 2, 3, 0x61, 0x2f, 0x31, 5, 0x3c, 0x78, 0x40,
-    0x79, 0x3e, 0xa5, 0, 0, 0, 0x13, 1, 0, 0, 0, 0, 0, 0, 0, 3, 3, 0x61, 0x2f, 0x31, 5, 0x3c, 0x78,
-    0x40, 0x79, 0x3e, 0xa5, 0, 0, 0, 0x17, 6, 0, 0, 0, 1, 0, 0, 0, 0, 0, 0, 0, 1, 3, 0x61, 0x2f,
-    0x31, 5, 0x3c, 0x78, 0x40, 0x79, 0x3e, 0xa5, 0, 0, 0, 0x17, 6, 0, 0, 0, 1, 0, 0, 0, 0, 0, 0, 0,
-    2, 3, 0x61, 0x2f, 0x31, 5, 0x3c, 0x78, 0x40, 0x79, 0x3e, 0xa5, 0, 0, 0, 0x17, 6, 0, 0, 0, 1, 0,
-    0, 0, 0, 0, 0, 0, 3, 3, 0x61, 0x2f, 0x31, 5, 0x3c, 0x78, 0x40, 0x79, 0x3e, 0xa5, 0, 0, 0, 0x0b,
-    2, 0, 0, 0, 0, 0, 0, 0, 1, 0, 0xef, 0xa5, 0, 0, 0, 0x0a, 3, 0, 0, 0, 0, 0, 0, 0, 2, 3, 0xa5, 0,
-    0, 0, 0x0f, 7, 0, 0, 0, 1, 0, 0, 0, 0, 0, 0, 0, 1, 0, 0xef, 0xa5, 0, 0, 0, 0x0e, 8, 0, 0, 0, 1,
-    0, 0, 0, 0, 0, 0, 0, 2, 3, 0xa5, 0, 0, 0, 5, 9, 0, 0, 0, 1, 0xa5, 0, 0, 0, 0x17, 6, 0, 0, 0, 2,
-    0, 0, 0, 0, 0, 0, 0, 4, 3, 0x61, 0x2f, 0x31, 5, 0x3c, 0x78, 0x40, 0x79, 0x3e, 0xa5, 0, 0, 0, 9,
-    5, 0, 0, 0, 0, 0, 0, 0, 5, 0,
+// A batch with a note of each kind: the line 3 is owed, the line 3 of a backlog file that was taken in, and the line 4
+// of the next.
+const IMPORTED: [u8; 224] = [
+    0xa5, 0, 0, 0, 0xda, 0x0b, 0, 0, 0, 0x0d, 1, 0, 0, 0, 0, 0, 0, 0, 1, 3, 0x61, 0x2f, 0x31, 5,
+    0x3c, 0x78, 0x40, 0x79, 0x3e, 1, 0, 0, 0, 0, 0, 0, 0, 2, 3, 0x61, 0x2f, 0x31, 5, 0x3c, 0x78,
+    0x40, 0x79, 0x3e, 1, 0, 0, 0, 0, 0, 0, 0, 3, 3, 0x61, 0x2f, 0x31, 5, 0x3c, 0x78, 0x40, 0x79,
+    0x3e, 6, 0, 0, 0, 1, 0, 0, 0, 0, 0, 0, 0, 1, 3, 0x61, 0x2f, 0x31, 5, 0x3c, 0x78, 0x40, 0x79,
+    0x3e, 6, 0, 0, 0, 1, 0, 0, 0, 0, 0, 0, 0, 2, 3, 0x61, 0x2f, 0x31, 5, 0x3c, 0x78, 0x40, 0x79,
+    0x3e, 6, 0, 0, 0, 1, 0, 0, 0, 0, 0, 0, 0, 3, 3, 0x61, 0x2f, 0x31, 5, 0x3c, 0x78, 0x40, 0x79,
+    0x3e, 2, 0, 0, 0, 0, 0, 0, 0, 1, 0, 0xef, 3, 0, 0, 0, 0, 0, 0, 0, 2, 3, 7, 0, 0, 0, 1, 0, 0, 0,
+    0, 0, 0, 0, 1, 0, 0xef, 8, 0, 0, 0, 1, 0, 0, 0, 0, 0, 0, 0, 2, 3, 9, 0, 0, 0, 1, 6, 0, 0, 0, 2,
+    0, 0, 0, 0, 0, 0, 0, 4, 3, 0x61, 0x2f, 0x31, 5, 0x3c, 0x78, 0x40, 0x79, 0x3e, 5, 0, 0, 0, 0, 0,
+    0, 0, 5, 0,
 ];
 
 // What the first rotation makes of them.
@@ -463,22 +461,22 @@ const SCRIPTS: &[(Octets, &[Opening])] = &[
             Some((&LAST_BUT_ONE, &LAST)),
         )],
     ),
-    // A rotation is due above 65,536 octets: 4 debts, their Final and their Drop, and 4,672 notes of 14 octets are as
-    // many with the end gate.
+    // A rotation is due above 65,536 octets: 11 debts, a Final, a Drop and 7,255 notes of 9 octets are one batch, and
+    // with the end gate as many.
     (
         (&[], &[]),
         &[(
             &[
                 Step::RotateDue(false),
-                Step::OweEach(1, 5),
+                Step::OweEach(1, 12),
                 Step::Note(Sample::Final(1), Ok(())),
                 Step::Note(Sample::Drop(2), Ok(())),
-                Step::SeenEach(5, 4677),
-                Step::Flush(Ok(4678)),
+                Step::SeenEach(12, 7267),
+                Step::Flush(Ok(7268)),
                 Step::RotateDue(false),
-                Step::Note(Sample::Seen(4677), Ok(())),
+                Step::Note(Sample::Seen(7267), Ok(())),
                 Step::RotateDue(false),
-                Step::Flush(Ok(4679)),
+                Step::Flush(Ok(7269)),
                 Step::RotateDue(true),
                 Step::Rotate(Ok(1)),
                 Step::RotateDue(false),
@@ -486,20 +484,20 @@ const SCRIPTS: &[(Octets, &[Opening])] = &[
             None,
         )],
     ),
-    // And above four times what a rotation writes: 3,005 debts, 1,932 Finals, one Drop and 6 notes of 14 octets are
-    // 103,132 octets, and what is owed then 25,783.
+    // And above four times what a rotation writes: 3,005 debts, 2,162 Finals, one Drop and 16 notes of 9 octets are
+    // two batches, and with the end gate 81,052 octets; what is owed then takes 20,263.
     (
         (&[], &[]),
         &[(
             &[
                 Step::OweEach(1, 3006),
-                Step::EndEach(1, 1933),
+                Step::EndEach(1, 2163),
                 Step::Note(Sample::Drop(3005), Ok(())),
-                Step::SeenEach(3006, 3012),
-                Step::Flush(Ok(4944)),
+                Step::SeenEach(3006, 3022),
+                Step::Flush(Ok(5184)),
                 Step::RotateDue(false),
-                Step::Note(Sample::Seen(3012), Ok(())),
-                Step::Flush(Ok(4945)),
+                Step::Note(Sample::Seen(3022), Ok(())),
+                Step::Flush(Ok(5185)),
                 Step::RotateDue(true),
                 Step::Rotate(Ok(1)),
                 Step::RotateDue(false),
@@ -577,7 +575,12 @@ fn assert_read_or_damaged<A: Abort>(
 }
 
 // These octets, with another at this place.
-fn with_octet(alloc: Global, octets: &[u8], at: usize, octet: u8) -> Result<Vec<u8>, Fail> {
+pub(crate) fn with_octet(
+    alloc: Global,
+    octets: &[u8],
+    at: usize,
+    octet: u8,
+) -> Result<Vec<u8>, Fail> {
     let mut octets = octets.to_vec(alloc)?;
     if let Some(changed) = octets.get_mut(at) {
         *changed = octet;
@@ -606,6 +609,8 @@ fn a_changed_octet_is_read_or_told_as_damage(rt: HostRuntime) -> Result<(), Fail
     for octet in [0, 0xa5, 0xff] {
         change_each(&rt, rt.alloc(), &OLDER, &YOUNGER, octet)?;
         change_each(&rt, rt.alloc(), &YOUNGER, &OLDER, octet)?;
+        change_each(&rt, rt.alloc(), &NOTED, &[], octet)?;
+        change_each(&rt, rt.alloc(), &ONCE_NOTED, &NOTED, octet)?;
     }
     Ok(())
 }

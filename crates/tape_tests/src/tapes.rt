@@ -616,10 +616,10 @@ fn assert_repaired<A: Abort>(
 fn a_failed_sync_breaks_the_tape(rt: HostRuntime) -> Result<(), Fail> {
     // The call of an empty first disk that fails, the last of the first flush, from 0; the steps, and those at the
     // next opening: what was broken drops nothing, and what was written is owed still. Opening takes five calls of it,
-    // and a flush three and one for each note.
+    // and a flush four, whether it is of one note or of a batch.
     const ROWS: &[(u64, &[Step], &[Step])] = &[
         (
-            10,
+            8,
             &[
                 Step::Note(Sample::Owe(1), Ok(())),
                 Step::Note(Sample::Owe(2), Ok(())),
@@ -742,8 +742,8 @@ fn assert_stops<A: Abort>(
     Ok(())
 }
 
-// Opening makes five calls of an empty first disk, behind the sync of the second. The flush of two notes takes five, a
-// write, a sync, a write for each gate and a sync, and that of one takes four.
+// Opening makes five calls of an empty first disk, behind the sync of the second. A flush takes four, whether it is of
+// one note or of a batch: a write, a sync, a write for the gate and a sync.
 #[test]
 fn a_stop_leaves_a_front(rt: HostRuntime) -> Result<(), Fail> {
     const FIRST: &[Step] = &[
@@ -769,9 +769,9 @@ fn a_stop_leaves_a_front(rt: HostRuntime) -> Result<(), Fail> {
     // left. The last is of an opening that cuts off what a torn write left, and reads three times first.
     const STOPS: &[(&[u8], u64, u64, &[Step], Counts)] = &[
         (&[], 0, 5, &[], (0, 0)),
-        (&[], 5, 10, FIRST, (0, 2)),
-        (&[], 10, 14, SECOND, (2, 3)),
-        (&[], 14, 17, NEITHER, (3, 3)),
+        (&[], 5, 9, FIRST, (0, 2)),
+        (&[], 9, 13, SECOND, (2, 3)),
+        (&[], 13, 16, NEITHER, (3, 3)),
         (&TORN, 0, 14, &[], (1, 1)),
     ];
     for (octets, first, behind, steps, counts) in STOPS {

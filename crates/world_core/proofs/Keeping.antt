@@ -1,7 +1,7 @@
--- What was acknowledged stays so over each event, and so over any of them one after another.
-use Rattle.std.proofs.Common.{◌≡◌, ℕ, zero, suc, ◌+◌, ◌-◌, ◌≤◌, Some, List, [], ◌∷◌, ◌++◌, length, take, drop, refl}
-use Rattle.std.proofs.Common.{sym, ap, ◌∙◌, subst, arith, append_assoc, append-nil, take-append-drop}
-use Rattle.std.proofs.Math.ListN.{set}
+-- What was acknowledged stays so over each event.
+use Rattle.std.proofs.Common.{◌≡◌, ℕ, zero, suc, ◌+◌, ◌-◌, ◌≤◌, Some, List, [], ◌∷◌}
+use Rattle.std.proofs.Common.{◌++◌, length, take, drop, refl, sym, ap, ◌∙◌, subst, arith, append_assoc}
+use Rattle.std.proofs.Common.{append-nil, take-append-drop}
 use Rattle.std.specs.List.{AllZip, slice_get}
 use Rattle.ledger_core.specs.declared.note.Note.{Note}
 use Rattle.ledger_core.specs.declared.note.Note.TheVariants.{Drop, Final, Owe}
@@ -10,15 +10,15 @@ use Rattle.peer_queue.specs.declared.limits.Owed.{Owed}
 use Rattle.peer_queue.specs.declared.limits.Owed.TheVariants.{New, Already}
 use Rattle.recovery.specs.Notes.{History, flushed, noted_all, recovered}
 use Rattle.world_core.specs.Past.{Past, PeerPast, TapePast, with_peer}
-use Rattle.world_core.specs.Events.{Acknowledges, AllDo, Claims, Closes, Does, Event, Imports, Opens, OpensIntake, Owes}
-use Rattle.world_core.specs.Events.{Parts, Returns, Rotates, Sees, Settles, Sheds, Spills}
-use Rattle.world_core.specs.Events.{closing, import_key, imported_as, owed_as, owing_as, settled_as, settling}
+use Rattle.world_core.specs.Events.{Acknowledges, Claims, Closes, Does, Event, Imports, Opens, OpensIntake, Owes, Parts}
+use Rattle.world_core.specs.Events.{Returns, Rotates, Sees, Settles, Sheds, Spills, closing, import_key, imported_as}
+use Rattle.world_core.specs.Events.{owed_as, owing_as, settled_as, settling}
 use Rattle.peer_queue.specs.declared.settled.Settled.{Settled}
 use Rattle.peer_queue.specs.declared.settled.Settled.TheVariants.{Answered, Dropped, Later, Ready}
 use Rattle.peer_queue.specs.Settled.{key_in}
-use Rattle.world_core.specs.Events.AllDo.{Start, Next}
 use Rattle.world_core.specs.Keeping.{PeerStays, PeersStay}
 use Rattle.world_core.specs.Laws.{StaysAcknowledged}
+use Rattle.world_core.proofs.Zips.{zip_put, zip_same, zip_then}
 
 -- ---- one tape
 
@@ -56,7 +56,8 @@ pub tape_same : (was now : TapePast) → now.history ≡ was.history → StaysAc
 tape_same was now same = record {
   base = ap (λ (h : History). h.base) same;
   more = [];
-  front = ap (λ (h : History). take h.kept h.notes) same ∙ sym (append-nil (take was.history.kept was.history.notes));
+  front = ap (λ (h : History). take h.kept h.notes) same
+      ∙ sym (append-nil (take was.history.kept was.history.notes));
 }
 
 tape_noted : (was now : TapePast) (notes : List Note) → now.history ≡ noted_all was.history notes
@@ -75,8 +76,8 @@ tape_flushed was now is = record {
       ∙ sym (take-append-drop was.history.kept was.history.notes);
 }
 
-tape_opened : (was now : TapePast) (count : ℕ) → was.history.kept ≤ count → now.history ≡ recovered was.history count
-    → StaysAcknowledged was now
+tape_opened : (was now : TapePast) (count : ℕ) → was.history.kept ≤ count
+    → now.history ≡ recovered was.history count → StaysAcknowledged was now
 tape_opened was now count enough is = record {
   base = ap (λ (h : History). h.base) is;
   more = _;
@@ -84,7 +85,8 @@ tape_opened was now count enough is = record {
       ∙ take_up was.history.kept count was.history.notes enough;
 }
 
-tape_then : (was mid now : TapePast) → StaysAcknowledged was mid → StaysAcknowledged mid now → StaysAcknowledged was now
+tape_then : (was mid now : TapePast) → StaysAcknowledged was mid → StaysAcknowledged mid now
+    → StaysAcknowledged was now
 tape_then was mid now first second = record {
   base = second.base ∙ first.base;
   more = first.more ++ second.more;
@@ -97,41 +99,23 @@ tape_then was mid now first second = record {
 pub peer_same : (peer : PeerPast) → PeerStays peer peer
 peer_same peer = (refl, tape_same peer.tape peer.tape refl)
 
-peers_same : (peers : List PeerPast) → AllZip PeerStays peers peers
-peers_same [] = tt
-peers_same (peer ∷ peers) = (peer_same peer, peers_same peers)
-
-peers_set : (peers : List PeerPast) (rank : ℕ) (was now : PeerPast) → slice_get peers rank ≡ Some was
-    → PeerStays was now
-    → AllZip PeerStays peers (set peers rank now)
-peers_set [] rank was now here stays = tt
-peers_set (peer ∷ peers) zero was now here stays =
-    let same : peer ≡ was = cc in
-    (subst (λ (p : PeerPast). PeerStays p now) (sym same) stays, peers_same peers)
-peers_set (peer ∷ peers) (suc rank) was now here stays = (peer_same peer, peers_set peers rank was now here stays)
-
-peers_then : (was mid now : List PeerPast) → AllZip PeerStays was mid → AllZip PeerStays mid now
-    → AllZip PeerStays was now
-peers_then [] [] now first second = second
-peers_then [] (peer ∷ mid) now first second = absurd first
-peers_then (peer ∷ was) [] now first second = absurd first
-peers_then (peer ∷ was) (other ∷ mid) [] first second = absurd second
-peers_then (peer ∷ was) (other ∷ mid) (last ∷ now) first second = (
-  (second.0.0 ∙ first.0.0, tape_then peer.tape other.tape last.tape first.0.1 second.0.1),
-  peers_then was mid now first.1 second.1,
-)
+peer_then : (was mid now : PeerPast) → PeerStays was mid → PeerStays mid now → PeerStays was now
+peer_then was mid now first second =
+    (second.0 ∙ first.0, tape_then was.tape mid.tape now.tape first.1 second.1)
 
 pub stay_same : (was now : Past) → now.peers ≡ was.peers → PeersStay was now
-stay_same was now same = subst (AllZip PeerStays was.peers) (sym same) (peers_same was.peers)
+stay_same was now same = subst (AllZip PeerStays was.peers) (sym same) (zip_same PeerStays peer_same was.peers)
 
 pub stay_then : (was mid now : Past) → PeersStay was mid → PeersStay mid now → PeersStay was now
-stay_then was mid now first second = peers_then was.peers mid.peers now.peers first second
+stay_then was mid now first second =
+    zip_then PeerStays PeerStays PeerStays peer_then was.peers mid.peers now.peers first second
 
 pub one_changed : (was now : Past) (rank : ℕ) (peer new : PeerPast) → slice_get was.peers rank ≡ Some peer
     → now ≡ with_peer was rank new
     → PeerStays peer new → PeersStay was now
 one_changed was now rank peer new here changed stays =
-    subst (λ (p : Past). PeersStay was p) (sym changed) (peers_set was.peers rank peer new here stays)
+    subst (λ (p : Past). PeersStay was p) (sym changed)
+    (zip_put PeerStays peer_same was.peers rank peer new here stays)
 
 -- ---- each event
 
@@ -188,10 +172,3 @@ event_stays (Opens rank) was now does =
     one_changed was now rank does.peer _ does.here does.changed
     (refl, tape_opened does.peer.tape does.tape does.opens.count does.opens.enough (history_of _ _ does.opens.all))
 event_stays OpensIntake was now does = stay_same was now (ap (λ (p : Past). p.peers) does.changed)
-
--- ---- events one after another
-
-pub events_stay : (begun later : Past) (events : List Event) → AllDo begun events later → PeersStay begun later
-events_stay begun _ _ Start = stay_same begun begun refl
-events_stay begun _ _ (Next events event past later does one safe) =
-    stay_then begun past later (events_stay begun past events does) (event_stays event past later one)

@@ -1,13 +1,15 @@
 -- What was acknowledged stays so over any steps, taken or refused.
-use Rattle.std.proofs.Common.{◌≡◌, ℕ, false, Some, List, [], ◌∷◌, map, refl}
-use Rattle.std.specs.List.{AllZip, slice_get}
+use Rattle.std.proofs.Common.{◌≡◌, ℕ, false, Some, List, refl}
+use Rattle.std.specs.List.{slice_get}
 use Rattle.world_core.specs.Past.{Past, PeerPast, TapePast, with_peer, with_tape}
-use Rattle.world_core.specs.Halts.{AtRest, ByChoice, Manner, left_peer}
+use Rattle.world_core.specs.Events.{AllDo, Event}
+use Rattle.world_core.specs.Halts.{AtRest, ByChoice, Manner, left, left_peer}
 use Rattle.world_core.specs.Keeping.{PeerStays, PeersStay}
 use Rattle.world_core.specs.Laws.{AllStayAcknowledged, OverRuns}
 use Rattle.world_core.proofs.Keeping.{event_stays, one_changed, stay_same, stay_then, tape_same}
-use Rattle.world_core.proofs.Traversal.{comes_all}
+use Rattle.world_core.proofs.Traversal.{comes_all, events_all}
 use Rattle.world_core.proofs.Walking.{Keeper}
+use Rattle.world_core.proofs.Zips.{zip_made}
 
 -- ---- another tape with the same notes
 
@@ -18,17 +20,14 @@ at_same was now rank peer tape here changed same =
 
 -- ---- a stop, and a number that is kept
 
-left_stays : (manner : Manner) (peers : List PeerPast) → AllZip PeerStays peers (map (left_peer manner) peers)
-left_stays manner [] = tt
-left_stays AtRest (peer ∷ peers) = ((refl, tape_same peer.tape _ refl), left_stays AtRest peers)
-left_stays (ByChoice choice) (peer ∷ peers) = ((refl, tape_same peer.tape _ refl), left_stays (ByChoice choice) peers)
+left_stays : (manner : Manner) (peer : PeerPast) → PeerStays peer (left_peer manner peer)
+left_stays AtRest peer = (refl, tape_same peer.tape _ refl)
+left_stays (ByChoice choice) peer = (refl, tape_same peer.tape _ refl)
 
-begun_stays : (peers : List PeerPast)
-    → AllZip PeerStays peers (map (λ (peer : PeerPast). record peer { parted = false }) peers)
-begun_stays [] = tt
-begun_stays (peer ∷ peers) = ((refl, tape_same peer.tape peer.tape refl), begun_stays peers)
+left_all : (manner : Manner) (past : Past) → PeersStay past (left manner past)
+left_all manner past = zip_made PeerStays (left_peer manner) (left_stays manner) past.peers
 
--- ---- any steps
+-- ---- any events and any steps
 
 abbrev lasting : Keeper
 lasting = record {
@@ -39,11 +38,15 @@ lasting = record {
   joined = stay_then;
   at_same = at_same;
   event_does = λ event on. event_stays event;
-  keeps_begun = λ past. begun_stays past.peers;
+  keeps_begun = λ past.
+      zip_made PeerStays (λ (peer : PeerPast). record peer { parted = false })
+      (λ peer. (refl, tape_same peer.tape peer.tape refl)) past.peers;
 }
+
+pub events_stay : (begun later : Past) (events : List Event) → AllDo begun events later → PeersStay begun later
+events_stay begun later events does = events_all lasting (λ event. tt) left_all begun later events does
 
 pub all_stay : OverRuns AllStayAcknowledged
 all_stay = λ begun later steps lines comes. record {
-  peers =
-      comes_all lasting (λ event. tt) (λ manner past. left_stays manner past.peers) begun steps lines later comes;
+  peers = comes_all lasting (λ event. tt) left_all begun steps lines later comes;
 }

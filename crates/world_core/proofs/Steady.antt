@@ -1,7 +1,6 @@
 -- Events on tapes leave to each connection what it holds.
-use Rattle.std.proofs.Common.{◌≡◌, ◌↔◌, ℕ, zero, suc, ◌+◌, false, None, Some, List, [], ◌∷◌}
-use Rattle.std.proofs.Common.{map, refl, sym, ap, ◌∙◌, subst, inl, inr}
-use Rattle.std.proofs.Math.ListN.{set}
+use Rattle.std.proofs.Common.{◌≡◌, ◌↔◌, ℕ, ◌+◌, false, None, Some, List, [], ◌∷◌, refl, sym, ap}
+use Rattle.std.proofs.Common.{◌∙◌, subst, inl, inr}
 use Rattle.std.proofs.lemmas.Bool.{cases_eq}
 use Rattle.std.specs.List.{AllZip, slice_get}
 use Rattle.peer_queue.specs.Place.{AreUnheld, Held, IsHeldBy, IsUnheld, Places, Ready, all_gone, gone, place_at}
@@ -17,6 +16,7 @@ use Rattle.world_core.specs.Tapes.{noted_at}
 use Rattle.world_core.proofs.Holding.{gone_none, gone_other}
 use Rattle.world_core.proofs.Placed.{with_here, with_other}
 use Rattle.world_core.proofs.Walking.{Keeper, OnTape}
+use Rattle.world_core.proofs.Zips.{zip_made, zip_put, zip_same, zip_then}
 
 -- ---- one peer
 
@@ -48,28 +48,6 @@ hold_then was mid now one other = (
 
 -- ---- all peers
 
-all_same : (peers : List PeerPast) → AllZip HoldsSame peers peers
-all_same [] = tt
-all_same (peer ∷ peers) = (hold_same peer, all_same peers)
-
-all_then : (was mid now : List PeerPast) → AllZip HoldsSame was mid → AllZip HoldsSame mid now
-    → AllZip HoldsSame was now
-all_then [] [] [] one other = tt
-all_then [] [] (c ∷ now) one other = absurd other
-all_then [] (b ∷ mid) now one other = absurd one
-all_then (a ∷ was) [] now one other = absurd one
-all_then (a ∷ was) (b ∷ mid) [] one other = absurd other
-all_then (a ∷ was) (b ∷ mid) (c ∷ now) one other = (hold_then a b c one.0 other.0, all_then was mid now one.1 other.1)
-
-all_put : (peers : List PeerPast) (rank : ℕ) (was now : PeerPast) → slice_get peers rank ≡ Some was
-    → HoldsSame was now
-    → AllZip HoldsSame peers (set peers rank now)
-all_put [] rank was now here same = absurd cc
-all_put (peer ∷ peers) zero was now here same =
-    let is : peer ≡ was = cc in
-    (subst (λ (p : PeerPast). HoldsSame p now) (sym is) same, all_same peers)
-all_put (peer ∷ peers) (suc rank) was now here same = (hold_same peer, all_put peers rank was now here same)
-
 -- the peers of all tapes
 abbrev pub AllHold : Past → Past → Type 0
 AllHold was now = AllZip HoldsSame was.peers now.peers
@@ -78,14 +56,16 @@ one_put : (past later : Past) (rank : ℕ) (was now : PeerPast) → slice_get pa
     → HoldsSame was now
     → later ≡ with_peer past rank now → AllHold past later
 one_put past later rank was now here same is =
-    subst (AllHold past) (sym is) (all_put past.peers rank was now here same)
+    subst (AllHold past) (sym is) (zip_put HoldsSame hold_same past.peers rank was now here same)
 
 pub none_put : (past later : Past) → later.peers ≡ past.peers → AllHold past later
 none_put past later same =
-    subst (λ (ps : List PeerPast). AllZip HoldsSame past.peers ps) (sym same) (all_same past.peers)
+    subst (λ (ps : List PeerPast). AllZip HoldsSame past.peers ps) (sym same)
+    (zip_same HoldsSame hold_same past.peers)
 
 pub hold_joined : (was mid now : Past) → AllHold was mid → AllHold mid now → AllHold was now
-hold_joined was mid now one other = all_then was.peers mid.peers now.peers one other
+hold_joined was mid now one other =
+    zip_then HoldsSame HoldsSame HoldsSame hold_then was.peers mid.peers now.peers one other
 
 -- ---- a line, and what is dropped
 
@@ -131,7 +111,8 @@ unheld_on p number id m free is = elim (cases_eq m number) [
   | inr apart ↦ gone_other p number m apart ∙ is
 ]
 
-all_gone_back : (numbers : List ℕ) (p : Places) (id m : ℕ) → IsHeldBy (all_gone p numbers) id m → IsHeldBy p id m
+all_gone_back : (numbers : List ℕ) (p : Places) (id m : ℕ) → IsHeldBy (all_gone p numbers) id m
+    → IsHeldBy p id m
 all_gone_back [] p id m is = is
 all_gone_back (number ∷ numbers) p id m is = gone_back p number id m (all_gone_back numbers (gone p number) id m is)
 
@@ -143,7 +124,8 @@ all_gone_on (number ∷ numbers) p id m free is =
 
 -- ---- events
 
-pub holds_does : (event : Event) → OnTape event → (past later : Past) → Does event past later → AllHold past later
+pub holds_does : (event : Event) → OnTape event → (past later : Past) → Does event past later
+    → AllHold past later
 holds_does (Owes rank token id) on past later d =
     one_put past later rank d.peer _ d.here
     (owing_holds (owed_as (past.last + 1) d.peer) (past.last + 1) token id d.peer d.apart) d.changed
@@ -177,13 +159,10 @@ pub tape_put : (past later : Past) (rank : ℕ) (peer : PeerPast) (tape : TapePa
 tape_put past later rank peer tape here is same =
     one_put past later rank peer _ here (hold_places peer (with_tape peer tape) refl refl) is
 
-begun_holds : (peers : List PeerPast)
-    → AllZip HoldsSame peers (map (λ (peer : PeerPast). record peer { parted = false }) peers)
-begun_holds [] = tt
-begun_holds (peer ∷ peers) = (hold_places peer (record peer { parted = false }) refl refl, begun_holds peers)
-
 pub holds_begin : (past : Past) → AllHold past (begun_at past)
-holds_begin past = begun_holds past.peers
+holds_begin past =
+    zip_made HoldsSame (λ (peer : PeerPast). record peer { parted = false })
+    (λ peer. hold_places peer (record peer { parted = false }) refl refl) past.peers
 
 -- so do the steps on tapes, taken or refused
 abbrev pub steady : Keeper

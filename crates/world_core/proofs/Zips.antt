@@ -1,6 +1,8 @@
 -- Lists that are related rank by rank.
-use Rattle.std.proofs.Common.{◌≡◌, ℕ, suc, List, [], ◌∷◌, ◌++◌, length, map, refl, ap}
-use Rattle.std.specs.List.{AllZip}
+use Rattle.std.proofs.Common.{◌≡◌, ℕ, zero, suc, Some, List, [], ◌∷◌, ◌++◌, length, map, refl, sym}
+use Rattle.std.proofs.Common.{ap, subst}
+use Rattle.std.proofs.Math.ListN.{set}
+use Rattle.std.specs.List.{AllZip, slice_get}
 
 module _ {A B : Type 0} (R : A → B → Type 0) where
   -- behind related lists come related ones
@@ -22,17 +24,17 @@ module _ {A B : Type 0} (R : A → B → Type 0) where
   zip_length (x ∷ xs) [] all = absurd all
   zip_length (x ∷ xs) (y ∷ ys) all = ap (λ (n : ℕ). suc n) (zip_length xs ys all.1)
 
--- one relation through another, of what f makes of the first
-pub zip_through : {A B C E : Type 0} (P : A → B → Type 0) (R : B → C → Type 0) (Q : E → C → Type 0) (f : A → E)
-    → ((x : A) (y : B) (z : C) → P x y → R y z → Q (f x) z)
-    → (xs : List A) (ys : List B) (zs : List C) → AllZip P xs ys → AllZip R ys zs → AllZip Q (map f xs) zs
-zip_through P R Q f each [] [] [] all more = tt
-zip_through P R Q f each [] [] (z ∷ zs) all more = more
-zip_through P R Q f each [] (y ∷ ys) zs all more = absurd all
-zip_through P R Q f each (x ∷ xs) [] zs all more = absurd all
-zip_through P R Q f each (x ∷ xs) (y ∷ ys) [] all more = absurd more
-zip_through P R Q f each (x ∷ xs) (y ∷ ys) (z ∷ zs) all more =
-    (each x y z all.0 more.0, zip_through P R Q f each xs ys zs all.1 more.1)
+-- one relation through another
+pub zip_then : {A B C : Type 0} (P : A → B → Type 0) (R : B → C → Type 0) (Q : A → C → Type 0)
+    → ((x : A) (y : B) (z : C) → P x y → R y z → Q x z)
+    → (xs : List A) (ys : List B) (zs : List C) → AllZip P xs ys → AllZip R ys zs → AllZip Q xs zs
+zip_then P R Q each [] [] [] all more = tt
+zip_then P R Q each [] [] (z ∷ zs) all more = more
+zip_then P R Q each [] (y ∷ ys) zs all more = absurd all
+zip_then P R Q each (x ∷ xs) [] zs all more = absurd all
+zip_then P R Q each (x ∷ xs) (y ∷ ys) [] all more = absurd more
+zip_then P R Q each (x ∷ xs) (y ∷ ys) (z ∷ zs) all more =
+    (each x y z all.0 more.0, zip_then P R Q each xs ys zs all.1 more.1)
 
 -- what is so of each two is so of what f makes of the first
 pub zip_map : {A B E : Type 0} (P : A → B → Type 0) (Q : E → B → Type 0) (f : A → E)
@@ -42,3 +44,31 @@ zip_map P Q f each [] [] all = tt
 zip_map P Q f each [] (y ∷ ys) all = absurd all
 zip_map P Q f each (x ∷ xs) [] all = absurd all
 zip_map P Q f each (x ∷ xs) (y ∷ ys) all = (each x y all.0, zip_map P Q f each xs ys all.1)
+
+-- so of what f makes of the first, one relation through another
+pub zip_through : {A B C E : Type 0} (P : A → B → Type 0) (R : B → C → Type 0) (Q : E → C → Type 0)
+    (f : A → E)
+    → ((x : A) (y : B) (z : C) → P x y → R y z → Q (f x) z)
+    → (xs : List A) (ys : List B) (zs : List C) → AllZip P xs ys → AllZip R ys zs → AllZip Q (map f xs) zs
+zip_through P R Q f each xs ys zs all more =
+    zip_map (λ x z. Q (f x) z) Q f (λ x z is. is) xs zs (zip_then P R (λ x z. Q (f x) z) each xs ys zs all more)
+
+-- each is related to what f makes of it
+pub zip_made : {A B : Type 0} (R : A → B → Type 0) (f : A → B) → ((x : A) → R x (f x)) → (xs : List A)
+    → AllZip R xs (map f xs)
+zip_made R f each [] = tt
+zip_made R f each (x ∷ xs) = (each x, zip_made R f each xs)
+
+-- each is related to itself, and one to another that is put in its place
+module _ {A : Type 0} (R : A → A → Type 0) (same : (x : A) → R x x) where
+  pub zip_same : (xs : List A) → AllZip R xs xs
+  zip_same [] = tt
+  zip_same (x ∷ xs) = (same x, zip_same xs)
+
+  pub zip_put : (xs : List A) (i : ℕ) (was now : A) → slice_get xs i ≡ Some was → R was now
+      → AllZip R xs (set xs i now)
+  zip_put [] i was now here one = tt
+  zip_put (x ∷ xs) zero was now here one =
+      let is : x ≡ was = cc in
+      (subst (λ (y : A). R y now) (sym is) one, zip_same xs)
+  zip_put (x ∷ xs) (suc i) was now here one = (same x, zip_put xs i was now here one)

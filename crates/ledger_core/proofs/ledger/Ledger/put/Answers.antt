@@ -74,8 +74,8 @@ returns-clause-indexes c = λ kept payloads indexes placed.
     subst (λ (es : Entries). All (PointsAt kept payloads) es) (sym c.in_ok-insert.ensures.entries)
     (all-inserted (PointsAt kept payloads) c.args.key c.of.result entries
     (apart-from c.args.key (keys_in (debts_of entries)) c.requires.absent)
-    (points-new kept payloads c.args.key c.args.at c.args.slot c.of.result c.args.token.now c.args.id.now
-    c.of.ensures.at c.of.ensures.slot c.of.ensures.token c.of.ensures.id placed) indexes)
+    (points-new kept payloads c.args.key c.args.at c.args.slot c.args.within c.of.result c.args.token.now c.args.id.now
+    c.of.ensures.at c.of.ensures.slot c.of.ensures.within c.of.ensures.token c.of.ensures.id placed) indexes)
 
 pub overflow_add-self : goal.overflow_add-self
 overflow_add-self c =

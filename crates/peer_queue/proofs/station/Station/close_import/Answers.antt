@@ -3,7 +3,6 @@ use Rattle.ledger_core.specs.declared.note.Note.{Note}
 use Rattle.ledger_core.specs.declared.note.Note.TheVariants.{Closed}
 use Rattle.recovery.specs.Takes.{RefusesNoting}
 use Rattle.peer_queue.proofs.Closes.{close_err, close_ok}
-use Rattle.peer_queue.proofs.Owes.{pending_same}
 use Rattle.peer_queue.proofs.station.Station.close_import.Goals as goal
 
 pub returns-in-Err-clause-refuses : goal.returns-in-Err-clause-refuses
@@ -16,7 +15,7 @@ returns-in-Err-clause-refuses g c =
     record {
       stands = λ h stands. (c.in-Err.ensures.takes h stands).stays;
       ledger = c.in-Err.ensures.refuses.unchanged.ledger;
-      pending = pending_same old.tape.pending.items tape.pending.items c.in-Err.ensures.refuses.unchanged.pending;
+      pending = c.in-Err.ensures.refuses.unchanged.count;
       disks = c.in-Err.ensures.disks;
       places = refl;
       limits = refl;

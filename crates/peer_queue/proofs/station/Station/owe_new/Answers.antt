@@ -10,7 +10,7 @@ use Rattle.peer_queue.specs.declared.fault.StationFault.TheVariants.{Tape as Tap
 use Rattle.peer_queue.specs.Faults.{IsOweFault}
 use Rattle.peer_queue.specs.Place.{IsUnheld, Places, Ready, gone, place_at, placed}
 use Rattle.peer_queue.proofs.Inserted.{gone_with, unheld_with}
-use Rattle.peer_queue.proofs.Owes.{absent_next, note_fault, pending_same, placed_owed, told_fault}
+use Rattle.peer_queue.proofs.Owes.{absent_next, note_fault, placed_owed, told_fault}
 use Rattle.peer_queue.proofs.station.Station.owe_new.Goals as goal
 
 pub add-requires : goal.add-requires
@@ -66,7 +66,7 @@ returns-in-Err-clause-unchanged g c =
     record {
       stands = λ h stands. (c.in-Err.ensures.takes h stands).stays;
       ledger = c.in-Err.ensures.refuses.unchanged.ledger;
-      pending = pending_same old.tape.pending.items c.owe.new.self.pending.items c.in-Err.ensures.refuses.unchanged.pending;
+      pending = c.in-Err.ensures.refuses.unchanged.count;
       disks = c.in-Err.ensures.disks;
       places = c.remove.ensures
           ∙ (ap (λ (p : Places). gone p n) c.in_ok-add.ensures.ok ∙ gone_with old.index n Ready none);

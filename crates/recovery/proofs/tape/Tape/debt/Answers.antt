@@ -3,7 +3,6 @@ use Rattle.std.proofs.Common.{Err, ◌==◌, ◌≡◌, List, [], ◌∷◌, Boo
 use Rattle.std.specs.Prelude.{find}
 use Rattle.ledger_core.specs.Base.{owe, owes}
 use Rattle.ledger_core.specs.Note.{AreNotes, IsNote}
-use Rattle.ledger_core.specs.Spelling.{spelling}
 use Rattle.ledger_core.specs.State.{Owing}
 use Rattle.recovery.specs.Words.{ledger_of}
 use Rattle.recovery.specs.declared.fault.TapeFault.TheVariants.{Disk}
@@ -30,7 +29,8 @@ returns-in-Ok-debt_of-clause-debt g c = λ h stands.
     let spot = c.in-Some.ensures.spot in
     let note = note_found (λ (o : Owing). o.0 == c.args.key) (ledger_of tape).debts spot.debt
     (owes_notes tape h stands) spot.found in
-    let read = c.deref.ensures.value ∙ c.in-Ok.ensures.note h (spelling (owe spot.debt)) stands spot.stands in
+    let read = c.deref.ensures.value ∙ c.in-Ok.ensures.note h spot.debt stands
+    (record { is = spot.is; token_len = spot.token_len; id_len = spot.id_len; stands = spot.stands }) in
     let said = c.in-Ok-debt_of.ensures.debt spot.debt note read spot.is (sym spot.token_len) (sym spot.id_len) in
     ap (λ (d : Owing). Some d) said.0 ∙ sym spot.found
 
@@ -40,7 +40,8 @@ returns-clause-cause g c = λ h stands told.
     let spot = c.in-Some.ensures.spot in
     let note = note_found (λ (o : Owing). o.0 == c.args.key) (ledger_of tape).debts spot.debt
     (owes_notes tape h stands) spot.found in
-    let read = c.deref.ensures.value ∙ c.in-Ok.ensures.note h (spelling (owe spot.debt)) stands spot.stands in
+    let read = c.deref.ensures.value ∙ c.in-Ok.ensures.note h spot.debt stands
+    (record { is = spot.is; token_len = spot.token_len; id_len = spot.id_len; stands = spot.stands }) in
     let said = c.in-Err-debt_of.ensures.debt spot.debt note read spot.is (sym spot.token_len) (sym spot.id_len) in
     let fault : c.in-Err-debt_of.fault ≡ Disk = cc told in
     absurd (said.1 (ap Err fault))
@@ -49,4 +50,5 @@ pub returns-in-Err-clause-cause : goal.returns-in-Err-clause-cause
 returns-in-Err-clause-cause g c = λ h stands told.
     let spot = c.in-Some.ensures.spot in
     let fault : c.in-Err.fault ≡ Disk = cc told in
-    c.in-Err.ensures.cause h (spelling (owe spot.debt)) stands spot.stands (ap Err fault)
+    c.in-Err.ensures.cause h spot.debt stands
+    (record { is = spot.is; token_len = spot.token_len; id_len = spot.id_len; stands = spot.stands }) (ap Err fault)

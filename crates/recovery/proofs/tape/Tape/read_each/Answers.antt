@@ -1,14 +1,15 @@
 -- All notes of a ledger, read back.
-use Rattle.std.proofs.Common.{◌≡◌, ◌+◌, ◌<◌, ◌++◌, ◌∷◌, [], ℕ, zero, suc, Err, List, length, get_or, take, Some, refl, sym, ap, ◌∙◌, subst, arith}
+use Rattle.std.proofs.Common.{◌≡◌, ◌+◌, ◌<◌, ◌++◌, ◌∷◌, [], ℕ, zero, suc, Err, List, length, get_or, take, Some, refl}
+use Rattle.std.proofs.Common.{sym, ap, ◌∙◌, subst, arith}
 use Rattle.std.proofs.lemmas.List.{get_or_default, map_push, take_more}
 use Rattle.std.proofs.lemmas.Result.{err_from_is_err_and}
 use Rattle.std.specs.Prelude.{Result}
 use Rattle.std.specs.List.Sorted.{IsStrictlyIncreasing}
-use Rattle.tape_journal.specs.Batch.{Gathers}
+use Rattle.tape_journal.specs.Gathered.{Gathers}
 use Rattle.tape_journal.specs.Segment.{IsShort}
-use Rattle.tape_journal.specs.declared.batch.Batch.{Batch}
-use Rattle.tape_journal.specs.declared.fault.BatchFault.{BatchFault}
-use Rattle.tape_journal.specs.declared.fault.BatchFault.TheVariants.{NoMemory, PayloadTooLong}
+use Rattle.tape_journal.specs.declared.gathered.Gathered.{Gathered}
+use Rattle.tape_journal.specs.declared.fault.GatherFault.{GatherFault}
+use Rattle.tape_journal.specs.declared.fault.GatherFault.TheVariants.{NoMemory, PayloadTooLong}
 use Rattle.ledger_core.specs.declared.ledger.Ledger.{Ledger}
 use Rattle.ledger_core.specs.declared.spot.Spot.{Spot}
 use Rattle.ledger_core.specs.Base.{base_spelling, owe, owes}
@@ -20,7 +21,7 @@ use Rattle.ledger_core.specs.Spelling.{spelling, spellings}
 use Rattle.ledger_core.specs.SpellingLaws.{spellings-append}
 use Rattle.ledger_core.specs.State.{Owing, keys}
 use Rattle.ledger_core.specs.Written.{base_of}
-use Rattle.recovery.specs.Words.{batch_fault, generation_of, ledger_of}
+use Rattle.recovery.specs.Words.{gather_fault, generation_of, ledger_of}
 use Rattle.recovery.specs.declared.fault.TapeFault.{TapeFault}
 use Rattle.recovery.specs.declared.fault.TapeFault.TheVariants.{Disk}
 use Rattle.recovery.proofs.Readings.{read_none, read_then}
@@ -97,7 +98,7 @@ loop-index-init g c = record {
   written = λ h stands. subst (Gathers c.push.new.self)
       (ap (λ (p : List ℕ). p ∷ []) (c.deref.ensures.value
       ∙ (c.in_ok-encode_base.ensures.octets ∙ ap base_spelling c.base-base.ensures)))
-      (c.in_ok-push.ensures.ok [] c.in_ok-batch.ensures.ok);
+      (c.in_ok-push.ensures.ok [] c.in_ok-gathered.ensures.ok);
 }
 
 notes_at : (debts : List Owing) (k : ℕ) (e : Owing) → AreNotes (owes debts) → k < length debts
@@ -106,8 +107,8 @@ notes_at [] k e are within = absurd (omega arith)
 notes_at (debt ∷ debts) zero e are within = are.0
 notes_at (debt ∷ debts) (suc k) e are within = notes_at debts k e are.1 (omega arith)
 
--- a batch that tells a fault of the disk was given a payload too long
-is_too_long : (fault : BatchFault) (e : TapeFault) (r : Result Batch TapeFault) → r ≡ Err e → e ≡ batch_fault fault
+-- if a fault of the disk is told for a payload that was not gathered, it was too long
+is_too_long : (fault : GatherFault) (e : TapeFault) (r : Result Gathered TapeFault) → r ≡ Err e → e ≡ gather_fault fault
     → r ≡ Err Disk → fault ≡ PayloadTooLong
 is_too_long PayloadTooLong e r is from told = refl
 is_too_long NoMemory e r is from told = absurd (cc (is, from, told))

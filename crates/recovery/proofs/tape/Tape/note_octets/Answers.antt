@@ -1,0 +1,166 @@
+-- The octets of a note, on the disk or among what pends.
+use Rattle.std.proofs.Common.{◌∷◌, take, drop, sym, ◌≡◌, ◌+◌, ◌-◌, ◌<◌, ◌≤◌, ◌^◌, ◌++◌, ℕ, List, length, ap, ◌∙◌, subst}
+use Rattle.std.proofs.Common.{arith}
+use Rattle.std.proofs.lemmas.Result.{IfOk-weaker}
+use Rattle.tape_journal.specs.Journal.{Holds}
+use Rattle.tape_journal.specs.Segment.{records}
+use Rattle.std.proofs.lemmas.Bool.{false≢true}
+use Rattle.disk_model.specs.declared.Disk.{Ghosts}
+use Rattle.ledger_core.specs.declared.spot.Spot.{Spot}
+use Rattle.ledger_core.specs.Base.{owe}
+use Rattle.ledger_core.specs.Batch.{StandsIn}
+use Rattle.ledger_core.specs.IndexLaws.{stands-behind, stands-front}
+use Rattle.ledger_core.specs.Spelling.{spelling}
+use Rattle.ledger_core.specs.Spots.{IsFound, StandsAt}
+use Rattle.ledger_core.specs.State.{Owing}
+use Rattle.recovery.specs.Notes.{History}
+use Rattle.recovery.specs.Pending.{payloads_in}
+use Rattle.recovery.specs.Tape.{IsIndexed, StandsFor}
+use Rattle.recovery.specs.Texts.{IsAt}
+use Rattle.recovery.specs.Words.{IsBroken}
+use Rattle.recovery.specs.declared.tape.Tape.{Tape}
+use Rattle.recovery.proofs.Indexed.{Among, Pends, in_pending, on_tape, records-long}
+use Rattle.recovery.proofs.tape.Tape.note_octets.Goals as goal
+
+-- it pends
+slot_of : (payloads pending : List (List ℕ)) (at slot end : ℕ) (payload : List ℕ) → end ≡ length (records payloads) →
+    end ≤ at
+    → (stands : StandsAt (length payloads) (payloads ++ pending) at slot payload) → Pends payloads pending
+    stands.front payload slot
+slot_of payloads pending at slot end payload is behind stands =
+    in_pending payloads pending stands.front stands.behind payload slot stands.split
+    (omega (arith, is, behind, stands.at_is, records-long payloads)) stands.slot_is
+
+-- it is on the tape
+among_of : (payloads pending : List (List ℕ)) (at slot end : ℕ) (payload : List ℕ) → end ≡ length (records payloads) →
+    at < end
+    → (stands : StandsAt (length payloads) (payloads ++ pending) at slot payload) → end < 2 ^ 64 - 1
+    → Among payloads stands.front payload
+among_of payloads pending at slot end payload is before stands fits =
+    on_tape payloads pending stands.front stands.behind payload stands.split
+    (omega (arith, is, before, stands.at_is, fits, records-long payloads))
+
+place_of : (payloads pending : List (List ℕ)) (at slot end : ℕ) (payload : List ℕ) → end ≡ length (records payloads) →
+    at < end
+    → (stands : StandsAt (length payloads) (payloads ++ pending) at slot payload) → end < 2 ^ 64 - 1
+    → at ≡ length (records stands.front)
+place_of payloads pending at slot end payload is before stands fits =
+    omega (arith, is, before, stands.at_is, fits, records-long stands.front)
+
+-- what stands there on the disk
+record OnDisk {D : Type 0} {g : Ghosts D} (tape : Tape D g) (at : ℕ) (payload : List ℕ) : Type 0 where
+  front : List (List ℕ)
+  more : List (List ℕ)
+  holds : Holds tape.segments.live (front ++ payload ∷ more)
+  place : at ≡ length (records front)
+
+on_disk : {D : Type 0} {g : Ghosts D} (tape : Tape D g) (payloads : List (List ℕ)) (at slot : ℕ) (payload : List ℕ)
+    → Holds tape.segments.live payloads → at < tape.segments.live.end
+    → StandsAt (length payloads) (payloads ++ payloads_in tape.pending) at slot payload → OnDisk tape at payload
+on_disk tape payloads at slot payload holds before stands =
+    let pending = payloads_in tape.pending in
+    let live = tape.segments.live in
+    let among = among_of payloads pending at slot live.end payload holds.end before stands live.fits in
+    record {
+      front = stands.front;
+      more = among.behind;
+      holds = subst (Holds live) among.split holds;
+      place = place_of payloads pending at slot live.end payload holds.end before stands live.fits;
+    }
+
+module _ {D : Type 0} {g : Ghosts D} (tape : Tape D g) (h : History) (key : ℕ) (spot : Spot) (debt : Owing)
+    (stands : StandsFor tape h) (works : IsBroken tape → ⊥) (at : IsAt tape.ledger key spot debt) where
+  there : (kept : List (List ℕ)) → IsIndexed tape kept
+      → IsFound (length kept) (kept ++ payloads_in tape.pending) spot.at spot.slot spot.within
+      (spelling (owe debt))
+  there kept indexed = at.stands (length kept) (kept ++ payloads_in tape.pending) indexed.indexes
+
+pub returns-then-spot-end_of-clause-note : goal.returns-then-spot-end_of-clause-note
+returns-then-spot-end_of-clause-note g c = λ h debt stands at.
+    let tape = c.args.self.now in
+    let w = stands.working c.requires.works in
+    let found = there tape h c.args.key c.args.spot debt stands c.requires.works at w.payloads w.indexed in
+    let long = sym (c.owed_len-len.ensures.len debt at.is (sym at.token_len) (sym at.id_len)) in
+    let slot = slot_of w.payloads (payloads_in tape.pending) c.args.spot.at c.args.spot.slot
+    tape.segments.live.end found.payload w.holds.end (omega (arith, c.if-spot-end_of.true, c.end_of.ensures))
+    found.stands in
+    (c.pending_note.ensures.note (spelling (owe debt))
+    slot.within
+    (subst (λ (l : List ℕ). StandsIn l c.args.spot.within (spelling (owe debt))) (sym slot.is) found.inside) long).0
+
+pub returns-then-spot-end_of-clause-cause : goal.returns-then-spot-end_of-clause-cause
+returns-then-spot-end_of-clause-cause g c = λ h debt stands at told.
+    let tape = c.args.self.now in
+    let w = stands.working c.requires.works in
+    let found = there tape h c.args.key c.args.spot debt stands c.requires.works at w.payloads w.indexed in
+    let long = sym (c.owed_len-len.ensures.len debt at.is (sym at.token_len) (sym at.id_len)) in
+    let slot = slot_of w.payloads (payloads_in tape.pending) c.args.spot.at c.args.spot.slot
+    tape.segments.live.end found.payload w.holds.end (omega (arith, c.if-spot-end_of.true, c.end_of.ensures))
+    found.stands in
+    absurd ((c.pending_note.ensures.note (spelling (owe debt))
+    slot.within
+    (subst (λ (l : List ℕ). StandsIn l c.args.spot.within (spelling (owe debt))) (sym slot.is) found.inside) long).1 told)
+
+pub returns-then-spot-gt0-clause-note : goal.returns-then-spot-gt0-clause-note
+returns-then-spot-gt0-clause-note g c = λ h debt stands at.
+    let tape = c.args.self.now in
+    let w = stands.working c.requires.works in
+    let found = there tape h c.args.key c.args.spot debt stands c.requires.works at w.payloads w.indexed in
+    let long = sym (c.owed_len-len.ensures.len debt at.is (sym at.token_len) (sym at.id_len)) in
+    let disk = on_disk tape w.payloads c.args.spot.at c.args.spot.slot found.payload w.holds
+    (omega (arith, c.if-spot-end_of.false, c.end_of.ensures)) found.stands in
+    IfOk-weaker c.part_of.result _ (λ v. v.items ≡ spelling (owe debt))
+    (λ v said. said ∙ (ap (λ (n : ℕ). take c.owed_len-len.result (drop (5 + n) found.payload)) c.from.ensures
+    ∙ stands-behind found.payload (spelling (owe debt)) c.args.spot.within c.owed_len-len.result long found.inside
+    (λ none. omega (arith, none, c.if-spot-gt0.true))))
+    (c.part_of.ensures.part disk.front disk.more found.payload disk.holds disk.place)
+
+pub returns-then-spot-gt0-clause-cause : goal.returns-then-spot-gt0-clause-cause
+returns-then-spot-gt0-clause-cause g c = λ h debt stands at told.
+    let tape = c.args.self.now in
+    let w = stands.working c.requires.works in
+    let found = there tape h c.args.key c.args.spot debt stands c.requires.works at w.payloads w.indexed in
+    let disk = on_disk tape w.payloads c.args.spot.at c.args.spot.slot found.payload w.holds
+    (omega (arith, c.if-spot-end_of.false, c.end_of.ensures)) found.stands in
+    c.part_of.ensures.cause disk.front disk.more found.payload disk.holds disk.place told
+
+pub returns-in-Err-clause-cause : goal.returns-in-Err-clause-cause
+returns-in-Err-clause-cause g c = λ h debt stands at told.
+    let tape = c.args.self.now in
+    let w = stands.working c.requires.works in
+    let found = there tape h c.args.key c.args.spot debt stands c.requires.works at w.payloads w.indexed in
+    let disk = on_disk tape w.payloads c.args.spot.at c.args.spot.slot found.payload w.holds
+    (omega (arith, c.if-spot-end_of.false, c.end_of.ensures)) found.stands in
+    c.in-Err.ensures.cause disk.front disk.more found.payload disk.holds disk.place told
+
+pub returns-in-Some-clause-note : goal.returns-in-Some-clause-note
+returns-in-Some-clause-note g c = λ h debt stands at.
+    let tape = c.args.self.now in
+    let w = stands.working c.requires.works in
+    let found = there tape h c.args.key c.args.spot debt stands c.requires.works at w.payloads w.indexed in
+    let long = sym (c.owed_len-len.ensures.len debt at.is (sym at.token_len) (sym at.id_len)) in
+    let disk = on_disk tape w.payloads c.args.spot.at c.args.spot.slot found.payload w.holds
+    (omega (arith, c.if-spot-end_of.false, c.end_of.ensures)) found.stands in
+    let first : c.args.spot.within ≡ 0 = omega (arith, c.if-spot-gt0.false) in
+    let read = c.deref.ensures.value
+    ∙ c.in-Ok.ensures.part disk.front disk.more found.payload disk.holds disk.place in
+    let inside = stands-front found.payload (spelling (owe debt)) c.owed_len-len.result long
+    (subst (λ (n : ℕ). StandsIn found.payload n (spelling (owe debt))) first found.inside) in
+    c.in_ok-from_slice-in-Some.ensures.items ∙ (c.in-Some.ensures.note (spelling (owe debt))
+    (subst (λ (l : List ℕ). StandsIn l 0 (spelling (owe debt))) (sym read) inside) long).1
+
+pub returns-clause-cause : goal.returns-clause-cause
+returns-clause-cause g c = λ h debt stands at told.
+    let tape = c.args.self.now in
+    let w = stands.working c.requires.works in
+    let found = there tape h c.args.key c.args.spot debt stands c.requires.works at w.payloads w.indexed in
+    let long = sym (c.owed_len-len.ensures.len debt at.is (sym at.token_len) (sym at.id_len)) in
+    let disk = on_disk tape w.payloads c.args.spot.at c.args.spot.slot found.payload w.holds
+    (omega (arith, c.if-spot-end_of.false, c.end_of.ensures)) found.stands in
+    let first : c.args.spot.within ≡ 0 = omega (arith, c.if-spot-gt0.false) in
+    let read = c.deref.ensures.value
+    ∙ c.in-Ok.ensures.part disk.front disk.more found.payload disk.holds disk.place in
+    let inside = stands-front found.payload (spelling (owe debt)) c.owed_len-len.result long
+    (subst (λ (n : ℕ). StandsIn found.payload n (spelling (owe debt))) first found.inside) in
+    absurd (false≢true (c.in-None.ensures.note (spelling (owe debt))
+    (subst (λ (l : List ℕ). StandsIn l 0 (spelling (owe debt))) (sym read) inside) long).0)

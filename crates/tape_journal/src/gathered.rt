@@ -1,0 +1,98 @@
+// Payloads that are to be written at once.
+ghost use Rattle.std.specs.Prelude.{◌≡◌, ◌+◌, ◌<◌, ◌↔◌, ◌∷◌, ◌++◌, [], ℕ, List, length};
+ghost use Rattle.std.specs.Prelude.{take, IfOk, IsErrOf, IsTrue, MatchResult, OnErr, OnOk};
+ghost use Rattle.tape_journal.specs.Gathered.{Gathers, octets_in};
+ghost use Rattle.tape_journal.specs.Segment.{IsShort, at_rest, gated, longest_segment, open_gate};
+
+use crate::journal::LONGEST_SEGMENT;
+use crate::read::{LONGEST_PAYLOAD, OPEN};
+use crate::{GatherFault, RenewFault};
+use std::alloc::{AllocError, Global};
+
+/// Payloads that are to be written at once, in the octets of their records, one behind another.
+#[derive(Drop)]
+pub struct Gathered {
+    octets: Vec<u8>,
+}
+
+impl Gathered {
+    /// No payload, and room for records of so many octets, each of five more than its payload.
+    ///
+    /// # Errors
+    /// `NoMemory` where memory was refused.
+    pub fn with_room(alloc: Global, octets: usize) -> Result<Self, AllocError>
+        ensures ok { IfOk result (λ gathered. Gathers gathered []) }
+        ensures len { IfOk result (λ gathered. octets_in gathered ≡ 0) }
+    {
+        Ok(Gathered {
+            octets: Vec::with_capacity(alloc, octets.saturating_add(1))?,
+        })
+    }
+
+    /// Adds a payload behind the others. Takes more room where what there is doesn't suffice.
+    ///
+    /// # Errors
+    /// Tried in this order; nothing changes. `PayloadTooLong`, over 16,777,216 octets; `NoMemory`.
+    pub fn push(&mut self, payload: &[u8]) -> Result<(), GatherFault>
+        ensures ok { (payloads : List (List ℕ)) → Gathers self.old payloads
+            → OnOk result (Gathers self.new (payloads ++ payload.now ∷ [])) }
+        ensures stays { (payloads : List (List ℕ)) → Gathers self.old payloads
+            → OnErr result (Gathers self.new payloads) }
+        ensures len { MatchResult result
+            (λ _. octets_in self.new ≡ octets_in self.old + 5 + length payload.now)
+            (λ _. octets_in self.new ≡ octets_in self.old) }
+        ensures too_long { IsErrOf result GatherFault.PayloadTooLong
+            ↔ (IsShort payload.now → ⊥) }
+    {
+        if payload.len() > LONGEST_PAYLOAD as usize {
+            return Err(GatherFault::PayloadTooLong);
+        }
+        let len = self.octets.len();
+        match add_record(&mut self.octets, payload) {
+            Ok(()) => Ok(()),
+            Err(_) => {
+                self.octets.truncate(len);
+                Err(GatherFault::NoMemory)
+            }
+        }
+    }
+
+    /// Whether it has no payload.
+    pub fn is_empty(&self) -> bool
+        ensures { IsTrue result ↔ octets_in self.now ≡ 0 }
+    {
+        self.octets.is_empty()
+    }
+
+    // The segment at rest of its payloads, and where the end gate stands, unless it is refused.
+    pub(crate) fn into_segment(self) -> Result<(Vec<u8>, u64), RenewFault>
+        ensures full { IsErrOf result RenewFault.TapeFull
+            ↔ (longest_segment < 1 + octets_in self) }
+        ensures disk { IsErrOf result RenewFault.Disk → ⊥ }
+        ensures ok { (payloads : List (List ℕ)) → Gathers self payloads
+            → IfOk result (λ r. r.0.items ≡ at_rest payloads) }
+        ensures end { IfOk result (λ r. (r.1 ≡ octets_in self) × (r.1 < longest_segment)
+            × (0 < length r.0.items)) }
+    {
+        let Gathered { mut octets } = self;
+        let end = octets.len() as u64;
+        if end >= LONGEST_SEGMENT {
+            return Err(RenewFault::TapeFull);
+        }
+        octets.push(0)?;
+        Ok((octets, end))
+    }
+}
+
+// Adds the record of a payload, or a piece of it where memory is refused.
+fn add_record(octets: &mut Vec<u8>, payload: &[u8]) -> Result<(), AllocError>
+    requires { IsShort payload.now }
+    ensures ok { OnOk result
+        (octets.new.items ≡ octets.old.items ++ gated open_gate payload.now) }
+    ensures front { take (length octets.old.items) octets.new.items ≡ octets.old.items }
+{
+    let size = payload.len() as u32;
+    octets.push(OPEN)?;
+    octets.extend_from_slice(&size.to_be_bytes())?;
+    octets.extend_from_slice(payload)
+}
