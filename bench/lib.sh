@@ -7,15 +7,15 @@ top=$(cd "$(dirname "$(readlink -f "${BASH_SOURCE[0]}")")/.." && pwd)
 commit=$(git -C "$top" rev-parse --short HEAD)$([ -z "$(git -C "$top" status --porcelain)" ] || echo +)
 
 # bench NAME WORD ..: one run of a benchmark, which prints `COUNT WHAT N nanoseconds`.
-bench() { "$top/crates/bench/out/bench" "$@"; }
+bench() { "$top/crates/tool_bench/out/tool_bench" "$@"; }
 
 # other NAME WORD ..: the same of the program in the checkout that $BEFORE names.
-other() { "$BEFORE/crates/bench/out/bench" "$@"; }
+other() { "$BEFORE/crates/tool_bench/out/tool_bench" "$@"; }
 
 # built CHECKOUT: ends the script with 70 if another checkout's program of the benchmarks is missing, or older than its
 # sources.
 built() {
-  if (top=$1 && stale bench); then
+  if (top=$1 && stale tool_bench); then
     echo "${0##*/}: the program of the benchmarks is missing in $1, or older than its sources: build it there" >&2
     exit 70
   fi

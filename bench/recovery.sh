@@ -28,7 +28,7 @@
 # Other programs that run at the same time move these. It fails on none.
 . "$(dirname "$(readlink -f "${BASH_SOURCE[0]}")")/lib.sh"
 [ -z "${BEFORE-}" ] || built "$BEFORE"
-build bench
+build tool_bench
 run=$(mktemp -d -p "${1:-${TMPDIR:-/tmp}}")
 trap 'rm -rf "$run"' EXIT
 

@@ -5,8 +5,8 @@ use Rattle.std.specs.Prelude.{flat_map, slice_index_or}
 use Rattle.std.proofs.lemmas.Option.{slice_get-get_or, slice_get_within}
 use Rattle.feed_conf.specs.declared.conf.PeerConf.{PeerConf}
 use Rattle.ledger_core.specs.declared.ledger.Totals.{Totals}
-use Rattle.script.specs.Script.{IsScript}
-use Rattle.script.specs.declared.read.Script.{Script}
+use Rattle.drill_script.specs.Script.{IsScript}
+use Rattle.drill_script.specs.declared.read.Script.{Script}
 use Rattle.world_core.specs.Given.{BeginsFrom, RefusesTapes}
 use Rattle.world_core.specs.Stands.{Ends, Reports, HadNoRoom, WasRefused as RunRefused}
 use Rattle.world_core.specs.Told.{Said, said_by}

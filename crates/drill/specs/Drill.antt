@@ -3,9 +3,9 @@ use Rattle.std.specs.Prelude.{◌≡◌, ◌≢◌, ◌⊎◌, ◌+◌, slice_in
 use Rattle.std.specs.Prelude.{flat_map, length, slice_get, take, IfSome}
 use Rattle.std.specs.Io.KnownBytes.{Appends, Keeps}
 use Rattle.std.specs.List.Sorted.{IsPermutation}
-use Rattle.script.specs.Script.{BreaksAt, IsScript}
-use Rattle.script.specs.declared.fault.Reason.{Reason}
-use Rattle.script.specs.declared.read.Script.{Script}
+use Rattle.drill_script.specs.Script.{BreaksAt, IsScript}
+use Rattle.drill_script.specs.declared.fault.Reason.{Reason}
+use Rattle.drill_script.specs.declared.read.Script.{Script}
 use Rattle.world_core.specs.Given.{GivenPeer, IsGiven, RefusesFirst, given_names}
 use Rattle.world_core.specs.Past.{Life}
 use Rattle.world_core.specs.Runs.{RefusesStep, Runs}

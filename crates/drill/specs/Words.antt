@@ -4,7 +4,7 @@ use Rattle.recovery.specs.declared.fault.TapeFault.{TapeFault}
 use Rattle.recovery.specs.declared.fault.TapeFault.TheVariants.{Damaged, Disk, Broken, TapeFull, GenerationFull}
 use Rattle.recovery.specs.declared.fault.TapeFault.TheVariants.{PendingFull}
 use Rattle.recovery.specs.declared.fault.TapeFault.TheVariants.{NoMemory as NoTapeMemory, Note}
-use Rattle.script.specs.Faults.{reason_words}
+use Rattle.drill_script.specs.Faults.{reason_words}
 use Rattle.world_core.specs.declared.fault.Fault.{Fault}
 use Rattle.world_core.specs.declared.fault.Fault.TheVariants.{NoPeer, NoConnection, Stopped, Running, NotNeeded, Tape}
 use Rattle.world_core.specs.declared.fault.Fault.TheVariants.{CountFull}

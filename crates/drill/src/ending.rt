@@ -2,9 +2,9 @@
 ghost use Rattle.std.specs.Prelude.{◌≡◌};
 ghost use Rattle.drill.specs.Words.{step_words, tape_words, why_words};
 
+use drill_script::Reason;
 use funnel::PeerName;
 use recovery::TapeFault;
-use script::Reason;
 use world_core::Fault;
 
 /// How a drill ends.

@@ -1,8 +1,8 @@
 //! Drills: a script's steps, taken by a world whose disks are in memory, and the lines that tell of them.
 //!
-//! May touch the reader and the writer that it is given and nothing else; it stands on `script` for what is read and on
-//! `world_core` for what is run. The crates above use `run_script` (docs/FORMATS.md): what is printed and how a drill
-//! ends is said of the script that the text is and of the run of its steps (`specs/Drill.antt`).
+//! May touch the reader and the writer that it is given and nothing else; it stands on `drill_script` for what is read
+//! and on `world_core` for what is run. The crates above use `run_script` (docs/FORMATS.md): what is printed and how a
+//! drill ends is said of the script that the text is and of the run of its steps (`specs/Drill.antt`).
 #![tactic(auto)]
 
 mod ending;
@@ -10,7 +10,7 @@ mod play;
 mod print;
 mod runner;
 
+pub use drill_script::Reason;
 pub use ending::{Ending, Refusal, TapeRefusal, Why};
 pub use runner::run_script;
-pub use script::Reason;
 pub use world_core::Fault;

@@ -10,7 +10,7 @@ ghost use Rattle.drill.specs.Printed.{end_text, refused_text, steps_text, totals
 
 use crate::ending::{Ending, Refusal, TapeRefusal, Why};
 use crate::print::{add_broken, add_end, add_refused, add_steps, add_totals};
-use script::{Script, ScriptFault, read_script};
+use drill_script::{Script, ScriptFault, read_script};
 use std::alloc::{AllocError, Global};
 use world_core::{Fault, Report, TapesFault, World, WorldFault};
 

@@ -1,6 +1,6 @@
 // The system's files.
 
-use commands::ReadFile;
+use cli::ReadFile;
 use std::alloc::Global;
 use std::rt::Files;
 use std::{fs, io};

@@ -1,23 +1,23 @@
 //! `innfeed`, the outgoing feeder of a news server: the program.
 //!
 //! It may touch its arguments, the files that they and the configuration name, standard input, both outputs, sockets
-//! and threads; the work is done by `commands`. The words of the command line become an order by `words::read_words`,
-//! which `commands::run` does with the system's files and streams, and with `feed` where peers are to be fed. Nothing
+//! and threads; the work is done by `cli`. The words of the command line become an order by `cli_args::read_words`,
+//! which `cli::run` does with the system's files and streams, and with `feed_run` where peers are to be fed. Nothing
 //! stands above it: what it promises is what those calls' contracts promise, and what their tests show.
 #![tactic(auto)]
 
 mod files;
 mod streams;
 
-use commands::{Exit, Feeds, Order, run};
-use feed::SystemFeeds;
+use cli::{Exit, Feeds, Order, run};
+use cli_args::read_words;
+use feed_run::SystemFeeds;
 use files::SystemFiles;
 use std::env;
 use std::io::{self, BufWriter, ErrorKind, Write};
 use std::process::ExitCode;
 use std::rt::{Env, Files};
 use streams::stand_in;
-use words::read_words;
 
 const NO_NULL: &[u8] = b"innfeed: cannot open /dev/null in place of closed standard streams\n";
 

@@ -2,7 +2,7 @@
 ghost use Rattle.std.specs.Prelude.{◌≡◌};
 ghost use Rattle.owed_list.specs.declared.fault.ListFault.TheVariants.{Lack};
 
-use commands::{FeedEnd, FileTrouble, TapeTrouble};
+use cli::{FeedEnd, FileTrouble, TapeTrouble};
 use recovery::TapeFault;
 use std::alloc::{AllocError, AllocFailed, Global};
 use std::io::{self, ErrorKind};

@@ -2,7 +2,7 @@
 use crate::fault::ListFault;
 use crate::reading::{TapePaths, read_files};
 use crate::snapshot::Snapshot;
-use commands::FeedEnd;
+use cli::FeedEnd;
 use disk_model::FileDisk;
 use feed_conf::PeerConf;
 use ledger_core::Key;

@@ -1,0 +1,570 @@
+// Rows of funnels that are directories of segments.
+use crate::row::{NOBODY, Row, Told, list_owed, print_told};
+use anyhow::{Result, anyhow};
+use cli::{Order, Source};
+use std::fs::{self, OpenOptions};
+use std::io::{self, Write, pipe};
+use std::os::fd::AsRawFd;
+use std::os::unix::fs::symlink;
+use std::rt::Clock;
+use std::sync::Wait;
+use std::thread::{self, Threads};
+use std::time::Duration;
+
+// How long the first segment of an empty directory is waited for, in milliseconds.
+const AWAITED: u64 = 300;
+
+// What is done to a directory. A name of digits stands for a segment's, which has zeros before it.
+#[derive(Clone, Copy)]
+enum Change {
+    // Adds this text to this file, which is made if it is not there.
+    Add(&'static str, &'static str),
+    // Writes this text in place of this file.
+    Replace(&'static str, &'static str),
+    // Removes this file.
+    Remove(&'static str),
+    // Makes a directory of this name.
+    Nest(&'static str),
+    // Removes the directory.
+    Vanish,
+    // Asks the run to end.
+    Stop,
+}
+
+// How a directory is read.
+#[derive(Clone, Copy)]
+enum Manner {
+    Once,
+    Tidied,
+    Followed,
+    FollowedTidied,
+}
+
+// A run: what is done before it, and what each time one more line is printed.
+#[derive(Clone, Copy)]
+struct Run {
+    what: &'static str,
+    manner: Manner,
+    before: &'static [Change],
+    steps: &'static [&'static [Change]],
+}
+
+// The directory of a row, and the file that asks a run to end.
+#[derive(Drop)]
+struct Place {
+    host: HostRuntime,
+    directory: String,
+    stop: String,
+}
+
+impl Place {
+    fn new(host: HostRuntime, row: &Row) -> Result<Self> {
+        let place = Place {
+            host,
+            directory: row.path("funnel")?,
+            stop: row.path("backlog/~stop")?,
+        };
+        fs::create_dir_all(&host, place.directory.as_str())?;
+        Ok(place)
+    }
+
+    // The path of a file of this name.
+    fn path(&self, name: &str) -> io::Result<String> {
+        let alloc = self.host.alloc();
+        if name.bytes().all(|octet| octet.is_ascii_digit()) {
+            return Ok(format!(in alloc; "{}/{name:0>20}", self.directory)?);
+        }
+        Ok(format!(in alloc; "{}/{name}", self.directory)?)
+    }
+
+    // Makes these changes, one after another.
+    fn change_all(&self, changes: &[Change]) -> io::Result<()> {
+        for change in changes {
+            self.change(*change)?;
+        }
+        Ok(())
+    }
+
+    fn change(&self, change: Change) -> io::Result<()> {
+        let host = &self.host;
+        match change {
+            Change::Add(name, text) => OpenOptions::new()
+                .append(true)
+                .create(true)
+                .open(host, self.path(name)?.as_str())?
+                .write_all(text.as_bytes()),
+            Change::Replace(name, text) => {
+                fs::write(host, self.path(name)?.as_str(), text.as_bytes())
+            }
+            Change::Remove(name) => fs::remove_file(host, self.path(name)?.as_str()),
+            Change::Nest(name) => fs::create_dir(host, self.path(name)?.as_str()),
+            Change::Vanish => fs::remove_dir(host, self.directory.as_str()),
+            Change::Stop => fs::write(host, self.stop.as_str(), b""),
+        }
+    }
+
+    // The names in the directory, in byte order; none if it is not there.
+    fn names(&self) -> io::Result<Vec<String>> {
+        let mut names = Vec::new(self.host.alloc());
+        if !fs::exists(&self.host, self.directory.as_str())? {
+            return Ok(names);
+        }
+        for entry in fs::read_dir(&self.host, self.directory.as_str())? {
+            names.push(String::from_str(self.host.alloc(), entry?.file_name())?)?;
+        }
+        names.sort()?;
+        Ok(names)
+    }
+}
+
+// A standard output that makes one step after another, each once a line more has come.
+#[derive(Drop)]
+struct Stepping<'a> {
+    place: &'a Place,
+    text: Vec<u8>,
+    steps: &'static [&'static [Change]],
+    done: usize,
+}
+
+impl Write for Stepping<'_> {
+    fn write(&mut self, octets: &[u8]) -> io::Result<usize> {
+        self.text.extend_from_slice(octets)?;
+        let lines = self.text.iter().filter(|octet| **octet == b'\n').count();
+        if lines > self.done
+            && let Some(step) = self.steps.get(self.done)
+        {
+            self.place.change_all(step)?;
+            self.done += 1;
+        }
+        Ok(octets.len())
+    }
+
+    fn flush(&mut self) -> io::Result<()> {
+        Ok(())
+    }
+}
+
+// The order to feed from the funnel at this path.
+fn order(path: &str, manner: Manner) -> Order<'_> {
+    Order::Feed {
+        conf: "conf",
+        source: Source::Funnel {
+            path,
+            is_followed: matches!(manner, Manner::Followed | Manner::FollowedTidied),
+            is_tidied: matches!(manner, Manner::Tidied | Manner::FollowedTidied),
+        },
+        verbose: true,
+    }
+}
+
+// Feeds from the directory, and prints what was told, which files it has then, and why it was not read on.
+fn tell<R: AllocGlobal + Threads + Wait + Print + Send + Sync + Drop + 'static>(
+    rt: &R,
+    row: &Row,
+    place: &Place,
+    run: &Run,
+) -> Result<()> {
+    println!(rt; "-- {}", run.what)?;
+    place.change_all(run.before)?;
+    let mut out = Stepping {
+        place,
+        text: Vec::new(rt.alloc()),
+        steps: run.steps,
+        done: 0,
+    };
+    let conf = format!(in rt.alloc(); "peer p {{ port-number: {NOBODY} }}\n")?;
+    let order = order(place.directory.as_str(), run.manner);
+    let mut told = row.obey_into(rt, 1, &conf, order, &mut out)?;
+    told.out = out.text;
+    print_reasons(rt, told)?;
+    for name in place.names()? {
+        println!(rt; "has {name}")?;
+    }
+    Ok(())
+}
+
+// Prints what was told, and of the log why a file was not read or removed.
+fn print_reasons<R: AllocGlobal + Print>(rt: &R, told: Told) -> Result<()> {
+    let mut told = told;
+    let mut reasons = Vec::new(rt.alloc());
+    for line in told.log.split_inclusive(|octet| *octet == b'\n') {
+        if line.starts_with(b"cannot read ") || line.starts_with(b"cannot remove ") {
+            reasons.extend_from_slice(line)?;
+        }
+    }
+    told.log = reasons;
+    print_told(rt, &told)
+}
+
+// The rows: a name, and what is run over its directory.
+const ROWS: [(&'static str, &'static [Run]); 12] = [
+    (
+        "segments",
+        &[
+            Run {
+                what: "lines are added, then segments, and the first segment is removed",
+                manner: Manner::Followed,
+                before: &[
+                    Change::Add("1", "1 <1@x> p\n2 <2@x> p\n"),
+                    Change::Add("note", "no line\n"),
+                    Change::Add("000000000000000000003", "no line\n"),
+                    Change::Nest("4.new"),
+                ],
+                steps: &[
+                    &[Change::Add("1", "3 <3@x> p\n")],
+                    &[Change::Add("4", "4 <4@x> p\n")],
+                    &[Change::Remove("1"), Change::Add("4", "5 <5@x> p\n6 <6")],
+                    &[Change::Add("4", "@x> p\n")],
+                    &[Change::Stop],
+                ],
+            },
+            Run {
+                what: "the segment that was read last is complete, and the next one has a rest",
+                manner: Manner::Once,
+                before: &[Change::Add("7", "7 <7@x> p\n8 <8@x> p\n9")],
+                steps: &[],
+            },
+            Run {
+                what: "the rest's end",
+                manner: Manner::Followed,
+                before: &[Change::Add("7", " <9@x> p\n")],
+                steps: &[&[Change::Stop]],
+            },
+        ],
+    ),
+    (
+        "tidied",
+        &[
+            Run {
+                what: "segments are removed once the next one is read",
+                manner: Manner::FollowedTidied,
+                before: &[
+                    Change::Add("1", "1 <1@x> p\n2 <2@x> p\n"),
+                    Change::Add("3", "3 <3@x> p\n"),
+                ],
+                steps: &[
+                    &[Change::Add("4", "4 <4@x> p\n")],
+                    &[Change::Add("5", "5 <5@x> p\n")],
+                    &[Change::Stop],
+                ],
+            },
+            Run {
+                what: "segments that are acknowledged are there again",
+                manner: Manner::Tidied,
+                before: &[
+                    Change::Add("1", "1 <1@x> p\n2 <2@x> p\n"),
+                    Change::Add("4", "4 <4@x> p\n"),
+                    Change::Add("6", "6 <6@x> p\n7 <7@x> p\n"),
+                ],
+                steps: &[],
+            },
+            Run {
+                what: "nothing is to be removed",
+                manner: Manner::Once,
+                before: &[Change::Add("8", "8 <8@x> p\n")],
+                steps: &[],
+            },
+            Run {
+                what: "an empty segment comes last",
+                manner: Manner::Tidied,
+                before: &[Change::Add("8", "9 <9@x> p\n"), Change::Add("10", "")],
+                steps: &[],
+            },
+        ],
+    ),
+    (
+        "unremoved",
+        &[
+            Run {
+                what: "three lines",
+                manner: Manner::Once,
+                before: &[
+                    Change::Add("1", "1 <1@x> p\n2 <2@x> p\n"),
+                    Change::Add("3", "3 <3@x> p\n"),
+                ],
+                steps: &[],
+            },
+            Run {
+                what: "a directory has the name of the first segment",
+                manner: Manner::Tidied,
+                before: &[
+                    Change::Remove("1"),
+                    Change::Nest("1"),
+                    Change::Add("3", "4 <4@x> p\n"),
+                ],
+                steps: &[],
+            },
+        ],
+    ),
+    (
+        "gap",
+        &[
+            Run {
+                what: "the first line is missing",
+                manner: Manner::Followed,
+                before: &[Change::Add("2", "2 <2@x> p\n")],
+                steps: &[],
+            },
+            Run {
+                what: "the second line is missing",
+                manner: Manner::Once,
+                before: &[
+                    Change::Add("1", "1 <1@x> p\n"),
+                    Change::Remove("2"),
+                    Change::Add("3", "3 <3@x> p\n"),
+                ],
+                steps: &[],
+            },
+            Run {
+                what: "the third line is missing, of a segment that comes later",
+                manner: Manner::Followed,
+                before: &[Change::Remove("3"), Change::Add("1", "2 <2@x> p\n")],
+                steps: &[&[Change::Add("4", "4 <4@x> p\n")]],
+            },
+        ],
+    ),
+    (
+        "overlap",
+        &[
+            Run {
+                what: "the third line is there twice",
+                manner: Manner::Once,
+                before: &[
+                    Change::Add("1", "1 <1@x> p\n2 <2@x> p\n3 <3@x> p\n"),
+                    Change::Add("3", "3 <3@x> p\n"),
+                ],
+                steps: &[],
+            },
+            Run {
+                what: "the fourth line is there twice, in a segment that comes later",
+                manner: Manner::Followed,
+                before: &[Change::Add("3", "4 <4@x> p\n")],
+                steps: &[&[Change::Add("4", "4 <4@x> p\n")]],
+            },
+        ],
+    ),
+    (
+        "rest",
+        &[Run {
+            what: "the first segment ends in a rest, where one line is missing",
+            manner: Manner::Once,
+            before: &[
+                Change::Add("1", "1 <1@x> p\n2 <2@x> p"),
+                Change::Add("3", "3 <3@x> p\n"),
+            ],
+            steps: &[],
+        }],
+    ),
+    (
+        "rest_more",
+        &[Run {
+            what: "the first segment ends in a rest, where none is missing",
+            manner: Manner::Tidied,
+            before: &[
+                Change::Add("1", "1 <1@x> p\n2"),
+                Change::Add("2", "2 <2@x> p\n"),
+            ],
+            steps: &[],
+        }],
+    ),
+    (
+        "cut_off",
+        &[
+            Run {
+                what: "three lines",
+                manner: Manner::Once,
+                before: &[Change::Add("1", "1 <1@x> p\n2 <2@x> p\n3 <3@x> p\n")],
+                steps: &[],
+            },
+            Run {
+                what: "two lines and a rest",
+                manner: Manner::Followed,
+                before: &[Change::Replace("1", "1 <1@x> p\n2 <2@x> p\n3 <3@x> p")],
+                steps: &[],
+            },
+            Run {
+                what: "two lines, and a segment after the third",
+                manner: Manner::Once,
+                before: &[
+                    Change::Replace("1", "1 <1@x> p\n2 <2@x> p\n"),
+                    Change::Add("5", "5 <5@x> p\n"),
+                ],
+                steps: &[],
+            },
+            Run {
+                what: "a segment after the third alone",
+                manner: Manner::Once,
+                before: &[Change::Remove("1")],
+                steps: &[],
+            },
+        ],
+    ),
+    (
+        "shrinks",
+        &[Run {
+            what: "two lines, then one",
+            manner: Manner::Followed,
+            before: &[Change::Add("1", "1 <1@x> p\n2 <2@x> p\n")],
+            steps: &[&[Change::Replace("1", "1 <1@x> p\n")]],
+        }],
+    ),
+    (
+        "names",
+        &[
+            Run {
+                what: "no segment",
+                manner: Manner::Once,
+                before: &[Change::Add("note", "1 <1@x> p\n")],
+                steps: &[],
+            },
+            Run {
+                what: "a segment from line 0",
+                manner: Manner::Once,
+                before: &[Change::Add("0", ""), Change::Add("1", "1 <1@x> p\n")],
+                steps: &[],
+            },
+            Run {
+                what: "a segment from a line above the greatest number",
+                manner: Manner::Followed,
+                before: &[Change::Remove("0"), Change::Add("18446744073709551616", "")],
+                steps: &[],
+            },
+            Run {
+                what: "a segment from the greatest number, where lines are missing",
+                manner: Manner::Once,
+                before: &[
+                    Change::Remove("18446744073709551616"),
+                    Change::Add("18446744073709551615", ""),
+                ],
+                steps: &[],
+            },
+        ],
+    ),
+    (
+        "nested",
+        &[Run {
+            what: "a directory is no segment",
+            manner: Manner::Followed,
+            before: &[Change::Nest("1")],
+            steps: &[],
+        }],
+    ),
+    (
+        "missing",
+        &[Run {
+            what: "no directory",
+            manner: Manner::FollowedTidied,
+            before: &[Change::Vanish],
+            steps: &[],
+        }],
+    ),
+];
+
+/// What is told of directories of segments, and which of their lines are owed.
+pub(crate) fn read_directories<
+    R: AllocGlobal + Threads + Wait + Print + Send + Sync + Drop + 'static,
+>(rt: &R, host: HostRuntime) -> Result<()> {
+    for (name, runs) in ROWS {
+        let row = Row::new(rt, host, name)?;
+        let place = Place::new(host, &row)?;
+        for run in runs {
+            tell(rt, &row, &place, run)?;
+        }
+        tell_owed(rt, &row)?;
+    }
+    await_first(rt, host)?;
+    meet_pipe(rt, host)?;
+    read_long(rt, host)
+}
+
+// Prints what is owed.
+fn tell_owed<R: AllocGlobal + Threads + Wait + Print + Send + Sync + Drop + 'static>(
+    rt: &R,
+    row: &Row,
+) -> Result<()> {
+    let conf = format!(in rt.alloc(); "peer p {{ port-number: {NOBODY} }}\n")?;
+    println!(rt; "-- and is owed")?;
+    print_told(rt, &row.obey_conf(rt, 1, &conf, list_owed())?)
+}
+
+// An empty directory is followed until its first segment comes.
+fn await_first<R: AllocGlobal + Threads + Wait + Print + Send + Sync + Drop + 'static>(
+    rt: &R,
+    host: HostRuntime,
+) -> Result<()> {
+    let row = Row::new(rt, host, "awaited")?;
+    let (place, writer) = (Place::new(host, &row)?, Place::new(host, &row)?);
+    let writing = thread::spawn(rt, move || {
+        host.sleep(Duration::from_millis(AWAITED));
+        writer.change(Change::Add("1", "1 <1@x> p\n")).is_ok()
+    })?;
+    let run = Run {
+        what: "the first segment comes later",
+        manner: Manner::FollowedTidied,
+        before: &[],
+        steps: &[&[Change::Stop]],
+    };
+    tell(rt, &row, &place, &run)?;
+    if !writing.join(rt) {
+        return Err(anyhow!("the segment was not written"));
+    }
+    Ok(())
+}
+
+// A pipe that has the name of a segment is not opened; and no pipe or file is tidied.
+fn meet_pipe<R: AllocGlobal + Threads + Wait + Print + Send + Sync + Drop + 'static>(
+    rt: &R,
+    host: HostRuntime,
+) -> Result<()> {
+    let row = Row::new(rt, host, "piped")?;
+    let place = Place::new(host, &row)?;
+    let (reader, _writer) = pipe(&host)?;
+    let target = row.pipe_path(reader.as_raw_fd())?;
+    symlink(&host, target.as_str(), place.path("1")?.as_str())?;
+    let run = Run {
+        what: "a pipe is no segment",
+        manner: Manner::Followed,
+        before: &[],
+        steps: &[],
+    };
+    tell(rt, &row, &place, &run)?;
+    let file = Row::new(rt, host, "tidied_file")?;
+    file.lines(1)?;
+    println!(rt; "-- a file is to be tidied")?;
+    let conf = format!(in rt.alloc(); "peer p {{ port-number: {NOBODY} }}\n")?;
+    let path = file.path("funnel")?;
+    print_reasons(
+        rt,
+        file.obey_conf(rt, 1, &conf, order(path.as_str(), Manner::Tidied))?,
+    )
+}
+
+// Segments of several pieces: each number has its own line.
+fn read_long<R: AllocGlobal + Threads + Wait + Print + Send + Sync + Drop + 'static>(
+    rt: &R,
+    host: HostRuntime,
+) -> Result<()> {
+    let row = Row::new(rt, host, "long_segments")?;
+    let place = Place::new(host, &row)?;
+    let mut wanted = Vec::new(host.alloc());
+    for (first, end) in [(1, 1_001), (1_001, 1_501), (1_501, 2_001)] {
+        let mut text = Vec::new(host.alloc());
+        for number in first..end {
+            writeln!(text, "{number:04} <{number:066}@x> p")?;
+            writeln!(wanted, "p {number} {number:04} <{number:066}@x>")?;
+        }
+        let path = place.path(format!(in host.alloc(); "{first}")?.as_str())?;
+        fs::write(&host, path.as_str(), text.as_slice())?;
+    }
+    let run = Run {
+        what: "1,000 lines of 80 octets, and twice 500",
+        manner: Manner::Tidied,
+        before: &[],
+        steps: &[],
+    };
+    tell(rt, &row, &place, &run)?;
+    let conf = format!(in rt.alloc(); "peer p {{ port-number: {NOBODY} }}\n")?;
+    let is_wanted = row.obey_conf(rt, 1, &conf, list_owed())?.out == wanted;
+    println!(rt; "each number has a token and an id as in its lines: {is_wanted}")?;
+    Ok(())
+}

@@ -1,0 +1,151 @@
+-- What each order comes to: its exit status, what is on standard output, and the line on standard error, if any
+-- (docs/MANUAL.md).
+use Rattle.std.specs.Prelude.{◌≡◌, ◌⊎◌, ◌++◌, ℕ, Bool, List, Option, None, Some, Result, Ok, Err, OnOk, IfSome}
+use Rattle.std.specs.Prelude.{codes, string_bytes}
+use Rattle.std.specs.Io.KnownBytes.{Appends, Keeps}
+use Rattle.std.specs.declared.io.Error.{Error}
+use Rattle.drill.specs.Drill.{Drills}
+use Rattle.drill.specs.declared.ending.Ending.{Ending}
+use Rattle.drill.specs.declared.ending.Ending.TheVariants.{Done as AllTaken, Refused as LineRefused}
+use Rattle.drill.specs.declared.ending.Ending.TheVariants.{NoTape as TapeRefused, NoMemory as WantsMemory}
+use Rattle.feed_conf.specs.Reading.{HaveLexemes, lines_of}
+use Rattle.feed_conf.specs.Settings.{Outcome, meaning}
+use Rattle.feed_conf.specs.Lexemes.{Lexeme}
+use Rattle.feed_conf.specs.declared.fault.ConfFault.{ConfFault}
+use Rattle.cli.specs.Check.{advice_line, check_text, more_text}
+use Rattle.cli.specs.Exit.{exit_of}
+use Rattle.cli.specs.Feed.{exit_of_end}
+use Rattle.cli.specs.Feeding.{Feeding, source_view}
+use Rattle.cli.specs.FeedLines.{end_text}
+use Rattle.cli.specs.Lines.{config_text, refusal_text, no_tape_text, unread_text, input_text, output_text}
+use Rattle.cli.specs.Lines.{mistake_text}
+use Rattle.cli.specs.declared.exit.Exit.{Exit}
+use Rattle.cli.specs.declared.exit.Exit.TheVariants.{Done, Refused, Usage, Unreadable, NoMemory}
+use Rattle.cli.specs.declared.feeds.FeedEnd.{FeedEnd}
+use Rattle.cli.specs.declared.order.Order.{Order}
+use Rattle.cli.specs.declared.order.Order.TheVariants.{DrillFromInput, Drill, Check, Owed, Feed, Tell, Mistake}
+
+-- what a configuration's text means: its settings, or its first fault
+abbrev pub Means : List ℕ → Result Outcome ConfFault → Type 0
+Means text meant = (lines : List (List Lexeme)) → HaveLexemes (lines_of text) lines → meaning lines ≡ meant
+
+-- memory was refused, of which nothing is said
+abbrev pub LacksMemory : Exit → Option (List ℕ) → Type 0
+LacksMemory exit line = (exit ≡ NoMemory) × (line ≡ None)
+
+-- standard output could not be written
+abbrev pub LosesOutput : Exit → Option (List ℕ) → Type 0
+LosesOutput exit line = (exit ≡ Unreadable) × ((reason : List ℕ) × (line ≡ Some (output_text reason)))
+
+-- standard input could not be read
+abbrev pub LosesInput : Exit → Option (List ℕ) → Type 0
+LosesInput exit line = (exit ≡ Unreadable) × ((reason : List ℕ) × (line ≡ Some (input_text reason)))
+
+-- the file at a path cannot be read
+abbrev pub MissesFile : (Option (List ℕ) → Type 0) → List ℕ → Exit → Option (List ℕ) → Type 0
+MissesFile says path exit line = says None × (exit ≡ Unreadable) × (line ≡ Some (unread_text path))
+
+-- a text was printed, and this said on standard error; or it could not be printed
+abbrev pub PrintsBeside : (said : Option (List ℕ)) → List ℕ →
+    Option (List ℕ) → Option (List ℕ) → Exit → Option (List ℕ) → Type 0
+PrintsBeside said text old new exit line =
+    ((exit ≡ Done) × (line ≡ said) × Appends old new text)
+    ⊎ LosesOutput exit line
+    ⊎ LacksMemory exit line
+
+-- a text was printed, or could not be
+abbrev pub Prints : List ℕ → Option (List ℕ) → Option (List ℕ) → Exit → Option (List ℕ) → Type 0
+Prints = PrintsBeside None
+
+-- the line that tells of a drill's ending, of a script from here: which line or which peer's tape was refused, and why
+abbrev pub line_of_ending : List ℕ → Ending → Option (List ℕ)
+line_of_ending source AllTaken = None
+line_of_ending source (LineRefused refusal) = Some (refusal_text source refusal)
+line_of_ending source (TapeRefused refusal) = Some (no_tape_text refusal)
+line_of_ending source WantsMemory = None
+
+-- The script was run: standard output gets what that prints, and the status and the line tell its ending; or standard
+-- output could not be written.
+abbrev pub Runs : (text source : List ℕ) → Option (List ℕ) → Option (List ℕ) → Exit → Option (List ℕ) → Type 0
+Runs text source old new exit line =
+    ((ending : Ending) × Drills (Some text) old new ending × (exit ≡ exit_of ending)
+    × (line ≡ line_of_ending source ending))
+    ⊎ LosesOutput exit line
+    ⊎ LacksMemory exit line
+
+-- A configuration has settings, of which standard output gets what is told of them; with -v it is said on standard
+-- error what that means.
+abbrev pub Passes : (verbose : Bool) → (path text : List ℕ) →
+    Option (List ℕ) → Option (List ℕ) → Exit → Option (List ℕ) → Type 0
+Passes verbose path text old new exit line =
+    (outcome : Outcome) × Means text (Ok outcome)
+    × PrintsBeside (advice_line verbose path outcome) (check_text outcome) old new exit line
+
+-- A configuration has a fault, which is the line on standard error; with -v it is said there what that means.
+abbrev pub Refuses : (verbose : Bool) → (path text : List ℕ) → Exit → Option (List ℕ) → Type 0
+Refuses verbose path text exit line =
+    (fault : ConfFault) × Means text (Err fault) × (exit ≡ Refused)
+    × (line ≡ Some (config_text fault ++ more_text verbose path text fault))
+
+-- A check of the configuration in a file.
+abbrev pub Checks : (Option (List ℕ) → Type 0) → List ℕ → (verbose : Bool) →
+    Option (List ℕ) → Option (List ℕ) → Exit → Option (List ℕ) → Type 0
+Checks says path verbose old new exit line =
+    ((text : List ℕ) × says (Some text) × Passes verbose path text old new exit line)
+    ⊎ ((text : List ℕ) × says (Some text) × Refuses verbose path text exit line × Keeps old new)
+    ⊎ (MissesFile says path exit line × Keeps old new)
+    ⊎ LacksMemory exit line
+
+-- what feeds was asked, did this by these settings, and ended so: the status and the lines tell that end
+abbrev pub EndsFeed : (Outcome → FeedEnd → Type 0) → Outcome → Exit → Option (List ℕ) → Type 0
+EndsFeed did outcome exit line =
+    (end : FeedEnd) × did outcome end × (exit ≡ exit_of_end end) × (line ≡ Some (end_text end))
+
+-- Something that what feeds does with the settings in a file, which is asked for nothing where there are none.
+abbrev pub Works : (Option (List ℕ) → Type 0) → (did : Outcome → FeedEnd → Type 0) → (unasked : Type 0) → List ℕ →
+    (verbose : Bool) → Option (List ℕ) → Option (List ℕ) → Exit → Option (List ℕ) → Type 0
+Works says did unasked path verbose old new exit line =
+    ((text : List ℕ) × (outcome : Outcome) × says (Some text) × Means text (Ok outcome)
+    × EndsFeed did outcome exit line)
+    ⊎ ((text : List ℕ) × says (Some text) × Refuses verbose path text exit line × Keeps old new × unasked)
+    ⊎ (MissesFile says path exit line × Keeps old new × unasked)
+    ⊎ (LacksMemory exit line × Keeps old new × unasked)
+
+-- A drill from standard input, which holds this where that is known.
+abbrev pub DrillsInput : Option (List ℕ) →
+    Option (List ℕ) → Option (List ℕ) → Exit → Option (List ℕ) → Type 0
+DrillsInput holds old new exit line =
+    ((text : List ℕ) × IfSome holds (λ octets. text ≡ octets) × Runs text (codes "standard input") old new exit line)
+    ⊎ ((LosesInput exit line ⊎ LacksMemory exit line) × Keeps old new)
+
+-- A drill from a file.
+abbrev pub DrillsFile : (Option (List ℕ) → Type 0) → List ℕ →
+    Option (List ℕ) → Option (List ℕ) → Exit → Option (List ℕ) → Type 0
+DrillsFile says path old new exit line =
+    ((text : List ℕ) × says (Some text) × Runs text path old new exit line)
+    ⊎ (MissesFile says path exit line × Keeps old new)
+    ⊎ LacksMemory exit line
+
+-- What an order comes to, where this is said of the files, and known of what feeds; where standard input holds this,
+-- and standard output had and has these octets.
+abbrev pub Does : (List ℕ → Option (List ℕ) → Type 0) → Feeding →
+    Option (List ℕ) → Option (List ℕ) → Option (List ℕ) → Order → Exit → Option (List ℕ) → Type 0
+Does says feeds holds old new DrillFromInput exit line = DrillsInput holds old new exit line
+Does says feeds holds old new (Drill path) exit line = DrillsFile (says path.now) path.now old new exit line
+Does says feeds holds old new (Check path verbose) exit line =
+    Checks (says path.now) path.now verbose old new exit line
+Does says feeds holds old new (Owed path verbose) exit line =
+    Works (says path.now) (λ conf end. feeds.listed conf verbose end) feeds.unasked
+    path.now verbose old new exit line
+Does says feeds holds old new (Feed path source verbose) exit line =
+    Works (says path.now) (λ conf end. feeds.fed conf (source_view source) verbose end) feeds.unasked
+    path.now verbose old new exit line
+Does says feeds holds old new (Tell text) exit line = Prints (string_bytes text) old new exit line
+Does says feeds holds old new (Mistake what) exit line =
+    (exit ≡ Usage) × (line ≡ Some (mistake_text (string_bytes what))) × Keeps old new
+
+-- What a line, a feed's lines or none makes of standard error, which had and has these octets; of one that could not be
+-- written nothing is known.
+abbrev pub Tells : Option (List ℕ) → Option (List ℕ) → Result Unit Error → Option (List ℕ) → Type 0
+Tells old new told None = Keeps old new
+Tells old new told (Some line) = OnOk told (Appends old new line)

@@ -1,0 +1,17 @@
+-- What is asked of what feeds peers.
+use Rattle.std.specs.Prelude.{ℕ, Bool, List, Option}
+use Rattle.feed_conf.specs.Settings.{Outcome}
+use Rattle.cli.specs.Feeding.{Source, feeding_of, source_view}
+use Rattle.cli.specs.declared.feeds.FeedEnd.{FeedEnd}
+use Rattle.cli.specs.declared.runner.Errand.{Errand}
+use Rattle.cli.specs.declared.runner.Errand.TheVariants.{List as ListOwed, Feed}
+
+-- the errand was run by these settings, and ended so
+abbrev pub DoesErrand : {P : Type 0}
+    → (fed : P → Option (List ℕ) → Outcome → Source → Bool → FeedEnd → P → Option (List ℕ) → Type 0)
+    → (listed : P → Option (List ℕ) → Outcome → Bool → FeedEnd → P → Option (List ℕ) → Type 0)
+    → (before behind : P) → (old new : Option (List ℕ)) → Errand → Outcome → FeedEnd → Type 0
+DoesErrand fed listed before behind old new (ListOwed verbose) conf end =
+    (feeding_of fed listed before behind old new).listed conf verbose end
+DoesErrand fed listed before behind old new (Feed source verbose) conf end =
+    (feeding_of fed listed before behind old new).fed conf (source_view source) verbose end

@@ -1,0 +1,48 @@
+-- What is known of what feeds peers, over one order.
+use Rattle.std.specs.Prelude.{◌≡◌, ℕ, Bool, true, false, List, Option}
+use Rattle.feed_conf.specs.Settings.{Outcome}
+use Rattle.cli.specs.declared.feeds.FeedEnd.{FeedEnd}
+use Rattle.cli.specs.declared.order.Order.{Order}
+use Rattle.cli.specs.declared.order.Source.{Source as HeldSource}
+use Rattle.cli.specs.declared.order.Source.TheVariants as held
+use Rattle.cli.specs.declared.order.Order.TheVariants.{DrillFromInput, Drill, Check, Owed, Feed, Tell, Mistake}
+
+-- where the lines of a feed come from
+pub data Source : Type 0 where
+  -- from nowhere: peers are fed from their backlogs alone
+  Backlogs : Source
+  -- from the funnel at this path, with what is added to it or up to its end, and with its acknowledged segments removed
+  -- or kept
+  Funnel : List ℕ → (followed tidied : Bool) → Source
+
+abbrev pub source_view : HeldSource → Source
+source_view held.Backlogs = Backlogs
+source_view (held.Funnel path followed tidied) = Funnel path.now followed tidied
+
+-- What became of it, and of standard output, if it fed by these settings, from this source, logging or not, and ended
+-- so; if it listed what is owed by these settings, logging or not, and ended so; and if it was not asked.
+pub record Feeding : Type 1 where
+  pub fed : Outcome → Source → Bool → FeedEnd → Type 0
+  pub listed : Outcome → Bool → FeedEnd → Type 0
+  pub unasked : Type 0
+
+-- of what feeds, before and behind the order, and with what standard output had and has
+abbrev pub feeding_of : {P : Type 0}
+    → (fed : P → Option (List ℕ) → Outcome → Source → Bool → FeedEnd → P → Option (List ℕ) → Type 0)
+    → (listed : P → Option (List ℕ) → Outcome → Bool → FeedEnd → P → Option (List ℕ) → Type 0)
+    → (before behind : P) → (old new : Option (List ℕ)) → Feeding
+feeding_of fed listed before behind old new = record {
+  fed = λ conf source verbose end. fed before old conf source verbose end behind new;
+  listed = λ conf verbose end. listed before old conf verbose end behind new;
+  unasked = behind ≡ before;
+}
+
+-- whether an order asks what feeds peers
+abbrev pub asks_feeds : Order → Bool
+asks_feeds DrillFromInput = false
+asks_feeds (Drill path) = false
+asks_feeds (Check path verbose) = false
+asks_feeds (Owed path verbose) = true
+asks_feeds (Feed path source verbose) = true
+asks_feeds (Tell text) = false
+asks_feeds (Mistake what) = false

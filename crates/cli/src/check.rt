@@ -1,0 +1,146 @@
+// What is told of a configuration: what is ignored or limited in it, and how many peers it has
+// (docs/MANUAL.md).
+ghost use Rattle.std.specs.Prelude.{◌≡◌, ◌≢◌, ◌++◌, ◌⊎◌, List, Ok, Err, IfOk, OnOk, MatchResult};
+ghost use Rattle.std.specs.Prelude.{option_map};
+ghost use Rattle.feed_conf.specs.ConfView.{conf_view};
+ghost use Rattle.feed_conf.specs.ReaderView.{report_view};
+ghost use Rattle.feed_conf.specs.Settings.{Outcome};
+ghost use Rattle.cli.specs.Check.{advice_line, check_text, count_text, more_text, report_text};
+ghost use Rattle.cli.specs.Ends.{LacksMemory, Means, Refuses};
+ghost use Rattle.cli.specs.Fault.{ComesBy};
+
+use crate::fault::Fault;
+use feed_conf::{Conf, ConfFault, ConfFaultKind, Ignored, advise, explain, read_conf};
+use std::alloc::{AllocError, Global};
+
+/// What is told of a configuration without a fault.
+#[derive(Drop)]
+pub struct Checked {
+    /// On standard output: a line for each setting that is ignored or limited, and then how many peers there are.
+    pub report: Vec<u8>,
+    /// On standard error: what that means for the feed, if this is asked for.
+    pub advice: Option<Vec<u8>>,
+}
+
+/// What is told of the configuration in this text, of the file at this path.
+///
+/// # Errors
+/// The configuration's fault; `NoMemory`.
+pub fn check<'a>(
+    alloc: Global,
+    path: &str,
+    text: &[u8],
+    verbose: bool,
+) -> Result<Checked, Fault<'a>>
+    ensures { MatchResult result
+        (λ told. (outcome : Outcome) × Means text.now (Ok outcome)
+        × (told.report.items ≡ check_text outcome)
+        × (option_map (λ lines. lines.items) told.advice ≡ advice_line verbose path.now outcome))
+        (ComesBy (λ exit line. Refuses verbose path.now text.now exit line
+        ⊎ LacksMemory exit line)) }
+{
+    match settings_of(alloc, path, text, verbose) {
+        Ok(conf) => Ok(Checked {
+            report: report(alloc, &conf)?,
+            advice: advice(alloc, path, &conf, verbose)?,
+        }),
+        Err(fault) => Err(fault),
+    }
+}
+
+/// The settings that this text has, of the file at this path.
+///
+/// # Errors
+/// The configuration's fault, with an explanation if `verbose`; `NoMemory`.
+pub fn settings_of<'a>(
+    alloc: Global,
+    path: &str,
+    text: &[u8],
+    verbose: bool,
+) -> Result<Conf, Fault<'a>>
+    ensures { MatchResult result
+        (λ conf. Means text.now (Ok (conf_view conf)))
+        (ComesBy (λ exit line. Refuses verbose path.now text.now exit line
+        ⊎ LacksMemory exit line)) }
+{
+    match read_conf(alloc, text) {
+        Ok(conf) => Ok(conf),
+        Err(fault) if fault.kind == ConfFaultKind::NoMemory => Err(Fault::NoMemory),
+        Err(fault) => Err(Fault::Config {
+            fault,
+            more: more(alloc, path, text, fault, verbose)?,
+        }),
+    }
+}
+
+// What is said of a fault beside its line.
+fn more(
+    alloc: Global,
+    path: &str,
+    text: &[u8],
+    fault: ConfFault,
+    verbose: bool,
+) -> Result<Vec<u8>, AllocError>
+    ensures { IfOk result (λ lines. lines.items ≡ more_text verbose path.now text.now fault) }
+{
+    if verbose {
+        explain(alloc, path.as_bytes(), text, fault)
+    } else {
+        Ok(Vec::new(alloc))
+    }
+}
+
+// What is said of settings on standard error.
+fn advice(
+    alloc: Global,
+    path: &str,
+    conf: &Conf,
+    verbose: bool,
+) -> Result<Option<Vec<u8>>, AllocError>
+    ensures { IfOk result (λ advice. option_map (λ lines. lines.items) advice
+        ≡ advice_line verbose path.now (conf_view conf.now)) }
+{
+    if verbose {
+        Ok(Some(advise(alloc, path.as_bytes(), conf)?))
+    } else {
+        Ok(None)
+    }
+}
+
+// What is told of settings on standard output.
+fn report(alloc: Global, conf: &Conf) -> Result<Vec<u8>, AllocError>
+    ensures { IfOk result (λ told. told.items ≡ check_text (conf_view conf.now)) }
+{
+    let mut told = Vec::new(alloc);
+    let reports = conf.ignored();
+    for report in reports {
+        add_report(&mut told, report)?;
+    }
+    add_count(&mut told, conf.peers().len())?;
+    Ok(told)
+}
+
+// `line N: KEY ignored` or `line N: KEY limited`.
+fn add_report(out: &mut Vec<u8>, report: &Ignored) -> Result<(), AllocError>
+    ensures { OnOk result (out.new.items ≡ out.old.items ++ report_text (report_view report.now)) }
+{
+    out.extend_from_slice(b"line ")?;
+    out.extend_from_slice(itoa::Buffer::new().format(report.line).as_bytes())?;
+    out.extend_from_slice(b": ")?;
+    out.extend_from_slice(&report.key)?;
+    if report.limited {
+        out.extend_from_slice(b" limited\n")
+    } else {
+        out.extend_from_slice(b" ignored\n")
+    }
+}
+
+// `peers N`.
+fn add_count(out: &mut Vec<u8>, count: usize) -> Result<(), AllocError>
+    ensures { OnOk result (out.new.items ≡ out.old.items ++ count_text count) }
+{
+    out.extend_from_slice(b"peers ")?;
+    out.extend_from_slice(itoa::Buffer::new().format(count as u64).as_bytes())?;
+    out.push(b'\n')?;
+    Ok(())
+}

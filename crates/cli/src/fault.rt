@@ -1,0 +1,194 @@
+// Why an order did not end well, or how a feed ended, and what says so on standard error (docs/MANUAL.md).
+ghost use Rattle.std.specs.Prelude.{◌≡◌, ◌≢◌, ◌++◌, ◌∷◌, [], ℕ, List, IfOk, codes, option_map};
+ghost use Rattle.cli.specs.Fault.{exit_of_fault, IsFaultOf, IsLineOf};
+ghost use Rattle.cli.specs.Lines.{config_text, mistake_text, no_tape_text, refusal_text};
+ghost use Rattle.cli.specs.Lines.{unread_text};
+ghost use Rattle.cli.specs.declared.fault.Fault.TheVariants.{NoMemory};
+
+use crate::ending::{add_tape_line, end_lines};
+use crate::exit::Exit;
+use crate::feeds::FeedEnd;
+use drill::{Refusal, TapeRefusal};
+use feed_conf::ConfFault;
+use std::alloc::{AllocError, Global};
+use std::io::{self, ErrorKind};
+
+// What stands behind what is wrong with the words.
+const USAGE: &[u8] =
+    b"; usage: innfeed -c FILE [-C] [-x] [-v] [--owed] [--follow] [--tidy] [FUNNEL] | innfeed --drill FILE \
+    | innfeed < SCRIPT\n";
+
+/// Why an order did not end well, or how a feed ended.
+#[derive(Drop)]
+pub enum Fault<'a> {
+    /// Memory was refused, of which nothing is said.
+    NoMemory,
+    /// The configuration has this fault, of which this is said too.
+    Config { fault: ConfFault, more: Vec<u8> },
+    /// A configuration has none, and this is said of its settings.
+    Checked(Vec<u8>),
+    /// A line of the script from here was refused.
+    Refused(&'a str, Refusal),
+    /// The tape of a peer of a script was refused.
+    NoTape(TapeRefusal),
+    /// The file at this path cannot be read.
+    Unread(&'a str),
+    /// Standard input cannot be read.
+    Input(io::Error),
+    /// Standard output cannot be written.
+    Output(io::Error),
+    /// This is wrong with the words of the command line.
+    Mistake(String),
+    /// A feed ended so, or a list of what is owed.
+    Fed(FeedEnd),
+}
+
+impl From<AllocError> for Fault<'_> {
+    ghost from_gives = { λ _ fault. fault ≡ NoMemory };
+
+    fn from(_: AllocError) -> Self {
+        Fault::NoMemory
+    }
+}
+
+impl<'a> Fault<'a> {
+    /// Why the file at this path was not read.
+    pub fn of_file(path: &'a str, error: io::Error) -> Self
+        ensures { IsFaultOf error (Fault.Unread path.entry) result }
+    {
+        match error.kind() {
+            ErrorKind::OutOfMemory => Fault::NoMemory,
+            _ => Fault::Unread(path),
+        }
+    }
+
+    /// Why standard input was not read.
+    pub fn of_input(error: io::Error) -> Self
+        ensures { IsFaultOf error (Fault.Input error) result }
+    {
+        match error.kind() {
+            ErrorKind::OutOfMemory => Fault::NoMemory,
+            _ => Fault::Input(error),
+        }
+    }
+
+    /// Why standard output was not written.
+    pub fn of_output(error: io::Error) -> Self
+        ensures { IsFaultOf error (Fault.Output error) result }
+    {
+        match error.kind() {
+            ErrorKind::OutOfMemory => Fault::NoMemory,
+            _ => Fault::Output(error),
+        }
+    }
+
+    /// The status that tells of it.
+    pub fn exit(&self) -> Exit
+        ensures { result ≡ exit_of_fault self.now }
+    {
+        match self {
+            Fault::NoMemory => Exit::NoMemory,
+            Fault::Config { .. } | Fault::Refused(_, _) => Exit::Refused,
+            Fault::Checked(_) => Exit::Done,
+            Fault::NoTape(_) => Exit::Tape,
+            Fault::Unread(_) | Fault::Input(_) | Fault::Output(_) => Exit::Unreadable,
+            Fault::Mistake(_) => Exit::Usage,
+            Fault::Fed(end) => end.exit(),
+        }
+    }
+
+    /// The line that tells of it, with its end, or all lines of a feed; want of memory has none.
+    ///
+    /// # Errors
+    /// Memory was refused.
+    pub fn line(&self, alloc: Global) -> Result<Option<Vec<u8>>, AllocError>
+        ensures { IfOk result
+            (λ line. IsLineOf self.now (option_map (λ octets. octets.items) line)) }
+    {
+        match self {
+            Fault::NoMemory => Ok(None),
+            Fault::Config { fault, more } => Ok(Some(config_lines(alloc, fault, more)?)),
+            Fault::Checked(lines) => Ok(Some(Vec::from_slice(alloc, lines)?)),
+            Fault::Refused(source, refusal) => Ok(Some(refusal_line(alloc, source, *refusal)?)),
+            Fault::NoTape(refusal) => Ok(Some(no_tape_line(alloc, refusal)?)),
+            Fault::Unread(path) => Ok(Some(unread_line(alloc, path)?)),
+            Fault::Input(error) => {
+                Ok(Some(stream_line(alloc, b"cannot read standard input", error)?))
+            }
+            Fault::Output(error) => {
+                Ok(Some(stream_line(alloc, b"cannot write standard output", error)?))
+            }
+            Fault::Mistake(what) => Ok(Some(mistake_line(alloc, what.as_str())?)),
+            Fault::Fed(end) => Ok(Some(end_lines(alloc, end)?)),
+        }
+    }
+}
+
+// `config line N: KIND`, and what is said of it too.
+fn config_lines(alloc: Global, fault: &ConfFault, more: &[u8]) -> Result<Vec<u8>, AllocError>
+    ensures { IfOk result (λ lines. lines.items ≡ config_text fault.now ++ more.now) }
+{
+    let mut line = Vec::from_slice(alloc, b"config line ")?;
+    line.extend_from_slice(itoa::Buffer::new().format(fault.line).as_bytes())?;
+    line.extend_from_slice(b": ")?;
+    line.extend_from_slice(fault.kind.name().as_bytes())?;
+    line.push(b'\n')?;
+    line.extend_from_slice(more)?;
+    Ok(line)
+}
+
+// `FILE: line N: REASON`.
+fn refusal_line(alloc: Global, source: &str, refusal: Refusal) -> Result<Vec<u8>, AllocError>
+    ensures { IfOk result (λ line. line.items ≡ refusal_text source.now refusal) }
+{
+    let mut line = Vec::from_slice(alloc, source.as_bytes())?;
+    line.extend_from_slice(b": line ")?;
+    line.extend_from_slice(itoa::Buffer::new().format(refusal.line).as_bytes())?;
+    line.extend_from_slice(b": ")?;
+    line.extend_from_slice(refusal.why.words().as_bytes())?;
+    line.push(b'\n')?;
+    Ok(line)
+}
+
+// `tape NAME: KIND`.
+fn no_tape_line(alloc: Global, refusal: &TapeRefusal) -> Result<Vec<u8>, AllocError>
+    ensures { IfOk result (λ line. line.items ≡ no_tape_text refusal.now) }
+{
+    let mut line = Vec::new(alloc);
+    add_tape_line(&mut line, refusal.peer.bytes(), refusal.fault)?;
+    Ok(line)
+}
+
+// `cannot read PATH`.
+fn unread_line(alloc: Global, path: &str) -> Result<Vec<u8>, AllocError>
+    ensures { IfOk result (λ line. line.items ≡ unread_text path.now) }
+{
+    let mut line = Vec::from_slice(alloc, b"cannot read ")?;
+    line.extend_from_slice(path.as_bytes())?;
+    line.push(b'\n')?;
+    Ok(line)
+}
+
+// `innfeed: WHAT: REASON`.
+fn stream_line(alloc: Global, what: &[u8], error: &io::Error) -> Result<Vec<u8>, AllocError>
+    ensures { IfOk result (λ line. (reason : List ℕ) ×
+        (line.items ≡ codes "innfeed: " ++ what.now ++ codes ": " ++ reason ++ 10 ∷ [])) }
+{
+    let reason = error.to_string(alloc)?;
+    let mut line = Vec::from_slice(alloc, b"innfeed: ")?;
+    line.extend_from_slice(what)?;
+    line.extend_from_slice(b": ")?;
+    line.extend_from_slice(reason.as_bytes())?;
+    line.push(b'\n')?;
+    Ok(line)
+}
+
+// `innfeed: WHAT; usage: ..`.
+fn mistake_line(alloc: Global, what: &str) -> Result<Vec<u8>, AllocError>
+    ensures { IfOk result (λ line. line.items ≡ mistake_text what.now) }
+{
+    let mut line = Vec::from_slice(alloc, b"innfeed: ")?;
+    line.extend_from_slice(what.as_bytes())?;
+    line.extend_from_slice(USAGE)?;
+    Ok(line)
+}

@@ -1,0 +1,262 @@
+// What each order of the command line does (docs/MANUAL.md).
+ghost use Rattle.std.specs.Prelude.{◌≡◌, ◌≢◌, List, ℕ, Option, OnOk, false, option_map};
+ghost use Rattle.std.specs.Io.KnownBytes.{Appends};
+ghost use Rattle.feed_conf.specs.ConfView.{conf_view};
+ghost use Rattle.cli.specs.Ends.{Checks, Does, DrillsFile, DrillsInput, Prints, PrintsBeside, Runs, Tells, Works};
+ghost use Rattle.cli.specs.Errand.{DoesErrand};
+ghost use Rattle.cli.specs.Feeding.{asks_feeds, feeding_of};
+ghost use Rattle.cli.specs.Fault.{Comes, IsLineOf};
+
+use crate::check::{Checked, check, settings_of};
+use crate::exit::Exit;
+use crate::fault::Fault;
+use crate::feeds::{FeedEnd, Feeds};
+use crate::files::ReadFile;
+use crate::order::{Order, Source};
+use drill::{Ending, run_script};
+use feed_conf::Conf;
+use std::alloc::Global;
+use std::io::{self, Read, Write};
+
+/// How an order ended.
+#[derive(Clone, Copy)]
+pub struct Ended {
+    /// The exit status.
+    pub exit: Exit,
+    /// Whether its line on standard error was written; `Ok` where it had none.
+    pub told: io::Result<()>,
+}
+
+/// Does what an order asks for, and writes one line on standard error where that does not end well, but none for want
+/// of memory. The status is the same whether that line could be written or not.
+pub fn run<F: ReadFile, P: Feeds, S: Read, W: Write, E: Write>(
+    alloc: Global,
+    order: Order<'_>,
+    files: &F,
+    feeds: &mut P,
+    input: &mut S,
+    out: &mut W,
+    err: &mut E,
+) -> Ended
+    ensures does { (line : Option (List ℕ))
+        × Tells (E.contents err.old) (E.contents err.new) result.told line
+        × Does (F.says files.now)
+        (feeding_of P.fed P.listed feeds.old feeds.new (W.contents out.old) (W.contents out.new))
+        (S.remaining input.old) (W.contents out.old) (W.contents out.new)
+        order.entry result.exit line }
+    ensures unread { order.entry ≢ Order.DrillFromInput → input.new ≡ input.old }
+    ensures unasked { asks_feeds order.entry ≡ false → feeds.new ≡ feeds.old }
+{
+    match perform(alloc, order, files, feeds, input, out) {
+        Ok(exit) => Ended { exit, told: Ok(()) },
+        Err(fault) => Ended {
+            exit: fault.exit(),
+            told: tell(alloc, &fault, err),
+        },
+    }
+}
+
+// Writes the line that tells of a fault.
+fn tell<E: Write>(alloc: Global, fault: &Fault<'_>, err: &mut E) -> io::Result<()>
+    ensures { (line : Option (List ℕ)) × IsLineOf fault.now line
+        × Tells (E.contents err.old) (E.contents err.new) result line }
+{
+    match fault.line(alloc) {
+        Ok(None) => Ok(()),
+        Ok(Some(line)) => write_whole(err, &line),
+        Err(refused) => Err(io::Error::from(refused)),
+    }
+}
+
+// Writes all of a text, and keeps none of it back.
+fn write_whole<W: Write>(writer: &mut W, text: &[u8]) -> io::Result<()>
+    ensures { OnOk result (Appends (W.contents writer.old) (W.contents writer.new) text.now) }
+{
+    writer.write_all(text)?;
+    writer.flush()
+}
+
+// Does what an order asks for.
+fn perform<'a, F: ReadFile, P: Feeds, S: Read, W: Write>(
+    alloc: Global,
+    order: Order<'a>,
+    files: &F,
+    feeds: &mut P,
+    input: &mut S,
+    out: &mut W,
+) -> Result<Exit, Fault<'a>>
+    ensures does { Comes (Does (F.says files.now)
+        (feeding_of P.fed P.listed feeds.old feeds.new (W.contents out.old) (W.contents out.new))
+        (S.remaining input.old) (W.contents out.old) (W.contents out.new) order.entry)
+        result }
+    ensures unread { order.entry ≢ Order.DrillFromInput → input.new ≡ input.old }
+    ensures unasked { asks_feeds order.entry ≡ false → feeds.new ≡ feeds.old }
+{
+    match order {
+        Order::DrillFromInput => drill_input(alloc, input, out),
+        Order::Drill(path) => drill_file(alloc, files, path, out),
+        Order::Check { conf, verbose } => check_file(alloc, files, conf, verbose, out),
+        Order::Owed { conf, verbose } => {
+            let errand = Errand::List { verbose };
+            serve(alloc, files, feeds, conf, verbose, errand, out)
+        }
+        Order::Feed {
+            conf,
+            source,
+            verbose,
+        } => {
+            let errand = Errand::Feed { source, verbose };
+            serve(alloc, files, feeds, conf, verbose, errand, out)
+        }
+        Order::Tell(text) => print(out, text.as_bytes()),
+        Order::Mistake(what) => Err(Fault::Mistake(what)),
+    }
+}
+
+fn drill_input<'a, S: Read, W: Write>(
+    alloc: Global,
+    input: &mut S,
+    out: &mut W,
+) -> Result<Exit, Fault<'a>>
+    ensures { Comes
+        (DrillsInput (S.remaining input.old) (W.contents out.old) (W.contents out.new))
+        result }
+{
+    let mut script = Vec::new(alloc);
+    match input.read_to_end(&mut script) {
+        Ok(_) => drill(alloc, &script, "standard input", out),
+        Err(error) => Err(Fault::of_input(error)),
+    }
+}
+
+fn drill_file<'a, F: ReadFile, W: Write>(
+    alloc: Global,
+    files: &F,
+    path: &'a str,
+    out: &mut W,
+) -> Result<Exit, Fault<'a>>
+    ensures { Comes
+        (DrillsFile (F.says files.now path.now) path.now (W.contents out.old) (W.contents out.new))
+        result }
+{
+    match files.read_file(alloc, path) {
+        Ok(script) => drill(alloc, &script, path, out),
+        Err(error) => Err(Fault::of_file(path, error)),
+    }
+}
+
+// Runs a drill script, which is told as from this source.
+fn drill<'a, W: Write>(
+    alloc: Global,
+    script: &[u8],
+    source: &'a str,
+    out: &mut W,
+) -> Result<Exit, Fault<'a>>
+    ensures { Comes
+        (Runs script.now source.now (W.contents out.old) (W.contents out.new))
+        result }
+{
+    let mut script = script;
+    match run_script(alloc, &mut script, out) {
+        Ok(Ending::Refused(refusal)) => Err(Fault::Refused(source, refusal)),
+        Ok(Ending::NoTape(refusal)) => Err(Fault::NoTape(refusal)),
+        Ok(ending) => Ok(Exit::from(ending)),
+        Err(error) => Err(Fault::of_output(error)),
+    }
+}
+
+fn check_file<'a, F: ReadFile, W: Write>(
+    alloc: Global,
+    files: &F,
+    path: &'a str,
+    verbose: bool,
+    out: &mut W,
+) -> Result<Exit, Fault<'a>>
+    ensures { Comes
+        (Checks (F.says files.now path.now) path.now verbose (W.contents out.old)
+        (W.contents out.new))
+        result }
+{
+    match files.read_file(alloc, path) {
+        Ok(text) => print_checked(out, check(alloc, path, &text, verbose)?),
+        Err(error) => Err(Fault::of_file(path, error)),
+    }
+}
+
+// Prints what is told of a configuration on standard output, and hands on what is said on standard error.
+fn print_checked<'a, W: Write>(out: &mut W, checked: Checked) -> Result<Exit, Fault<'a>>
+    ensures { Comes (PrintsBeside (option_map (λ lines. lines.items) checked.advice)
+        checked.report.items (W.contents out.old) (W.contents out.new)) result }
+{
+    let Checked { report, advice } = checked;
+    match write_whole(out, &report) {
+        Ok(()) => match advice {
+            Some(lines) => Err(Fault::Checked(lines)),
+            None => Ok(Exit::Done),
+        },
+        Err(error) => Err(Fault::of_output(error)),
+    }
+}
+
+// What is done with the settings in a file.
+#[derive(Clone, Copy)]
+enum Errand<'a> {
+    // Lists what their peers are owed.
+    List { verbose: bool },
+    // Feeds their peers.
+    Feed { source: Source<'a>, verbose: bool },
+}
+
+// Runs an errand with the settings in a file.
+fn serve<'a, F: ReadFile, P: Feeds, W: Write>(
+    alloc: Global,
+    files: &F,
+    feeds: &mut P,
+    path: &'a str,
+    verbose: bool,
+    errand: Errand<'_>,
+    out: &mut W,
+) -> Result<Exit, Fault<'a>>
+    ensures { Comes
+        (Works (F.says files.now path.now)
+        (DoesErrand P.fed P.listed feeds.old feeds.new (W.contents out.old) (W.contents out.new)
+        errand.entry)
+        (feeds.new ≡ feeds.old) path.now verbose (W.contents out.old) (W.contents out.new))
+        result }
+{
+    match files.read_file(alloc, path) {
+        Ok(text) => match settings_of(alloc, path, &text, verbose) {
+            Ok(conf) => Err(Fault::Fed(run_errand(alloc, feeds, conf, path, errand, out))),
+            Err(fault) => Err(fault),
+        },
+        Err(error) => Err(Fault::of_file(path, error)),
+    }
+}
+
+// Runs an errand with these settings, which were read from the file at this path.
+fn run_errand<P: Feeds, W: Write>(
+    alloc: Global,
+    feeds: &mut P,
+    conf: Conf,
+    path: &str,
+    errand: Errand<'_>,
+    out: &mut W,
+) -> FeedEnd
+    ensures { DoesErrand P.fed P.listed feeds.old feeds.new (W.contents out.old)
+        (W.contents out.new) errand.entry (conf_view conf) result }
+{
+    match errand {
+        Errand::List { verbose } => feeds.list_owed(alloc, conf, verbose, out),
+        Errand::Feed { source, verbose } => feeds.feed(alloc, conf, path, source, verbose, out),
+    }
+}
+
+// Prints a text on standard output.
+fn print<'a, W: Write>(out: &mut W, text: &[u8]) -> Result<Exit, Fault<'a>>
+    ensures { Comes (Prints text.now (W.contents out.old) (W.contents out.new)) result }
+{
+    match write_whole(out, text) {
+        Ok(()) => Ok(Exit::Done),
+        Err(error) => Err(Fault::of_output(error)),
+    }
+}

@@ -1,0 +1,111 @@
+-- The tapes that a draft holds, by the names of their peers.
+use Rattle.std.proofs.Common.{◌≡◌, ◌≢◌, ◌+◌, ◌<◌, ◌≤◌, ℕ, true, false, List, [], ◌∷◌, length, get_or, Option, None}
+use Rattle.std.proofs.Common.{Some, refl, sym, ap, ◌∙◌, arith}
+use Rattle.std.specs.List.{All, AllZip}
+use Rattle.std.specs.Prelude.{is_some, option_map, unwrap_or}
+use Rattle.std.specs.BTreeMap.{BTreeMap}
+use Rattle.std.specs.Cmp.{eq_by_cmp_equiv}
+use Rattle.std.specs.Cmp.Lexicographic.{slice_cmp}
+use Rattle.std.specs.Map.{KeepsOthers}
+use Rattle.std.specs.Ordering.{is_eq, nat_cmp}
+use Rattle.std.specs.Str.{bytes_eq}
+use Rattle.std.specs.Vec.{vec_items}
+use Rattle.std.proofs.lemmas.Bool.{false_from_ne_true}
+use Rattle.std.proofs.lemmas.Cmp.{nat_list_cmp_total}
+use Rattle.std.proofs.lemmas.List.Elements.{All-cons, All-nil}
+use Rattle.std.proofs.lemmas.Map.Keys.{apart_from_distinct}
+use Rattle.std.proofs.lemmas.Map.Text.{is_eq-slice_cmp}
+use Rattle.std.proofs.lemmas.Slice.Eq.{bytes_eq-Decides}
+use Rattle.feed_conf.specs.declared.conf.PeerConf.{PeerConf}
+use Rattle.drill_script.specs.Draft.{IsGiven, held_at}
+use Rattle.drill_script.specs.Line.{SentenceView}
+use Rattle.drill_script.specs.Script.{HoldsTape, confs_of, tape_of}
+use Rattle.world_core.specs.Given.{GivenPeer}
+use Rattle.drill_script.proofs.Growing.{HasDistinct}
+use Rattle.drill_script.proofs.Names.{Octets}
+
+abbrev pub Tapes : Type 0
+Tapes = BTreeMap Octets Octets
+
+-- octets that compare as equal are equal
+same : (a b : List ℕ) → is_eq (slice_cmp nat_cmp a b) ≡ true → a ≡ b
+same a b e = (bytes_eq-Decides a b).0 (sym (is_eq-slice_cmp a b) ∙ e)
+
+-- no key is both of two names
+apart : (name other key : List ℕ) → other ≢ name → is_eq (slice_cmp nat_cmp name key) ≡ true →
+    is_eq (slice_cmp nat_cmp other key) ≡ false
+apart name other key differ e =
+    false_from_ne_true (is_eq (slice_cmp nat_cmp other key)) (λ h. differ (same other key h ∙ sym (same name key e)))
+
+-- the second map has under each other name what the first has
+abbrev pub Keeps : List ℕ → (old new : Tapes) → Type 0
+Keeps name old new =
+    KeepsOthers (λ (x y : Octets). is_eq (slice_cmp nat_cmp x.items y.items))
+    (λ (key : Octets). is_eq (slice_cmp nat_cmp name key.items)) old.entries new.entries
+
+pub others_held : (name other : List ℕ) (old new : Tapes) → Keeps name old new → other ≢ name →
+    held_at new other ≡ held_at old other
+unfolding KeepsOthers
+others_held name other old new kept differ =
+    ap (option_map vec_items) (kept (λ (key : Octets). is_eq (slice_cmp nat_cmp other key.items))
+    (λ (x y : Octets). (eq_by_cmp_equiv nat_list_cmp_total).congr other x.items y.items)
+    (λ (key : Octets). apart name other key.items differ))
+
+-- whether a tape is held, by what is under its name
+pub held_some : (found : Option Octets) (told : Option (List ℕ)) → option_map vec_items found ≡ told →
+    is_some found ≡ true → told ≢ None
+held_some None told e some = λ none. cc
+held_some (Some octets) told e some = λ none. let never : Some octets.items ≡ None = e ∙ none in cc
+
+pub held_none : (found : Option Octets) (told : Option (List ℕ)) → option_map vec_items found ≡ told →
+    is_some found ≡ false → told ≡ None
+held_none None told e none = sym e
+held_none (Some octets) told e none = cc
+
+-- what is under the names from this line number on is as it was
+abbrev pub KeepsFrom : (names : List (List ℕ)) → ℕ → (old new : Tapes) → Type 0
+KeepsFrom names from old new =
+    (k : ℕ) → from ≤ k → k < length names → held_at new (get_or names k []) ≡ held_at old (get_or names k [])
+
+other_name : (names : List (List ℕ)) (from k : ℕ) (name : List ℕ) → HasDistinct names → from < k → k < length names →
+    get_or names from [] ≡ name → get_or names k [] ≢ name
+other_name names from k name d below inside is e =
+    let differ : bytes_eq (get_or names from []) (get_or names k []) ≡ false =
+    apart_from_distinct bytes_eq names from k [] d below inside in
+    let alike = (bytes_eq-Decides (get_or names from []) (get_or names k [])).1 (is ∙ sym e) in
+    cc
+
+pub keeps_next : (names : List (List ℕ)) (from : ℕ) (name : List ℕ) (start old new : Tapes) → HasDistinct names →
+    get_or names from [] ≡ name → Keeps name old new → KeepsFrom names from start old →
+    KeepsFrom names (from + 1) start new
+keeps_next names from name start old new d is kept before = λ k low high.
+    others_held name (get_or names k []) old new kept (other_name names from k name d (omega (arith, low)) high is)
+    ∙ before k (omega (arith, low)) high
+
+-- what is given to a peer: the tape under its name, or an empty one
+pub given_octets : (found : Option Octets) (none : Octets) (held : Option (List ℕ)) →
+    option_map vec_items found ≡ held → none.items ≡ [] → (unwrap_or found none).items ≡ unwrap_or held []
+given_octets None none held e empty = empty ∙ ap (λ h. unwrap_or h []) e
+given_octets (Some octets) none held e empty = ap (λ h. unwrap_or h []) e
+
+-- the peers that are given something are those that there were
+pub given_confs : (tapes : Tapes) (confs : List PeerConf) (given : List GivenPeer) →
+    AllZip (IsGiven tapes) confs given → confs_of given ≡ confs
+given_confs tapes [] [] all = refl
+given_confs tapes [] (g ∷ given) all = absurd all
+given_confs tapes (c ∷ confs) [] all = absurd all
+given_confs tapes (c ∷ confs) (g ∷ given) all =
+    ap (λ (x : PeerConf). x ∷ confs_of given) all.0.0
+    ∙ ap (λ (xs : List PeerConf). c ∷ xs) (given_confs tapes confs given all.1)
+
+-- and each is given what its line says
+pub given_tapes : (tapes : Tapes) (sentences : List SentenceView) →
+    ((name : List ℕ) → held_at tapes name ≡ tape_of sentences name) → (confs : List PeerConf)
+    (given : List GivenPeer) → AllZip (IsGiven tapes) confs given → All (HoldsTape sentences) given
+given_tapes tapes sentences held [] [] all = All-nil (HoldsTape sentences)
+given_tapes tapes sentences held [] (g ∷ given) all = absurd all
+given_tapes tapes sentences held (c ∷ confs) [] all = absurd all
+given_tapes tapes sentences held (c ∷ confs) (g ∷ given) all =
+    let one : HoldsTape sentences g =
+    all.0.1 ∙ ap (λ h. unwrap_or h []) (held c.name ∙ ap (λ (x : PeerConf). tape_of sentences x.name) (sym all.0.0)) in
+    All-cons (HoldsTape sentences) g given one (given_tapes tapes sentences held confs given all.1)

@@ -1,0 +1,183 @@
+-- What a script is, and which line is the first that breaks its rules (docs/FORMATS.md).
+use Rattle.std.specs.Prelude.{◌≡◌, ◌≢◌, ◌+◌, ℕ, if◌then◌else◌, List, [], ◌∷◌, ◌++◌, length, map, Option, None, Some}
+use Rattle.std.specs.Prelude.{Result, Err, Contains, IsPermutation, codes, unwrap_or}
+use Rattle.std.specs.Cmp.Lexicographic.{slice_cmp}
+use Rattle.std.specs.List.{All, AllZip}
+use Rattle.std.specs.List.Sorted.{IsSortedBy}
+use Rattle.std.specs.Ordering.{is_lt, nat_cmp}
+use Rattle.std.specs.Str.{bytes_eq}
+use Rattle.feed_conf.specs.PeerView.{settings_view}
+use Rattle.feed_conf.specs.Settings.{Settings}
+use Rattle.feed_conf.specs.declared.conf.PeerConf.{PeerConf}
+use Rattle.funnel.specs.Line.{without_cr}
+use Rattle.funnel.specs.Stream.{BeginsWithLine, IsUnended, ended}
+use Rattle.drill_script.specs.Line.{SentenceView, Blank, Declares, Gives, Takes, Says}
+use Rattle.drill_script.specs.Step.{StepView, step_view}
+use Rattle.drill_script.specs.declared.fault.Reason.{Reason}
+use Rattle.drill_script.specs.declared.fault.Reason.TheVariants.{NoStep, NoPeer, PeerBehindStep, DeclaredTwice, NoTape}
+use Rattle.drill_script.specs.declared.fault.Reason.TheVariants.{TapeBehindStep, NoPeerOfTape, TapeTwice, Unended}
+use Rattle.drill_script.specs.declared.fault.ScriptFault.{ScriptFault}
+use Rattle.drill_script.specs.declared.fault.ScriptFault.TheVariants.{Broken, NoMemory}
+use Rattle.drill_script.specs.declared.read.Script.{Script}
+use Rattle.world_core.specs.Given.{GivenPeer}
+
+-- the steps among sentences
+abbrev pub steps_of : List SentenceView → List StepView
+steps_of [] = []
+steps_of (Blank ∷ sentences) = steps_of sentences
+steps_of (Declares peer ∷ sentences) = steps_of sentences
+steps_of (Gives name octets ∷ sentences) = steps_of sentences
+steps_of (Takes step ∷ sentences) = step ∷ steps_of sentences
+
+-- the line numbers of the lines that say them, where the first sentence's line has this line number
+abbrev pub line_numbers_from : ℕ → List SentenceView → List ℕ
+line_numbers_from line_number [] = []
+line_numbers_from line_number (Blank ∷ sentences) = line_numbers_from (line_number + 1) sentences
+line_numbers_from line_number (Declares peer ∷ sentences) = line_numbers_from (line_number + 1) sentences
+line_numbers_from line_number (Gives name octets ∷ sentences) = line_numbers_from (line_number + 1) sentences
+line_numbers_from line_number (Takes step ∷ sentences) = line_number ∷ line_numbers_from (line_number + 1) sentences
+
+-- the line number of each step's line, from 1
+abbrev pub line_numbers_of : List SentenceView → List ℕ
+line_numbers_of sentences = line_numbers_from 1 sentences
+
+-- the peers that they declare
+abbrev pub peers_of : List SentenceView → List Settings
+peers_of [] = []
+peers_of (Blank ∷ sentences) = peers_of sentences
+peers_of (Declares peer ∷ sentences) = peer ∷ peers_of sentences
+peers_of (Gives name octets ∷ sentences) = peers_of sentences
+peers_of (Takes step ∷ sentences) = peers_of sentences
+
+abbrev pub names_of : List SentenceView → List (List ℕ)
+names_of sentences = map (λ (peer : Settings). peer.name) (peers_of sentences)
+
+-- what the first of them that gives this peer's tape says that it holds; none where none does
+abbrev pub tape_of : List SentenceView → List ℕ → Option (List ℕ)
+tape_of [] name = None
+tape_of (Blank ∷ sentences) name = tape_of sentences name
+tape_of (Declares peer ∷ sentences) name = tape_of sentences name
+tape_of (Gives peer octets ∷ sentences) name = if bytes_eq peer name then Some octets else tape_of sentences name
+tape_of (Takes step ∷ sentences) name = tape_of sentences name
+
+-- a sentence may stand behind these: a peer where no step is among them and none of its name, and a tape where no step
+-- is among them, its peer is, and no tape of that
+abbrev pub MayFollow : List SentenceView → SentenceView → Type 0
+MayFollow before Blank = Unit {0}
+MayFollow before (Declares peer) = (steps_of before ≡ []) × (Contains (names_of before) peer.name → ⊥)
+MayFollow before (Gives name octets) =
+    (steps_of before ≡ []) × Contains (names_of before) name × (tape_of before name ≡ None)
+MayFollow before (Takes step) = Unit {0}
+
+-- each of the later sentences may stand behind the earlier ones and those before it
+abbrev pub KeepsOrder : (earlier later : List SentenceView) → Type 0
+KeepsOrder earlier [] = Unit {0}
+KeepsOrder earlier (sentence ∷ later) = MayFollow earlier sentence × KeepsOrder (earlier ++ sentence ∷ []) later
+
+-- a line says this sentence, one CR before its LF aside
+abbrev pub LineSays : List ℕ → SentenceView → Type 0
+LineSays line sentence = Says (without_cr line) sentence
+
+-- The text begins with whole lines that say these sentences and keep their order, and behind them stands this rest.
+pub record Reads (text : List ℕ) (sentences : List SentenceView) (rest : List ℕ) : Type 0 where
+  pub lines : List (List ℕ)
+  pub whole : text ≡ ended lines ++ rest
+  pub each : All IsUnended lines
+  pub says : AllZip LineSays lines sentences
+  pub order : KeepsOrder [] sentences
+
+-- the whole text keeps the rules
+abbrev pub KeepsRules : List ℕ → Type 0
+KeepsRules text = (sentences : List SentenceView) × Reads text sentences []
+
+-- the peers without their tapes
+abbrev pub confs_of : List GivenPeer → List PeerConf
+confs_of peers = map (λ (given : GivenPeer). given.0) peers
+
+-- the peers stand in byte order of their names
+abbrev pub IsInByteOrder : List PeerConf → Type 0
+IsInByteOrder peers = IsSortedBy (λ (a : PeerConf) (b : PeerConf). is_lt (slice_cmp nat_cmp a.name b.name)) peers
+
+-- a peer's tape holds what its line says, or nothing where it has none
+abbrev pub HoldsTape : List SentenceView → GivenPeer → Type 0
+HoldsTape sentences given = given.1.items ≡ unwrap_or (tape_of sentences given.0.name) []
+
+-- a script has the peers of these sentences, in byte order of their names, each with its tape, and their steps in
+-- order, with the line numbers of their lines
+pub record Holds (script : Script) (sentences : List SentenceView) : Type 0 where
+  pub peers : IsPermutation (peers_of sentences) (map settings_view (confs_of script.peers.items))
+  pub tapes : All (HoldsTape sentences) script.peers.items
+  pub order : IsInByteOrder (confs_of script.peers.items)
+  pub steps : map step_view script.steps.items ≡ steps_of sentences
+  pub lines : script.lines.items ≡ line_numbers_of sentences
+
+-- the whole text keeps the rules, and this is what it says
+abbrev pub IsScript : List ℕ → Script → Type 0
+IsScript text script = (sentences : List SentenceView) × Reads text sentences [] × Holds script sentences
+
+-- a line that begins as the line of a peer
+abbrev pub BeginsAsPeer : List ℕ → Type 0
+BeginsAsPeer line = (declaration : List ℕ) × (line ≡ codes "peer " ++ declaration)
+
+-- a line that begins as the line of a tape
+abbrev pub BeginsAsTape : List ℕ → Type 0
+BeginsAsTape line = (text : List ℕ) × (line ≡ codes "tape " ++ text)
+
+-- a line says nothing that a line may say
+abbrev pub SaysNone : List ℕ → Type 0
+SaysNone line = (said : SentenceView) → Says line said → ⊥
+
+-- why a line may not stand behind these sentences
+abbrev pub IsWhyLine : List SentenceView → (line : List ℕ) → Reason → Type 0
+IsWhyLine before line NoStep = (BeginsAsPeer line → ⊥) × (BeginsAsTape line → ⊥) × SaysNone line
+IsWhyLine before line NoPeer = BeginsAsPeer line × SaysNone line
+IsWhyLine before line PeerBehindStep = (peer : Settings) × Says line (Declares peer) × (steps_of before ≢ [])
+IsWhyLine before line DeclaredTwice =
+    (peer : Settings) × Says line (Declares peer) × (steps_of before ≡ []) × Contains (names_of before) peer.name
+IsWhyLine before line NoTape = BeginsAsTape line × SaysNone line
+IsWhyLine before line TapeBehindStep =
+    (name octets : List ℕ) × Says line (Gives name octets) × (steps_of before ≢ [])
+IsWhyLine before line NoPeerOfTape =
+    (name octets : List ℕ) × Says line (Gives name octets) × (steps_of before ≡ [])
+    × (Contains (names_of before) name → ⊥)
+IsWhyLine before line TapeTwice =
+    (name octets : List ℕ) × Says line (Gives name octets) × (steps_of before ≡ []) × Contains (names_of before) name
+    × (tape_of before name ≢ None)
+IsWhyLine before line Unended = ⊥
+
+-- the first line of what is left breaks the rules for this reason
+abbrev pub FirstBreaks : List SentenceView → (left : List ℕ) → Reason → Type 0
+FirstBreaks before left reason =
+    (line behind : List ℕ) × BeginsWithLine left line behind × IsWhyLine before (without_cr line) reason
+
+-- why the first line of what is left breaks the rules, or the octets behind the last LF
+abbrev pub IsWhy : List SentenceView → (left : List ℕ) → Reason → Type 0
+IsWhy before left NoStep = FirstBreaks before left NoStep
+IsWhy before left NoPeer = FirstBreaks before left NoPeer
+IsWhy before left PeerBehindStep = FirstBreaks before left PeerBehindStep
+IsWhy before left DeclaredTwice = FirstBreaks before left DeclaredTwice
+IsWhy before left NoTape = FirstBreaks before left NoTape
+IsWhy before left TapeBehindStep = FirstBreaks before left TapeBehindStep
+IsWhy before left NoPeerOfTape = FirstBreaks before left NoPeerOfTape
+IsWhy before left TapeTwice = FirstBreaks before left TapeTwice
+IsWhy before left Unended = (left ≢ []) × IsUnended left
+
+-- The line at this line number, from 1, is the first that breaks the rules, and this is why.
+pub record BreaksAt (text : List ℕ) (line_number : ℕ) (reason : Reason) : Type 0 where
+  pub sentences : List SentenceView
+  pub left : List ℕ
+  pub reads : Reads text sentences left
+  pub at : line_number ≡ length sentences + 1
+  pub why : IsWhy sentences left reason
+
+abbrev pub IsFirstBroken : List ℕ → ℕ → Type 0
+IsFirstBroken text line_number = (reason : Reason) × BreaksAt text line_number reason
+
+-- the answer names this line
+abbrev pub NamesLine : Result Script ScriptFault → ℕ → Type 0
+NamesLine answer line_number = (reason : Reason) × (answer ≡ Err (Broken line_number reason))
+
+-- a fault that names a line names the first broken one, and says why it is
+abbrev pub IsToldOf : List ℕ → ScriptFault → Type 0
+IsToldOf text (Broken line_number reason) = BreaksAt text line_number reason
+IsToldOf text NoMemory = Unit {0}

@@ -1,0 +1,63 @@
+// Drill scripts (docs/FORMATS.md).
+ghost use Rattle.std.specs.Prelude.{◌≡◌, ◌≢◌, ◌↔◌, ℕ, Err, IfErr, IfOk, IsOk, length};
+ghost use Rattle.std.specs.List.{IsDistinct};
+ghost use Rattle.std.specs.Str.{bytes_eq};
+ghost use Rattle.drill_script.specs.Script.{IsFirstBroken, IsScript, IsToldOf, KeepsRules, NamesLine};
+ghost use Rattle.drill_script.specs.declared.fault.ScriptFault.TheVariants.{NoMemory};
+ghost use Rattle.world_core.specs.Given.{given_names};
+
+use crate::draft::Draft;
+use crate::fault::{Reason, ScriptFault};
+use feed_conf::PeerConf;
+use funnel::{first_line, without_cr};
+use std::alloc::Global;
+use world_core::Step;
+
+/// A script that keeps its rules.
+#[derive(Drop)]
+pub struct Script {
+    /// The peers, in byte order of their names, each with what the first disk of its tape holds before the first step.
+    pub peers: Vec<(PeerConf, Vec<u8>)>,
+    /// The steps, in order.
+    pub steps: Vec<Step>,
+    /// The line number of each step's line among all lines, from 1.
+    pub lines: Vec<usize>,
+}
+
+/// Reads a script. Each of its lines ends with LF, and one CR before that is dropped.
+///
+/// # Errors
+/// `Broken` at the first line that breaks the rules, the octets behind the last LF among the lines; `NoMemory`.
+pub fn read_script(alloc: Global, text: &[u8]) -> Result<Script, ScriptFault>
+    // What a script says.
+    ensures ok { IfOk result (IsScript text.now) }
+    // The names of its peers differ.
+    ensures distinct { IfOk result (λ script. IsDistinct bytes_eq
+        (given_names script.peers.items)) }
+    // Each step has its line.
+    ensures placed { IfOk result
+        (λ script. length script.lines.items ≡ length script.steps.items) }
+    // Which line a fault names, and why.
+    ensures broken { IfErr result (IsToldOf text.now) }
+    // Memory aside, each of the two comes exactly where it should.
+    ensures keeps { result ≢ Err NoMemory → IsOk result ↔ KeepsRules text.now }
+    ensures first { (line : ℕ) → result ≢ Err NoMemory
+        → NamesLine result line ↔ IsFirstBroken text.now line }
+{
+    let mut draft = Draft::new(alloc);
+    let mut rest = text;
+    let mut line_number = 1;
+    while let Some((line, more)) = first_line(rest) {
+        draft.add(alloc, line_number, without_cr(line))?;
+        rest = more;
+        line_number += 1;
+    }
+    if !rest.is_empty() {
+        return Err(ScriptFault::Broken {
+            line: line_number,
+            reason: Reason::Unended,
+        });
+    }
+    let script = draft.finish(alloc)?;
+    Ok(script)
+}

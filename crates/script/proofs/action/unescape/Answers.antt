@@ -1,8 +1,0 @@
-use Rattle.std.proofs.Common.{◌≡◌, length, arith}
-use Rattle.script.proofs.Writing.{read_all}
-use Rattle.script.proofs.action.unescape.Goals as goal
-
-pub returns : goal.returns
-returns c =
-    let none : length c.loop-rest.rest.now ≡ 0 = grind arith in
-    read_all c.args.written.now c.loop-rest.rest.now c.loop-rest.text.items none c.loop-rest.invariant.from

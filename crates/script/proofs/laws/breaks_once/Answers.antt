@@ -1,8 +1,0 @@
-use Rattle.script.proofs.Ends.{never, once}
-use Rattle.script.proofs.laws.breaks_once.Goals as goal
-
-pub returns-clause-never : goal.returns-clause-never
-returns-clause-never c = never
-
-pub returns-clause-once : goal.returns-clause-once
-returns-clause-once c = once
