@@ -3,7 +3,6 @@ use Rattle.std.proofs.Common.{◌≡◌, ◌≢◌, ◌+◌, ◌<◌, ◌++◌, 
 use Rattle.std.proofs.Common.{sym, subst, ap, ◌∙◌, arith, Result, Ok, Err, IfOk}
 use Rattle.std.specs.Prelude.{flat_map, slice_index_or}
 use Rattle.std.proofs.lemmas.Option.{slice_get-get_or, slice_get_within}
-use Rattle.feed_conf.specs.declared.conf.PeerConf.{PeerConf}
 use Rattle.ledger_core.specs.declared.ledger.Totals.{Totals}
 use Rattle.drill_script.specs.Script.{IsScript}
 use Rattle.drill_script.specs.declared.read.Script.{Script}
@@ -122,6 +121,7 @@ module _ (script : Script) (world later : World) (fault : WorldFault) (printed :
         later = refused.later;
         refuses = refused.refuses;
         safe = refused.safe;
+        sound = refused.stands.sound;
         prints = prints
             ∙ ap (λ (s : ℕ). steps_text (said_by fault.lines.items) ++ refused_text s fault.kind) refused.numbered;
       }

@@ -10,7 +10,7 @@ use Rattle.world_core.specs.Given.{GivenPeer, IsGiven, RefusesFirst, given_names
 use Rattle.world_core.specs.Past.{Life}
 use Rattle.world_core.specs.Runs.{RefusesStep, Runs}
 use Rattle.world_core.specs.Safe.{IsSafe}
-use Rattle.world_core.specs.Sound.{NamesRise}
+use Rattle.world_core.specs.Sound.{IsSoundLife, NamesRise}
 use Rattle.world_core.specs.Stands.{counts_of}
 use Rattle.world_core.specs.Told.{Said}
 use Rattle.world_core.specs.declared.fault.Fault.{Fault}
@@ -56,6 +56,7 @@ pub record WasRefused (script : Script) (printed : List ℕ) (line : ℕ) (fault
   pub later : Life
   pub refuses : RefusesStep step mid fault later
   pub safe : IsSafe later.past
+  pub sound : IsSoundLife later
   pub prints : printed ≡ steps_text lines ++ refused_text (index + 1) fault
 
 -- there was no memory for a step, for what all of them tell, or for the tapes, of which nothing is printed

@@ -2,10 +2,12 @@
 //!
 //! May touch the reader and the writer that it is given and nothing else; it stands on `drill_script` for what is read
 //! and on `world_core` for what is run. The crates above use `run_script` (docs/FORMATS.md): what is printed and how a
-//! drill ends is said of the script that the text is and of the run of its steps (`specs/Drill.antt`).
+//! drill ends is said of the script that the text is and of the run of its steps (`specs/Drill.antt`). The laws of
+//! whole runs hold of each drill (`laws`).
 #![tactic(auto)]
 
 mod ending;
+pub mod laws;
 mod play;
 mod print;
 mod runner;

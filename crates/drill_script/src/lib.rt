@@ -11,14 +11,12 @@ mod action;
 mod arming;
 mod draft;
 mod fault;
-mod import;
 pub mod laws;
 mod numbers;
 mod peer;
 mod read;
 mod sentence;
 mod step;
-mod tape;
 mod words;
 
 pub use fault::{Reason, ScriptFault};

@@ -3,9 +3,10 @@ ghost use Rattle.std.specs.Prelude.{IfOk, MatchOption};
 ghost use Rattle.drill_script.specs.Line.{Says, SentenceView};
 ghost use Rattle.drill_script.specs.Sentence.{sentence_view};
 
+use crate::action::octets_of;
 use crate::peer::read_peer;
 use crate::step::read_step;
-use crate::tape::read_tape;
+use crate::words::split_name;
 use feed_conf::PeerConf;
 use funnel::PeerName;
 use std::alloc::{AllocError, Global};
@@ -43,8 +44,11 @@ pub fn read_sentence(alloc: Global, line: &[u8]) -> Result<Option<Sentence>, All
         };
     }
     if let Some(text) = line.strip_prefix(b"tape ") {
-        return match read_tape(alloc, text)? {
-            Some((name, octets)) => Ok(Some(Sentence::Tape(name, octets))),
+        let Some((name, digits)) = split_name(alloc, text)? else {
+            return Ok(None);
+        };
+        return match octets_of(alloc, digits)? {
+            Some(octets) => Ok(Some(Sentence::Tape(name, octets))),
             None => Ok(None),
         };
     }

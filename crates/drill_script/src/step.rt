@@ -5,11 +5,10 @@ ghost use Rattle.drill_script.specs.Line.{SaysStep};
 ghost use Rattle.drill_script.specs.Parts.{SaysNoneBehind, SaysOn, StepOf};
 ghost use Rattle.drill_script.specs.Step.{StepView, Stops, step_view};
 
-use crate::action::Action;
+use crate::action::{Action, unescape};
 use crate::arming::Arming;
-use crate::import::read_import;
 use crate::numbers::read_number;
-use crate::words::split_word;
+use crate::words::{split_name, split_word};
 use disk_model::Choice;
 use funnel::PeerName;
 use std::alloc::{AllocError, Global};
@@ -103,8 +102,11 @@ fn step_behind(alloc: Global, word: &[u8], rest: &[u8]) -> Result<Option<Step>, 
     if word != b"import".as_slice() {
         return step_on(alloc, word, rest);
     }
-    match read_import(alloc, rest)? {
-        Some((peer, text)) => Ok(Some(Step::Import { peer, text })),
+    let Some((peer, written)) = split_name(alloc, rest)? else {
+        return Ok(None);
+    };
+    match unescape(alloc, written)? {
+        Some(text) => Ok(Some(Step::Import { peer, text })),
         None => Ok(None),
     }
 }

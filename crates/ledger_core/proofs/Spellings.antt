@@ -1,7 +1,7 @@
 -- No two notes have one spelling.
 use Rattle.std.proofs.Common.{false, true, ◌==◌, Option, None, IsSome, is_some, ◌≡◌, ℕ, zero, suc, ◌<◌, ◌≤◌}
 use Rattle.std.proofs.Common.{◌+◌, ◌*◌, ◌^◌, List, [], ◌∷◌, ◌++◌, length, get_or, take, drop, IsTrue, refl, sym, ap}
-use Rattle.std.proofs.Common.{◌∙◌, arith, length-take}
+use Rattle.std.proofs.Common.{◌∙◌, subst, arith, length-take}
 use Rattle.std.proofs.lemmas.List.{append-nil, append_assoc, nil_from_length, take-append-drop}
 use Rattle.std.specs.Int.{to_be_bytes, from_be_bytes, w16, w32, w64}
 use Rattle.std.proofs.lemmas.Nat.{be_bytes_2, be_bytes_4, be_bytes_8}
@@ -21,6 +21,24 @@ pub owe-none : (key other : ℕ) (octets behind token id : List ℕ) → IsKey k
 owe-none key other octets behind token id is is' split e =
     let parts = key-apart 1 6 other key (sized_text token ++ sized_text id) behind (λ e. omega (arith, e)) is' is (e ∙ split) in
     (parts.0, sym parts.1)
+
+-- no other texts spell an Owe
+pub owe-same : (key other : ℕ) (token id text text' octets : List ℕ) → IsKey key → IsKey other
+    → octets ≡ spelling (Owe key token id) → spelling (Owe other text text') ≡ octets
+    → (other ≡ key) × (token ≡ text) × (id ≡ text')
+owe-same key other token id text text' octets is is' e e' =
+    let parts = owe-none key other octets (sized_text token ++ sized_text id) text text' is is' e e' in
+    let first = sized-apart token text (sized_text id) (sized_text text') parts.1 in
+    let second = sized-apart id text' [] []
+    (append-nil (sized_text id) ∙ first.1 ∙ sym (append-nil (sized_text text'))) in
+    (parts.0, first.0, second.0)
+
+-- an Owe of a key is one of the same key
+pub spelled-of : (octets : List ℕ) (key other : ℕ) (token id : List ℕ) → other ≡ key
+    → IsNote (Owe key token id) × (octets ≡ spelling (Owe key token id))
+    → IsNote (Owe other token id) × (octets ≡ spelling (Owe other token id))
+spelled-of octets key other token id is found =
+    subst (λ (k : ℕ). IsNote (Owe k token id) × (octets ≡ spelling (Owe k token id))) (sym is) found
 
 -- an Owe is spelled by its two texts
 pub owe-some : (key : ℕ) (octets behind text rest text' more token id : List ℕ) → IsKey key

@@ -138,13 +138,16 @@ front-apart one other x y a b e =
 pub together-rest : (read all : List Note) (rest : List ℕ) → AreNotes read → AreNotes all → length read ≤ length all
     → together all ≡ together read ++ rest
     → (more : List Note) × AreNotes more × (together more ≡ rest) × (length all ≡ length read + length more)
-together-rest [] all rest a b few e = (all, b, e, omega arith)
+    × (all ≡ read ++ more)
+together-rest [] all rest a b few e = (all, b, e, omega arith, refl)
 together-rest (note ∷ read) [] rest a b few e = absurd (omega (arith, few))
 together-rest (note ∷ read) (other ∷ all) rest a b few e =
     let parts = front-apart other note (together all) (together read ++ rest) b.0 a.0
     (e ∙ append_assoc (spelling note) (together read) rest) in
     let left = together-rest read all rest a.1 b.1 (omega (arith, few)) parts.1 in
-    (left.0, left.1, left.2, omega (arith, left.3))
+    let whole : other ∷ all ≡ note ∷ (read ++ left.0) =
+    ap (λ (n : Note). n ∷ all) parts.0 ∙ ap (λ (l : List Note). note ∷ l) left.4 in
+    (left.0, left.1, left.2, omega (arith, left.3), whole)
 
 -- ---- one spelling a batch
 

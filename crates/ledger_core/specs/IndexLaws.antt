@@ -103,6 +103,22 @@ found-among kept payloads at slot within front note behind stands is = record {
   };
 }
 
+-- and so do octets of several behind those before them
+pub found-inside : (kept : ℕ) (payloads : List (List ℕ)) (at slot within count : ℕ) (before octets behind : List ℕ)
+    → StandsAt kept payloads at slot (11 ∷ (to_be_bytes w32 count ++ (before ++ (octets ++ behind))))
+    → within ≡ length before → IsFound kept payloads at slot within octets
+found-inside kept payloads at slot within count before octets behind stands is = record {
+  payload = 11 ∷ (to_be_bytes w32 count ++ (before ++ (octets ++ behind)));
+  stands = stands;
+  inside = record {
+    before = before;
+    behind = behind;
+    split = refl;
+    within_is = is;
+    headed = inr (to_be_bytes w32 count ++ (before ++ (octets ++ behind)), refl);
+  };
+}
+
 -- a note stands where it is found
 pub placed : (kept : ℕ) (payloads : List (List ℕ)) (at slot within : ℕ) (note : Note)
     → IsFound kept payloads at slot within (spelling note) → IsPlaced kept payloads at slot within note

@@ -51,22 +51,10 @@ pub fn decode_batch(alloc: Global, octets: &[u8]) -> Result<Option<Vec<Note>>, A
         (λ o. IfSome o (λ v. AreSeveral v.items × (octets.now ≡ batch_spelling v.items))) }
     ensures none { IfOk result (λ o. IfNone o (SpellsNoBatch octets.now)) }
 {
-    if octets.len() > LONGEST_BATCH {
-        return Ok(None);
+    match several_in(octets) {
+        Some((count, body)) => notes_in(alloc, count, body),
+        None => Ok(None),
     }
-    let Some((tag, rest)) = octets.split_first() else {
-        return Ok(None);
-    };
-    if *tag != BATCH {
-        return Ok(None);
-    }
-    let Some((count, body)) = count_at(rest) else {
-        return Ok(None);
-    };
-    if count < 2 {
-        return Ok(None);
-    }
-    notes_in(alloc, count, body)
 }
 
 /// Several notes have one payload, and no other list of notes has it.
@@ -196,6 +184,28 @@ fn count_at(octets: &[u8]) -> Option<(u32, &[u8])>
     Some((u32::from_be_bytes(*count), rest))
 }
 
+// How many notes a payload says that it has, if that is several, and the octets that it has for them.
+pub(crate) fn several_in(payload: &[u8]) -> Option<(u32, &[u8])>
+    ensures some { IfSome result
+        (λ found. payload.now ≡ 11 ∷ (to_be_bytes w32 found.0 ++ found.1.now)) }
+    ensures several { IfSome result (λ found. (2 ≤ found.0) × (found.0 < 2 ^ 32)) }
+    ensures fits { IfSome result (λ found. length found.1.now + 5 ≤ longest_batch) }
+    ensures none { IfNone result (SpellsNoBatch payload.now) }
+{
+    if payload.len() > LONGEST_BATCH {
+        return None;
+    }
+    let (tag, rest) = payload.split_first()?;
+    if *tag != BATCH {
+        return None;
+    }
+    let (count, body) = count_at(rest)?;
+    if count < 2 {
+        return None;
+    }
+    Some((count, body))
+}
+
 // The notes that these octets are, so many, one after another.
 fn notes_in(alloc: Global, count: u32, octets: &[u8]) -> Result<Option<Vec<Note>>, AllocError>
     ensures some { IfOk result (λ o. IfSome o (λ v. AreNotes v.items × (length v.items ≡ count)
@@ -226,13 +236,22 @@ fn first_note(alloc: Global, octets: &[u8]) -> Result<Option<(Note, &[u8])>, All
     ensures none { IfOk result (λ o. IfNone o ((note : Note) (behind : List ℕ) → IsNote note
         → octets.now ≡ spelling note ++ behind → ⊥)) }
 {
-    let Some((front, behind)) = octets.split_at_checked(front_len(octets)) else {
+    let Some((front, behind)) = first_in(octets) else {
         return Ok(None);
     };
     match decode(alloc, front)? {
         Some(note) => Ok(Some((note, behind))),
         None => Ok(None),
     }
+}
+
+// The octets of the note that stands first, if one does, and what is behind them.
+pub(crate) fn first_in(octets: &[u8]) -> Option<(&[u8], &[u8])>
+    ensures parts { IfSome result (λ found. octets.now ≡ found.0.now ++ found.1.now) }
+    ensures first { (note : Note) (behind : List ℕ) → octets.now ≡ spelling note ++ behind
+        → IsSome result × IfSome result (λ found. found.0.now ≡ spelling note) }
+{
+    octets.split_at_checked(front_len(octets))
 }
 
 // How long the note is that stands first, by its tag and the lengths of its texts; 0 if none does.

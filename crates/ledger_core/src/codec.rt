@@ -8,11 +8,12 @@ ghost use Rattle.ledger_core.specs.declared.note.Cause.{Cause};
 ghost use Rattle.ledger_core.specs.declared.note.FinalCode.{FinalCode};
 ghost use Rattle.ledger_core.specs.Note.{IsNote, IsNumber};
 ghost use Rattle.ledger_core.specs.Keys.{IsKey, key_of};
-ghost use Rattle.ledger_core.specs.Spelling.{SpellsNothing, SpellsOwe, head, key_head, sized_text, spelling};
+ghost use Rattle.ledger_core.specs.Spelling.{SpellsNoOther, SpellsNoOwe, SpellsNothing, SpellsOwe};
+ghost use Rattle.ledger_core.specs.Spelling.{head, key_head, sized_text, spelling};
 
 use crate::key::Key;
 use crate::note::{Cause, FinalCode, Note};
-use funnel::{MsgId, Token};
+use funnel::{Form, MsgId, MsgIdForm, Token, TokenForm};
 use std::alloc::{AllocError, Global};
 
 /// The one spelling of a note, in one allocation of its size.
@@ -37,16 +38,9 @@ pub fn decode(alloc: Global, octets: &[u8]) -> Result<Option<Note>, AllocError>
         (λ o. IfSome o (λ note. IsNote note × (octets.now ≡ spelling note))) }
     ensures none { IfOk result (λ o. IfNone o (SpellsNothing octets.now)) }
 {
-    let Some((tag, _)) = octets.split_first() else {
-        return Ok(None);
-    };
-    match *tag {
-        1 | 6 => owe_of(alloc, octets),
-        2 | 7 => Ok(final_of(octets)),
-        3 | 8 => Ok(drop_of(octets)),
-        5 => Ok(seen_of(octets)),
-        9 => Ok(closed_of(octets)),
-        _ => Ok(None),
+    match other_of(octets) {
+        Some(note) => Ok(Some(note)),
+        None => owe_of(alloc, octets),
     }
 }
 
@@ -268,25 +262,48 @@ fn sized_at(octets: &[u8]) -> Option<(&[u8], &[u8])>
     rest.split_at_checked(usize::from(*len))
 }
 
+// The source and the number of the key of the debt that these octets owe, if they spell an Owe, and its texts. It takes
+// no memory.
+pub(crate) fn owed_of(octets: &[u8]) -> Option<(u32, u64, &[u8], &[u8])>
+    ensures some { IfSome result
+        (λ owed. IsNote (Note.Owe (key_of owed.0 owed.1) owed.2.now owed.3.now)
+        × (octets.now ≡ spelling (Note.Owe (key_of owed.0 owed.1) owed.2.now owed.3.now))) }
+    ensures none { IfNone result (SpellsNoOwe octets.now) }
+{
+    let (source, number, token, id) = owe_parts(octets)?;
+    if !TokenForm::holds(token) {
+        return None;
+    }
+    if !MsgIdForm::holds(id) {
+        return None;
+    }
+    Some((source, number, token, id))
+}
+
+// The note that these octets spell if it is no Owe. It takes no memory.
+pub(crate) fn other_of(octets: &[u8]) -> Option<Note>
+    ensures some { IfSome result (λ note. IsNote note × (octets.now ≡ spelling note)) }
+    ensures none { IfNone result (SpellsNoOther octets.now) }
+{
+    let (tag, _) = octets.split_first()?;
+    match *tag {
+        2 | 7 => final_of(octets),
+        3 | 8 => drop_of(octets),
+        5 => seen_of(octets),
+        9 => closed_of(octets),
+        _ => None,
+    }
+}
+
 fn owe_of(alloc: Global, octets: &[u8]) -> Result<Option<Note>, AllocError>
     ensures some { IfOk result
         (λ o. IfSome o (λ note. IsNote note × (octets.now ≡ spelling note))) }
-    ensures none { IfOk result (λ o. IfNone o ((key : ℕ) (token id : List ℕ)
-        → IsNote (Note.Owe key token id) → spelling (Note.Owe key token id) ≡ octets.now → ⊥)) }
+    ensures none { IfOk result (λ o. IfNone o (SpellsNoOwe octets.now)) }
 {
-    let Some((source, number, rest)) = key_at(octets, 1, 6) else {
+    let Some((source, number, token, id)) = owe_parts(octets) else {
         return Ok(None);
     };
     let key = Key::new(source, number);
-    let Some((token, rest)) = sized_at(rest) else {
-        return Ok(None);
-    };
-    let Some((id, rest)) = sized_at(rest) else {
-        return Ok(None);
-    };
-    if !rest.is_empty() {
-        return Ok(None);
-    }
     let Some(token) = Token::read(alloc, token)? else {
         return Ok(None);
     };
@@ -294,6 +311,22 @@ fn owe_of(alloc: Global, octets: &[u8]) -> Result<Option<Note>, AllocError>
         return Ok(None);
     };
     Ok(Some(Note::Owe { key, token, id }))
+}
+
+// The source and the number of the key of an Owe and its two texts, whatever octets they are.
+fn owe_parts(octets: &[u8]) -> Option<(u32, u64, &[u8], &[u8])>
+    ensures some { IfSome result (λ parts. IsKey (key_of parts.0 parts.1)
+        × (octets.now ≡ spelling (Note.Owe (key_of parts.0 parts.1) parts.2.now parts.3.now))) }
+    ensures none { IfNone result ((key : ℕ) (token id : List ℕ) → IsKey key
+        → spelling (Note.Owe key token id) ≡ octets.now → ⊥) }
+{
+    let (source, number, rest) = key_at(octets, 1, 6)?;
+    let (token, rest) = sized_at(rest)?;
+    let (id, rest) = sized_at(rest)?;
+    if !rest.is_empty() {
+        return None;
+    }
+    Some((source, number, token, id))
 }
 
 fn final_of(octets: &[u8]) -> Option<Note>

@@ -8,8 +8,8 @@ ghost use Rattle.ledger_core.specs.Faults.{ledger_fault_name};
 ghost use Rattle.ledger_core.specs.Spots.{debts_of, lacking};
 ghost use Rattle.ledger_core.specs.State.{IsPast, import_count, imports_in, keys_in, line_octets, octets_of_debts};
 
-use crate::batch::decode_batch;
-use crate::codec::{decode, spelled_len};
+use crate::batch::{first_in, several_in};
+use crate::codec::{other_of, owed_of};
 use crate::key::Key;
 use crate::marks::Marks;
 use crate::note::Note;
@@ -137,16 +137,18 @@ impl Ledger {
     ghost use Rattle.ledger_core.specs.declared.note.FinalCode.{FinalCode};
     ghost use Rattle.ledger_core.specs.declared.note.Cause.{Cause};
     ghost use Rattle.ledger_core.specs.declared.note.Note.{Note};
-    ghost use Rattle.ledger_core.specs.Batch.{AreSeveral, IsBatch, batch_spelling, payload_of};
-    ghost use Rattle.ledger_core.specs.Note.{IsOwe};
-    ghost use Rattle.ledger_core.specs.Replay.{Leaves, LeavesFrom, SpellsNoLegal, StopsAt};
+    ghost use Rattle.ledger_core.specs.Batch.{IsBatch, longest_batch, payload_of};
+    ghost use Rattle.ledger_core.specs.Note.{IsNote, IsOwe};
+    ghost use Rattle.ledger_core.specs.Replay.{AreLegalIn, Leaves, LeavesFrom, SpellsNoLegal, StopsAt};
     ghost use Rattle.ledger_core.specs.Replay.{StopsFrom};
+    ghost use Rattle.ledger_core.specs.Spelling.{spelling};
     ghost use Rattle.ledger_core.specs.State.{State, AllLegal, IsLegal, IsOld, IsOwed, LacksDebt, Overflows, Owing};
     ghost use Rattle.ledger_core.specs.State.{after, keys, marks_of, start, step};
     ghost use Rattle.ledger_core.specs.Index.{Indexes, IsSpotOf, debt_at};
     ghost use Rattle.ledger_core.specs.Ledger.{IsApplied, IsJudged, Puts, state_of, totals_of};
     ghost use Rattle.ledger_core.specs.Spots.{Follows, IsPlaced, StandsAt};
-    ghost use Rattle.std.specs.Prelude.{◌++◌, List, None, map, vec_items};
+    ghost use Rattle.std.specs.Int.{to_be_bytes, w32};
+    ghost use Rattle.std.specs.Prelude.{◌∷◌, ◌++◌, List, None, map, vec_items};
 
     /// The ledger of no note.
     pub fn new(alloc: Global) -> Self
@@ -341,14 +343,13 @@ impl Ledger {
         ensures indexes { IfOk result (Indexes (length payloads.now) (map vec_items payloads.now)) }
     {
         let mut ledger = Ledger::new(alloc);
-        ledger.apply_payloads(alloc, 0, 0, payloads)?;
+        ledger.apply_payloads(0, 0, payloads)?;
         Ok(ledger)
     }
 
     // Takes the notes that these payloads spell, of which the first has this index, and its record this offset.
     pub(crate) fn apply_payloads(
         &mut self,
-        alloc: Global,
         first: usize,
         offset: u64,
         payloads: &[Vec<u8>],
@@ -370,16 +371,16 @@ impl Ledger {
     {
         let mut at = offset;
         for (index, payload) in payloads.iter().enumerate() {
-            self.apply_payload(alloc, first + index, at, payload)?;
+            self.apply_payload(first + index, at, payload)?;
             at = offset_behind(at, payload);
         }
         Ok(())
     }
 
-    // Takes the notes that the payload at this index spells, whose record is at this offset.
+    // Takes the notes that the payload at this index spells, whose record is at this offset; some of those of a batch
+    // if it is refused. No text is copied.
     pub(crate) fn apply_payload(
         &mut self,
-        alloc: Global,
         index: usize,
         at: u64,
         payload: &[u8],
@@ -394,36 +395,107 @@ impl Ledger {
             → StandsAt kept payloads at 0 payload.now
             → OnOk result (Indexes kept payloads self.new) }
     {
-        if let Some(notes) = decode_batch(alloc, payload)? {
-            return self.apply_several(index, at, &notes);
+        match several_in(payload) {
+            Some((count, body)) => self.apply_several(index, at, count, body),
+            None => self.apply_octets(index, at, 0, payload),
         }
-        let Some(note) = decode(alloc, payload)? else {
-            return Err(ReplayFault::Refused { index });
-        };
-        self.apply_note(index, at, 0, &note)
     }
 
-    // Takes the notes of the batch at this index, whose record is at this offset; some of them if it is refused.
-    fn apply_several(&mut self, index: usize, at: u64, notes: &[Note]) -> Result<(), ReplayFault>
-        requires { AreSeveral notes.now }
-        ensures ok { OnOk result (AllLegal (state_of self.old) notes.now
-            × (state_of self.new ≡ after (state_of self.old) notes.now)) }
-        ensures refused { (told : ℕ) → IsErrOf result (ReplayFault.Refused told)
-            → (told ≡ index) × (AllLegal (state_of self.old) notes.now → ⊥) }
+    // Takes so many notes, which are these octets of the batch at this index, whose record is at this offset.
+    fn apply_several(
+        &mut self,
+        index: usize,
+        at: u64,
+        count: u32,
+        body: &[u8],
+    ) -> Result<(), ReplayFault>
+        requires fits { length body.now + 5 ≤ longest_batch }
+        ensures ok { OnOk result ((notes : List Note)
+            × AreLegalIn (state_of self.old) count body.now notes
+            × (state_of self.new ≡ after (state_of self.old) notes)) }
+        ensures refused { (told : ℕ) → IsErrOf result (ReplayFault.Refused told) → (told ≡ index)
+            × ((notes : List Note) → AreLegalIn (state_of self.old) count body.now notes → ⊥) }
         ensures indexes { (kept : ℕ) (payloads : List (List ℕ)) → Indexes kept payloads self.old
-            → StandsAt kept payloads at 0 (batch_spelling notes.now)
+            → StandsAt kept payloads at 0 (11 ∷ (to_be_bytes w32 count ++ body.now))
             → OnOk result (Indexes kept payloads self.new) }
     {
-        let mut within = 0;
-        for note in notes {
-            self.apply_note(index, at, within as u16, note)?;
-            within += spelled_len(note);
+        let mut rest = body;
+        for _ in 0..count {
+            let Some((note, behind)) = first_in(rest) else {
+                return Err(ReplayFault::Refused { index });
+            };
+            let within = body.len() - rest.len();
+            self.apply_octets(index, at, within as u16, note)?;
+            rest = behind;
         }
-        Ok(())
+        if rest.is_empty() {
+            Ok(())
+        } else {
+            Err(ReplayFault::Refused { index })
+        }
+    }
+
+    // Takes the note that these octets of the payload at this index spell, whose record is at this offset, after so
+    // many octets of other notes.
+    fn apply_octets(
+        &mut self,
+        index: usize,
+        at: u64,
+        within: u16,
+        octets: &[u8],
+    ) -> Result<(), ReplayFault>
+        ensures ok { OnOk result ((note : Note) × IsNote note × (octets.now ≡ spelling note)
+            × IsLegal (state_of self.old) note
+            × (state_of self.new ≡ step (state_of self.old) note)) }
+        ensures refused { (told : ℕ) → IsErrOf result (ReplayFault.Refused told) → (told ≡ index)
+            × ((note : Note) → IsNote note → spelling note ≡ octets.now
+            → IsLegal (state_of self.old) note → ⊥) }
+        ensures indexes { (kept : ℕ) (payloads : List (List ℕ)) → Indexes kept payloads self.old
+            → ((note : Note) → spelling note ≡ octets.now → IsPlaced kept payloads at 0 within note)
+            → OnOk result (Indexes kept payloads self.new) }
+    {
+        if let Some((source, number, token, id)) = owed_of(octets) {
+            let key = Key::new(source, number);
+            return self.owe_read(index, at, within, key, token, id);
+        }
+        match other_of(octets) {
+            Some(note) => self.apply_note(index, at, within, &note),
+            None => Err(ReplayFault::Refused { index }),
+        }
+    }
+
+    // Takes the note that owes a debt, as `apply_note` does.
+    fn owe_read(
+        &mut self,
+        index: usize,
+        at: u64,
+        within: u16,
+        key: Key,
+        token: &[u8],
+        id: &[u8],
+    ) -> Result<(), ReplayFault>
+        requires token { length token.now ≤ 255 }
+        requires id { length id.now ≤ 255 }
+        ensures ok { OnOk result
+            (IsLegal (state_of self.old) (Note.Owe key token.now id.now)
+            × (state_of self.new
+            ≡ step (state_of self.old) (Note.Owe key token.now id.now))) }
+        ensures refused { (told : ℕ) → IsErrOf result (ReplayFault.Refused told)
+            → (told ≡ index)
+            × (IsLegal (state_of self.old) (Note.Owe key token.now id.now) → ⊥) }
+        ensures indexes { (kept : ℕ) (payloads : List (List ℕ)) → Indexes kept payloads self.old
+            → IsPlaced kept payloads at 0 within (Note.Owe key token.now id.now)
+            → OnOk result (Indexes kept payloads self.new) }
+    {
+        match self.owe_texts(key, token, id, at, 0, within) {
+            Ok(()) => Ok(()),
+            Err(LedgerFault::NoMemory) => Err(ReplayFault::NoMemory),
+            Err(_) => Err(ReplayFault::Refused { index }),
+        }
     }
 
     // Takes a note of the payload at this index, whose record is at this offset, after so many octets of other notes.
-    pub(crate) fn apply_note(
+    fn apply_note(
         &mut self,
         index: usize,
         at: u64,
@@ -458,7 +530,10 @@ impl Ledger {
         if self.taken == u64::MAX {
             return Err(LedgerFault::CountFull);
         }
-        match self.owed_bytes.checked_add(line_octets(token, id)) {
+        match self
+            .owed_bytes
+            .checked_add(line_octets(token.bytes(), id.bytes()))
+        {
             Some(_) => Ok(()),
             None => Err(LedgerFault::CountFull),
         }
@@ -522,6 +597,29 @@ impl Ledger {
         ensures stays { (kept : ℕ) (payloads : List (List ℕ)) → Indexes kept payloads self.old
             → OnErr result (Indexes kept payloads self.new) }
     {
+        self.owe_texts(key, token.bytes(), id.bytes(), at, slot, within)
+    }
+
+    // Takes the note that owes a debt of these texts, as `owe_at` does.
+    fn owe_texts(
+        &mut self,
+        key: Key,
+        token: &[u8],
+        id: &[u8],
+        at: u64,
+        slot: u32,
+        within: u16,
+    ) -> Result<(), LedgerFault>
+        requires token { length token.now ≤ 255 }
+        requires id { length id.now ≤ 255 }
+        ensures applied { IsApplied result (state_of self.old) (state_of self.new)
+            (Note.Owe key token.now id.now) }
+        ensures indexes { (kept : ℕ) (payloads : List (List ℕ)) → Indexes kept payloads self.old
+            → IsPlaced kept payloads at slot within (Note.Owe key token.now id.now)
+            → Indexes kept payloads self.new }
+        ensures stays { (kept : ℕ) (payloads : List (List ℕ)) → Indexes kept payloads self.old
+            → OnErr result (Indexes kept payloads self.new) }
+    {
         if !self.marks.is_next(key) {
             return Err(LedgerFault::OldNumber);
         }
@@ -534,12 +632,14 @@ impl Ledger {
         &mut self,
         marks: Marks,
         key: Key,
-        token: &Token,
-        id: &MsgId,
+        token: &[u8],
+        id: &[u8],
         at: u64,
         slot: u32,
         within: u16,
     ) -> Result<(), LedgerFault>
+        requires token { length token.now ≤ 255 }
+        requires id { length id.now ≤ 255 }
         requires absent { IsOwed (state_of self.old) key → ⊥ }
         requires past { IsPast marks key }
         requires others { (other : ℕ) → IsPast self.old.marks other → IsPast marks other }
@@ -631,10 +731,12 @@ impl Ledger {
 }
 
 // The octets of a line that names this article alone.
-fn line_octets(token: &Token, id: &MsgId) -> u64
+fn line_octets(token: &[u8], id: &[u8]) -> u64
+    requires token { length token.now ≤ 255 }
+    requires id { length id.now ≤ 255 }
     ensures { result ≡ line_octets token.now id.now }
 {
-    token.bytes().len() as u64 + id.bytes().len() as u64 + 2
+    token.len() as u64 + id.len() as u64 + 2
 }
 
 // How a debt of this key counts among those of no line of the funnel.

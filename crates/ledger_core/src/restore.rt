@@ -4,14 +4,12 @@ ghost use Rattle.std.specs.Prelude.{IsErrOf, IsTrue, MatchResult, OnOk, length};
 ghost use Rattle.ledger_core.specs.Base.{IsSound, base_spelling};
 
 use crate::base::Base;
-use crate::codec::decode;
+use crate::codec::owed_of;
 use crate::key::Key;
 use crate::ledger::LedgerFault;
 use crate::marks::Marks;
-use crate::note::Note;
 use crate::restoring::Restoring;
 use crate::{Ledger, ReplayFault};
-use funnel::{MsgId, Token};
 use std::alloc::Global;
 use std::collections::BTreeMap;
 
@@ -114,7 +112,6 @@ impl Ledger {
     // it is refused.
     pub(crate) fn take_debt(
         &mut self,
-        alloc: Global,
         index: usize,
         at: u64,
         payload: &[u8],
@@ -128,27 +125,23 @@ impl Ledger {
             → StandsAt kept payloads at 0 payload.now
             → OnOk result (Indexes kept payloads self.new) }
     {
-        let Some(note) = decode(alloc, payload)? else {
+        let Some((source, number, token, id)) = owed_of(payload) else {
             return Err(ReplayFault::Refused { index });
         };
-        match &note {
-            Note::Owe { key, token, id } => self.take_owed(*key, token, id, index, at),
-            Note::Final { .. } => Err(ReplayFault::Refused { index }),
-            Note::Drop { .. } => Err(ReplayFault::Refused { index }),
-            Note::Seen { .. } => Err(ReplayFault::Refused { index }),
-            Note::Closed { .. } => Err(ReplayFault::Refused { index }),
-        }
+        self.take_owed(Key::new(source, number), token, id, index, at)
     }
 
     // Takes the debt that was read at this index. Its record is at this offset.
     fn take_owed(
         &mut self,
         key: Key,
-        token: &Token,
-        id: &MsgId,
+        token: &[u8],
+        id: &[u8],
         index: usize,
         at: u64,
     ) -> Result<(), ReplayFault>
+        requires token { length token.now ≤ 255 }
+        requires id { length id.now ≤ 255 }
         requires few { self.old.taken + 1 < 2 ^ 64 }
         ensures ok { OnOk result (Fits (state_of self.old) (key, (token.now, id.now))
             × (state_of self.new ≡ owing_more (state_of self.old) (key, (token.now, id.now)))) }
@@ -181,11 +174,13 @@ impl Ledger {
     fn put_read(
         &mut self,
         key: Key,
-        token: &Token,
-        id: &MsgId,
+        token: &[u8],
+        id: &[u8],
         index: usize,
         at: u64,
     ) -> Result<(), ReplayFault>
+        requires token { length token.now ≤ 255 }
+        requires id { length id.now ≤ 255 }
         requires few { self.old.taken + 1 < 2 ^ 64 }
         requires absent { IsOwed (state_of self.old) key → ⊥ }
         requires past { IsPast self.old.marks key }

@@ -185,8 +185,7 @@ impl Restoring {
         ensures place { (self.new.index ≡ self.old.index) × (self.new.at ≡ self.old.at) }
     {
         let Some(base) = decode_base(payload) else {
-            self.ledger
-                .apply_payload(self.alloc, self.index, self.at, payload)?;
+            self.ledger.apply_payload(self.index, self.at, payload)?;
             self.stage = Stage::Begun {
                 generation: 0,
                 taken: 0,
@@ -222,11 +221,9 @@ impl Restoring {
             × (self.new.stage ≡ self.old.stage) }
     {
         if taken <= self.ledger.taken {
-            self.ledger
-                .apply_payload(self.alloc, self.index, self.at, payload)
+            self.ledger.apply_payload(self.index, self.at, payload)
         } else {
-            self.ledger
-                .take_debt(self.alloc, self.index, self.at, payload)
+            self.ledger.take_debt(self.index, self.at, payload)
         }
     }
 

@@ -8,6 +8,7 @@ use Rattle.ledger_core.specs.declared.note.Note.{Note}
 use Rattle.ledger_core.specs.declared.note.Note.TheVariants.{Drop}
 use Rattle.recovery.specs.Notes.{History, most_pending, noted_all}
 use Rattle.recovery.specs.Words.{IsFull, RotatesTooLong}
+use Rattle.recovery.specs.declared.flushed.Flushed.{Flushed}
 use Rattle.recovery.specs.declared.fault.TapeFault.TheVariants.{Disk, GenerationFull, PendingFull, TapeFull, Note as RefusedNote}
 use Rattle.conn_core.specs.declared.deferral.Deferral.{Deferral}
 use Rattle.peer_queue.specs.Faults.{IsClaimFault, IsFlushFault, IsOweFault, IsRotateFault}
@@ -37,7 +38,7 @@ module _ {D : Type 0} {g : Ghosts D} where
     pub limits : limits_of new ≡ limits_of old
 
   -- When a flush is refused, in the order in which it is tried, and what it leaves.
-  pub record RefusesFlush (old new : Station D g) (result : Result ℕ StationFault) : Type 0 where
+  pub record RefusesFlush (old new : Station D g) (result : Result Flushed StationFault) : Type 0 where
     pub broken : IsErrOf result Broken ↔ IsBroken old
     pub full : IsErrOf result (Tape TapeFull) ↔ ((IsBroken old → ⊥) × IsFull old.tape)
     -- all but Tape(Disk) change nothing

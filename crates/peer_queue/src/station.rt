@@ -1,9 +1,9 @@
 // Stations.
-ghost use Rattle.std.specs.Prelude.{◌≡◌, ◌≢◌, ◌+◌, ◌≤◌, ◌<◌, ◌^◌, ℕ};
+ghost use Rattle.std.specs.Prelude.{◌≡◌, ◌≢◌, ◌+◌, ◌≤◌, ◌<◌, ◌^◌, ℕ, None};
 ghost use Rattle.std.specs.List.{All};
 ghost use Rattle.std.specs.List.Sorted.{IsStrictlyIncreasing};
 ghost use Rattle.ledger_core.specs.State.{keys};
-ghost use Rattle.recovery.specs.Words.{ledger_of as tape_ledger};
+ghost use Rattle.recovery.specs.Words.{ledger_of as tape_ledger, place_of as tape_place};
 ghost use Rattle.std.specs.Prelude.{IfOk, OnOk};
 ghost use Rattle.peer_queue.specs.Place.{all_ready, placed};
 
@@ -16,7 +16,7 @@ use conn_core::{CxnId, Deferral, Outcome, Verdict};
 use disk_model::Disk;
 use funnel::{MsgId, Token};
 use ledger_core::{Cause, Debt, Key, Note, Totals};
-use recovery::{RefusedTape, Tape, TapeFault};
+use recovery::{Flushed, RefusedTape, Tape, TapeFault};
 use std::alloc::{AllocError, Global};
 
 /// All that one peer is owed.
@@ -32,18 +32,19 @@ pub struct Station<D: Disk> {
     pub(crate) index: PlaceIndex,
     pub(crate) limits: Limits,
     ghost all_placed: { placed index ≡ keys (tape_ledger tape) },
+    ghost unplaced: { tape_place tape ≡ None },
 }
 
 impl<D: Disk> Station<D> {
     ghost use Rattle.std.specs.Prelude.{◌⊎◌, ◌↔◌, true, nat_lt, find};
     ghost use Rattle.std.specs.Prelude.{MatchResult, IfErr, IfNone, IfSome, OnErr, IsErr, IsErrOf, IsOk, IsSome};
-    ghost use Rattle.std.specs.Prelude.{IsTrue, List, Ok, None, Some, take};
+    ghost use Rattle.std.specs.Prelude.{IsTrue, List, Ok, Some, take};
     ghost use Rattle.std.specs.List.{Contains};
     ghost use Rattle.ledger_core.specs.Ledger.{totals_of};
     ghost use Rattle.ledger_core.specs.declared.ledger.LedgerFault.{LedgerFault};
     ghost use Rattle.ledger_core.specs.declared.note.Note.{Note};
     ghost use Rattle.ledger_core.specs.State.{IsNext, IsOwed, Overflows, marks_of};
-    ghost use Rattle.recovery.specs.Flushes.{Flushes};
+    ghost use Rattle.recovery.specs.Flushes.{Flushes, HasFlushed};
     ghost use Rattle.recovery.specs.Image.{EachTape, Survives};
     ghost use Rattle.recovery.specs.Notes.{History, most_pending};
     ghost use Rattle.recovery.specs.Opens.{HasCause, Opens, OpensWhatSurvives};
@@ -582,15 +583,16 @@ impl<D: Disk> Station<D> {
     }
 
     /// Puts the notes that pend on the disk: from `Ok` on all notes are acknowledged. Answers how many notes of this
-    /// opening are acknowledged now, or the greatest u64 where that is less. Linear in what pends.
+    /// opening are acknowledged now, or the greatest u64 where that is less; the answer names no place. Linear in what
+    /// pends.
     ///
     /// # Errors
     /// Tried in this order: `Broken`; `Tape(TapeFull)`; `NoMemory`; these change nothing. `Tape(Disk)`: the station is
     /// broken from now on.
-    pub fn flush(&mut self) -> Result<u64, StationFault>
+    pub fn flush(&mut self) -> Result<Flushed, StationFault>
         ensures flushes { (h : History) → StandsFor self.old h
             → Flushes (StationFault.Tape TapeFault.Disk) h self.old.tape self.new.tape result }
-        ensures none_pends { OnOk result (pending_of self.new ≡ 0) }
+        ensures ok { IfOk result (HasFlushed None self.old.tape self.new.tape) }
         ensures empty { pending_of self.old ≡ 0 → self.new ≡ self.old }
         ensures empty_ok { pending_of self.old ≡ 0 → (IsBroken self.old → ⊥) → IsOk result }
         ensures refuses { RefusesFlush self.old self.new result }
@@ -599,7 +601,7 @@ impl<D: Disk> Station<D> {
         ensures quiet { OnOk result (told_of self.new ≡ told_of self.old) }
     {
         match self.tape.flush() {
-            Ok(count) => Ok(count),
+            Ok(flushed) => Ok(flushed),
             Err(fault) => Err(station_fault(fault)),
         }
     }

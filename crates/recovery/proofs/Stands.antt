@@ -1,7 +1,7 @@
 -- How what a tape stands for goes on.
 use Rattle.std.proofs.Common.{◌≡◌, ℕ, zero, suc, ◌+◌, ◌-◌, ◌≤◌, ◌^◌, true, List, [], ◌∷◌, ◌++◌, length, take, drop}
 use Rattle.std.proofs.Common.{take-append-drop, refl, sym, ◌∙◌, ap, subst, arith, length-append, length-drop}
-use Rattle.std.specs.Prelude.{min, map, vec_items}
+use Rattle.std.specs.Prelude.{Option, min, map, vec_items}
 use Rattle.std.proofs.Math.Bridge.{le_prop}
 use Rattle.std.proofs.Math.Seq.{take-add, take-append-add}
 use Rattle.std.proofs.lemmas.List.{append-nil, take_all, take_at, drop_all, take-append-le, drop-append-le}
@@ -79,8 +79,10 @@ module _ {D : Type 0} {g : Ghosts D} (tape : Tape D g) (h : History) where
       record {
         honest = honest;
         are_legal = legal;
+        opened = opened;
         kept_within = omega (arith, all);
         ledger = ledger;
+        count = count;
         images = pair-placed (Survives h) tape.segments.second (live_log tape) (other_log tape) (λ c d is is'.
             let reads : Reads c payloads = subst (λ (l : List ℕ). Reads l payloads) (sym (holds.rest.only.images c is))
             (reads_rest payloads holds.rest.short) in
@@ -101,8 +103,6 @@ module _ {D : Type 0} {g : Ghosts D} (tape : Tape D g) (h : History) where
             indexes = subst (λ (l : List (List ℕ)). Indexes (length payloads) l tape.ledger) (sym whole) indexes;
             ends = ends-none payloads (payloads_in tape.pending) tape.last tape.next nothing next;
           };
-          count = count;
-          opened = opened;
         };
       }
 
@@ -183,7 +183,7 @@ module _ {D : Type 0} {g : Ghosts D} (tape : Tape D g) (h : History) where
       → tape.flushed ≡ min (length h.notes - h.opened) (2 ^ 64 - 1)
   idle_count stands works none =
       let w = stands.working works in
-      omega (arith, none, w.count, w.pending_count, length-drop h.kept h.notes, stands.kept_within)
+      omega (arith, none, stands.count, w.pending_count, length-drop h.kept h.notes, stands.kept_within)
 
 -- some notes more, which pend
 pub stands_noted_all : {D : Type 0} {g : Ghosts D} (old new : Tape D g) (h : History) (notes : List Note)
@@ -202,7 +202,9 @@ stands_noted_all {D} {g} old new h notes stands same are legal stepped flushed c
     record {
       honest = subst (λ (s : Segments D g). g.honest (journal_disk s.live) × g.honest s.other) (sym same) stands.honest;
       are_legal = AreLegal-append h.base h.notes notes stands.are_legal are here;
+      opened = stands.opened;
       kept_within = omega (arith, stands.kept_within, length-append h.notes notes);
+      count = flushed ∙ stands.count;
       ledger = stepped ∙ (ap (λ (s : State). after s notes) stands.ledger ∙ sym (after-append h.base h.notes notes));
       images = subst (λ (s : Segments D g). EachTape (Survives (noted_all h notes))
           (placed s.second (g.log (journal_disk s.live)) (g.log s.other))) (sym same)
@@ -227,8 +229,6 @@ stands_noted_all {D} {g} old new h notes stands same are legal stepped flushed c
               length-append (drop h.kept h.notes) notes,
             );
             indexed = grows w.payloads (drop h.kept h.notes) w.pending w.indexed;
-            count = flushed ∙ w.count;
-            opened = w.opened;
           };
     }
 
@@ -241,7 +241,9 @@ pub stands_refused : {D : Type 0} {g : Ghosts D} (old new : Tape D g) (h : Histo
 stands_refused {D} {g} old new h stands honest ledger pending pends flushed moments same still = record {
   honest = honest;
   are_legal = stands.are_legal;
+  opened = stands.opened;
   kept_within = stands.kept_within;
+  count = flushed ∙ stands.count;
   ledger = ledger ∙ stands.ledger;
   images = pairs-now (Survives h) (log_of old) (log_of new) moments;
   working = λ works.
@@ -257,8 +259,31 @@ stands_refused {D} {g} old new h stands honest ledger pending pends flushed mome
         pending = holds-same old.pending new.pending (drop h.kept h.notes) pending w.pending;
         pending_count = pends ∙ w.pending_count;
         indexed = still w.payloads w.indexed;
-        count = flushed ∙ w.count;
-        opened = w.opened;
+      };
+}
+
+-- A tape that has another place stands for the same.
+pub stands_placed : {D : Type 0} {g : Ghosts D} (tape : Tape D g) (place : Option ℕ)
+    (few : pending_of tape ≤ most_pending) (h : History) → StandsFor tape h
+    → StandsFor (record tape { place = place; few = few }) h
+stands_placed tape place few h stands = record {
+  honest = stands.honest;
+  are_legal = stands.are_legal;
+  opened = stands.opened;
+  kept_within = stands.kept_within;
+  count = stands.count;
+  ledger = stands.ledger;
+  images = stands.images;
+  working = λ works.
+      let w = stands.working works in
+      record {
+        payloads = w.payloads;
+        holds = w.holds;
+        restores = w.restores;
+        other = w.other;
+        pending = w.pending;
+        pending_count = w.pending_count;
+        indexed = record { indexes = w.indexed.indexes; ends = w.indexed.ends };
       };
 }
 

@@ -11,11 +11,11 @@ ghost use Rattle.ledger_core.specs.State.{AllLegal, after};
 ghost use Rattle.recovery.specs.Notes.{drops};
 ghost use Rattle.recovery.specs.declared.fault.TapeFault.TheVariants.{Broken};
 
-use crate::TapeFault;
 use crate::fault::append_fault;
 use crate::pending::Pending;
 use crate::read::read_ledger;
 use crate::segments::{Segments, is_second_live};
+use crate::{Flushed, TapeFault};
 use disk_model::Disk;
 use funnel::{MsgId, Token};
 use ledger_core::{Cause, Key, Ledger, LedgerFault, Note, Totals, encode, encode_owe};
@@ -85,36 +85,38 @@ pub struct Tape<D: Disk> {
     pub(crate) next: u64,
     // How many notes were put on the disks since the tape was opened.
     pub(crate) flushed: u64,
+    // Its place among the tapes of other peers, which the answer of a flush names.
+    pub(crate) place: Option<usize>,
     ghost few: { pending.count ≤ most_pending },
 }
 
 impl<D: Disk> Tape<D> {
     ghost use Rattle.std.specs.Prelude.{[], ◌∷◌, ◌==◌, find, min, drop};
-    ghost use Rattle.std.specs.Prelude.{MatchResult, IfErr, OnErr, IsOk, IsErrOf, IsSome, option_map};
+    ghost use Rattle.std.specs.Prelude.{MatchResult, IfErr, OnErr, IsOk, IsErrOf, IsSome, Some, option_map};
     ghost use Rattle.std.specs.List.Sorted.{IsStrictlyIncreasing};
     ghost use Rattle.ledger_core.specs.Ledger.{totals_of};
     ghost use Rattle.ledger_core.specs.declared.ledger.LedgerFault.{LedgerFault};
     ghost use Rattle.ledger_core.specs.declared.note.Note.{Note};
     ghost use Rattle.ledger_core.specs.State.{IsLegal, IsOwed, Owing, keys, line_octets, step};
     ghost use Rattle.recovery.specs.Notes.{AreOwed, History, noted, noted_all, flushed};
-    ghost use Rattle.recovery.specs.Flushes.{Flushes, RefusesFlush};
+    ghost use Rattle.recovery.specs.Flushes.{Flushes, HasFlushed, RefusesFlush};
     ghost use Rattle.recovery.specs.Image.{EachTape, Lives, Survives};
-    ghost use Rattle.recovery.specs.Opens.{HasCause, Opens, OpensWhatSurvives};
+    ghost use Rattle.recovery.specs.Opens.{HasCause, IsFresh, Opens, OpensWhatSurvives};
     ghost use Rattle.recovery.specs.Rotates.{Rotates, RefusesRotation};
     ghost use Rattle.recovery.specs.Takes.{RefusesDrops, RefusesNoting, RefusesOwing, Takes};
     ghost use Rattle.recovery.specs.Pairs.{placed};
     ghost use Rattle.recovery.specs.Words.{AreHonest, Continues, disks_of};
-    ghost use Rattle.recovery.specs.Words.{generation_of, ledger_of};
+    ghost use Rattle.recovery.specs.Words.{flushed_of, generation_of, ledger_of, place_of};
     ghost use Rattle.recovery.specs.Words.{pending_of, refused_log, rotated_length, told_of};
     ghost use Rattle.recovery.specs.Words.{IsBroken, IsDue, IsSame, RefusesNote};
     ghost use Rattle.recovery.specs.Words.{IsOpenFault, IsNoteFault};
     ghost use Rattle.recovery.specs.Tape.{StandsFor, contents_of};
 
     /// Opens the tape of two disks, empty ones among them: of their segments the one of greater generation lives, on a
-    /// tie the first. Its ledger is what that leaves; all notes are acknowledged, and none pends. The disks are read
-    /// and judged first, which changes nothing; then the other disk is synced, and the end of the segment that lives is
-    /// repaired. Linear in the segment that lives. Each payload is judged as it is read, and none is kept: beside the
-    /// ledger it takes room for a piece of the segment, of at most 131,072 octets.
+    /// tie the first. Its ledger is what that leaves; all notes are acknowledged, and none pends. It has no place yet.
+    /// The disks are read and judged first, which changes nothing; then the other disk is synced, and the end of the
+    /// segment that lives is repaired. Linear in the segment that lives. Each payload is judged as it is read, and none
+    /// is kept: beside the ledger it takes room for a piece of the segment, of at most 131,072 octets.
     ///
     /// # Errors
     /// The disks are handed back. Tried in this order: what the reading of the first record of the first disk meets,
@@ -138,7 +140,7 @@ impl<D: Disk> Tape<D> {
             (λ e. e.fault ≢ TapeFault.Disk → refused_log e ≡ (D.log a, D.log b)) }
         ensures kinds { IfErr result (λ e. IsOpenFault e.fault) }
 
-        ensures works { IfOk result (λ tape. (IsBroken tape → ⊥) × (pending_of tape ≡ 0)) }
+        ensures fresh { IfOk result IsFresh }
         ensures honest { MatchResult result (λ tape. (D.honest a × D.honest b) ↔ AreHonest tape)
             (λ e. (D.honest a × D.honest b) ↔ (D.honest e.a × D.honest e.b)) }
         ensures quiet { MatchResult result (λ tape. told_of tape ≡ (D.told a, D.told b))
@@ -173,7 +175,7 @@ impl<D: Disk> Tape<D> {
             (λ e. e.fault ≢ TapeFault.Disk
             → refused_log e ≡ (placed second (D.log live) (D.log other))) }
         ensures kinds { IfErr result (λ e. IsOpenFault e.fault) }
-        ensures works { IfOk result (λ tape. (IsBroken tape → ⊥) × (pending_of tape ≡ 0)) }
+        ensures fresh { IfOk result IsFresh }
         ensures honest { MatchResult result
             (λ tape. (D.honest live × D.honest other) ↔ AreHonest tape)
             (λ e. (D.honest live × D.honest other) ↔ (D.honest e.a × D.honest e.b)) }
@@ -215,6 +217,7 @@ impl<D: Disk> Tape<D> {
                 ledger: restored.ledger,
                 pending: Pending::new(alloc),
                 flushed: 0,
+                place: None,
             }),
             Err(refused) => Err(RefusedTape::of(second, refused.disk, other, TapeFault::Disk)),
         }
@@ -236,6 +239,7 @@ impl<D: Disk> Tape<D> {
         ensures refuses { RefusesNoting note self.old self.new result }
         ensures disks { disks_of self.new ≡ disks_of self.old }
         ensures works { IsBroken self.old ↔ IsBroken self.new }
+        ensures place { place_of self.new ≡ place_of self.old }
     {
         match self.try_note(&note) {
             Ok(()) => Ok(()),
@@ -261,6 +265,7 @@ impl<D: Disk> Tape<D> {
             self.old self.new result }
         ensures disks { disks_of self.new ≡ disks_of self.old }
         ensures works { IsBroken self.old ↔ IsBroken self.new }
+        ensures place { place_of self.new ≡ place_of self.old }
     {
         if self.segments.live.is_broken() {
             return Err(TapeFault::Broken);
@@ -298,6 +303,7 @@ impl<D: Disk> Tape<D> {
 
         ensures disks { disks_of self.new ≡ disks_of self.old }
         ensures works { IsBroken self.old ↔ IsBroken self.new }
+        ensures place { place_of self.new ≡ place_of self.old }
     {
         if self.segments.live.is_broken() {
             return Err(TapeFault::Broken);
@@ -323,6 +329,7 @@ impl<D: Disk> Tape<D> {
         ensures unchanged { OnErr result (IsSame self.old self.new) }
         ensures kinds { IfErr result (λ fault. fault ≡ TapeFault.NoMemory) }
         ensures segments { self.new.segments ≡ self.old.segments }
+        ensures place { place_of self.new ≡ place_of self.old }
     {
         let spelling = encode(self.alloc, note)?;
         let len = spelling.len();
@@ -355,6 +362,7 @@ impl<D: Disk> Tape<D> {
         ensures unchanged { OnErr result (IsSame self.old self.new) }
         ensures kinds { IfErr result (λ fault. fault ≡ TapeFault.NoMemory) }
         ensures segments { self.new.segments ≡ self.old.segments }
+        ensures place { place_of self.new ≡ place_of self.old }
     {
         let octets = encode_owe(self.alloc, key, token, id)?;
         let len = octets.len();
@@ -391,6 +399,7 @@ impl<D: Disk> Tape<D> {
         ensures refuses { RefusesDrops keys.now self.old self.new result }
         ensures disks { disks_of self.new ≡ disks_of self.old }
         ensures works { IsBroken self.old ↔ IsBroken self.new }
+        ensures place { place_of self.new ≡ place_of self.old }
     {
         if self.segments.live.is_broken() {
             return Err(TapeFault::Broken);
@@ -434,6 +443,7 @@ impl<D: Disk> Tape<D> {
         ensures unchanged { OnErr result (IsSame self.old self.new) }
         ensures kinds { IfErr result (λ fault. fault ≡ TapeFault.NoMemory) }
         ensures segments { self.new.segments ≡ self.old.segments }
+        ensures place { place_of self.new ≡ place_of self.old }
     {
         let ends = self
             .pending
@@ -446,19 +456,19 @@ impl<D: Disk> Tape<D> {
         Ok(())
     }
 
-    /// Puts the notes that pend on the disk: from `Ok` on all notes are acknowledged. Answers how many notes of this
-    /// opening are acknowledged now, or the greatest u64 where that is less. Where nothing pends it makes no disk call.
-    /// Linear in what pends.
+    /// Puts the notes that pend on the disk: from `Ok` on all notes are acknowledged. Answers the tape's place, and how
+    /// many notes of this opening are acknowledged now, or the greatest u64 where that is less. Where nothing pends it
+    /// makes no disk call. Linear in what pends.
     ///
     /// # Errors
     /// Tried in this order: `Broken`; `TapeFull`; `NoMemory`; these change nothing. `Disk`: the tape is broken from now
     /// on.
-    pub fn flush(&mut self) -> Result<u64, TapeFault>
+    pub fn flush(&mut self) -> Result<Flushed, TapeFault>
         ensures flushes { (h : History) → StandsFor self.old h
             → Flushes TapeFault.Disk h self.old self.new result }
+        ensures ok { IfOk result (HasFlushed (place_of self.old) self.old self.new) }
         ensures empty { pending_of self.old ≡ 0 → self.new ≡ self.old }
         ensures empty_ok { pending_of self.old ≡ 0 → (IsBroken self.old → ⊥) → IsOk result }
-        ensures none_pends { OnOk result (pending_of self.new ≡ 0) }
         ensures refuses { RefusesFlush self.old self.new result }
         ensures ledger { ledger_of self.new ≡ ledger_of self.old }
         ensures continues { Continues self.old self.new }
@@ -468,7 +478,7 @@ impl<D: Disk> Tape<D> {
             return Err(TapeFault::Broken);
         }
         if self.nothing_pends() {
-            return Ok(self.flushed);
+            return Ok(Flushed::of(self.place, self.flushed));
         }
         self.flush_pending()
     }
@@ -480,12 +490,12 @@ impl<D: Disk> Tape<D> {
     }
 
     // Puts the notes that pend on the disk, where there are some and the tape is not broken.
-    fn flush_pending(&mut self) -> Result<u64, TapeFault>
+    fn flush_pending(&mut self) -> Result<Flushed, TapeFault>
         requires works { IsBroken self.old → ⊥ }
         requires pends { pending_of self.old ≢ 0 }
         ensures flushes { (h : History) → StandsFor self.old h
             → Flushes TapeFault.Disk h self.old self.new result }
-        ensures none_pends { OnOk result (pending_of self.new ≡ 0) }
+        ensures ok { IfOk result (HasFlushed (place_of self.old) self.old self.new) }
         ensures refuses { RefusesFlush self.old self.new result }
         ensures ledger { ledger_of self.new ≡ ledger_of self.old }
         ensures continues { Continues self.old self.new }
@@ -495,7 +505,7 @@ impl<D: Disk> Tape<D> {
             Ok(()) => {
                 self.flushed = self.flushed.saturating_add(self.pending.count as u64);
                 self.pending.clear();
-                Ok(self.flushed)
+                Ok(Flushed::of(self.place, self.flushed))
             }
             Err(fault) => Err(append_fault(fault)),
         }
@@ -545,6 +555,35 @@ impl<D: Disk> Tape<D> {
             return Err(TapeFault::TapeFull);
         }
         self.write_anew()
+    }
+
+    /// Gives the tape a place among the tapes of other peers. The answer of each flush names it from now on, so that a
+    /// caller can tell which tape was flushed. Nothing else changes.
+    pub fn placed(&mut self, place: usize)
+        ensures place { place_of self.new ≡ Some place }
+        ensures stands { (h : History) → StandsFor self.old h ↔ StandsFor self.new h }
+        ensures same { IsSame self.old self.new }
+        ensures disks { disks_of self.new ≡ disks_of self.old }
+        ensures works { IsBroken self.old ↔ IsBroken self.new }
+    {
+        self.place = Some(place);
+    }
+
+    /// Its place among the tapes of other peers, none until it was given one.
+    pub fn place(&self) -> Option<usize>
+        ensures { result ≡ place_of self.now }
+    {
+        self.place
+    }
+
+    /// How many notes of this opening are acknowledged, or the greatest u64 where that is less: what a flush that has
+    /// nothing to put on the disk counts. A broken tape answers too.
+    pub fn flushed(&self) -> u64
+        ensures flushed { result ≡ flushed_of self.now }
+        ensures count { (h : History) → StandsFor self.now h
+            → result ≡ min (h.kept - h.opened) (2 ^ 64 - 1) }
+    {
+        self.flushed
     }
 
     /// What the debt of this key counts in owed bytes, where it is owed: the octets of token and message-id, and 2.

@@ -293,7 +293,7 @@ fn take<A: Abort>(rt: &A, caller: &mut Caller, step: Step) -> Result<(), Fail> {
 fn assert_told<A: Abort>(rt: &A, caller: &mut Caller, step: Step) -> Result<(), Fail> {
     match step {
         Step::Flush(want) => {
-            let flushed = caller.station.flush();
+            let flushed = flush(&mut caller.station);
             assert_answer(rt, caller, flushed, want)?;
         }
         Step::Rotate(want) => {
@@ -351,6 +351,10 @@ fn import(
     id: &MsgId,
 ) -> Result<Owed, StationFault> {
     station.import(number, token, id)
+}
+
+fn flush(station: &mut Station<FuseDisk<MemDisk>>) -> Result<u64, StationFault> {
+    Ok(station.flush()?.count())
 }
 
 fn close(station: &mut Station<FuseDisk<MemDisk>>) -> Result<u64, StationFault> {

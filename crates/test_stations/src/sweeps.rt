@@ -63,8 +63,9 @@ fn owe(alloc: Global, station: &mut Flaky, number: u64) -> Result<Owed, Fail> {
 
 fn flush(station: &mut Flaky) -> Result<Result<u64, StationFault>, Fail> {
     match station.flush() {
+        Ok(flushed) => Ok(Ok(flushed.count())),
         Err(StationFault::NoMemory) => Err(Fail::from(StationFault::NoMemory)),
-        answer => Ok(answer),
+        Err(fault) => Ok(Err(fault)),
     }
 }
 

@@ -275,6 +275,20 @@ fn steps_are_taken_at_a_journal(rt: HostRuntime) -> Result<(), Fail> {
             ],
             Some(&TWICE),
         ),
+        // Opening takes six calls, and the seventh reads ahead. No other is left, nor needed until it reads singly.
+        (
+            &SEGMENT,
+            7,
+            &[
+                Step::ReadAhead,
+                Step::ReadBack(0, Ok(())),
+                Step::ReadBack(0, Ok(())),
+                Step::ReadPart(0, 9, 4, Ok(&[3, 0x61, 0x2f, 0x31])),
+                Step::ReadSingly,
+                Step::ReadBack(0, Err(ReadFault::Disk)),
+            ],
+            None,
+        ),
         // Opening an empty disk takes five calls, and the first write is the sixth. A fault breaks the journal.
         (
             &[],

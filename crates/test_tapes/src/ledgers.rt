@@ -229,7 +229,7 @@ fn replay_stops(rt: HostRuntime) -> Result<(), Fail> {
 
 // A payload of a tape as data.
 #[derive(Clone, Copy)]
-enum Payload {
+pub(crate) enum Payload {
     // Generation, mark, taken, answered, dropped and live.
     Base([u64; 6]),
     // The same, the source that was closed last, and the mark of the next.
@@ -251,7 +251,7 @@ fn base_of(numbers: [u64; 6], closed: u32, import_mark: u64) -> Base {
     }
 }
 
-fn spelled(alloc: Global, payloads: &[Payload]) -> Result<Vec<Vec<u8>>, Fail> {
+pub(crate) fn spelled(alloc: Global, payloads: &[Payload]) -> Result<Vec<Vec<u8>>, Fail> {
     let mut all = Vec::new(alloc);
     for payload in payloads {
         let octets = match payload {

@@ -19,6 +19,8 @@ mod journals;
 #[cfg(test)]
 mod ledgers;
 #[cfg(test)]
+mod outlines;
+#[cfg(test)]
 mod planned_file;
 #[cfg(test)]
 mod read_only;

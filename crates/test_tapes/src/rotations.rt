@@ -686,6 +686,8 @@ const STOPS: &[(Octets, Calls, &[Step], Counts)] = &[
     ((&OWED, &[]), (u64::MAX, 7), STOPPED, (2, 3)),
     ((&OWED, &[]), (u64::MAX, 8), STOPPED, (2, 3)),
     ((&OWED, &[]), (u64::MAX, 9), FIRST, (3, 3)),
+    // The opening makes eight calls of the other disk, the flush four, and the rotation one read for all its debts.
+    ((&OWED, &[]), (13, u64::MAX), FIRST, (3, 3)),
     ((&OWED, &ROTATED), (3, u64::MAX), STOPPED, (2, 3)),
     ((&OWED, &ROTATED), (4, u64::MAX), STOPPED, (2, 3)),
     ((&OWED, &ROTATED), (5, u64::MAX), STOPPED, (2, 3)),

@@ -43,6 +43,11 @@ pub(crate) enum Step {
     EndEach(u64, u64),
     DropAll(&'static [u64], Result<(), TapeFault>),
     Flush(Result<u64, TapeFault>),
+    // A flush names this place, and counts so many notes.
+    FlushOf(Option<usize>, u64),
+    Flushed(u64),
+    Placed(usize),
+    Place(Option<usize>),
     Rotate(Result<u64, TapeFault>),
     RotateDue(bool),
     // The debt of this number is told with it, where there is one.
@@ -121,9 +126,16 @@ fn drop_all<D: Disk>(
 
 pub(crate) fn flush<D: Disk>(tape: &mut Tape<D>) -> Result<Result<u64, TapeFault>, Fail> {
     match tape.flush() {
+        Ok(flushed) => Ok(Ok(flushed.count())),
         Err(TapeFault::NoMemory) => Err(Fail::from(TapeFault::NoMemory)),
-        answer => Ok(answer),
+        Err(fault) => Ok(Err(fault)),
     }
+}
+
+// The place that a flush names, and how many notes it counts.
+fn flush_of<D: Disk>(tape: &mut Tape<D>) -> Result<(Option<usize>, u64), Fail> {
+    let flushed = tape.flush()?;
+    Ok((flushed.place(), flushed.count()))
 }
 
 pub(crate) fn rotate<D: Disk>(tape: &mut Tape<D>) -> Result<Result<u64, TapeFault>, Fail> {
@@ -187,6 +199,10 @@ fn take<A: Abort, D: Disk>(
             assert_answer(rt, at, &drop_all(alloc, tape, numbers)?, &want)
         }
         Step::Flush(want) => assert_answer(rt, at, &flush(tape)?, &want),
+        Step::FlushOf(place, count) => assert_answer(rt, at, &flush_of(tape)?, &(place, count)),
+        Step::Flushed(want) => assert_answer(rt, at, &tape.flushed(), &want),
+        Step::Placed(place) => tape.placed(place),
+        Step::Place(want) => assert_answer(rt, at, &tape.place(), &want),
         Step::Rotate(want) => assert_answer(rt, at, &rotate(tape)?, &want),
         Step::RotateDue(want) => assert_answer(rt, at, &tape.rotate_due(), &want),
         Step::Debt(number, want) => assert_answer(rt, at, &told(tape, number)?, &want),
@@ -308,6 +324,36 @@ const SCRIPTS: &[(&[u8], &[Opening])] = &[
                 Some((&ANSWERED, &[])),
             ),
             (&[Step::Mark(1)], Some((&ANSWERED, &[]))),
+        ],
+    ),
+    // A tape that is opened has no place. From when it is given one each flush names it, and what pends still pends.
+    (
+        &[],
+        &[
+            (
+                &[
+                    Step::Place(None),
+                    Step::FlushOf(None, 0),
+                    Step::Note(Sample::Owe(1), Ok(())),
+                    Step::Placed(7),
+                    Step::Place(Some(7)),
+                    Step::Room(65535),
+                    Step::Flushed(0),
+                    Step::FlushOf(Some(7), 1),
+                    Step::Note(Sample::Final(1), Ok(())),
+                    Step::Flushed(1),
+                    Step::Rotate(Ok(1)),
+                    Step::Flushed(2),
+                    Step::Place(Some(7)),
+                    Step::Placed(8),
+                    Step::FlushOf(Some(8), 2),
+                ],
+                None,
+            ),
+            (
+                &[Step::Place(None), Step::Flushed(0), Step::FlushOf(None, 0)],
+                None,
+            ),
         ],
     ),
     // A debt is told.

@@ -36,10 +36,10 @@ use Rattle.world_core.specs.declared.told.Told.{Told}
 use Rattle.world_core.proofs.Chains.{fails_one}
 use Rattle.world_core.proofs.Joining.{conn_there, pair_there, put_back, put_there}
 use Rattle.world_core.proofs.Lifting.{Leads, PeerKeeps, keeps_same, keeps_with_tape, leads_claim, leads_nowhere}
-use Rattle.world_core.proofs.Lifting.{leads_return, safe_with, with_same}
+use Rattle.world_core.proofs.Lifting.{leads_return, safe_with, set_same, with_same}
 use Rattle.world_core.proofs.Reaching.{follows_life, follows_life_not, left_broke, left_held}
 use Rattle.world_core.proofs.Sound.{safe_of}
-use Rattle.world_core.proofs.Stationed.{WithPeer, set_same}
+use Rattle.world_core.proofs.Stationed.{WithPeer}
 
 -- ---- what is put out closes nothing
 

@@ -1,8 +1,8 @@
 -- What the calls by which a backlog file is taken in make of the stations: one event after another.
 use Rattle.std.proofs.Common.{◌≡◌, ℕ, zero, suc, ◌+◌, ◌<◌, ◌≤◌, ◌^◌, Bool, true, false, None, Some, List, [], ◌∷◌}
 use Rattle.std.proofs.Common.{◌++◌, length, drop, map, cond, not, refl, sym, ap, ◌∙◌, subst, inl, inr, arith}
-use Rattle.std.proofs.Common.{append_assoc, add-one, get_or}
-use Rattle.std.specs.Prelude.{◌==◌, if◌then◌else◌, nat_lt}
+use Rattle.std.proofs.Common.{append_assoc, add-one, get_or, Result, IfErr}
+use Rattle.std.specs.Prelude.{◌==◌, if◌then◌else◌, nat_lt, IfOk}
 use Rattle.std.proofs.lemmas.Bool.{cases_lt, eq-eqb, le-ltb, lt-ltb, ne_eqb}
 use Rattle.std.proofs.lemmas.List.{length_push}
 use Rattle.std.specs.List.{AllZip, prefix_len, slice_get}
@@ -22,12 +22,12 @@ use Rattle.recovery.specs.Notes.{History, flushed, ledger_after, most_pending, n
 use Rattle.recovery.specs.Words.{ledger_of, pending_of}
 use Rattle.recovery.specs.declared.fault.TapeFault.TheVariants.{Broken}
 use Rattle.world_core.specs.Past.{Past, PeerPast, TapePast, ledger_at, rank_of, with_peer, with_tape}
-use Rattle.world_core.specs.Events.{Closes, Does, Event, Imports, Refuses, Spills, closing, import_key}
+use Rattle.world_core.specs.Events.{Closes, Does, Event, Imports, Refuses, RefusesAt, Spills, closing, import_key}
 use Rattle.world_core.specs.Events.{import_mark_at, open_source, owing_as}
 use Rattle.world_core.specs.Events.AllDo.{Start}
 use Rattle.world_core.specs.Imports.{Good, HasGood, IsImport, close_events, count_new, good_events, import_events}
 use Rattle.world_core.specs.Imports.{mark_behind, pending_behind, room_events, with_room}
-use Rattle.world_core.specs.Importing.{BrokeAt, DidAt, HasImported, IsAt, MadeNoRoom, MadeRoom}
+use Rattle.world_core.specs.Importing.{BrokeAt, DidAt, HasImported, IsAt, IsBrokenAt, MadeNoRoom, MadeRoom}
 use Rattle.world_core.specs.Importing.{answer_above, one_new, pending_for, room_for}
 use Rattle.world_core.specs.Stands.{ClosedOne, DidOne, FailedOne, ImportedOne, PeerStands, Stands}
 use Rattle.world_core.specs.Stepped.{Did, Failed, Took, TookNot}
@@ -42,10 +42,10 @@ use Rattle.world_core.specs.declared.stations.Stations.{Stations}
 use Rattle.world_core.specs.declared.told.Told.{Told}
 use Rattle.world_core.specs.declared.told.Told.TheVariants.{Imported as ToldImported}
 use Rattle.world_core.proofs.Chains.{did_none, did_one, did_then, failed_before, failed_one, failed_then}
-use Rattle.world_core.proofs.Lifting.{get_set}
+use Rattle.world_core.proofs.Lifting.{get_set, with_same}
 use Rattle.world_core.proofs.Pure.{drop_all, drop_push}
 use Rattle.world_core.proofs.Sound.{safe_of}
-use Rattle.world_core.proofs.Stationed.{set_same}
+use Rattle.world_core.proofs.Results.{if_err_map, if_ok_map}
 
 once : {A : Type 0} (x y : A) → Some x ≡ Some y → x ≡ y
 once x y same = cc
@@ -184,10 +184,6 @@ pending_both false w p = refl
 
 -- ---- a tape that is broken refuses whichever event is first
 
-unchanged : (past : Past) (rank : ℕ) (peer : PeerPast) → slice_get past.peers rank ≡ Some peer
-    → past ≡ with_peer past rank peer
-unchanged past rank peer here = sym (ap (λ peers. record past { peers = peers }) (set_same past.peers rank peer here))
-
 -- an owing note, or one that closes, is refused there for that alone
 owe_broken : (tape : TapePast) (note : Note) (fault : Fault) → tape.broken ≡ true → RefusesOwe tape note fault
     → fault ≡ Tape Broken
@@ -201,15 +197,38 @@ note_broken tape fault broken (inl is) = is.0
 note_broken tape fault broken (inr (inl full)) = absurd (apart tape.broken full.1 broken)
 note_broken tape fault broken (inr (inr memory)) = absurd (apart tape.broken memory.1 broken)
 
+-- its peer is the one there
+broken_there : (past : Past) (rank : ℕ) → IsBrokenAt past rank → (peer : PeerPast)
+    → slice_get past.peers rank ≡ Some peer → peer.tape.broken ≡ true
+broken_there past rank broken peer here =
+    ap (λ (p : PeerPast). p.tape.broken) (once peer broken.0 (sym here ∙ broken.1)) ∙ broken.2
+
 module _ {D : Type 0} {g : Ghosts D} where
+  -- an event is refused there for that alone, and leaves the tape as it was
+  broke_so : (R : PeerPast → Fault → TapePast → Type 0) (past : Past) (rank : ℕ) (event : Event) (fault : Fault)
+      (stations : Stations D g) (failed : FailedOne past event fault stations) → IsBrokenAt past rank
+      → RefusesAt R rank past fault failed.later
+      → ((peer : PeerPast) (tape : TapePast) → peer.tape.broken ≡ true → R peer fault tape
+      → (fault ≡ Tape Broken) × (tape ≡ peer.tape)) → BrokeAt past rank fault stations
+  broke_so R past rank event fault stations failed broken r only =
+      let is = only r.peer r.tape (broken_there past rank broken r.peer r.here) r.refused in
+      record {
+        broken = broken;
+        told = is.0;
+        stands = subst (Stands stations) (r.changed
+            ∙ ap (λ (t : TapePast). with_peer past rank (with_tape r.peer t)) is.1 ∙ with_same past rank r.peer r.here)
+            failed.stands;
+      }
+
   module _ (past : Past) (rank : ℕ) (fault : Fault) (stations : Stations D g)
       (broke : BrokeAt past rank fault stations) where
     abbrev peer_here : PeerPast
     peer_here = broke.broken.0
 
-    first_fails : (event : Event) (behind : List Event) → Refuses event past (Tape Broken) past
-        → Failed past (event ∷ behind) fault stations
-    first_fails event behind refuses =
+    first_fails : (event : Event) (R : PeerPast → Fault → TapePast → Type 0)
+        → (RefusesAt R rank past (Tape Broken) past → Refuses event past (Tape Broken) past)
+        → R peer_here (Tape Broken) peer_here.tape → (behind : List Event) → Failed past (event ∷ behind) fault stations
+    first_fails event R refuses refused behind =
         subst (λ (f : Fault). Failed past (event ∷ behind) f stations) (sym broke.told) (record {
           later = past;
           fails = record {
@@ -218,52 +237,31 @@ module _ {D : Type 0} {g : Ghosts D} where
             event = event;
             front = Start;
             here = refl;
-            refused = refuses;
+            refused = refuses (record {
+              peer = peer_here;
+              tape = peer_here.tape;
+              here = broke.broken.1;
+              refused = refused;
+              changed = sym (with_same past rank peer_here broke.broken.1);
+            });
             safe = safe_of stations past broke.stands;
           };
           stands = broke.stands;
         })
 
-    same_past : past ≡ with_peer past rank (with_tape peer_here peer_here.tape)
-    same_past = unchanged past rank peer_here broke.broken.1
-
     spills_first : (behind : List Event) → Failed past (Spills rank ∷ behind) fault stations
-    spills_first behind = first_fails (Spills rank) behind (record {
-      peer = peer_here;
-      tape = peer_here.tape;
-      here = broke.broken.1;
-      refused = inl (refl, broke.broken.2, refl);
-      changed = same_past;
-    })
+    spills_first behind = first_fails (Spills rank) _ (λ r. r) (inl (refl, broke.broken.2, refl)) behind
 
     imports_first : (number : ℕ) (token id : List ℕ) (behind : List Event)
         → Failed past (Imports rank number token id ∷ behind) fault stations
-    imports_first number token id behind = first_fails (Imports rank number token id) behind (record {
-      peer = peer_here;
-      tape = peer_here.tape;
-      here = broke.broken.1;
-      refused = (
-        λ works. absurd (apart peer_here.tape.broken works broke.broken.2),
-        inl (refl, broke.broken.2),
-        refl,
-      );
-      changed = same_past;
-    })
+    imports_first number token id behind = first_fails (Imports rank number token id) _ (λ r. r)
+        (λ works. absurd (apart peer_here.tape.broken works broke.broken.2), inl (refl, broke.broken.2), refl) behind
 
     closes_first : (behind : List Event) → Failed past (Closes rank ∷ behind) fault stations
-    closes_first behind = first_fails (Closes rank) behind (record {
-      peer = peer_here;
-      tape = peer_here.tape;
-      here = broke.broken.1;
-      refused = (
-        inr (
-          (λ works. absurd (apart peer_here.tape.broken works broke.broken.2)),
-          inl (refl, broke.broken.2),
-        ),
-        refl,
-      );
-      changed = same_past;
-    })
+    closes_first behind = first_fails (Closes rank) _ (λ r. r) (
+      inr (λ works. absurd (apart peer_here.tape.broken works broke.broken.2), inl (refl, broke.broken.2)),
+      refl,
+    ) behind
 
     line_step : (b c : Bool) (number : ℕ) (token id : List ℕ)
         → Failed past ((if b then (if c then Spills rank ∷ [] else []) else []) ++ Imports rank number token id ∷ [])
@@ -348,7 +346,7 @@ module _ {D : Type 0} {g : Ghosts D} where
           let r = failed.refused in
           let is : failed.later ≡ past =
           r.changed ∙ ap (λ (t : TapePast). with_peer past rank (with_tape r.peer t)) broken.2
-          ∙ sym (unchanged past rank r.peer r.here) in
+          ∙ with_same past rank r.peer r.here in
           inl (record {
             broken = (r.peer, r.here, broken.1);
             told = broken.0;
@@ -435,38 +433,30 @@ module _ {D : Type 0} {g : Ghosts D} where
           },
         )
 
-    pub line_took : made → (owed : Owed)
-        → ((p : Past) → Stands old p → ImportedOne p rank line.0 line.1.0 line.1.1 owed new)
-        → (owed ≡ answer_above mark line.0)
+    pub line_took : made → (r : Result Owed Fault)
+        → ((p : Past) → Stands old p → IfOk r (λ owed. ImportedOne p rank line.0 line.1.0 line.1.1 owed new))
+        → IfOk r (λ owed. (owed ≡ answer_above mark line.0)
         × DidAt past (good_events rank pending mark line) rank source (pending_behind pending mark line)
-        (mark_behind mark line) new
-    line_took (inl (broken, stands)) owed tells =
-        let o = tells past stands in
-        absurd (apart broken.0.tape.broken
-        (ap (λ (p : PeerPast). p.tape.broken) (once broken.0 o.did.does.peer (sym broken.1 ∙ o.did.does.here))
-        ∙ o.did.does.works) broken.2)
-    line_took (inr d) owed tells = line_did d owed (tells d.did.later d.did.stands)
+        (mark_behind mark line) new)
+    line_took (inl (broken, stands)) r tells = if_ok_map r _ _ (tells past stands) (λ owed o.
+        let does = o.did.does in
+        absurd (apart does.peer.tape.broken does.works (broken_there past rank broken does.peer does.here)))
+    line_took (inr d) r tells = if_ok_map r _ _ (tells d.did.later d.did.stands) (line_did d)
 
-    pub line_failed : made → (fault : Fault)
-        → ((p : Past) → Stands old p → FailedOne p (Imports rank line.0 line.1.0 line.1.1) fault new)
-        → Failed past (good_events rank pending mark line) fault new
-    line_failed (inl (broken, stands)) fault tells =
-        let failed = tells past stands in
-        let r = failed.refused in
-        let same : broken.0 ≡ r.peer = once broken.0 r.peer (sym broken.1 ∙ r.here) in
-        let is : r.peer.tape.broken ≡ true = ap (λ (p : PeerPast). p.tape.broken) (sym same) ∙ broken.2 in
-        let kept : failed.later ≡ past =
-        r.changed ∙ ap (λ (t : TapePast). with_peer past rank (with_tape r.peer t)) r.refused.2
-        ∙ sym (unchanged past rank r.peer r.here) in
-        line_broken past rank fault new (record {
-          broken = (r.peer, r.here, is);
-          told = owe_broken r.peer.tape (Owe (import_key line.0 r.peer) line.1.0 line.1.1) fault is r.refused.1;
-          stands = subst (Stands new) kept failed.stands;
-        }) pending mark line
-    line_failed (inr d) fault tells =
+    pub line_failed : {T : Type 0} → made → (r : Result T Fault)
+        → ((p : Past) → Stands old p → IfErr r (λ fault.
+        FailedOne p (Imports rank line.0 line.1.0 line.1.1) fault new))
+        → IfErr r (λ fault. Failed past (good_events rank pending mark line) fault new)
+    line_failed (inl (broken, stands)) r tells = if_err_map r _ _ (tells past stands) (λ fault failed.
+        line_broken past rank fault new
+        (broke_so _ past rank (Imports rank line.0 line.1.0 line.1.1) fault new failed broken failed.refused
+        (λ peer tape is refused.
+        (owe_broken peer.tape (Owe (import_key line.0 peer) line.1.0 line.1.1) fault is refused.1, refused.2)))
+        pending mark line)
+    line_failed (inr d) r tells = if_err_map r _ _ (tells d.did.later d.did.stands) (λ fault failed.
         let event = Imports rank line.0 line.1.0 line.1.1 in
         failed_then past (room_for rank pending mark line.0) (event ∷ []) fault old new d.did
-        (failed_one d.did.later event fault new (tells d.did.later d.did.stands))
+        (failed_one d.did.later event fault new failed))
 
     pub line_no_room : (fault : Fault) → MadeNoRoom past (room_for rank pending mark line.0) rank fault old
         → Failed past (good_events rank pending mark line) fault old
@@ -552,17 +542,9 @@ module _ {D : Type 0} {g : Ghosts D} where
         → Failed past (close_events rank pending) fault mid
     close_failed (inl (broken, stands)) fault tells =
         let failed = tells past stands in
-        let r = failed.refused in
-        let same : broken.0 ≡ r.peer = once broken.0 r.peer (sym broken.1 ∙ r.here) in
-        let is : r.peer.tape.broken ≡ true = ap (λ (p : PeerPast). p.tape.broken) (sym same) ∙ broken.2 in
-        let kept : failed.later ≡ past =
-        r.changed ∙ ap (λ (t : TapePast). with_peer past rank (with_tape r.peer t)) r.refused.1
-        ∙ sym (unchanged past rank r.peer r.here) in
-        close_broken past rank fault mid (record {
-          broken = (r.peer, r.here, is);
-          told = close_not r.peer.tape (closing r.peer) fault is r.refused.0;
-          stands = subst (Stands mid) kept failed.stands;
-        }) pending
+        close_broken past rank fault mid
+        (broke_so _ past rank (Closes rank) fault mid failed broken failed.refused
+        (λ peer tape is refused. (close_not peer.tape (closing peer) fault is refused.0, refused.1))) pending
     close_failed (inr d) fault tells =
         failed_then past (room_events rank pending) (Closes rank ∷ Spills rank ∷ []) fault old mid d.did
         (failed_before d.did.later (Closes rank ∷ []) (Spills rank ∷ []) fault mid
@@ -573,10 +555,8 @@ module _ {D : Type 0} {g : Ghosts D} where
         → ((p : Past) → Stands old p → ClosedOne p rank closed mid)
         → (closed ≡ source) × Did past (room_events rank pending ++ Closes rank ∷ []) mid
     closed_one (inl (broken, stands)) closed tells =
-        let o = tells past stands in
-        absurd (apart broken.0.tape.broken
-        (ap (λ (p : PeerPast). p.tape.broken) (once broken.0 o.did.does.peer (sym broken.1 ∙ o.did.does.here))
-        ∙ o.did.does.works) broken.2)
+        let does = (tells past stands).did.does in
+        absurd (apart does.peer.tape.broken does.works (broken_there past rank broken does.peer does.here))
     closed_one (inr d) closed tells =
         let o = tells d.did.later d.did.stands in (
           o.source_is
@@ -615,19 +595,19 @@ module _ {D : Type 0} {g : Ghosts D} where
 
 module _ (name text : List ℕ) (past : Past) (rank : ℕ) (named : rank_of past name ≡ Some rank) (lines : List Good)
     (has : HasGood text lines) where
-  pub its_peer : (p : PeerPast) × (slice_get past.peers rank ≡ Some p)
+  its_peer : (p : PeerPast) × (slice_get past.peers rank ≡ Some p)
   its_peer = there past.peers rank (rank_within past name rank named)
 
-  abbrev pub source_here : ℕ
+  abbrev source_here : ℕ
   source_here = open_source its_peer.0
 
-  abbrev pub pending_here : ℕ
+  abbrev pending_here : ℕ
   pending_here = length (pending_notes its_peer.0.tape.history)
 
-  abbrev pub mark_here : ℕ
+  abbrev mark_here : ℕ
   mark_here = import_mark_at its_peer.0
 
-  pub at_first : IsAt past rank source_here pending_here mark_here
+  at_first : IsAt past rank source_here pending_here mark_here
   at_first =
       record { peer = its_peer.0; here = its_peer.1; source_is = refl; pending_is = refl; mark_is = refl }
 
@@ -643,31 +623,47 @@ module _ (name text : List ℕ) (past : Past) (rank : ℕ) (named : rank_of past
   }
 
   module _ {D : Type 0} {g : Ghosts D} where
-    pub import_failed : (fault : Fault) (new : Stations D g)
+    refused : (fault : Fault) (new : Stations D g)
         → Failed past (import_events rank pending_here mark_here lines) fault new
         → TookNot (RefusesImport name text) past fault new
-    import_failed fault new failed = record {
+    refused fault new failed = record {
       later = failed.later;
       refuses = inr (rank, named, inr (import_events rank pending_here mark_here lines, is_import, failed.fails));
       stands = failed.stands;
     }
 
-    module _ (count : ℕ) (mid new : Stations D g)
-        (each : HasImported past rank source_here pending_here mark_here lines [] count mid) where
+    pub import_failed : (old : Stations D g) → Stands old past → (fault : Fault) (new : Stations D g)
+        → ((p : Past) (source pending mark : ℕ) → Stands old p → IsAt p rank source pending mark
+        → Failed p (import_events rank pending mark lines) fault new)
+        → TookNot (RefusesImport name text) past fault new
+    import_failed old stands fault new tells =
+        refused fault new (tells past source_here pending_here mark_here stands at_first)
+
+    module _ (old : Stations D g) (stands : Stands old past) (count : ℕ) (mid new : Stations D g)
+        (imports : (p : Past) (source pending mark : ℕ) → Stands old p → IsAt p rank source pending mark
+        → HasImported p rank source pending mark lines [] count mid) where
+      each : HasImported past rank source_here pending_here mark_here lines [] count mid
+      each = imports past source_here pending_here mark_here stands at_first
+
       pub import_not_closed : (fault : Fault)
-          → Failed each.done.did.later (close_events rank each.now_pending) fault new
+          → ((p : Past) (source pending mark : ℕ) → Stands mid p → IsAt p rank source pending mark
+          → Failed p (close_events rank pending) fault new)
           → TookNot (RefusesImport name text) past fault new
-      import_not_closed fault failed =
-          import_failed fault new (subst (λ (es : List Event). Failed past es fault new) (sym each.split)
-          (failed_then past each.events (close_events rank each.now_pending) fault mid new each.done.did failed))
+      import_not_closed fault tells =
+          refused fault new (subst (λ (es : List Event). Failed past es fault new) (sym each.split)
+          (failed_then past each.events (close_events rank each.now_pending) fault mid new each.done.did
+          (tells each.done.did.later source_here each.now_pending each.now_mark each.done.did.stands each.done.at)))
 
       pub import_took : (own : List ℕ) (closed : ℕ) (told : List Told) → own ≡ name
           → told ≡ ToldImported own closed count ∷ []
-          → (closed ≡ source_here) × Did each.done.did.later (close_events rank each.now_pending) new
+          → ((p : Past) (source pending mark : ℕ) → Stands mid p → IsAt p rank source pending mark
+          → (closed ≡ source) × Did p (close_events rank pending) new)
           → Took (TakesImport name text) past told new
-      import_took own closed told is tells (source, did) =
+      import_took own closed told is tells closes =
+          let closed_so = closes each.done.did.later source_here each.now_pending each.now_mark each.done.did.stands
+          each.done.at in
           let whole = subst (λ (es : List Event). Did past es new) (sym each.split)
-          (did_then past each.events (close_events rank each.now_pending) mid new each.done.did did) in
+          (did_then past each.events (close_events rank each.now_pending) mid new each.done.did closed_so.1) in
           let counted : count ≡ count_new mark_here lines = omega (arith, each.counted) in
           record {
             later = whole.later;
@@ -676,7 +672,7 @@ module _ (name text : List ℕ) (past : Past) (rank : ℕ) (named : rank_of past
               is_import,
               whole.does,
               ap (map said_of) tells ∙ ap (λ (n : List ℕ). SaidImported n closed count ∷ []) is
-                  ∙ ap (λ (k : ℕ). SaidImported name k count ∷ []) source
+                  ∙ ap (λ (k : ℕ). SaidImported name k count ∷ []) closed_so.0
                   ∙ ap (λ (k : ℕ). SaidImported name source_here k ∷ []) counted,
             );
             stands = whole.stands;

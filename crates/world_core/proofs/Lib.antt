@@ -1,5 +1,6 @@
 pub mod Acknowledged
 pub mod Pure
+pub mod Results
 pub mod ImportEvents
 pub mod Sound
 pub mod Begins
@@ -37,6 +38,9 @@ pub mod Taking
 pub mod Making
 pub mod Reopening
 pub mod Recovering
+pub mod Moments
+pub mod LineKeeping
+pub mod Calls
 pub mod Coming
 pub mod Finals
 pub mod Placing

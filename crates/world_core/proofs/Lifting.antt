@@ -32,7 +32,6 @@ use Rattle.world_core.proofs.Holding.{gone_none, moved_other}
 use Rattle.world_core.proofs.Pure.{above_noted, all_set}
 use Rattle.world_core.proofs.Settling.{settled_conf, settled_others}
 use Rattle.world_core.proofs.Sound.{names_set}
-use Rattle.world_core.proofs.Stationed.{set_same}
 
 -- ---- lists
 
@@ -286,6 +285,12 @@ module _ (past : Past) (rank id : ℕ) (was now : PeerPast) (here : slice_get pa
 pub with_twice : (past : Past) (rank : ℕ) (mid now : PeerPast)
     → with_peer (with_peer past rank mid) rank now ≡ with_peer past rank now
 with_twice past rank mid now = ap (λ peers. record past { peers = peers }) (set_twice past.peers rank mid now)
+
+-- an element in the place of itself
+pub set_same : {A : Type 0} (xs : List A) (i : ℕ) (x : A) → slice_get xs i ≡ Some x → set xs i x ≡ xs
+set_same [] i x here = refl
+set_same (a ∷ xs) zero x here = let same : a ≡ x = cc in ap (λ b. b ∷ xs) (sym same)
+set_same (a ∷ xs) (suc i) x here = ap (λ l. a ∷ l) (set_same xs i x here)
 
 pub with_same : (past : Past) (rank : ℕ) (was : PeerPast) → slice_get past.peers rank ≡ Some was
     → with_peer past rank was ≡ past

@@ -14,16 +14,18 @@ use Rattle.recovery.specs.declared.tape.Tape.{Tape}
 use Rattle.recovery.specs.declared.fault.TapeFault.{TapeFault}
 use Rattle.recovery.specs.declared.fault.TapeFault.TheVariants.{Disk, TapeFull}
 use Rattle.peer_queue.specs.Faults.{IsFlushFault}
-use Rattle.peer_queue.specs.Words.{IsSame}
+use Rattle.peer_queue.specs.Calls.{KeepsDebts}
+use Rattle.peer_queue.specs.Words.{IsSame, tape_of}
 use Rattle.peer_queue.specs.declared.fault.StationFault.{StationFault}
 use Rattle.peer_queue.specs.declared.fault.StationFault.TheVariants.{NotHeld, Broken, Tape as TapeRefused, NoMemory}
 use Rattle.peer_queue.specs.declared.station.Station.{Station}
-use Rattle.world_core.specs.Past.{PeerPast, TapePast}
+use Rattle.world_core.specs.Past.{PeerPast, TapePast, with_tape}
 use Rattle.world_core.specs.Safe.{KeepsNotes}
 use Rattle.world_core.specs.Tapes.{Breaks, IsFlushed, IsReadTape, MayFlush, RefusesFlush}
 use Rattle.world_core.specs.Fault.{fault_of_station}
-use Rattle.world_core.specs.Stands.{TapeStands}
+use Rattle.world_core.specs.Stands.{PeerStands, TapeStands}
 use Rattle.world_core.specs.declared.fault.Fault.{Fault}
+use Rattle.world_core.specs.declared.peer.Peer.{Peer}
 
 pub not_true : (b : Bool) → (b ≡ true → ⊥) → b ≡ false
 not_true true never = absurd (never refl)
@@ -166,6 +168,18 @@ module _ {D : Type 0} {g : Ghosts D} where
         faults = here.1 ∙ stands.faults;
         broken = same_truth (broken_of old.tape) (broken_of new.tape) same.works ∙ stands.broken;
       }
+
+  -- the tape is another one, and all debts are as they were
+  pub with_station : (past : PeerPast) (old : Peer D g) (station : Station D g) (later : TapePast) → PeerStands past old
+      → KeepsDebts old.station station → TapeStands later (tape_of station)
+      → PeerStands (with_tape past later) (record old { station = station })
+  with_station past old station later stands keeps tape = record {
+    conf = stands.conf;
+    limits = keeps.limits ∙ stands.limits;
+    tape = tape;
+    places = keeps.places ∙ stands.places;
+    parted = stands.parted;
+  }
 
   module _ (lies : LiesLeft g) (P : State
       → Type 0) (past : TapePast) (old new : Station D g) (stands : TapeStands past old.tape)

@@ -1,24 +1,37 @@
 -- Worked scripts, computed: what each step tells, what each peer has noted, and how much of it is acknowledged.
-use Rattle.std.proofs.Common.{◌≡◌, ℕ, ◌+◌, true, false, None, Some, List, [], ◌∷◌, ◌++◌, length, map, refl}
+use Rattle.std.proofs.Common.{◌≡◌, ℕ, ◌+◌, true, false, None, Some, List, [], ◌∷◌, ◌++◌, length, map, refl, inl, inr}
+use Rattle.std.proofs.Common.{arith}
+use Rattle.std.specs.List.{AllZip}
 use Rattle.std.specs.Prelude.{◌-◌, ◌^◌, codes, if◌then◌else◌}
 use Rattle.disk_model.specs.declared.choice.Choice.{Choice}
 use Rattle.disk_model.specs.Disk.Event.{Made, Synced, Wrote}
 use Rattle.feed_conf.specs.declared.conf.PeerConf.{PeerConf}
 use Rattle.ledger_core.specs.State.{keys}
+use Rattle.ledger_core.specs.declared.note.Note.TheVariants.{Owe}
+use Rattle.recovery.specs.Pairs.LeavesPair.{at_start}
+use Rattle.recovery.specs.declared.fault.TapeFault.TheVariants.{Broken}
 use Rattle.recovery.specs.Notes.{begun as begun_history, flushed, most_pending, recovered}
 use Rattle.peer_queue.specs.Place.{Ready}
 use Rattle.peer_queue.specs.declared.limits.Owed.TheVariants.{Already, New}
 use Rattle.world_core.specs.Past.{Armed, Life, Past, PeerPast, TapePast, ledger_at, mark_at}
-use Rattle.world_core.specs.Events.{Acknowledges, Closes, Imports, Opens, OpensIntake, Owes, Parts, Sees, Spills}
+use Rattle.world_core.specs.Events.{Acknowledges, Closes, Imports, Opens, OpensIntake, Owes, Parts, Rotates, Sees}
+use Rattle.world_core.specs.Events.{Spills}
+use Rattle.world_core.specs.Events.AllDo.{Start}
 use Rattle.world_core.specs.Events.{closing}
 use Rattle.world_core.specs.Events.{import_key, import_mark_at, imported_as, open_source, opened_peer, owed_as}
 use Rattle.world_core.specs.Events.{owing_as}
 use Rattle.world_core.specs.Events.{parted, seen}
 use Rattle.world_core.specs.Halts.{AtRest, ByChoice, armed_with, halted, left, restart_events}
 use Rattle.world_core.specs.Imports.{Good, count_new, import_events}
+use Rattle.world_core.specs.Laws.{IsAcknowledgedLine}
+use Rattle.world_core.specs.LineLaws.{MadeDebt, OwesOrEnded, new_to, read_by, told_new}
+use Rattle.world_core.specs.Moments.{IsUnderWay, MayMake, StaysFront}
+use Rattle.world_core.specs.Safe.{IsSafe}
 use Rattle.world_core.specs.Tapes.{noted_at}
 use Rattle.world_core.specs.Steps.{begun_at, flush_events, is_named, line_events, owed_there}
 use Rattle.world_core.specs.Told.{Mark, Owed, Said, lines_in, mark_said}
+use Rattle.world_core.specs.declared.fault.Fault.TheVariants.{Tape}
+use Rattle.world_core.specs.declared.step.Step.TheVariants.{Part, Rotate}
 
 -- ---- what the events of a step that goes well leave
 
@@ -144,6 +157,67 @@ module _ (conf : PeerConf) where
 
   again_stands : standing again ≡ (1, (1 ∷ [], 1)) ∷ (1, (1 ∷ [], 1)) ∷ []
   again_stands = refl
+
+  -- so says the law of lines that are read again: whom the line is new to, at whom that is told, what it makes of all
+  again_new : new_to 1 named half.peers ≡ codes "q" ∷ []
+  again_new = refl
+
+  again_told : told_new (owed_there 1 named half.peers) ≡ codes "q" ∷ []
+  again_told = refl
+
+  again_read : read_by 1 (codes "a/1") (codes "<x@y>") named half ≡ lined (codes "a/1") (codes "<x@y>") named half
+  again_read = refl
+
+  -- the debt that the line made at the first peer: owed after its note, if the line is acknowledged
+  abbrev first : PeerPast
+  first = parted (owing_as New 1 (codes "a/1") (codes "<x@y>") (peer (codes "p")))
+      (flushed_tape (noted_at tape (Owe 1 (codes "a/1") (codes "<x@y>"))))
+
+  first_made : IsAcknowledgedLine acknowledged 1 → MadeDebt acknowledged 0 1 (codes "a/1") (codes "<x@y>")
+  first_made line = record { line = line; peer = first; here = refl; noted = (0, omega arith, refl) }
+
+  first_owes : OwesOrEnded first 1 (codes "a/1") (codes "<x@y>") (ledger_at first.tape)
+  first_owes = inl (0, omega arith, refl)
+
+  -- a flush of that peer is under way where its tape is broken, and comes to nothing
+  abbrev broken_life : Life
+  broken_life = record {
+    past = record two { peers = record (peer (codes "p")) { tape = record tape { broken = true } } ∷ [] };
+    conns = [];
+    connected = 0;
+    now = 0;
+    armed = None;
+    running = true;
+  }
+
+  part_under_way : IsUnderWay (Part (codes "p")) broken_life broken_life.past broken_life.past
+  part_under_way = record {
+    begun = broken_life.past;
+    events = Parts 0 ∷ [];
+    may = (refl, refl, (0, refl, refl));
+    count = 0;
+    front = Start;
+    event = Parts 0;
+    here = refl;
+    makes = inr (
+      Tape Broken,
+      record {
+        peer = record (peer (codes "p")) { tape = record tape { broken = true } };
+        tape = record tape { broken = true };
+        here = refl;
+        refused = inl (refl, refl, refl);
+        changed = refl;
+      },
+    );
+  }
+
+  -- whose peer keeps its notes, and owes what it owed
+  part_within : IsSafe broken_life.past → AllZip StaysFront broken_life.past.peers broken_life.past.peers
+  part_within safe = (at_start safe.peers.0, tt)
+
+  -- a rotation may answer any generation
+  may_rotate : MayMake (Rotate (codes "p")) broken_life broken_life.past (Rotates 0 7 ∷ [])
+  may_rotate = (refl, refl, (0, 7, refl, refl))
 
   -- a line between the part and the seal: the kept number is sealed, and the later line is none that is acknowledged
   abbrev one : Past

@@ -54,7 +54,7 @@ owed_conf number token id peer New = refl
 owed_conf number token id peer Already = refl
 
 -- A peer becomes another, whose notes that pend were made by no line up to a mark where those of the first were not.
-sound_kept : (past : Past) (rank : ℕ) (peer now : PeerPast) → IsSound past → slice_get past.peers rank ≡ Some peer
+pub sound_kept : (past : Past) (rank : ℕ) (peer now : PeerPast) → IsSound past → slice_get past.peers rank ≡ Some peer
     → now.conf ≡ peer.conf → now.parted ≡ peer.parted
     → ((mark : ℕ) → mark ≤ past.last → HasAcknowledged mark peer → HasAcknowledged mark now)
     → IsSound (with_peer past rank now)

@@ -10,6 +10,8 @@ pub mod Halts
 pub mod Runs
 pub mod Sound
 pub mod Laws
+pub mod Moments
+pub mod LineLaws
 pub mod Fault
 pub mod StopDisk
 pub mod Trigger

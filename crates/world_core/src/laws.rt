@@ -4,6 +4,8 @@ ghost use Rattle.world_core.specs.Events.{AllDo, Event};
 ghost use Rattle.world_core.specs.Keeping.{PeerStays, PeersStay};
 ghost use Rattle.world_core.specs.Laws.{AllAreRecovered, AllFinalsAreRight, AllStayAcknowledged};
 ghost use Rattle.world_core.specs.Laws.{Comes, LinesAreAcknowledged, OverRuns, StillOwes};
+ghost use Rattle.world_core.specs.LineLaws.{LinesAreKept, LinesAreKeptWithin, LinesAreReadAgain};
+ghost use Rattle.world_core.specs.Moments.{AllMomentsAreRecovered, CallsNoOther};
 ghost use Rattle.world_core.specs.Past.{Life, Past, PeerPast};
 ghost use Rattle.world_core.specs.Safe.{IsSafe};
 ghost use Rattle.world_core.specs.Stands.{Ran, WasRefused, WorldStands};
@@ -63,6 +65,35 @@ pub fn all_stay_acknowledged()
 /// or a noted drop of it.
 pub fn all_are_recovered()
     ensures { OverRuns AllAreRecovered }
+{}
+
+/// Behind any steps, taken or refused, stops and restarts among them, a step is under way: at each moment of each of
+/// its calls on a disk, whether the call answers Ok, fails, or is met by a stop, whatever a stop may leave of a peer's
+/// tape is a tape, that of the first of its notes, every acknowledged one among them; and each debt that was
+/// acknowledged before the steps, or that the peer's history began from, is owed there, unless the peer has a final
+/// answer or a noted drop of it.
+pub fn all_moments_are_recovered()
+    ensures { AllMomentsAreRecovered }
+{}
+
+/// Those are all calls on a peer's disks: what has happened to the disks by the end of a step, taken or refused, had
+/// happened before it, or by the end of one of its events; or a stop came, and its choice leaves what it does of that.
+pub fn steps_call_no_other_disk()
+    ensures { CallsNoOther }
+{}
+
+/// The debt that an acknowledged line made at a peer is owed over any steps from then on, unless the peer has a final
+/// answer or a noted drop of it: whatever a stop may leave of the peer's tape, behind the steps (`after`) or at each
+/// moment within the one behind them (`within`), is a tape that says so.
+pub fn acknowledged_lines_are_kept()
+    ensures after { OverRuns LinesAreKept }
+    ensures within { LinesAreKeptWithin }
+{}
+
+/// A line that is read is told as `new` at exactly those peers that it names whose mark is below its number, and it
+/// changes nothing at any other. So is a line that is read again after a stop, under the number that it had.
+pub fn line_read_again()
+    ensures { LinesAreReadAgain }
 {}
 
 /// Over any steps, taken or refused, each final answer among a peer's notes that was not there before them has its

@@ -1,12 +1,13 @@
 // One peer of a world.
 ghost use Rattle.std.specs.Prelude.{◌≡◌, IfErr, IfOk, OnOk};
+ghost use Rattle.std.specs.Str.{bytes_eq};
 ghost use Rattle.world_core.specs.Past.{limits_of};
 
 use crate::fault::{Fault, TapesFault};
 use crate::stop::{StopDisk, Trigger};
 use disk_model::{Disk, MemDisk};
 use feed_conf::PeerConf;
-use funnel::{MsgId, Token};
+use funnel::{MsgId, PeerName, Token};
 use ledger_core::Key;
 use peer_queue::{Limits, Owed, Station, each_number_has_one_place};
 use recovery::TapeFault;
@@ -40,6 +41,13 @@ impl<D: Disk> Peer<D> {
     ghost use Rattle.world_core.specs.Stands.{ClosedPeer, FlushedPeer, OwedNot, OwedTo, PeerStands};
     ghost use Rattle.world_core.specs.Stands.{RotatedPeer, ShedPeer, SpilledPeer, UnclosedPeer, UnflushedPeer};
     ghost use Rattle.world_core.specs.Stands.{UnrotatedPeer, UnshedPeer};
+
+    // Whether this is its name.
+    pub(crate) fn has_name(&self, name: &PeerName) -> bool
+        ensures { result ≡ bytes_eq self.now.conf.name name.now }
+    {
+        self.conf.name.bytes() == name.bytes()
+    }
 
     // Owes a line that names it, and tells what came of it.
     pub(crate) fn owe(&mut self, number: u64, token: &Token, id: &MsgId) -> Result<Owed, Fault>

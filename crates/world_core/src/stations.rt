@@ -118,9 +118,7 @@ impl<D: Disk> Stations<D> {
         ensures { result ≡ position
             (λ peer. bytes_eq peer.conf.name name.now) self.now.peers.items }
     {
-        self.peers
-            .iter()
-            .position(|peer| peer.conf.name.bytes() == name.bytes())
+        self.peers.iter().position(|peer| peer.has_name(name))
     }
 }
 

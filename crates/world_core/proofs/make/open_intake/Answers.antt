@@ -14,4 +14,4 @@ returns-in-Ok c =
     ((is.opens tt tt).ok)
     (is.quiet ∙ both_are (none_told c.new-first.result c.new.result first.disk first.told c.new.ensures.told)
     (none_told c.new-second.result c.new-2.result second.disk second.told c.new-2.ensures.told))
-    is.works.0
+    is.fresh.works

@@ -20,4 +20,5 @@ invariant_of-self g c =
     record {
       all_placed = placed_hold c.hold.result mid.index c.hold.new.self c.in-Some.key c.args.connection.0
           c.hold.ensures.ok c.hold.ensures.unchanged ∙ mid.all_placed;
+      unplaced = mid.unplaced;
     }

@@ -19,6 +19,7 @@ invariant_of-self-2 g c =
       all_placed = ap placed c.end.ensures
           ∙ (placed_ended station.index (ledger_of station) c.args.note c.args.key c.requires.note station.all_placed
           ∙ ap keys (sym step));
+      unplaced = c.in_default.ensures.place ∙ station.unplaced;
     }
 
 pub returns-in-Err-clause-pending_full : goal.returns-in-Err-clause-pending_full

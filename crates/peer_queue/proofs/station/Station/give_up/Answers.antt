@@ -10,4 +10,5 @@ invariant_of-self g c =
     record {
       all_placed = ap placed c.give_up.ensures
           ∙ (placed-moved station.index c.args.key (place_for c.args.wait) ∙ station.all_placed);
+      unplaced = station.unplaced;
     }

@@ -10,6 +10,7 @@ use Rattle.peer_queue.proofs.station.Station.open.Goals as goal
 pub invariant_of-result : goal.invariant_of-result
 invariant_of-result g c = record {
   all_placed = ap placed c.in-Ok-index_of.ensures.places ∙ placed-all_ready (keys (tape_ledger c.in-Ok.tape));
+  unplaced = c.in-Ok.ensures.fresh.unplaced;
 }
 
 pub returns-in-Err-index_of-clause-recovers : goal.returns-in-Err-index_of-clause-recovers

@@ -31,7 +31,10 @@ invariant_of-self-in-Err g c =
     absent_next old.index (tape_ledger old.tape) n old.all_placed old.tape.ledger.past c.requires.next in
     let back : c.remove.new.self ≡ old.index =
     c.remove.ensures ∙ (ap (λ (p : Places). gone p n) c.in_ok-add.ensures.ok ∙ gone_with old.index n Ready none) in
-    record { all_placed = ap placed back ∙ (old.all_placed ∙ sym (ap keys c.in-Err.ensures.refuses.unchanged.ledger)) }
+    record {
+      all_placed = ap placed back ∙ (old.all_placed ∙ sym (ap keys c.in-Err.ensures.refuses.unchanged.ledger));
+      unplaced = c.in-Err.ensures.place ∙ old.unplaced;
+    }
 
 pub invariant_of-self-in_default : goal.invariant_of-self-in_default
 invariant_of-self-in_default g c =
@@ -42,6 +45,7 @@ invariant_of-self-in_default g c =
     record {
       all_placed = ap placed c.in_ok-add.ensures.ok
           ∙ (placed_owed old.index state n c.args.token.now c.args.id.now old.all_placed ∙ sym (ap keys noted));
+      unplaced = c.in_default.ensures.place ∙ old.unplaced;
     }
 
 pub returns-in-Err-clause-count_full : goal.returns-in-Err-clause-count_full

@@ -8,4 +8,5 @@ invariant_of-self g c =
     let station = c.args.self.now in
     record {
       all_placed = ap placed c.release.ensures.places ∙ (placed-released c.args.connection.0 station.index ∙ station.all_placed);
+      unplaced = station.unplaced;
     }

@@ -57,6 +57,7 @@ invariant_of-self-2 g c =
       all_placed =
           ap placed (c.remove_all.ensures ∙ ap (λ (k : List ℕ). all_gone (places_of station) k) same)
           ∙ (placed_dropped (places_of station) state l station.all_placed ∙ sym (ap (λ (s : State). keys s) ledger));
+      unplaced = c.in_default.ensures.place ∙ station.unplaced;
     }
 
 pub returns-clause-ok : goal.returns-clause-ok

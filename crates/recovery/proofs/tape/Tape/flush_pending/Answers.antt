@@ -88,12 +88,12 @@ returns-in-Ok-clause-flushes g c = λ h stands.
     ))) in
     let counted : c.saturating_add-self.result ≡ min (length h.notes - h.opened) (2 ^ 64 - 1) = omega (
       arith,
-      w.count,
+      stands.count,
       w.pending_count,
       length-drop h.kept h.notes,
       stands.kept_within,
       c.saturating_add-self.ensures,
-      w.opened,
+      stands.opened,
     ) in
     record {
       ok = stands_whole _ (flushed h) (c.append_all.ensures.continues.honest.0 stands.honest.0, stands.honest.1)
@@ -102,14 +102,14 @@ returns-in-Ok-clause-flushes g c = λ h stands.
           (subst (λ (l : List (List ℕ)). Holds c.append_all.new.self (w.payloads ++ l)) w.pending.payloads held)
           (subst (Restores (w.payloads ++ payloads_of batches) tape.segments.generation) left restores) w.other
           c.clear.ensures.payloads c.clear.ensures.count counted
-          (omega (arith, w.opened, stands.kept_within))
+          (omega (arith, stands.opened, stands.kept_within))
           (subst (λ (l : List (List ℕ)). Indexes (length (w.payloads ++ l)) (w.payloads ++ l) tape.ledger)
           w.pending.payloads
           (indexes-flushed (length w.payloads) (w.payloads ++ payloads_in tape.pending) tape.ledger w.indexed.indexes))
           (w.indexed.ends.next_is
           ∙ ap (λ (l : List (List ℕ)). min (records_length (w.payloads ++ l)) (2 ^ 64 - 1)) w.pending.payloads);
       stays = tt;
-      count = counted;
+      count = c.of.ensures.count ∙ counted;
       moments = flush_moments tape h (g.D.Disk.log (journal_disk c.append_all.new.self)) stands c.requires.works
           (λ all holds. let run = rw c.payloads.ensures at (c.append_all.ensures.appends all holds) in run.moments);
       calls = λ pends others cut. ap (λ (l : List Event). placed tape.segments.second l (other_log tape))

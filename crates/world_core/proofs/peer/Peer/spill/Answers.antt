@@ -1,7 +1,8 @@
 -- A flush of the station is one of the peer's tape.
-use Rattle.std.proofs.Common.{◌∙◌, ap}
+use Rattle.std.proofs.Common.{ap}
 use Rattle.world_core.specs.Safe.{KeepsNotes}
-use Rattle.world_core.proofs.Peers.{flushed_as, keeps_moments, unflushed_as}
+use Rattle.world_core.proofs.Peers.{flushed_as, keeps_moments, unflushed_as, with_station}
+use Rattle.world_core.proofs.Results.{at_err, at_ok}
 use Rattle.world_core.proofs.peer.Peer.spill.Goals as goal
 use Rattle.peer_queue.specs.Words.{tape_of}
 
@@ -12,20 +13,12 @@ returns-in-Ok-clause-ok g c = λ past stands.
     let done = flushed_as g.met.D.Disk.content_is_image (KeepsNotes past) past.tape (tape_of c.args.self.now.station)
     c.flush.new.self.tape stands.tape
     (keeps_moments past _ _ ((is.flushes h stands.tape.stands).moments))
-    (λ b. let never = is.refuses.broken.1 b in cc) is.refuses.works
-    (λ full. let never = is.refuses.full.1 ((λ b. let broken = is.refuses.broken.1 b in cc), full) in
-    cc) (λ none. ap (λ s. s.tape) (is.empty none)) ((is.flushes h stands.tape.stands).ok) is.quiet in
+    (at_ok is.refuses.broken) is.refuses.works (λ full. at_ok is.refuses.full (at_ok is.refuses.broken, full))
+    (λ none. ap (λ s. s.tape) (is.empty none)) ((is.flushes h stands.tape.stands).ok) is.quiet in
     record {
       later = _;
       flushes = done.0;
-      stands = record {
-        conf = stands.conf;
-        limits = is.keeps.limits ∙ stands.limits;
-        tape = done.1;
-        places =
-            is.keeps.places ∙ stands.places;
-        parted = stands.parted;
-      };
+      stands = with_station past c.args.self.now c.flush.new.self _ stands is.keeps done.1;
     }
 
 pub returns-in-Err-clause-err : goal.returns-in-Err-clause-err
@@ -35,25 +28,12 @@ returns-in-Err-clause-err g c = λ past stands.
     let done = unflushed_as g.met.D.Disk.content_is_image (KeepsNotes past) past.tape c.args.self.now.station
     c.flush.new.self stands.tape
     (keeps_moments past _ _ ((is.flushes h stands.tape.stands).moments)) ((is.flushes h stands.tape.stands).stays)
-    c.in-Err.fault c.from_station.result c.from_station.ensures (
-      (λ e. is.refuses.broken.0 cc),
-      λ b. let e = is.refuses.broken.1 b in cc,
-    ) (
-      (λ e. is.refuses.full.0 cc),
-      λ both. let e = is.refuses.full.1 both in
-          cc,
-    ) (λ none works. let never = is.empty_ok none works in cc)
-    is.refuses.kinds is.refuses.unchanged (λ e. is.refuses.breaks cc) (λ e. (is.flushes h stands.tape.stands).cause
+    c.in-Err.fault c.from_station.result c.from_station.ensures (at_err is.refuses.broken)
+    (at_err is.refuses.full) (λ none works. let never = is.empty_ok none works in cc) is.refuses.kinds
+    is.refuses.unchanged (λ e. is.refuses.breaks cc) (λ e. (is.flushes h stands.tape.stands).cause
     cc) in
     record {
       later = done.later;
       refused = done.refused;
-      stands = record {
-        conf = stands.conf;
-        limits = is.keeps.limits ∙ stands.limits;
-        tape = done.stands;
-        places =
-            is.keeps.places ∙ stands.places;
-        parted = stands.parted;
-      };
+      stands = with_station past c.args.self.now c.flush.new.self _ stands is.keeps done.stands;
     }

@@ -17,7 +17,7 @@ returns-in-Ok-clause-ok c = λ past tries stands.
     (tries_none past me.opened.items me.stopped.items [] me.refused c.in_default.not-Some tries) stands.legal
     stands.log
     ((is.recovers past.intake.history tt tt (intake_there past c.args.intake stands)).recovers) ((is.opens tt tt).ok)
-    is.works.0 (is.quiet ∙ stands.faults)
+    is.fresh.works (is.quiet ∙ stands.faults)
     refl c.mark-last.ensures refl c.mark-last.type_inv
 
 pub returns-in-Err-clause-err : goal.returns-in-Err-clause-err

@@ -1,7 +1,10 @@
 -- The stations take the step, or a stop is met.
 use Rattle.std.proofs.Common.{List, ℕ, refl, sym, ◌∙◌, subst}
 use Rattle.world_core.specs.Stepped.{Took as TookTapes, TookNot}
+use Rattle.world_core.specs.Past.{Life}
+use Rattle.world_core.specs.Stands.{WorldStands}
 use Rattle.world_core.specs.Steps.{RefusesImport, TakesImport}
+use Rattle.world_core.specs.declared.world.Stage.TheVariants.{Running}
 use Rattle.world_core.specs.declared.step.Step.TheVariants.{Import}
 use Rattle.world_core.proofs.Steady.{steady}
 use Rattle.world_core.proofs.Stepping.{rank_same}
@@ -20,12 +23,13 @@ returns-in-Ok-clause-ok c = λ life stands.
     (λ on. subst (λ (t : List ℕ). TookTapes (TakesImport name t) life.past c.in-Ok.told.items c.import.new.self)
     c.deref.ensures.value (c.in-Ok.ensures.ok life.past on))
 
-pub returns-in-Err-clause-ok : goal.returns-in-Err-clause-ok
-returns-in-Err-clause-ok c = λ life stands.
+pub returns-in-Err : goal.returns-in-Err
+returns-in-Err c =
     let name = c.args.name.now in
     let text = c.args.text.now in
-    c.settle.ensures.ok (Import name text) life
-    (was_halted c.args.self.now _ life c.in-Running.stations c.import.new.self c.in-Running.field-1 stands
+    let was = λ (life : Life) (stands : WorldStands c.args.self.now life). was_halted c.args.self.now
+    (record c.args.self.now { stage = Running c.import.new.self c.in-Running.field-1 }) life c.in-Running.stations
+    c.import.new.self c.in-Running.field-1 stands
     c.in-Running.is refl refl refl refl
     (Import name text) (RefusesImport name text.items) (record { rank = c.rank_of-rank.result; fault = c.in-Err.fault })
     (λ later r. r) (import_refused steady name text.items)
@@ -35,21 +39,8 @@ returns-in-Err-clause-ok c = λ life stands.
       t,
       λ disk runs. import_fails life name text _ t.later (rank_same name life.past c.in-Running.stations on
           ∙ sym c.rank_of-rank.ensures) runs t.refuses disk,
-    )))
-
-pub returns-in-Err-clause-err : goal.returns-in-Err-clause-err
-returns-in-Err-clause-err c = λ life stands.
-    let name = c.args.name.now in
-    let text = c.args.text.now in
-    c.settle.ensures.err (Import name text) life
-    (was_halted c.args.self.now _ life c.in-Running.stations c.import.new.self c.in-Running.field-1 stands
-    c.in-Running.is refl refl refl refl
-    (Import name text) (RefusesImport name text.items) (record { rank = c.rank_of-rank.result; fault = c.in-Err.fault })
-    (λ later r. r) (import_refused steady name text.items)
-    (λ on.
-    let t = subst (λ (t : List ℕ). TookNot (RefusesImport name t) life.past c.in-Err.fault c.import.new.self)
-    c.deref.ensures.value (c.in-Err.ensures.err life.past on) in (
-      t,
-      λ disk runs. import_fails life name text _ t.later (rank_same name life.past c.in-Running.stations on
-          ∙ sym c.rank_of-rank.ensures) runs t.refuses disk,
-    )))
+    )) in
+    record {
+      ok = λ life stands. c.settle.ensures.ok (Import name text) life (was life stands);
+      err = λ life stands. c.settle.ensures.err (Import name text) life (was life stands);
+    }

@@ -1,0 +1,234 @@
+-- At each moment within a step, whatever a stop leaves of a peer's tape is the tape of the first of its notes.
+use Rattle.std.proofs.Common.{◌≡◌, ◌⊎◌, ◌+◌, ◌++◌, ℕ, false, Some, List, [], ◌∷◌, map, refl, sym, ap, subst, inl, inr}
+use Rattle.std.specs.List.{AllByRecursion, AllZip, slice_get}
+use Rattle.recovery.specs.Leaving.{EachLedger, IsFront, LedgersLeave}
+use Rattle.recovery.specs.Pairs.LeavesPair.{at_start}
+use Rattle.peer_queue.specs.Place.{Ready as Free, moved}
+use Rattle.peer_queue.specs.Settled.{key_in}
+use Rattle.peer_queue.specs.declared.limits.Owed.{Owed}
+use Rattle.peer_queue.specs.declared.limits.Owed.TheVariants.{New, Already}
+use Rattle.peer_queue.specs.declared.settled.Settled.{Settled}
+use Rattle.peer_queue.specs.declared.settled.Settled.TheVariants.{Answered, Dropped, Later, Ready}
+use Rattle.world_core.specs.Past.{Life, Past, PeerPast, TapePast, with_peer, with_places, with_tape}
+use Rattle.world_core.specs.Safe.{IsSafe, KeepsNotes}
+use Rattle.world_core.specs.Events.{Acknowledges, AllDo, Claims, Closes, Does, Event, Imports, Opens, OpensIntake, Owes}
+use Rattle.world_core.specs.Events.{Parts, Refuses, Returns, Rotates, Sees, Settles, Sheds, Spills, import_key}
+use Rattle.world_core.specs.Events.{claimed_peer, imported_as, owed_as, owing_as, settled_as, settling, shed_peer}
+use Rattle.world_core.specs.Events.AllDo.{Start, Next}
+use Rattle.world_core.specs.Keeping.{PeerStays, PeersStay}
+use Rattle.world_core.specs.Laws.{StillOwes}
+use Rattle.world_core.specs.Moments.{AllMomentsAreRecovered, MayMake, StaysFront}
+use Rattle.world_core.specs.Steps.{begun_at}
+use Rattle.world_core.specs.Tapes.{RefusesFlush, RefusesRotate}
+use Rattle.world_core.specs.declared.fault.Fault.{Fault}
+use Rattle.world_core.specs.declared.step.Step.{Step}
+use Rattle.world_core.specs.declared.step.Step.TheVariants.{Flush, Import, Part, Restart, Rotate, Seal}
+use Rattle.world_core.proofs.Keeping.{peer_same, stay_same, stay_then}
+use Rattle.world_core.proofs.Recovering.{comes_safe, still_owes}
+use Rattle.world_core.proofs.Running.{all_stay, events_stay}
+use Rattle.world_core.proofs.Zips.{zip_made, zip_put, zip_same}
+
+-- ---- lists
+
+pub not_none : {A : Type 0} (xs : List A) (x : A) → xs ++ x ∷ [] ≡ [] → ⊥
+not_none [] x is = cc
+not_none (y ∷ xs) x is = cc
+
+-- one relation from another, with what each of the first has
+zip_with : {A B : Type 0} (P : A → B → Type 0) (S : A → Type 0) (Q : A → B → Type 0)
+    → ((x : A) (y : B) → P x y → S x → Q x y)
+    → (xs : List A) (ys : List B) → AllZip P xs ys → AllByRecursion S xs → AllZip Q xs ys
+zip_with P S Q each [] [] zip all = tt
+zip_with P S Q each [] (y ∷ ys) zip all = absurd zip
+zip_with P S Q each (x ∷ xs) [] zip all = absurd zip
+zip_with P S Q each (x ∷ xs) (y ∷ ys) zip all =
+    (each x y zip.0 all.0, zip_with P S Q each xs ys zip.1 all.1)
+
+zip_weaker : {A B : Type 0} (P Q : A → B → Type 0) → ((x : A) (y : B) → P x y → Q x y)
+    → (xs : List A) (ys : List B) → AllZip P xs ys → AllZip Q xs ys
+zip_weaker P Q each [] [] zip = tt
+zip_weaker P Q each [] (y ∷ ys) zip = absurd zip
+zip_weaker P Q each (x ∷ xs) [] zip = absurd zip
+zip_weaker P Q each (x ∷ xs) (y ∷ ys) zip = (each x y zip.0, zip_weaker P Q each xs ys zip.1)
+
+-- ---- a peer
+
+-- whatever a stop leaves now is that of the first of its notes
+abbrev IsSafePeer : PeerPast → Type 0
+IsSafePeer peer = EachLedger (KeepsNotes peer) peer.tape.log
+
+-- then so it is at each moment from here to there
+abbrev Leaves : PeerPast → PeerPast → Type 0
+Leaves old new = IsSafePeer old → StaysFront old new
+
+-- nothing has happened to its disks
+same_log : (old new : PeerPast) → new.tape.log ≡ old.tape.log → Leaves old new
+same_log old new same safe =
+    subst (LedgersLeave (IsFront old.tape.history) old.tape.log) (sym same) (at_start safe)
+
+leaves_self : (peer : PeerPast) → Leaves peer peer
+leaves_self peer = same_log peer peer refl
+
+log_of : (peer : PeerPast) (one other : TapePast) → one ≡ other → one.log ≡ other.log
+log_of peer one other same = ap (λ (t : TapePast). t.log) same
+
+owing_leaves : (owed : Owed) (number : ℕ) (token id : List ℕ) (peer : PeerPast)
+    → Leaves peer (owing_as owed number token id peer)
+owing_leaves New number token id peer = same_log peer (owing_as New number token id peer) refl
+owing_leaves Already number token id peer = leaves_self peer
+
+settled_leaves : (settled : Settled) (number : ℕ) (peer : PeerPast) → Leaves peer (settled_as settled number peer)
+settled_leaves (Answered code) number peer = same_log peer (settled_as (Answered code) number peer) refl
+settled_leaves (Dropped cause) number peer = same_log peer (settled_as (Dropped cause) number peer) refl
+settled_leaves (Later moment) number peer = same_log peer (settled_as (Later moment) number peer) refl
+settled_leaves Ready number peer = same_log peer (settled_as Ready number peer) refl
+
+flush_leaves : (peer : PeerPast) (fault : Fault) (tape : TapePast)
+    → RefusesFlush (KeepsNotes peer) peer.tape fault tape → Leaves peer (with_tape peer tape)
+flush_leaves peer fault tape (inl broken) = same_log peer (with_tape peer tape) (log_of peer _ _ broken.2)
+flush_leaves peer fault tape (inr (inl full)) = same_log peer (with_tape peer tape) (log_of peer _ _ full.3)
+flush_leaves peer fault tape (inr (inr (inl memory))) = same_log peer (with_tape peer tape) (log_of peer _ _ memory.3)
+flush_leaves peer fault tape (inr (inr (inr disk))) = λ safe. disk.2.moments
+
+rotate_leaves : (peer : PeerPast) (fault : Fault) (tape : TapePast)
+    → RefusesRotate (KeepsNotes peer) peer.tape fault tape → Leaves peer (with_tape peer tape)
+rotate_leaves peer fault tape (inl broken) = same_log peer (with_tape peer tape) (log_of peer _ _ broken.2.all)
+rotate_leaves peer fault tape (inr (inl greatest)) =
+    same_log peer (with_tape peer tape) (log_of peer _ _ greatest.3.all)
+rotate_leaves peer fault tape (inr (inr (inl full))) = same_log peer (with_tape peer tape) (log_of peer _ _ full.3.all)
+rotate_leaves peer fault tape (inr (inr (inr (inl memory)))) =
+    same_log peer (with_tape peer tape) (log_of peer _ _ memory.3.all)
+rotate_leaves peer fault tape (inr (inr (inr (inr disk)))) = λ safe. disk.2.moments
+
+-- ---- all peers
+
+abbrev AllLeave : Past → Past → Type 0
+AllLeave was now = AllZip Leaves was.peers now.peers
+
+none_leave : (was now : Past) → now.peers ≡ was.peers → AllLeave was now
+none_leave was now same = subst (AllZip Leaves was.peers) (sym same) (zip_same Leaves leaves_self was.peers)
+
+one_leaves : (was now : Past) (rank : ℕ) (peer new : PeerPast) → slice_get was.peers rank ≡ Some peer
+    → now ≡ with_peer was rank new → Leaves peer new → AllLeave was now
+one_leaves was now rank peer new here changed leaves =
+    subst (λ (p : Past). AllLeave was p) (sym changed) (zip_put Leaves leaves_self was.peers rank peer new here leaves)
+
+same_tape : (was now : Past) (rank : ℕ) (peer : PeerPast) (tape : TapePast) → slice_get was.peers rank ≡ Some peer
+    → now ≡ with_peer was rank (with_tape peer tape) → tape.log ≡ peer.tape.log → AllLeave was now
+same_tape was now rank peer tape here changed same =
+    one_leaves was now rank peer (with_tape peer tape) here changed (same_log peer (with_tape peer tape) same)
+
+peers_of : (was now : Past) → was ≡ now → was.peers ≡ now.peers
+peers_of was now same = ap (λ (p : Past). p.peers) same
+
+-- ---- each event, taken and refused
+
+taken_leaves : (event : Event) (was now : Past) → Does event was now → AllLeave was now
+taken_leaves (Owes rank token id) was now d =
+    one_leaves was now rank d.peer _ d.here d.changed
+    (owing_leaves (owed_as (was.last + 1) d.peer) (was.last + 1) token id d.peer)
+taken_leaves (Imports rank number token id) was now d =
+    one_leaves was now rank d.peer _ d.here d.changed
+    (owing_leaves (imported_as number d.peer) (import_key number d.peer) token id d.peer)
+taken_leaves (Closes rank) was now d = same_tape was now rank d.peer _ d.here d.changed refl
+taken_leaves (Spills rank) was now d =
+    one_leaves was now rank d.peer _ d.here d.changed (λ safe. d.flushes.moments)
+taken_leaves (Parts rank) was now d = one_leaves was now rank d.peer _ d.here d.changed (λ safe. d.flushes.moments)
+taken_leaves (Rotates rank generation) was now d =
+    one_leaves was now rank d.peer _ d.here d.changed (λ safe. d.rotates.moments)
+taken_leaves (Sheds rank numbers) was now d =
+    one_leaves was now rank d.peer (shed_peer numbers d.peer) d.here d.changed
+    (same_log d.peer (shed_peer numbers d.peer) refl)
+taken_leaves (Claims rank id moment) was now d =
+    let new = claimed_peer id d.debt.0 d.tape d.peer in
+    one_leaves was now rank d.peer new d.here d.changed (same_log d.peer new (log_of d.peer _ _ d.reads.all))
+taken_leaves (Returns rank id number) was now d =
+    let new = with_places d.peer (moved d.peer.places number Free) in
+    one_leaves was now rank d.peer new d.here d.changed (same_log d.peer new refl)
+taken_leaves (Settles rank id moment outcome) was now d =
+    one_leaves was now rank d.peer _ d.here d.changed
+    (settled_leaves (settling d.peer moment outcome) (key_in outcome) d.peer)
+taken_leaves (Sees number) was now d = none_leave was now (peers_of _ _ d.changed)
+taken_leaves Acknowledges was now d = none_leave was now (peers_of _ _ d.changed)
+taken_leaves (Opens rank) was now d = one_leaves was now rank d.peer _ d.here d.changed (λ safe. d.opens.moments)
+taken_leaves OpensIntake was now d = none_leave was now (peers_of _ _ d.changed)
+
+refused_leaves : (event : Event) (was now : Past) (fault : Fault) → Refuses event was fault now → AllLeave was now
+refused_leaves (Owes rank token id) was now fault r =
+    same_tape was now rank r.peer r.tape r.here r.changed (log_of r.peer _ _ r.refused.2)
+refused_leaves (Imports rank number token id) was now fault r =
+    same_tape was now rank r.peer r.tape r.here r.changed (log_of r.peer _ _ r.refused.2)
+refused_leaves (Closes rank) was now fault r =
+    same_tape was now rank r.peer r.tape r.here r.changed (log_of r.peer _ _ r.refused.1)
+refused_leaves (Spills rank) was now fault r =
+    one_leaves was now rank r.peer _ r.here r.changed (flush_leaves r.peer fault r.tape r.refused)
+refused_leaves (Parts rank) was now fault r =
+    one_leaves was now rank r.peer _ r.here r.changed (flush_leaves r.peer fault r.tape r.refused)
+refused_leaves (Rotates rank generation) was now fault r =
+    one_leaves was now rank r.peer _ r.here r.changed (rotate_leaves r.peer fault r.tape r.refused)
+refused_leaves (Sheds rank numbers) was now fault r =
+    same_tape was now rank r.peer r.tape r.here r.changed (log_of r.peer _ _ r.refused.1)
+refused_leaves (Claims rank id moment) was now fault r =
+    same_tape was now rank r.peer r.tape r.here r.changed (log_of r.peer _ _ r.refused.1.all)
+refused_leaves (Returns rank id number) was now fault r =
+    same_tape was now rank r.peer r.tape r.here r.changed (log_of r.peer _ _ r.refused.1)
+refused_leaves (Settles rank id moment outcome) was now fault r =
+    same_tape was now rank r.peer r.tape r.here r.changed (log_of r.peer _ _ r.refused.1)
+refused_leaves (Sees number) was now fault r = none_leave was now (peers_of _ _ r.changed)
+refused_leaves Acknowledges was now fault r = none_leave was now (peers_of _ _ r.changed)
+refused_leaves (Opens rank) was now fault r =
+    one_leaves was now rank r.peer _ r.here r.changed (λ safe. r.refused.moments)
+refused_leaves OpensIntake was now fault r = none_leave was now (peers_of _ _ r.changed)
+
+event_leaves : (event : Event) (was now : Past)
+    → Does event was now ⊎ ((fault : Fault) × Refuses event was fault now) → AllLeave was now
+event_leaves event was now (inl does) = taken_leaves event was now does
+event_leaves event was now (inr (fault, refuses)) = refused_leaves event was now fault refuses
+
+-- ---- where a step's events begin
+
+pub starts : (step : Step) (life : Life) (begun : Past) (events : List Event) → MayMake step life begun events
+    → (begun ≡ life.past) ⊎ (begun ≡ begun_at life.past)
+starts Flush life begun events may = inr may.1
+starts (Part name) life begun events may = inl may.1
+starts Seal life begun events may = inl may.1
+starts (Rotate name) life begun events may = inl may.1
+starts (Import name text) life begun events may = inl may.1
+starts Restart life begun events may = inl may.1
+starts step life begun events may = absurd may
+
+-- the same tapes, all of them safe
+abbrev IsStart : Past → Past → Type 0
+IsStart was now = PeersStay was now × AllByRecursion IsSafePeer now.peers
+
+safe_begun : (peers : List PeerPast) → AllByRecursion IsSafePeer peers
+    → AllByRecursion IsSafePeer (map (λ (peer : PeerPast). record peer { parted = false }) peers)
+safe_begun [] safe = tt
+safe_begun (peer ∷ peers) safe = (safe.0, safe_begun peers safe.1)
+
+started : (past begun : Past) → IsSafe past → (begun ≡ past) ⊎ (begun ≡ begun_at past) → IsStart past begun
+started past begun safe (inl same) =
+    subst (IsStart past) (sym same) (stay_same past past refl, safe.peers)
+started past begun safe (inr same) =
+    subst (IsStart past) (sym same) (
+      zip_made PeerStays (λ (peer : PeerPast). record peer { parted = false }) (λ peer. peer_same peer) past.peers,
+      safe_begun past.peers safe.peers,
+    )
+
+safe_behind : (begun later : Past) (events : List Event) → AllDo begun events later
+    → AllByRecursion IsSafePeer begun.peers → AllByRecursion IsSafePeer later.peers
+safe_behind begun _ _ Start safe = safe
+safe_behind begun _ _ (Next events event past later does one safe') safe = safe'.peers
+
+pub moments_recovered : AllMomentsAreRecovered
+moments_recovered = λ begun life steps lines comes step was now way.
+    let start = started life.past way.begun (comes_safe begun steps lines life comes)
+    (starts step life way.begun way.events way.may) in
+    record {
+      fronts = zip_with Leaves IsSafePeer StaysFront (λ old new leaves safe. leaves safe) was.peers now.peers
+          (event_leaves way.event was now way.makes)
+          (safe_behind way.begun was _ way.front start.1);
+      owes = zip_weaker PeerStays StillOwes still_owes begun.past.peers was.peers
+          (stay_then begun.past life.past was (all_stay begun life steps lines comes).peers
+          (stay_then life.past way.begun was start.0 (events_stay way.begun was _ way.front)));
+    }
