@@ -17,6 +17,7 @@ use mio::Waker;
 use peer_queue::StationFault;
 use recovery::TapeFault;
 use std::alloc::{AllocError, Global};
+use std::collections::VecDeque;
 use std::fs::File;
 use std::io::{self, Write};
 use std::rt::{Clock, Files};
@@ -26,6 +27,9 @@ use std::time::{Duration, Instant};
 
 // How many lines a batch has at most.
 const BATCH: u64 = 256;
+
+// How many batches may be taken and not acknowledged, before the next one is taken.
+const AHEAD: usize = 64;
 
 // How long it waits for more lines at the end of a funnel that it follows, in milliseconds.
 const PAUSE: u64 = 200;
@@ -51,8 +55,8 @@ struct Ordered {
     last: u64,
 }
 
-/// Takes the funnel's lines, batch by batch, the next one while the one before is flushed, and tells of each batch once
-/// it is acknowledged; then waits for the feeders. Meanwhile it has the status file written, and tells of lines that go
+/// Takes the funnel's lines, batch by batch, while those before are flushed, and tells of each batch once it is
+/// acknowledged; then waits for the feeders. Meanwhile it has the status file written, and tells of lines that go
 /// nowhere.
 #[derive(Drop)]
 pub(crate) struct Intake<'a, F, W, N: Naming> {
@@ -87,15 +91,13 @@ impl<F: AllocGlobal + Files<File = File>, W: Write, N: Naming> Intake<'_, F, W, 
         signals: &Signals,
         funnel: &mut Funnel<'_, F>,
     ) -> Result<(), Trouble> {
-        let mut ordered = None;
+        let mut ordered = VecDeque::new(self.alloc);
         for _ in rt.forever() {
             let batch = self.take_batch(rt, post, signals, funnel)?;
-            if !self.acknowledge(rt, signals, ordered)? {
-                return Ok(());
-            }
-            ordered = self.order(signals, &batch);
+            self.order(signals, &batch, &mut ordered)?;
             // If it is not full, nothing more is there now.
-            if batch.count < BATCH && !self.acknowledge(rt, signals, ordered.take())? {
+            let most = if batch.count < BATCH { 0 } else { AHEAD };
+            if !self.acknowledge(rt, signals, &mut ordered, most)? {
                 return Ok(());
             }
             self.tidy(rt, funnel)?;
@@ -104,7 +106,7 @@ impl<F: AllocGlobal + Files<File = File>, W: Write, N: Naming> Intake<'_, F, W, 
             }
             self.look_after(rt, post, funnel.path());
             if self.is_to_end(rt) {
-                self.acknowledge(rt, signals, ordered)?;
+                self.acknowledge(rt, signals, &mut ordered, 0)?;
                 return Ok(());
             }
         }
@@ -240,40 +242,55 @@ impl<F: AllocGlobal + Files<File = File>, W: Write, N: Naming> Intake<'_, F, W, 
         }
     }
 
-    // Has the feeders offer what was taken, and orders a flush of it. None where nothing was.
-    fn order(&self, signals: &Signals, batch: &Batch) -> Option<Ordered> {
+    // Has the feeders offer what was taken, and orders a flush of it, unless nothing was.
+    fn order(
+        &self,
+        signals: &Signals,
+        batch: &Batch,
+        ordered: &mut VecDeque<Ordered>,
+    ) -> Result<(), AllocError> {
         if batch.count == 0 {
-            return None;
+            return Ok(());
         }
         self.wake();
-        Some(Ordered {
+        ordered.push_back(Ordered {
             order: signals.order(),
             last: batch.last,
-        })
+        })?;
+        Ok(())
     }
 
-    // Waits until a batch is acknowledged, and tells of it. False if all were stopped, or a tape failed.
+    // Tells of each batch that is acknowledged, the oldest first, and waits until no more than so many are not. False
+    // if all were stopped, or a tape failed, before that.
     fn acknowledge<R: Wait>(
         &mut self,
         rt: &R,
         signals: &Signals,
-        ordered: Option<Ordered>,
+        ordered: &mut VecDeque<Ordered>,
+        most: usize,
     ) -> Result<bool, Trouble> {
-        let Some(Ordered { mut order, last }) = ordered else {
-            return Ok(true);
-        };
         for _ in rt.forever() {
-            let Some(receipt) = signals.receipt(rt, order) else {
-                return Ok(false);
+            let waits = ordered.len() > most;
+            let Some(oldest) = ordered.front_mut() else {
+                return Ok(true);
             };
-            if last <= receipt.number() {
-                return match self.tell(last, &receipt) {
-                    Ok(()) => Ok(true),
-                    Err(error) => Err(Trouble::output(self.alloc, &error)),
-                };
+            let receipt = if waits {
+                signals.receipt(rt, oldest.order)
+            } else {
+                signals.latest_receipt(rt)
+            };
+            match receipt {
+                Some(receipt) if oldest.last <= receipt.number() => {
+                    let last = oldest.last;
+                    ordered.pop_front();
+                    if let Err(error) = self.tell(last, &receipt) {
+                        return Err(Trouble::output(self.alloc, &error));
+                    }
+                }
+                // This flush began before the batch's last line was taken.
+                Some(_) if waits => oldest.order = signals.order(),
+                _ => return Ok(!waits),
             }
-            // This flush began before the batch's last line was taken.
-            order = signals.order();
         }
         unreachable!()
     }

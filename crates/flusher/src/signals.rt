@@ -72,6 +72,11 @@ impl Signals {
         unreachable!()
     }
 
+    /// The receipt of the latest flush, if one came. It waits for no flush.
+    pub fn latest_receipt<R: Wait>(&self, rt: &R) -> Option<Receipt> {
+        self.receipt_since(rt, 0)
+    }
+
     /// Tells that the funnel is at its end: what is ready or held is to be worked off.
     pub fn begin_last_phase(&self) {
         self.last_phase.store(true, Ordering::SeqCst);
