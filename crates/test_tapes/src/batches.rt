@@ -3,10 +3,8 @@ use crate::answers::assert_answer;
 use crate::disks::disks_of;
 use crate::rotations::with_octet;
 use crate::samples::{Sample, is_sample, note_of};
-use crate::tapes::{
-    FILLS, Opening, Step, assert_damaged, flush, front_of, fused, image, opened, run, run_each,
-    stopped,
-};
+use crate::tape_steps::{Opening, Step, flush, opened, run, run_each};
+use crate::tapes::{FILLS, assert_damaged, front_of, fused, image, stopped};
 use disk_model::{Disk, FuseDisk, MemDisk};
 use funnel::{MsgId, Token};
 use ledger_core::{

@@ -4,9 +4,8 @@ use crate::disks::disks_of;
 use crate::planned_file::{Plan, PlannedFile};
 use crate::rotations::ROTATED;
 use crate::samples::Sample;
-use crate::tapes::{
-    Calls, Counts, OWED, TORN, assert_fronts, flaky, flush, front_of, note, opened, rotate,
-};
+use crate::tape_steps::{flush, note, opened, rotate};
+use crate::tapes::{Calls, Counts, OWED, TORN, assert_fronts, flaky, front_of};
 use disk_model::{Disk, FileDisk};
 use recovery::{Tape, TapeFault};
 use std::alloc::Global;

@@ -33,6 +33,8 @@ mod samples;
 #[cfg(test)]
 mod spellings;
 #[cfg(test)]
+mod tape_steps;
+#[cfg(test)]
 mod tapes;
 #[cfg(test)]
 mod waits;

@@ -3,9 +3,9 @@
 use crate::answers::assert_answer;
 use crate::disks::{assert_both, disks_of};
 use crate::samples::Sample;
+use crate::tape_steps::{Octets, Opening, Step, opened, run_each};
 use crate::tapes::{
-    Calls, Counts, FILLS, OLD_NUMBER, OWED, Octets, Opening, Step, assert_damaged, assert_fronts,
-    image, opened, run_each, stopped,
+    Calls, Counts, FILLS, OLD_NUMBER, OWED, assert_damaged, assert_fronts, image, stopped,
 };
 use disk_model::MemDisk;
 use ledger_core::Totals;

@@ -1,0 +1,266 @@
+// Steps at a tape, each taken by one public call of it.
+use crate::answers::assert_answer;
+use crate::disks::assert_both;
+use crate::samples::{Line, Sample, TEXTS, is_sample, keys_of, line, lines, note_of, texts};
+use disk_model::Disk;
+use ledger_core::{Cause, Debt, Key, Note, Totals};
+use recovery::{RefusedTape, Tape, TapeFault};
+use std::alloc::Global;
+use std::process::Abort;
+use std::test::Fail;
+
+// What is done to a tape, or asked of it, and the answer that is wanted.
+#[derive(Clone, Copy)]
+pub(crate) enum Step {
+    // A note that is refused has to be handed back.
+    Note(Sample, Result<(), TapeFault>),
+    // Each funnel line from this number on, below that one, is told as seen.
+    SeenEach(u64, u64),
+    // Each is owed.
+    OweEach(u64, u64),
+    // Each is answered for good.
+    EndEach(u64, u64),
+    DropAll(&'static [u64], Result<(), TapeFault>),
+    Flush(Result<u64, TapeFault>),
+    // A flush names this place, and counts so many notes.
+    FlushOf(Option<usize>, u64),
+    Flushed(u64),
+    Placed(usize),
+    Place(Option<usize>),
+    Rotate(Result<u64, TapeFault>),
+    RotateDue(bool),
+    // The debt of this number is told with it, where there is one.
+    Debt(u64, Result<Option<u64>, TapeFault>),
+    // The same of a line of a backlog file.
+    DebtFrom(Line, Result<Option<Line>, TapeFault>),
+    Octets(u64, Option<u64>),
+    Owes(u64, bool),
+    IsBroken(bool),
+    // What is owed is these lines of the funnel.
+    Numbers(&'static [u64]),
+    Keys(&'static [Line]),
+    Mark(u64),
+    Closed(u32),
+    ImportMark(u64),
+    Totals(Totals),
+    Room(usize),
+}
+
+pub(crate) fn note<D: Disk>(
+    alloc: Global,
+    tape: &mut Tape<D>,
+    sample: Sample,
+) -> Result<Result<(), TapeFault>, Fail> {
+    match tape.note(note_of(alloc, sample)?) {
+        Ok(()) => Ok(Ok(())),
+        Err((_, TapeFault::NoMemory)) => Err(Fail::from(TapeFault::NoMemory)),
+        Err((note, fault)) if is_sample(&note, sample) => Ok(Err(fault)),
+        Err(_) => Err(Fail::from("another note is handed back")),
+    }
+}
+
+fn see_each<D: Disk>(tape: &mut Tape<D>, first: u64, behind: u64) -> Result<(), Fail> {
+    for number in first..behind {
+        if let Err((_, fault)) = tape.note(Note::Seen { number }) {
+            return Err(Fail::from(fault));
+        }
+    }
+    Ok(())
+}
+
+fn owe_each<D: Disk>(
+    alloc: Global,
+    tape: &mut Tape<D>,
+    first: u64,
+    behind: u64,
+) -> Result<(), Fail> {
+    for number in first..behind {
+        note(alloc, tape, Sample::Owe(number))??;
+    }
+    Ok(())
+}
+
+fn end_each<D: Disk>(
+    alloc: Global,
+    tape: &mut Tape<D>,
+    first: u64,
+    behind: u64,
+) -> Result<(), Fail> {
+    for number in first..behind {
+        note(alloc, tape, Sample::Final(number))??;
+    }
+    Ok(())
+}
+
+fn drop_all<D: Disk>(
+    alloc: Global,
+    tape: &mut Tape<D>,
+    numbers: &[u64],
+) -> Result<Result<(), TapeFault>, Fail> {
+    match tape.drop_all(&lines(alloc, numbers)?, Cause::Limit) {
+        Err(TapeFault::NoMemory) => Err(Fail::from(TapeFault::NoMemory)),
+        answer => Ok(answer),
+    }
+}
+
+pub(crate) fn flush<D: Disk>(tape: &mut Tape<D>) -> Result<Result<u64, TapeFault>, Fail> {
+    match tape.flush() {
+        Ok(flushed) => Ok(Ok(flushed.count())),
+        Err(TapeFault::NoMemory) => Err(Fail::from(TapeFault::NoMemory)),
+        Err(fault) => Ok(Err(fault)),
+    }
+}
+
+// The place that a flush names, and how many notes it counts.
+fn flush_of<D: Disk>(tape: &mut Tape<D>) -> Result<(Option<usize>, u64), Fail> {
+    let flushed = tape.flush()?;
+    Ok((flushed.place(), flushed.count()))
+}
+
+pub(crate) fn rotate<D: Disk>(tape: &mut Tape<D>) -> Result<Result<u64, TapeFault>, Fail> {
+    match tape.rotate() {
+        Err(TapeFault::NoMemory) => Err(Fail::from(TapeFault::NoMemory)),
+        answer => Ok(answer),
+    }
+}
+
+// The line of a debt, which has to be of the texts of each debt here.
+fn line_of(debt: &Debt) -> Result<Line, Fail> {
+    if texts(debt.token(), debt.id()) == TEXTS {
+        Ok((debt.key().source(), debt.key().number()))
+    } else {
+        Err(Fail::from("another debt is told"))
+    }
+}
+
+// The debt of this key.
+fn debt_of<D: Disk>(tape: &mut Tape<D>, key: Key) -> Result<Result<Option<Line>, TapeFault>, Fail> {
+    match tape.debt(key) {
+        Ok(Some(debt)) => Ok(Ok(Some(line_of(&debt)?))),
+        Ok(None) => Ok(Ok(None)),
+        Err(TapeFault::NoMemory) => Err(Fail::from(TapeFault::NoMemory)),
+        Err(fault) => Ok(Err(fault)),
+    }
+}
+
+fn told<D: Disk>(tape: &mut Tape<D>, number: u64) -> Result<Result<Option<u64>, TapeFault>, Fail> {
+    match debt_of(tape, line(number))? {
+        Ok(Some((0, number))) => Ok(Ok(Some(number))),
+        Ok(Some(_)) => Err(Fail::from("a debt of another source is told")),
+        Ok(None) => Ok(Ok(None)),
+        Err(fault) => Ok(Err(fault)),
+    }
+}
+
+fn assert_owed<A: Abort, D: Disk>(
+    rt: &A,
+    at: usize,
+    tape: &Tape<D>,
+    want: &[Key],
+) -> Result<(), Fail> {
+    assert_answer(rt, at, &tape.keys()?.as_slice(), &want);
+    Ok(())
+}
+
+fn take<A: Abort, D: Disk>(
+    rt: &A,
+    alloc: Global,
+    tape: &mut Tape<D>,
+    at: usize,
+    step: Step,
+) -> Result<(), Fail> {
+    match step {
+        Step::Note(sample, want) => assert_answer(rt, at, &note(alloc, tape, sample)?, &want),
+        Step::SeenEach(first, behind) => see_each(tape, first, behind)?,
+        Step::OweEach(first, behind) => owe_each(alloc, tape, first, behind)?,
+        Step::EndEach(first, behind) => end_each(alloc, tape, first, behind)?,
+        Step::DropAll(numbers, want) => {
+            assert_answer(rt, at, &drop_all(alloc, tape, numbers)?, &want)
+        }
+        Step::Flush(want) => assert_answer(rt, at, &flush(tape)?, &want),
+        Step::FlushOf(place, count) => assert_answer(rt, at, &flush_of(tape)?, &(place, count)),
+        Step::Flushed(want) => assert_answer(rt, at, &tape.flushed(), &want),
+        Step::Placed(place) => tape.placed(place),
+        Step::Place(want) => assert_answer(rt, at, &tape.place(), &want),
+        Step::Rotate(want) => assert_answer(rt, at, &rotate(tape)?, &want),
+        Step::RotateDue(want) => assert_answer(rt, at, &tape.rotate_due(), &want),
+        Step::Debt(number, want) => assert_answer(rt, at, &told(tape, number)?, &want),
+        Step::DebtFrom((source, number), want) => {
+            let key = Key::new(source, number);
+            assert_answer(rt, at, &debt_of(tape, key)?, &want)
+        }
+        Step::Octets(number, want) => assert_answer(rt, at, &tape.octets(line(number)), &want),
+        Step::Owes(number, want) => assert_answer(rt, at, &tape.owes(line(number)), &want),
+        Step::IsBroken(want) => assert_answer(rt, at, &tape.is_broken(), &want),
+        Step::Numbers(want) => assert_owed(rt, at, tape, &lines(alloc, want)?)?,
+        Step::Keys(want) => assert_owed(rt, at, tape, &keys_of(alloc, want)?)?,
+        Step::Mark(want) => assert_answer(rt, at, &tape.mark(), &want),
+        Step::Closed(want) => assert_answer(rt, at, &tape.closed(), &want),
+        Step::ImportMark(want) => assert_answer(rt, at, &tape.import_mark(), &want),
+        Step::Totals(want) => assert_answer(rt, at, &tape.totals(), &want),
+        Step::Room(want) => assert_answer(rt, at, &tape.room(), &want),
+    }
+    Ok(())
+}
+
+// The tape of two disks, or the disks handed back and why.
+pub(crate) fn opened<D: Disk + Drop>(
+    alloc: Global,
+    (a, b): (D, D),
+) -> Result<Tape<D>, (TapeFault, (D, D))> {
+    match Tape::open(alloc, a, b) {
+        Ok(tape) => Ok(tape),
+        Err(refused) => {
+            let RefusedTape { a, b, fault, .. } = refused;
+            Err((fault, (a, b)))
+        }
+    }
+}
+
+// Takes these steps, each of which has to answer as is wanted. Answers the disks that they leave.
+pub(crate) fn play<A: Abort, D: Disk + Drop>(
+    rt: &A,
+    alloc: Global,
+    mut tape: Tape<D>,
+    steps: &[Step],
+) -> Result<(D, D), Fail> {
+    for (at, step) in steps.iter().enumerate() {
+        take(rt, alloc, &mut tape, at, *step)?;
+    }
+    Ok(tape.into_disks())
+}
+
+// The same at the tape of these disks.
+pub(crate) fn run<A: Abort, D: Disk + Drop>(
+    rt: &A,
+    alloc: Global,
+    disks: (D, D),
+    steps: &[Step],
+) -> Result<(D, D), Fail> {
+    match opened(alloc, disks) {
+        Ok(tape) => play(rt, alloc, tape, steps),
+        Err((fault, _)) => Err(Fail::from(fault)),
+    }
+}
+
+// What lies on the first disk of a tape, and on the second.
+pub(crate) type Octets = (&'static [u8], &'static [u8]);
+
+// The steps at one opening of a tape, and what lies on the disks then where it is asked for.
+pub(crate) type Opening = (&'static [Step], Option<Octets>);
+
+// Opens the tape of two disks again and again.
+pub(crate) fn run_each<A: Abort, D: Disk + Drop>(
+    rt: &A,
+    alloc: Global,
+    mut disks: (D, D),
+    openings: &[Opening],
+) -> Result<(), Fail> {
+    for (at, (steps, left)) in openings.iter().enumerate() {
+        disks = run(rt, alloc, disks, steps)?;
+        if let Some(left) = left {
+            assert_both(rt, alloc, at, &mut disks, *left)?;
+        }
+    }
+    Ok(())
+}
