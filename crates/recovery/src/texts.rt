@@ -170,6 +170,10 @@ impl<D: Disk> Tape<D> {
             Ok(part) => part,
             Err(fault) => return Err(fault),
         };
+        // A note that is alone in its payload, as each is after a rotation, is not copied.
+        if part.len() == len {
+            return Ok(part);
+        }
         match note_in(&part, 0, len) {
             Some(note) => Ok(Vec::from_slice(self.alloc, note)?),
             None => Err(TapeFault::Disk),

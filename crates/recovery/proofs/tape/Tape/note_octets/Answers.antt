@@ -1,14 +1,15 @@
 -- The octets of a note, on the disk or among what pends.
-use Rattle.std.proofs.Common.{◌∷◌, take, drop, sym, ◌≡◌, ◌+◌, ◌-◌, ◌<◌, ◌≤◌, ◌^◌, ◌++◌, ℕ, List, length, ap, ◌∙◌, subst}
-use Rattle.std.proofs.Common.{arith}
+use Rattle.std.proofs.Common.{◌∷◌, take, drop, sym, ◌≡◌, ◌+◌, ◌-◌, ◌<◌, ◌≤◌, ◌^◌, ◌++◌, ◌==◌, ℕ, List, length, ap, ◌∙◌, subst}
+use Rattle.std.proofs.Common.{Bool, true, false, [], arith, cond, length-append, refl}
 use Rattle.std.proofs.lemmas.Result.{IfOk-weaker}
 use Rattle.tape_journal.specs.Journal.{Holds}
 use Rattle.tape_journal.specs.Segment.{records}
 use Rattle.std.proofs.lemmas.Bool.{false≢true}
+use Rattle.std.proofs.lemmas.List.{append-nil, length-drop, nil_from_length}
 use Rattle.disk_model.specs.declared.Disk.{Ghosts}
 use Rattle.ledger_core.specs.declared.spot.Spot.{Spot}
 use Rattle.ledger_core.specs.Base.{owe}
-use Rattle.ledger_core.specs.Batch.{StandsIn}
+use Rattle.ledger_core.specs.Batch.{StandsIn, body_of}
 use Rattle.ledger_core.specs.IndexLaws.{stands-behind, stands-front}
 use Rattle.ledger_core.specs.Spelling.{spelling}
 use Rattle.ledger_core.specs.Spots.{IsFound, StandsAt}
@@ -46,6 +47,28 @@ place_of : (payloads pending : List (List ℕ)) (at slot end : ℕ) (payload : L
     → at ≡ length (records stands.front)
 place_of payloads pending at slot end payload is before stands fits =
     omega (arith, is, before, stands.at_is, fits, records-long stands.front)
+
+-- the octets of a payload that are notes are all of it where they are no fewer
+whole-case : (several : Bool) (tag : ℕ) (rest : List ℕ)
+    → length (tag ∷ rest) ≤ length (cond several (drop 4 rest) (tag ∷ rest))
+    → cond several (drop 4 rest) (tag ∷ rest) ≡ tag ∷ rest
+whole-case true tag rest long = absurd (omega (arith, long, length-drop 4 rest))
+whole-case false tag rest long = refl
+
+whole : (part : List ℕ) → length part ≤ length (body_of part) → body_of part ≡ part
+whole [] long = refl
+whole (tag ∷ rest) long = whole-case (tag == 11) tag rest long
+
+-- a note that fills its payload is that payload
+alone : (part octets : List ℕ) → length part ≡ length octets → StandsIn part 0 octets → part ≡ octets
+alone part octets same stands =
+    let split : body_of part ≡ octets ++ stands.behind = stands.split
+    ∙ ap (λ (l : List ℕ). l ++ (octets ++ stands.behind)) (nil_from_length stands.before (sym stands.within_is)) in
+    let long = ap length split ∙ length-append octets stands.behind in
+    let is = sym (whole part (omega (arith, same, long))) ∙ split in
+    is ∙ (ap (λ (l : List ℕ). octets ++ l)
+    (nil_from_length stands.behind (omega (arith, same, ap length is ∙ length-append octets stands.behind)))
+    ∙ append-nil octets)
 
 -- what stands there on the disk
 record OnDisk {D : Type 0} {g : Ghosts D} (tape : Tape D g) (at : ℕ) (payload : List ℕ) : Type 0 where
@@ -132,6 +155,21 @@ returns-in-Err-clause-cause g c = λ h debt stands at told.
     let disk = on_disk tape w.payloads c.args.spot.at c.args.spot.slot found.payload w.holds
     (omega (arith, c.if-spot-end_of.false, c.end_of.ensures)) found.stands in
     c.in-Err.ensures.cause disk.front disk.more found.payload disk.holds disk.place told
+
+pub returns-then-len-clause-note : goal.returns-then-len-clause-note
+returns-then-len-clause-note g c = λ h debt stands at.
+    let tape = c.args.self.now in
+    let w = stands.working c.requires.works in
+    let found = there tape h c.args.key c.args.spot debt stands c.requires.works at w.payloads w.indexed in
+    let long = sym (c.owed_len-len.ensures.len debt at.is (sym at.token_len) (sym at.id_len)) in
+    let disk = on_disk tape w.payloads c.args.spot.at c.args.spot.slot found.payload w.holds
+    (omega (arith, c.if-spot-end_of.false, c.end_of.ensures)) found.stands in
+    let first : c.args.spot.within ≡ 0 = omega (arith, c.if-spot-gt0.false) in
+    let read = c.in-Ok.ensures.part disk.front disk.more found.payload disk.holds disk.place in
+    let inside = stands-front found.payload (spelling (owe debt)) c.owed_len-len.result long
+    (subst (λ (n : ℕ). StandsIn found.payload n (spelling (owe debt))) first found.inside) in
+    alone c.in-Ok.part.items (spelling (owe debt)) (omega (arith, c.len.ensures, c.if-len.true, long))
+    (subst (λ (l : List ℕ). StandsIn l 0 (spelling (owe debt))) (sym read) inside)
 
 pub returns-in-Some-clause-note : goal.returns-in-Some-clause-note
 returns-in-Some-clause-note g c = λ h debt stands at.
