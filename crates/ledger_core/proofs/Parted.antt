@@ -19,7 +19,7 @@ use Rattle.std.proofs.lemmas.Map.Made.{lookup-map_values}
 use Rattle.std.proofs.lemmas.Map.Entries.{lookup_tail, sum_by-insert_entry, sum_by-remove_entry}
 use Rattle.ledger_core.proofs.Debts.{tests}
 use Rattle.ledger_core.specs.Parts.{Parts, ordinal_at, ordinals_of, sizes_of}
-use Rattle.ledger_core.specs.Shape.{Size, keys_sized, octets_sized, without_key}
+use Rattle.ledger_core.specs.Shape.{Size, keys_sized, octets_sized, size_at, without_key}
 use Rattle.ledger_core.specs.ShapeLaws.{valued-keys, valued-with, valued-without}
 
 abbrev octets_at : ℕ × ℕ → ℕ
@@ -177,3 +177,9 @@ pub ordinal-found : (key : ℕ) (parts : Parts)
     → ordinal_at (ordinals_of parts) key ≡ option_map ordinal_in (lookup (is_at (nat_cmp key)) parts)
 ordinal-found key parts =
     lookup-map_values ordinal_in (λ (other : ℕ). other == key) parts ∙ ap (option_map ordinal_in) (same-found key parts)
+
+-- and so are its octets
+pub octets-found : (key : ℕ) (parts : Parts)
+    → size_at (sizes_of parts) key ≡ option_map octets_at (lookup (is_at (nat_cmp key)) parts)
+octets-found key parts =
+    lookup-map_values octets_at (λ (other : ℕ). other == key) parts ∙ ap (option_map octets_at) (same-found key parts)

@@ -1,8 +1,9 @@
 -- The shape of a ledger (profile): all that it counts, and no text. What a note makes of a ledger's shape, and whether
 -- the note is legal, is told by the shape alone (ShapeLaws).
 use Rattle.std.specs.Prelude.{◌≡◌, ◌==◌, ℕ, ◌+◌, ◌<◌, ◌≤◌, ◌^◌, not, nat_lt, if◌then◌else◌, List, length, map, filter}
-use Rattle.std.specs.Prelude.{sum_by, Contains}
+use Rattle.std.specs.Prelude.{Option, sum_by, Contains}
 use Rattle.std.specs.BTreeMap.{insert_entry}
+use Rattle.std.specs.Map.{lookup}
 use Rattle.std.specs.Ordering.{nat_cmp}
 use Rattle.ledger_core.specs.declared.ledger.Totals.{Totals}
 use Rattle.ledger_core.specs.declared.marks.Marks.{Marks}
@@ -56,6 +57,10 @@ keys_sized sizes = map (λ (size : Size). size.0) sizes
 -- the octets of these debts
 abbrev pub octets_sized : List Size → ℕ
 octets_sized sizes = sum_by (λ (size : Size). size.1) sizes
+
+-- the octets of the debt of this key, if there is one
+abbrev pub size_at : List Size → ℕ → Option ℕ
+size_at sizes key = lookup (λ (other : ℕ). other == key) sizes
 
 -- the debt of this key is owed
 abbrev pub IsSized : Shape → ℕ → Type 0

@@ -49,7 +49,7 @@ impl Outline {
     ghost use Rattle.ledger_core.specs.Outline.{JudgesShape, StepsShape, ordinals_in, shape_in};
     ghost use Rattle.ledger_core.specs.Parts.{ordinal_at, ordinals_step};
     ghost use Rattle.ledger_core.specs.Shape.{FitsShape, IsOldForShape, IsSized, OverflowsShape, ShapeLacksDebt};
-    ghost use Rattle.ledger_core.specs.Shape.{shape_of, shape_step, shape_totals};
+    ghost use Rattle.ledger_core.specs.Shape.{shape_of, shape_step, shape_totals, size_at};
     ghost use Rattle.ledger_core.specs.State.{keys};
     ghost use Rattle.std.specs.Prelude.{map};
 
@@ -127,6 +127,14 @@ impl Outline {
     {
         let part = self.debts.get(&key)?;
         Some(part.ordinal())
+    }
+
+    /// The octets that the debt of this key counts, if it is owed.
+    pub fn octets(&self, key: Key) -> Option<u64>
+        ensures { result ≡ size_at (shape_in self.now).sizes key }
+    {
+        let part = self.debts.get(&key)?;
+        Some(u64::from(part.octets()))
     }
 
     /// The keys that are owed, rising.

@@ -4,11 +4,10 @@ use Rattle.std.proofs.Common.{refl, sym, ap, ◌∙◌, subst, inl, inr, arith}
 use Rattle.std.specs.Prelude.{◌⊎◌, min, nat_lt}
 use Rattle.std.proofs.lemmas.Bool.{cases_lt, lt-ltb, ltb-true}
 use Rattle.std.proofs.lemmas.List.{length-take, length-take-le, take-take, take_all}
-use Rattle.ledger_core.specs.State.{State}
 use Rattle.recovery.specs.Notes.{most_pending}
 use Rattle.peer_queue.specs.Place.{Places, unheld}
-use Rattle.peer_queue.specs.Shed.{IsShedSet, IsShortestFront, IsWithin, owed_without}
-use Rattle.peer_queue.specs.Station.{IsShed}
+use Rattle.peer_queue.specs.Shed.{AreWithin, IsShedOf, IsShortestFront}
+use Rattle.peer_queue.specs.Station.{IsShedFrom}
 use Rattle.peer_queue.specs.declared.limits.Limits.{Limits}
 use Rattle.peer_queue.specs.declared.limits.Shed.{Shed}
 use Rattle.peer_queue.proofs.Sheds.{IsFront, front_all}
@@ -53,10 +52,11 @@ extended Passes decide l (suc rest) k more none = elim (decide (take k l)) [
     ]
 
 -- what the walk has found is the first of what is to be shed, wherever it stops
-front_begins : (limits : Limits) (state : State) (places : Places) (front : List ℕ) (next : Option ℕ) (owed : ℕ)
-    → (IsWithin limits state → ⊥) → IsFront limits.backlog_limit state places front next owed
-    → (set : List ℕ) × IsShedSet limits state places set × (front ≡ take (length front) set)
-front_begins limits state places front next owed over is = (
+front_begins : (limits : Limits) (all : ℕ) (octets_without : List ℕ → ℕ) (places : Places) (front : List ℕ)
+    (next : Option ℕ) (owed : ℕ)
+    → (AreWithin limits all → ⊥) → IsFront limits.backlog_limit octets_without places front next owed
+    → (set : List ℕ) × IsShedOf limits all octets_without places set × (front ≡ take (length front) set)
+front_begins limits all octets_without places front next owed over is = (
   found.0,
   inr (over, found.1),
   is.front
@@ -68,10 +68,10 @@ front_begins limits state places front next owed over is = (
     U = unheld places
 
     Passes : List ℕ → Type 0
-    Passes l = owed_without state l ≤ limits.backlog_limit
+    Passes l = octets_without l ≤ limits.backlog_limit
 
     decide : (l : List ℕ) → Passes l ⊎ (Passes l → ⊥)
-    decide l = elim (cases_lt limits.backlog_limit (owed_without state l)) [
+    decide l = elim (cases_lt limits.backlog_limit (octets_without l)) [
       | inl above ↦ inr (λ passes. omega (arith, above, passes))
       | inr enough ↦ inl enough
     ]
@@ -82,15 +82,20 @@ front_begins limits state places front next owed over is = (
 
 -- What was found is what is to be shed, as far as one more than there is room for: none comes next, enough is shed, or
 -- it is so many.
-pub front_cut : (limits : Limits) (state : State) (places : Places) (front : List ℕ) (next : Option ℕ) (owed room : ℕ)
-    → (IsWithin limits state → ⊥) → IsFront limits.backlog_limit state places front next owed
+pub front_cut : (limits : Limits) (all : ℕ) (octets_without : List ℕ → ℕ) (places : Places) (front : List ℕ)
+    (next : Option ℕ) (owed room : ℕ)
+    → (AreWithin limits all → ⊥) → IsFront limits.backlog_limit octets_without places front next owed
     → length front ≤ room + 1 → ((next ≡ None) ⊎ (owed ≤ limits.backlog_limit)) ⊎ (room < length front)
-    → (set : List ℕ) × IsShedSet limits state places set × (front ≡ take (room + 1) set)
-front_cut limits state places front next owed room over is few ends = elim ends [
-  | inl all ↦
-      (front, front_all limits state places front next owed over is all, sym (take_all (room + 1) front few))
+    → (set : List ℕ) × IsShedOf limits all octets_without places set × (front ≡ take (room + 1) set)
+front_cut limits all octets_without places front next owed room over is few ends = elim ends [
+  | inl ended ↦ (
+    front,
+    front_all limits all octets_without places front next owed over is ended,
+    sym (take_all
+        (room + 1) front few),
+  )
   | inr full ↦
-      let found = front_begins limits state places front next owed over is in
+      let found = front_begins limits all octets_without places front next owed over is in
       let long : length front ≡ room + 1 = omega (arith, few, full) in
       (found.0, found.1, found.2 ∙ ap (λ (n : ℕ). take n found.0) long)
 ]
@@ -100,12 +105,11 @@ pub cut_again : (room : ℕ) (found set : List ℕ) → found ≡ take (room + 1
 cut_again room found set is = ap (λ (l : List ℕ). take room l) is ∙ take-take room (room + 1) set (omega arith)
 
 -- what is shed of what was found, where there is so much room
-pub cut_shed : (limits : Limits) (state : State) (places : Places) (pending room : ℕ) (found : List ℕ) → {shed : Shed}
-    → room + pending ≡ most_pending
-    → (set : List ℕ) × IsShedSet limits state places set × (found ≡ take (room + 1) set)
+pub cut_shed : (IsSet : List ℕ → Type 0) (pending room : ℕ) (found : List ℕ) → {shed : Shed}
+    → room + pending ≡ most_pending → (set : List ℕ) × IsSet set × (found ≡ take (room + 1) set)
     → shed.keys.items ≡ take room found → shed.more ≡ nat_lt room (length found)
-    → IsShed limits state places pending shed
-cut_shed limits state places pending room found {shed} all begins keys more = record {
+    → IsShedFrom IsSet pending shed
+cut_shed IsSet pending room found {shed} all begins keys more = record {
   set = begins.0;
   is_set = begins.1;
   keys = keys ∙ (cut_again room found begins.0 begins.2 ∙ ap (λ (n : ℕ). take n begins.0) as_many);

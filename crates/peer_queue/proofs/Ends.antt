@@ -4,6 +4,7 @@ use Rattle.std.specs.Prelude.{filter}
 use Rattle.std.proofs.lemmas.Bool.{eqb-true}
 use Rattle.ledger_core.specs.declared.note.Note.{Note}
 use Rattle.ledger_core.specs.declared.note.Note.TheVariants.{Owe, Final, Drop, Seen, Closed}
+use Rattle.ledger_core.specs.Shape.{Shape, Size, keys_sized, shape_step, without_key}
 use Rattle.ledger_core.specs.StateLaws.{keys-without}
 use Rattle.ledger_core.specs.State.{State, keys, step}
 use Rattle.peer_queue.specs.Place.{Place, Places, gone, moved, placed}
@@ -36,3 +37,32 @@ ended state (Closed source) n end = absurd end
 
 pub placed_ended : (p : Places) (state : State) (note : Note) (n : ℕ) → IsEnd note n → placed p ≡ keys state → placed (gone p n) ≡ keys (step state note)
 placed_ended p state note n end same = placed-gone p n ∙ (ap (λ (l : List ℕ). filter (λ m. not (m == n)) l) same ∙ sym (ended state note n end))
+
+-- ---- the shape of the ledger
+
+without_step : (b : Bool) (size : Size) (sizes : List Size) (l : List ℕ) → keys_sized sizes ≡ l
+    → keys_sized (cond (not b) (size ∷ sizes) sizes) ≡ cond (not b) (size.0 ∷ l) l
+without_step true size sizes l same = same
+without_step false size sizes l same = ap (λ (k : List ℕ). size.0 ∷ k) same
+
+pub sized-without : (n : ℕ) (sizes : List Size) → keys_sized (without_key n sizes) ≡ filter (λ m. not (m == n))
+    (keys_sized sizes)
+sized-without n [] = refl
+sized-without n (size ∷ sizes) =
+    without_step (size.0 == n) size (without_key n sizes) (filter (λ m. not (m == n)) (keys_sized sizes))
+    (sized-without n sizes)
+
+shape_ended : (shape : Shape) (note : Note) (n : ℕ) → IsEnd note n
+    → keys_sized (shape_step shape note).sizes ≡ filter (λ m. not (m == n)) (keys_sized shape.sizes)
+shape_ended shape (Owe other token id) n end = absurd end
+shape_ended shape (Final other code) n end =
+    sized-without other shape.sizes ∙ ap (λ (k : ℕ). filter (λ m. not (m == k)) (keys_sized shape.sizes)) end
+shape_ended shape (Drop other cause) n end =
+    sized-without other shape.sizes ∙ ap (λ (k : ℕ). filter (λ m. not (m == k)) (keys_sized shape.sizes)) end
+shape_ended shape (Seen other) n end = absurd end
+shape_ended shape (Closed source) n end = absurd end
+
+pub placed_shape : (p : Places) (shape : Shape) (note : Note) (n : ℕ) → IsEnd note n → placed p ≡ keys_sized shape.sizes
+    → placed (gone p n) ≡ keys_sized (shape_step shape note).sizes
+placed_shape p shape note n end same =
+    placed-gone p n ∙ (ap (λ (l : List ℕ). filter (λ m. not (m == n)) l) same ∙ sym (shape_ended shape note n end))

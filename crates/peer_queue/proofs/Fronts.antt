@@ -4,7 +4,8 @@ use Rattle.std.specs.Prelude.{◌||◌, filter, find, nat_le, nat_lt}
 use Rattle.std.specs.List.{All, Contains, list_any, slice_get}
 use Rattle.std.proofs.lemmas.Bool.{cases_order, ne_eqb, le-leb, le-ltb, lt-ltb}
 use Rattle.std.proofs.lemmas.List.Elements.{All-head, All-tail, Contains-push_cases}
-use Rattle.ledger_core.specs.State.{State, IsOwed, IsPast, keys, marks_of}
+use Rattle.ledger_core.specs.State.{State, IsOwed, IsPast}
+use Rattle.ledger_core.specs.declared.marks.Marks.{Marks}
 use Rattle.recovery.specs.Notes.{AreOwed}
 use Rattle.peer_queue.specs.Place.{AreAbove, AreRising, Place, Places, is_held, placed, unheld}
 
@@ -109,14 +110,15 @@ found_none test [] each = refl
 found_none test (n ∷ l) each = ap (λ (b : Bool). cond b (Some n) (find test l)) each.0 ∙ found_none test l each.1
 
 -- none is above the last key
-pub found_last : (n : ℕ) (p : Places) (state : State) → placed p ≡ keys state
-    → All (IsPast (marks_of state)) (keys state) → state.closed + 1 < 2 ^ 32 → state.import_mark < 2 ^ 64 → n + 1 ≡ 2 ^ 96 → find (λ m. nat_lt n m) (unheld p) ≡ None
-found_last n p state same past opens fits last =
+pub found_last : (n : ℕ) (p : Places) (marks : Marks) (ns : List ℕ) → placed p ≡ ns → All (IsPast marks) ns
+    → marks.closed + 1 < 2 ^ 32 → marks.import_mark < 2 ^ 64 → n + 1 ≡ 2 ^ 96
+    → find (λ m. nat_lt n m) (unheld p) ≡ None
+found_last n p marks ns same past opens fits last =
     found_none (λ m. nat_lt n m) (unheld p)
     (each_unheld (λ m. nat_lt n m ≡ false) p (subst (λ (k : List ℕ). Each (λ m. nat_lt n m ≡ false) k) (sym same)
-    (each_map (IsPast (marks_of state)) (λ m. nat_lt n m ≡ false) (keys state)
+    (each_map (IsPast marks) (λ m. nat_lt n m ≡ false) ns
     (λ m here. le-ltb n m (omega (arith, here.import, opens, fits, last)))
-    (each_from_All (IsPast (marks_of state)) (keys state) past))))
+    (each_from_All (IsPast marks) ns past))))
 
 -- ---- at a place
 

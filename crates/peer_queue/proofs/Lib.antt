@@ -15,3 +15,6 @@ pub mod Reopens
 pub mod Same
 pub mod Sheds
 pub mod Unheld
+pub mod Numbering
+pub mod Shaped
+pub mod Boxes

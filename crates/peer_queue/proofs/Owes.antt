@@ -34,12 +34,15 @@ pub import_next : (marks : Marks) (n : ℕ) → n < 2 ^ 64 → marks.import_mark
     → IsNext marks (key_of (marks.closed + 1) n)
 import_next marks n fits above = inr (omega (arith, fits, above), omega (arith, fits))
 
--- has no place yet
+-- has no place yet, where these keys have one
+pub absent_among : (p : Places) (marks : Marks) (ns : List ℕ) (n : ℕ) → placed p ≡ ns → All (IsPast marks) ns
+    → IsNext marks n → place_at p n ≡ None
+absent_among p marks ns n same past next =
+    absent_of p n (subst (λ (l : List ℕ). All (λ m. n ≡ m → ⊥) l) (sym same) (next-apart marks n ns next past))
+
 pub absent_next : (p : Places) (state : State) (n : ℕ) → placed p ≡ keys state
     → All (IsPast (marks_of state)) (keys state) → IsNext (marks_of state) n → place_at p n ≡ None
-absent_next p state n same past next =
-    absent_of p n (subst (λ (l : List ℕ). All (λ m. n ≡ m → ⊥) l) (sym same)
-    (next-apart (marks_of state) n (keys state) next past))
+absent_next p state n same past next = absent_among p (marks_of state) (keys state) n same past next
 
 -- ---- the ledger after the note that owes it
 

@@ -1,24 +1,25 @@
 -- What the calls of a station do, and when they are refused.
-use Rattle.std.specs.Prelude.{◌≡◌, ◌≢◌, ◌⊎◌, ◌+◌, ◌-◌, ◌^◌, ◌<◌, ◌↔◌, ℕ, true, false, length, IsErr, IsErrOf, IsSome, IfErr, OnErr, OnOk, Result}
+use Rattle.std.specs.Prelude.{◌≡◌, ◌≢◌, ◌+◌, ◌-◌, ◌^◌, ◌↔◌, ℕ, true, false, length, IsErrOf, IsSome, IfErr, OnErr}
+use Rattle.std.specs.Prelude.{OnOk, Result}
 use Rattle.disk_model.specs.declared.Disk.{Ghosts}
 use Rattle.ledger_core.specs.State.{IsLegal, IsOwed, Overflows, after, keys}
-use Rattle.ledger_core.specs.declared.ledger.LedgerFault.TheVariants.{CountFull}
 use Rattle.ledger_core.specs.declared.note.Cause.TheVariants.{Deferred}
 use Rattle.ledger_core.specs.declared.note.Note.{Note}
 use Rattle.ledger_core.specs.declared.note.Note.TheVariants.{Drop}
-use Rattle.recovery.specs.Notes.{History, most_pending, noted_all}
+use Rattle.recovery.specs.Notes.{History, noted_all}
 use Rattle.recovery.specs.Words.{IsFull, RotatesTooLong}
 use Rattle.recovery.specs.declared.flushed.Flushed.{Flushed}
-use Rattle.recovery.specs.declared.fault.TapeFault.TheVariants.{Disk, GenerationFull, PendingFull, TapeFull, Note as RefusedNote}
+use Rattle.recovery.specs.declared.fault.TapeFault.TheVariants.{Disk, GenerationFull, TapeFull}
 use Rattle.conn_core.specs.declared.deferral.Deferral.{Deferral}
-use Rattle.peer_queue.specs.Faults.{IsClaimFault, IsFlushFault, IsOweFault, IsRotateFault}
+use Rattle.peer_queue.specs.Faults.{IsClaimFault, IsFlushFault, IsRotateFault}
 use Rattle.peer_queue.specs.Place.{IsHeldBy, Later, all_gone, all_ready, deferred_until, gone, least_candidate, moved}
+use Rattle.peer_queue.specs.Refusals.{RefusesEnd, RefusesLine}
 use Rattle.peer_queue.specs.Shed.{dropped}
 use Rattle.peer_queue.specs.Station.{IsShed}
 use Rattle.peer_queue.specs.Words.{IsBroken, IsRead, IsSame, IsSameTape, Notes, StandsFor}
 use Rattle.peer_queue.specs.Words.{closing, deferred_key, generation_of, ledger_of, limits_of, pending_of, places_of}
 use Rattle.peer_queue.specs.declared.fault.StationFault.{StationFault}
-use Rattle.peer_queue.specs.declared.fault.StationFault.TheVariants.{Broken, NoMemory, Tape}
+use Rattle.peer_queue.specs.declared.fault.StationFault.TheVariants.{Broken, Tape}
 use Rattle.peer_queue.specs.declared.limits.Limits.{Limits}
 use Rattle.peer_queue.specs.declared.limits.Shed.{Shed}
 use Rattle.peer_queue.specs.declared.station.Station.{Station}
@@ -60,33 +61,16 @@ module _ {D : Type 0} {g : Ghosts D} where
     pub works : OnOk result (IsBroken new → ⊥)
     pub kinds : IfErr result IsRotateFault
 
-  -- When it is refused to owe the line of this number, of a source that was noted up to this mark, by this note, in the
-  -- order in which it is tried; then nothing has changed.
-  pub record RefusesOwe {T : Type 0} (mark number : ℕ) (note : Note) (old new : Station D g)
-      (result : Result T StationFault) : Type 0 where
-    pub broken : IsErrOf result Broken ↔ IsBroken old
-    -- these two one way, since the station itself may be refused memory before either is looked at
-    pub count_full : IsErrOf result (Tape (RefusedNote CountFull)) → Overflows (ledger_of old) note
-    pub pending_full : IsErrOf result (Tape PendingFull)
-        → (mark < number) × (pending_of old ≡ most_pending) × (Overflows (ledger_of old) note → ⊥)
-    pub no_memory : IsErrOf result NoMemory → (IsBroken old → ⊥) × (mark < number)
-    -- where a count would overflow, or no more may pend of a number that is new, it is never Ok
-    pub never : Overflows (ledger_of old) note ⊎ (mark < number) × (pending_of old ≡ most_pending)
-        → IsErr result
-    pub kinds : IfErr result IsOweFault
-    pub unchanged : OnErr result (IsSame old new)
+  -- when it is refused to owe the line of this number, of a source that was noted up to this mark, by this note
+  abbrev pub RefusesOwe : {T : Type 0} → ℕ → ℕ → Note → Station D g → Station D g → Result T StationFault → Type 0
+  RefusesOwe mark number note old new result =
+      RefusesLine (IsBroken old) (Overflows (ledger_of old) note) (IsSame old new) mark number (pending_of old) result
 
-  -- When it is refused to close the source that is open, in the order in which it is tried; then nothing has changed.
-  pub record RefusesClose (old new : Station D g) (result : Result ℕ StationFault) : Type 0 where
-    pub broken : IsErrOf result Broken ↔ IsBroken old
-    pub count_full : IsErrOf result (Tape (RefusedNote CountFull))
-        ↔ ((IsBroken old → ⊥) × Overflows (ledger_of old) (closing old))
-    pub pending_full : IsErrOf result (Tape PendingFull)
-        ↔ ((IsBroken old → ⊥) × (Overflows (ledger_of old) (closing old) → ⊥) × (pending_of old ≡ most_pending))
-    pub no_memory : IsErrOf result NoMemory
-        → (IsBroken old → ⊥) × IsLegal (ledger_of old) (closing old) × (pending_of old < most_pending)
-    pub kinds : IfErr result IsOweFault
-    pub unchanged : OnErr result (IsSame old new)
+  -- when it is refused to close the source that is open
+  abbrev pub RefusesClose : Station D g → Station D g → Result ℕ StationFault → Type 0
+  RefusesClose old new result =
+      RefusesEnd (IsBroken old) (Overflows (ledger_of old) (closing old)) (IsLegal (ledger_of old) (closing old))
+      (IsSame old new) (pending_of old) result
 
   -- When a claim at this moment is refused; each debt keeps its place.
   pub record RefusesClaim {T : Type 0} (now : ℕ) (old new : Station D g) (result : Result T StationFault) : Type 0 where

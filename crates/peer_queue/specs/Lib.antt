@@ -1,6 +1,7 @@
 pub mod Place
 pub mod Index
 pub mod Faults
+pub mod Refusals
 pub mod Shed
 pub mod Words
 pub mod Station
@@ -8,3 +9,9 @@ pub mod Settled
 pub mod Calls
 pub mod ClaimLaws
 pub mod ShedLaws
+pub mod Shapes
+pub mod ShapesLaws
+pub mod Numbers
+pub mod Outbox
+pub mod Front
+pub mod FrontCalls

@@ -4,6 +4,7 @@ use Rattle.std.specs.List.{list_any}
 use Rattle.ledger_core.specs.declared.note.Note.{Note}
 use Rattle.ledger_core.specs.declared.note.Cause.TheVariants.{Limit}
 use Rattle.recovery.specs.Notes.{drops}
+use Rattle.ledger_core.specs.Shape.{Shape, Size, octets_sized}
 use Rattle.ledger_core.specs.State.{State, Owing, octets_of_debts, owed_bytes}
 use Rattle.peer_queue.specs.declared.limits.Limits.{Limits}
 use Rattle.peer_queue.specs.Place.{Places, unheld}
@@ -12,9 +13,13 @@ use Rattle.peer_queue.specs.Place.{Places, unheld}
 abbrev pub owed_without : State → List ℕ → ℕ
 owed_without state numbers = octets_of_debts (filter (λ (debt : Owing). if list_any (λ (number : ℕ). number == debt.0) numbers then false else true) state.debts)
 
--- nothing is to be shed: there is no limit, or the octets that are owed are not above the high water
+-- nothing is to be shed of so many octets that are owed: there is no limit, or they are not above the high water
+abbrev pub AreWithin : Limits → ℕ → Type 0
+AreWithin limits octets = (limits.backlog_limit ≡ 0) ⊎ (octets ≤ limits.backlog_high)
+
+-- nothing is to be shed of this ledger
 abbrev pub IsWithin : Limits → State → Type 0
-IsWithin limits state = (limits.backlog_limit ≡ 0) ⊎ (owed_bytes state ≤ limits.backlog_high)
+IsWithin limits state = AreWithin limits (owed_bytes state)
 
 -- ys is the shortest front of xs that passes, or all of xs where none does
 pub record IsShortestFront {A : Type 0} (Passes : List A → Type 0) (xs ys : List A) : Type 0 where
@@ -22,13 +27,29 @@ pub record IsShortestFront {A : Type 0} (Passes : List A → Type 0) (xs ys : Li
   pub passes : Passes ys ⊎ (ys ≡ xs)
   pub shortest : (fewer : ℕ) → fewer < length ys → Passes (take fewer xs) → ⊥
 
--- The numbers to shed: none within the limit, else of the debts that no connection holds, oldest first, the shortest front
--- without which the octets that are owed are at or below it.
+-- The numbers to shed, where so many octets are owed, and so many without the debts of some: none within the limit,
+-- else
+-- of the debts that no connection holds, oldest first, the shortest front without which the octets that are owed are at
+-- or below it.
+abbrev pub IsShedOf : Limits → ℕ → (List ℕ → ℕ) → Places → List ℕ → Type 0
+IsShedOf limits octets octets_without places numbers =
+    (AreWithin limits octets × (numbers ≡ []))
+    ⊎ ((AreWithin limits octets → ⊥)
+    × IsShortestFront (λ front. octets_without front ≤ limits.backlog_limit) (unheld places) numbers)
+
+-- the numbers to shed of this ledger
 abbrev pub IsShedSet : Limits → State → Places → List ℕ → Type 0
-IsShedSet limits state places numbers =
-    (IsWithin limits state × (numbers ≡ []))
-    ⊎ ((IsWithin limits state → ⊥)
-    × IsShortestFront (λ front. owed_without state front ≤ limits.backlog_limit) (unheld places) numbers)
+IsShedSet limits state places numbers = IsShedOf limits (owed_bytes state) (owed_without state) places numbers
+
+-- the octets of these debts without those of these numbers
+abbrev pub sized_without : List Size → List ℕ → ℕ
+sized_without sizes numbers = octets_sized (filter (λ (size : Size). if list_any
+    (λ (number : ℕ). number == size.0) numbers then false else true) sizes)
+
+-- the numbers to shed of a ledger of this shape
+abbrev pub IsShedByShape : Limits → Shape → Places → List ℕ → Type 0
+IsShedByShape limits shape places numbers =
+    IsShedOf limits (octets_sized shape.sizes) (sized_without shape.sizes) places numbers
 
 -- the notes that drop these
 abbrev pub dropped : List ℕ → List Note

@@ -3,10 +3,10 @@ use Rattle.std.proofs.Common.{◌≡◌, ◌==◌, ℕ, zero, suc, ◌<◌, Bool
 use Rattle.std.proofs.Common.{take, refl, sym, ap, ◌∙◌, subst, inl, inr, arith}
 use Rattle.std.specs.Prelude.{filter, option_map}
 use Rattle.std.proofs.lemmas.Bool.{eq-eqb, ne_eqb}
-use Rattle.ledger_core.specs.State.{State}
+use Rattle.ledger_core.specs.State.{State, owed_bytes}
 use Rattle.peer_queue.specs.Place.{AreAbove, AreRising, AreUnheld, IsUnheld, Place, Places, gone, is_held, place_at}
 use Rattle.peer_queue.specs.Place.{placed, unheld}
-use Rattle.peer_queue.specs.Shed.{IsShedSet}
+use Rattle.peer_queue.specs.Shed.{IsShedOf, IsShedSet, owed_without}
 use Rattle.peer_queue.specs.declared.limits.Limits.{Limits}
 
 gone_above : (n : ℕ) (p : Places) → AreAbove n p → gone p n ≡ p
@@ -86,10 +86,11 @@ take_both (suc k) zero l = (0, refl)
 take_both (suc k) (suc c) [] = (0, refl)
 take_both (suc k) (suc c) (n ∷ l) = let rest = take_both k c l in (suc rest.0, ap (λ (r : List ℕ). n ∷ r) rest.1)
 
-pub front_of : (limits : Limits) (state : State) (places : Places) (set : List ℕ) (k : ℕ)
-    → IsShedSet limits state places set
+-- a front of what is to be shed is a front of the numbers that no connection holds
+pub front_in : (limits : Limits) (octets : ℕ) (octets_without : List ℕ → ℕ) (places : Places) (set : List ℕ) (k : ℕ)
+    → IsShedOf limits octets octets_without places set
     → (j : ℕ) × (take k set ≡ take j (unheld places))
-front_of limits state places set k is = elim is [
+front_in limits octets octets_without places set k is = elim is [
   | inl none ↦ (0, ap (λ (l : List ℕ). take k l) none.1 ∙ take-nil k)
   | inr some ↦
       let both = take_both k (length set) (unheld places) in
@@ -100,8 +101,18 @@ front_of limits state places set k is = elim is [
     take-nil zero = refl
     take-nil (suc n) = refl
 
+pub set_unheld : (limits : Limits) (octets : ℕ) (octets_without : List ℕ → ℕ) (places : Places) (set : List ℕ) (k : ℕ)
+    → AreRising places → IsShedOf limits octets octets_without places set → AreUnheld places (take k set)
+set_unheld limits octets octets_without places set k rising is =
+    let front = front_in limits octets octets_without places set k is in
+    subst (λ (l : List ℕ). AreUnheld places l) (sym front.1) (front_unheld places front.0 rising)
+
+pub front_of : (limits : Limits) (state : State) (places : Places) (set : List ℕ) (k : ℕ)
+    → IsShedSet limits state places set
+    → (j : ℕ) × (take k set ≡ take j (unheld places))
+front_of limits state places set k is = front_in limits (owed_bytes state) (owed_without state) places set k is
+
 pub shed_unheld : (limits : Limits) (state : State) (places : Places) (set : List ℕ) (k : ℕ) → AreRising places
     → IsShedSet limits state places set → AreUnheld places (take k set)
 shed_unheld limits state places set k rising is =
-    let front = front_of limits state places set k is in
-    subst (λ (l : List ℕ). AreUnheld places l) (sym front.1) (front_unheld places front.0 rising)
+    set_unheld limits (owed_bytes state) (owed_without state) places set k rising is

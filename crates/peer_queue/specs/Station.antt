@@ -7,9 +7,13 @@ use Rattle.peer_queue.specs.Shed.{IsShedSet}
 use Rattle.peer_queue.specs.declared.limits.Limits.{Limits}
 use Rattle.peer_queue.specs.declared.limits.Shed.{Shed}
 
--- What was shed: the shed set, or so much of its front as there was room for.
-pub record IsShed (limits : Limits) (state : State) (places : Places) (pending : ℕ) (shed : Shed) : Type 0 where
+-- What was shed of the numbers to shed: all of them, or so much of their front as there was room for.
+pub record IsShedFrom (IsSet : List ℕ → Type 0) (pending : ℕ) (shed : Shed) : Type 0 where
   pub set : List ℕ
-  pub is_set : IsShedSet limits state places set
+  pub is_set : IsSet set
   pub keys : shed.keys.items ≡ take (most_pending - pending) set
   pub more : (shed.more ≡ true) ↔ (most_pending < pending + length set)
+
+-- what was shed of this ledger
+abbrev pub IsShed : Limits → State → Places → ℕ → Shed → Type 0
+IsShed limits state places pending shed = IsShedFrom (IsShedSet limits state places) pending shed

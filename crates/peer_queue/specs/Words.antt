@@ -1,5 +1,5 @@
 -- What a station holds, in words of its own.
-use Rattle.std.specs.Prelude.{◌≡◌, ◌+◌, ◌↔◌, ℕ, Result, IsErrAnd}
+use Rattle.std.specs.Prelude.{◌≡◌, ◌+◌, ◌↔◌, ℕ, Result}
 use Rattle.disk_model.specs.declared.Disk.{Ghosts}
 use Rattle.ledger_core.specs.declared.note.Note.{Note}
 use Rattle.ledger_core.specs.declared.note.Note.TheVariants.{Owe, Final, Drop, Seen, Closed}
@@ -14,8 +14,8 @@ use Rattle.recovery.specs.Words.{log_of as tape_log, disks_of as tape_disks, tol
 use Rattle.conn_core.specs.declared.verdict.Verdict.{Verdict}
 use Rattle.conn_core.specs.declared.deferral.Deferral.{Deferral}
 use Rattle.peer_queue.specs.Place.{Places, IsHeldBy}
+use Rattle.peer_queue.specs.Refusals.{RefusesHeld}
 use Rattle.peer_queue.specs.declared.fault.StationFault.{StationFault}
-use Rattle.peer_queue.specs.declared.fault.StationFault.TheVariants.{NotHeld, Broken}
 use Rattle.peer_queue.specs.declared.station.Station.{Station}
 use Rattle.peer_queue.specs.declared.limits.Limits.{Limits}
 
@@ -30,10 +30,6 @@ code_of verdict = verdict.code
 -- the key of the debt that is deferred
 abbrev pub deferred_key : Deferral → ℕ
 deferred_key deferral = deferral.debt.0
-
--- the call was refused for this fault, and handed something back with it
-abbrev pub Tells : {A B : Type 0} → Result A (B × StationFault) → StationFault → Type 0
-Tells result fault = IsErrAnd result (λ e. e.1 ≡ fault)
 
 -- the note ends the debt of this number
 abbrev pub IsEnd : Note → ℕ → Type 0
@@ -140,9 +136,8 @@ module _ {D : Type 0} {g : Ghosts D} where
     pub works : IsBroken old ↔ IsBroken new
 
   -- Broken comes exactly where the station is broken, NotHeld exactly where it is not and that connection doesn't hold that number
-  pub record Refuses {A B : Type 0} (old : Station D g) (connection number : ℕ) (result : Result A (B × StationFault)) : Type 0 where
-    pub broken : Tells result Broken ↔ IsBroken old
-    pub not_held : Tells result NotHeld ↔ ((IsBroken old → ⊥) × (IsHeldBy (places_of old) connection number → ⊥))
+  abbrev pub Refuses : {A B : Type 0} → Station D g → ℕ → ℕ → Result A (B × StationFault) → Type 0
+  Refuses old connection number result = RefusesHeld (IsBroken old) (IsHeldBy (places_of old) connection number) result
 
   -- the connection holds the number, the station works, and no more notes may pend
   abbrev pub MeetsFull : Station D g → ℕ → ℕ → Type 0

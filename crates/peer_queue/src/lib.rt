@@ -9,14 +9,18 @@
 #![tactic(auto)]
 
 mod fault;
+mod front;
 mod laws;
 mod limits;
+mod outbox;
 mod place_index;
 mod settled;
+mod split;
 mod station;
 mod wait;
 
 pub use fault::StationFault;
+pub use front::Front;
 pub use laws::{each_number_has_one_place, reopened};
 pub use limits::{Limits, Owed, Shed};
 pub use settled::{Settled, deferred_until, key_in};

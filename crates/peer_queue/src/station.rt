@@ -62,7 +62,8 @@ impl<D: Disk> Station<D> {
     ghost use Rattle.peer_queue.specs.Settled.{Finishes, IsEnded, Settles, key_in, settled_by};
     ghost use Rattle.peer_queue.specs.Faults.{IsClaimFault, IsEndFault, IsOweFault};
     ghost use Rattle.peer_queue.specs.Words.{IsBroken, IsEnd, IsRead, IsSame, IsSameTape, MeetsFull};
-    ghost use Rattle.peer_queue.specs.Words.{Notes, Refuses, StandsFor, Tells, code_of, deferred_key, disks_of};
+    ghost use Rattle.peer_queue.specs.Refusals.{Tells};
+    ghost use Rattle.peer_queue.specs.Words.{Notes, Refuses, StandsFor, code_of, deferred_key, disks_of};
     ghost use Rattle.peer_queue.specs.Words.{generation_of, told_of, AreHonest, Continues, ledger_of, limits_of};
     ghost use Rattle.peer_queue.specs.Words.{answered_key, open_key, pending_of, places_of};
 

@@ -18,7 +18,7 @@ use crate::segments::{Segments, is_second_live};
 use crate::{Flushed, TapeFault};
 use disk_model::Disk;
 use funnel::{MsgId, Token};
-use ledger_core::{Cause, Key, Ledger, LedgerFault, Note, Totals, encode, encode_owe};
+use ledger_core::{Cause, Key, Ledger, LedgerFault, Note, Outline, Totals, encode, encode_owe};
 use std::alloc::{AllocError, Global};
 use tape_journal::{Journal, LONGEST_SEGMENT, SegmentReader};
 
@@ -95,6 +95,8 @@ impl<D: Disk> Tape<D> {
     ghost use Rattle.std.specs.Prelude.{MatchResult, IfErr, OnErr, IsOk, IsErrOf, IsSome, Some, option_map};
     ghost use Rattle.std.specs.List.Sorted.{IsStrictlyIncreasing};
     ghost use Rattle.ledger_core.specs.Ledger.{totals_of};
+    ghost use Rattle.ledger_core.specs.Outline.{shape_in};
+    ghost use Rattle.ledger_core.specs.Shape.{shape_of};
     ghost use Rattle.ledger_core.specs.declared.ledger.LedgerFault.{LedgerFault};
     ghost use Rattle.ledger_core.specs.declared.note.Note.{Note};
     ghost use Rattle.ledger_core.specs.State.{IsLegal, IsOwed, Owing, keys, line_octets, step};
@@ -620,6 +622,17 @@ impl<D: Disk> Tape<D> {
         ensures rising { IfOk result (λ v. IsStrictlyIncreasing v.items) }
     {
         self.ledger.keys(self.alloc)
+    }
+
+    /// What its ledger is beside texts, in which each debt has the ordinal 0. A broken tape answers too. Linear in what
+    /// is owed.
+    ///
+    /// # Errors
+    /// `NoMemory` where memory was refused.
+    pub fn outline(&self) -> Result<Outline, AllocError>
+        ensures { IfOk result (λ outline. shape_in outline ≡ shape_of (ledger_of self.now)) }
+    {
+        Outline::of(self.alloc, &self.ledger)
     }
 
     /// The greatest number of the funnel that was noted, 0 at first.

@@ -14,6 +14,8 @@ mod connections;
 #[cfg(test)]
 mod exchange;
 #[cfg(test)]
+mod fronts;
+#[cfg(test)]
 mod reopenings;
 #[cfg(test)]
 mod servers;

@@ -1,5 +1,6 @@
 use Rattle.std.proofs.Common.{ℕ, sym, ap, ◌∙◌, add-one, arith}
 use Rattle.std.specs.Prelude.{find, nat_le}
+use Rattle.ledger_core.specs.State.{keys, marks_of}
 use Rattle.peer_queue.specs.Place.{unheld}
 use Rattle.peer_queue.specs.Words.{ledger_of, places_of}
 use Rattle.peer_queue.proofs.Fronts.{found_last}
@@ -14,5 +15,6 @@ returns-in-Some g c =
 pub returns-in-None : goal.returns-in-None
 returns-in-None g c =
     let station = c.args.self.now in
-    sym (found_last c.args.key station.index (ledger_of station) station.all_placed station.tape.ledger.past
+    let state = ledger_of station in
+    sym (found_last c.args.key station.index (marks_of state) (keys state) station.all_placed station.tape.ledger.past
     (omega arith) (omega arith) c.in-None.ensures.none)

@@ -7,7 +7,7 @@ use Rattle.recovery.specs.Notes.{AreOwed}
 use Rattle.recovery.specs.declared.fault.TapeFault.{TapeFault}
 use Rattle.recovery.specs.Words.{ledger_of as tape_ledger}
 use Rattle.peer_queue.specs.Place.{AreUnheld, all_gone, placed}
-use Rattle.peer_queue.specs.Shed.{dropped}
+use Rattle.peer_queue.specs.Shed.{IsShedSet, dropped}
 use Rattle.peer_queue.specs.Words.{ledger_of, pending_of, places_of}
 use Rattle.peer_queue.specs.ShedLaws.{shed_unheld}
 use Rattle.peer_queue.proofs.Cuts.{cut_again, cut_shed}
@@ -68,7 +68,7 @@ returns-clause-ok g c =
     let many : c.len.result ≡ length found = omega (arith, c.len.ensures) in
     record {
       set =
-          cut_shed station.limits (ledger_of station) (places_of station) (pending_of station) room found
+          cut_shed (IsShedSet station.limits (ledger_of station) (places_of station)) (pending_of station) room found
           c.room-room.ensures c.in_ok-keys.ensures.set c.truncate.ensures.items (ap (λ (n : ℕ). nat_lt room n) many);
       notes = search rules;
       ledger = search rules;

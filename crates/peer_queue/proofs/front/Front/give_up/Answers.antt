@@ -1,0 +1,13 @@
+use Rattle.std.proofs.Common.{ap, ◌∙◌}
+use Rattle.peer_queue.specs.Index.{place_for}
+use Rattle.peer_queue.specs.Place.{placed}
+use Rattle.peer_queue.proofs.Ends.{placed-moved}
+use Rattle.peer_queue.proofs.front.Front.give_up.Goals as goal
+
+pub invariant_of-self : goal.invariant_of-self
+invariant_of-self c =
+    let front = c.args.self.now in
+    record {
+      all_placed = ap placed c.give_up.ensures
+          ∙ (placed-moved front.index c.args.key (place_for c.args.wait) ∙ front.all_placed);
+    }
