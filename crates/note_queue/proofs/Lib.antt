@@ -1,0 +1,4 @@
+pub mod Beginning
+pub mod Joining
+pub mod Owning
+pub mod Refusing

@@ -1,0 +1,36 @@
+-- What the calls of a side do to its pass and to its tape.
+use Rattle.std.specs.Prelude.{◌≡◌, ◌↔◌, ◌<◌, List, ◌++◌}
+use Rattle.crossbeam_queue.specs.Passes.{Pass, view, IsSamePass}
+use Rattle.disk_model.specs.declared.Disk.{Ghosts}
+use Rattle.ledger_core.specs.declared.note.Note.{Note}
+use Rattle.ledger_core.specs.State.{IsLegal}
+use Rattle.recovery.specs.Notes.{most_pending}
+use Rattle.recovery.specs.Words.{IsBroken, RefusesNote, disks_of, ledger_of, pending_of, place_of}
+use Rattle.recovery.specs.declared.fault.TapeFault.{TapeFault}
+use Rattle.recovery.specs.declared.fault.TapeFault.TheVariants.{Broken, NoMemory, PendingFull, Note as RefusedNote}
+use Rattle.recovery.specs.declared.tape.Tape.{Tape}
+use Rattle.note_queue.specs.declared.rule.PassLog.{PassLog}
+
+-- a pass that pops took more, or nothing
+pub record TakesMore (old new : Pass Note PassLog) : Type 0 where
+  pub queue : IsSamePass old new
+  pub base : (view new).got_on ≡ (view old).got_on
+  pub more : List Note
+  pub got : (view new).got ≡ (view old).got ++ more
+
+module _ {D : Type 0} {g : Ghosts D} where
+  -- no call of a disk was made, and the tape works if it did, at its place
+  pub record IsNotCalled (old new : Tape D g) : Type 0 where
+    pub disks : disks_of new ≡ disks_of old
+    pub place : place_of new ≡ place_of old
+    pub works : IsBroken old ↔ IsBroken new
+
+  -- the tape refuses this note for this fault
+  abbrev pub IsRefusedFor : Tape D g → Note → TapeFault → Type 0
+  IsRefusedFor tape note Broken = IsBroken tape
+  IsRefusedFor tape note (RefusedNote fault) = (IsBroken tape → ⊥) × RefusesNote (ledger_of tape) note fault
+  IsRefusedFor tape note PendingFull =
+      (IsBroken tape → ⊥) × IsLegal (ledger_of tape) note × (pending_of tape ≡ most_pending)
+  IsRefusedFor tape note NoMemory =
+      (IsBroken tape → ⊥) × IsLegal (ledger_of tape) note × (pending_of tape < most_pending)
+  IsRefusedFor tape note fault = ⊥

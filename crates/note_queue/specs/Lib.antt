@@ -1,0 +1,11 @@
+pub mod Calls
+pub mod Ends
+pub mod Folds
+pub mod Left
+pub mod Noted
+pub mod Owns
+pub mod Relay
+pub mod RelayLaws
+pub mod SenderLaws
+pub mod Sending
+pub mod Words

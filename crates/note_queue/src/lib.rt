@@ -1,0 +1,23 @@
+//! A peer's notes on their way from its front to its tape, which another thread syncs: by one queue, in order and once.
+//!
+//! May touch the disks of the tape, and wait for the queue. The crates above use `Sender`, a front and the pass that
+//! sends: what was sent and what was not leave the front's shape (`specs/Noted.antt`); and `Side`, a tape and the pass
+//! that receives: what was received, less the kept note, leaves the tape's ledger (`specs/Owns.antt`). By the rule of
+//! the queue (`specs/Relay.antt`) what was sent is what was received, and then what the queue holds; so at `join` the
+//! tape's ledger, with the notes that are left, has the front's shape (`specs/Folds.antt`).
+#![tactic(auto)]
+
+mod drain;
+mod joined;
+mod rejoin;
+mod rule;
+mod sender;
+mod side;
+mod splitting;
+
+pub use joined::{Joined, join};
+pub use rejoin::Left;
+pub use rule::{InOrder, NotePass, NoteQueue, PassLog, QUEUE_ROOM, Relays, queue, split_pass};
+pub use sender::Sender;
+pub use side::Side;
+pub use splitting::split;

@@ -1,0 +1,228 @@
+// What owns a tape: it takes the notes of its queue, and puts them on the tape.
+ghost use Rattle.std.specs.Prelude.{◌≡◌, ◌↔◌, ◌+◌, ◌++◌, ◌∷◌, [], List, None, Some, true};
+ghost use Rattle.std.specs.Prelude.{IfErr, IfOk, IsErrOf, IsOk, IsTrue, OnErr, OnOk};
+ghost use Rattle.crossbeam_queue.specs.Passes.{view};
+ghost use Rattle.ledger_core.specs.State.{State, after};
+ghost use Rattle.recovery.specs.Words.{IsBroken, IsDue, generation_of, ledger_of, pending_of, place_of};
+ghost use Rattle.note_queue.specs.Calls.{IsNotCalled, IsRefusedFor, TakesMore};
+ghost use Rattle.note_queue.specs.Owns.{IsKept, IsOwner, LeavesFirst, kept_list, put_on};
+ghost use Rattle.note_queue.specs.Relay.{IsAt, WasSeen, may_pop};
+
+use crate::rule::{Gets, NotePass, PassLog, Relays};
+use crossbeam_queue::RuledArrayQueue;
+use disk_model::Disk;
+use ledger_core::{Debt, Key, Note, Totals};
+use recovery::{Flushed, Tape, TapeFault};
+use std::sync::Wait;
+
+/// A tape, the pass of the queue that fills it, and a note that the tape refused. The ledger at the split, followed by
+/// what the pass has taken, less the kept note, is the tape's.
+#[derive(Drop)]
+pub struct Side<D: Disk> {
+    pub(crate) tape: Tape<D>,
+    pub(crate) pass: NotePass,
+    pub(crate) kept: Option<Note>,
+    ghost role: { ((view pass).pops ≡ true) × (pass.me.1 ≡ []) },
+    ghost last: { (view pass).got ≡ put_on (view pass).got kept ++ kept_list kept },
+    ghost ledger: { ledger_of tape ≡ after (view pass).got_on (put_on (view pass).got kept) },
+    ghost owner: { ∥ IsOwner tape (view pass).got_on (put_on (view pass).got kept) ∥₁ },
+}
+
+impl<D: Disk> Side<D> {
+    ghost use Rattle.std.specs.Prelude.{◌≢◌, IsSome};
+    ghost use Rattle.ledger_core.specs.Index.{debt_at};
+    ghost use Rattle.ledger_core.specs.Ledger.{totals_of};
+    ghost use Rattle.ledger_core.specs.State.{IsOwed};
+    ghost use Rattle.recovery.specs.Flushes.{Flushes, HasFlushed, RefusesFlush};
+    ghost use Rattle.recovery.specs.Notes.{History};
+    ghost use Rattle.recovery.specs.Rotates.{RefusesRotation, Rotates};
+    ghost use Rattle.recovery.specs.Tape.{IsRead, StandsFor};
+    ghost use Rattle.recovery.specs.Texts.{HasLengths};
+    ghost use Rattle.recovery.specs.Words.{Continues, IsDebtFault, OneHasRisen, told_of};
+    ghost use Rattle.note_queue.specs.Ends.{IsSameEnd, KeepsFor};
+
+    // The side of a tape on which nothing pends, by a pass that has taken nothing yet.
+    pub(crate) fn new(tape: Tape<D>, pass: NotePass) -> Self
+        requires pass { (view pass ≡ may_pop (ledger_of tape) []) × (pass.me.1 ≡ []) }
+        requires works { IsBroken tape → ⊥ }
+        requires none_pends { pending_of tape ≡ 0 }
+        requires kept { ∥ IsKept tape ∥₁ }
+        ensures { (result.tape ≡ tape) × (result.pass ≡ pass) × (result.kept ≡ None) }
+    {
+        Side {
+            tape,
+            pass,
+            kept: None,
+        }
+    }
+
+    /// Puts the kept note on the tape, and then what the queue holds, oldest first, until a look finds it empty or the
+    /// tape refuses a note, which is kept. It calls no disk.
+    ///
+    /// # Errors
+    /// Why the tape refuses the note that is kept now: `Broken`; `Note`; `PendingFull` with 65,536 notes pending;
+    /// `NoMemory`. The notes before it are on the tape.
+    pub fn pull<P: Relays, R: Wait>(
+        &mut self,
+        rt: &R,
+        queue: &RuledArrayQueue<Note, PassLog, P>,
+    ) -> Result<(), TapeFault>
+        requires queue { IsAt queue.now self.old.pass }
+        ensures takes { TakesMore self.old.pass self.new.pass }
+        ensures moments { LeavesFirst (view self.new.pass).got_on (view self.new.pass).got
+            self.old.tape self.new.tape }
+        ensures ok { OnOk result (self.new.kept ≡ None) }
+        // At one moment of the call the queue was empty, and the pass had taken what it has now.
+        ensures empty { OnOk result (WasSeen P.holds 0 (view self.new.pass)) }
+        ensures err { IfErr result (KeepsFor self.new) }
+        ensures keeps { IsNotCalled self.old.tape self.new.tape }
+    {
+        self.put_kept()?;
+        for _ in rt.forever() {
+            if !self.take_one(rt, queue)? {
+                return Ok(());
+            }
+        }
+        unreachable!()
+    }
+
+    // Puts the kept note on the tape, if there is one.
+    fn put_kept(&mut self) -> Result<(), TapeFault>
+        ensures pass { self.new.pass ≡ self.old.pass }
+        ensures ok { OnOk result (self.new.kept ≡ None) }
+        ensures err { IfErr result (KeepsFor self.new) }
+        ensures keeps { IsNotCalled self.old.tape self.new.tape }
+    {
+        match self.kept.take() {
+            Some(note) => put(&mut self.tape, &mut self.kept, note),
+            None => Ok(()),
+        }
+    }
+
+    // Puts the oldest note of the queue on the tape, or answers that there was none.
+    fn take_one<P: Relays, R: Wait>(
+        &mut self,
+        rt: &R,
+        queue: &RuledArrayQueue<Note, PassLog, P>,
+    ) -> Result<bool, TapeFault>
+        requires queue { IsAt queue.now self.old.pass }
+        requires none { self.old.kept ≡ None }
+        ensures takes { TakesMore self.old.pass self.new.pass }
+        ensures ok { OnOk result (self.new.kept ≡ None) }
+        ensures empty { IfOk result
+            (λ taken. (IsTrue taken → ⊥) → WasSeen P.holds 0 (view self.new.pass)) }
+        ensures err { IfErr result (KeepsFor self.new) }
+        ensures keeps { IsNotCalled self.old.tape self.new.tape }
+    {
+        match queue.pop_as::<Gets<P>, R>(rt, &mut self.pass) {
+            Some(note) => {
+                put(&mut self.tape, &mut self.kept, note)?;
+                Ok(true)
+            }
+            None => Ok(false),
+        }
+    }
+
+    /// Puts the notes that pend on the disks: from `Ok` on all that the tape took is acknowledged, and the answer
+    /// counts it. A kept note stays kept. The tape's call of this name, with its disk calls.
+    ///
+    /// # Errors
+    /// The tape's, in its order: `Broken`; `TapeFull`; `NoMemory`; `Disk`, which breaks the tape.
+    pub fn flush(&mut self) -> Result<Flushed, TapeFault>
+        ensures moments { LeavesFirst (view self.old.pass).got_on (view self.old.pass).got
+            self.old.tape self.new.tape }
+        ensures flushes { (h : History) → StandsFor self.old.tape h
+            → Flushes TapeFault.Disk h self.old.tape self.new.tape result }
+        ensures ok { IfOk result
+            (HasFlushed (place_of self.old.tape) self.old.tape self.new.tape) }
+        ensures empty { pending_of self.old.tape ≡ 0 → self.new.tape ≡ self.old.tape }
+        ensures empty_ok { pending_of self.old.tape ≡ 0
+            → (IsBroken self.old.tape → ⊥) → IsOk result }
+        ensures refuses { RefusesFlush self.old.tape self.new.tape result }
+        ensures keeps { IsSameEnd self.old self.new }
+        ensures continues { Continues self.old.tape self.new.tape }
+    {
+        self.tape.flush()
+    }
+
+    /// Whether a rotation is due.
+    pub fn rotate_due(&self) -> bool
+        ensures { IsTrue result ↔ IsDue self.now.tape }
+    {
+        self.tape.rotate_due()
+    }
+
+    /// Writes the tape anew, the notes that pend in it. From `Ok` on all that the tape took is acknowledged. Answers
+    /// the new generation. The tape's call of this name, with its disk calls.
+    ///
+    /// # Errors
+    /// The tape's, in its order: `Broken`; `GenerationFull`; `TapeFull`; `NoMemory`; `Disk`, which breaks the tape.
+    pub fn rotate(&mut self) -> Result<u64, TapeFault>
+        ensures moments { LeavesFirst (view self.old.pass).got_on (view self.old.pass).got
+            self.old.tape self.new.tape }
+        ensures rotates { (h : History) → StandsFor self.old.tape h
+            → Rotates TapeFault.Disk h self.old.tape self.new.tape result }
+        ensures generation { IfOk result (λ n. (n ≡ generation_of self.old.tape + 1)
+            × (generation_of self.new.tape ≡ n)) }
+        ensures none_pends { OnOk result (pending_of self.new.tape ≡ 0) }
+        ensures refuses { RefusesRotation self.old.tape self.new.tape result }
+        ensures keeps { IsSameEnd self.old self.new }
+        ensures continues { Continues self.old.tape self.new.tape }
+    {
+        self.tape.rotate()
+    }
+
+    /// The debt of this key, read back; `None` if the tape does not owe it.
+    ///
+    /// # Errors
+    /// The tape's, in its order: `Broken`; `NoMemory`; `Disk`. None of them breaks the tape.
+    pub fn debt(&mut self, key: Key) -> Result<Option<Debt>, TapeFault>
+        ensures debt { (h : History) → StandsFor self.old.tape h
+            → IfOk result (λ debt. debt ≡ debt_at (ledger_of self.old.tape) key) }
+        ensures owed { IfOk result
+            (λ debt. (IsSome debt ↔ IsOwed (ledger_of self.old.tape) key)
+            × HasLengths (ledger_of self.old.tape) key debt) }
+        ensures broken { IsErrOf result TapeFault.Broken ↔ IsBroken self.old.tape }
+        ensures refuses { IfErr result (λ e. IsDebtFault e
+            × (e ≢ TapeFault.Broken → IsOwed (ledger_of self.old.tape) key)) }
+        ensures cause { (h : History) → StandsFor self.old.tape h → IsErrOf result TapeFault.Disk
+            → OneHasRisen (told_of self.old.tape) (told_of self.new.tape) }
+        ensures reads { IsRead self.old.tape self.new.tape }
+        ensures keeps { IsSameEnd self.old self.new }
+        ensures moments { LeavesFirst (view self.old.pass).got_on (view self.old.pass).got
+            self.old.tape self.new.tape }
+    {
+        self.tape.debt(key)
+    }
+
+    /// What the tape counts, the notes that pend in it. A broken tape answers too.
+    pub fn totals(&self) -> Totals
+        ensures counts { result ≡ totals_of (ledger_of self.now.tape) }
+        ensures sum { result.taken ≡ result.owed + result.answered + result.dropped }
+    {
+        self.tape.totals()
+    }
+}
+
+// Puts a note on the tape, or keeps it beside.
+fn put<D: Disk>(tape: &mut Tape<D>, kept: &mut Option<Note>, note: Note) -> Result<(), TapeFault>
+    requires none { kept.old ≡ None }
+    ensures last { (notes : List Note) → notes ++ note ∷ []
+        ≡ put_on (notes ++ note ∷ []) kept.new ++ kept_list kept.new }
+    ensures ledger { (base : State) (notes : List Note) → ledger_of tape.old ≡ after base notes
+        → ledger_of tape.new ≡ after base (put_on (notes ++ note ∷ []) kept.new) }
+    ensures owner { (base : State) (notes : List Note) → ∥ IsOwner tape.old base notes ∥₁
+        → ∥ IsOwner tape.new base (put_on (notes ++ note ∷ []) kept.new) ∥₁ }
+    ensures ok { OnOk result (kept.new ≡ None) }
+    ensures err { OnErr result (kept.new ≡ Some note) }
+    ensures refused { IfErr result (IsRefusedFor tape.new note) }
+    ensures keeps { IsNotCalled tape.old tape.new }
+{
+    match tape.note(note) {
+        Ok(()) => Ok(()),
+        Err((note, fault)) => {
+            *kept = Some(note);
+            Err(fault)
+        }
+    }
+}

@@ -1,0 +1,76 @@
+// Notes go from a front to a tape, both in one thread.
+use crate::shared::{PLACE, Relay, taken_on_disks};
+use disk_model::{FuseDisk, MemDisk};
+use ledger_core::{Key, Note};
+use note_queue::QUEUE_ROOM;
+use recovery::TapeFault;
+use std::rt::HostRuntime;
+use std::test::Fail;
+
+const LINES: u64 = 5000;
+
+// What each flush counts while the front has more than the queue holds.
+const COUNTS: [u64; 5] = [1024, 2048, 3072, 4096, 5000];
+
+// How many calls of its first disk the opening of a station makes whose disks are empty.
+const OPENING_CALLS: u64 = 5;
+
+#[test]
+fn notes_come_to_the_tape_in_rounds(rt: HostRuntime) -> Result<(), Fail> {
+    let alloc = rt.alloc();
+    let mut relay = Relay::new(alloc, MemDisk::new(alloc), MemDisk::new(alloc))?;
+    relay.owe(&rt, alloc, 1, LINES)?;
+    for count in COUNTS {
+        let flushed = relay.go_round(&rt)?;
+        assert_eq!(rt; (flushed.place(), flushed.count()), (Some(PLACE), count));
+    }
+    let joined = relay.join(&rt, alloc)?;
+    assert_eq!(rt; joined.queued.len(), 0);
+    assert_eq!(rt; taken_on_disks(alloc, joined.tape)?, LINES);
+    Ok(())
+}
+
+#[test]
+fn what_is_on_its_way_comes_out_at_the_join(rt: HostRuntime) -> Result<(), Fail> {
+    let alloc = rt.alloc();
+    let mut relay = Relay::new(alloc, MemDisk::new(alloc), MemDisk::new(alloc))?;
+    relay.owe(&rt, alloc, 1, 10)?;
+    relay.go_round(&rt)?;
+    relay.owe(&rt, alloc, 11, 1500)?;
+    let joined = relay.join(&rt, alloc)?;
+    assert_eq!(rt; joined.front.totals().taken, 1500);
+    assert_eq!(rt; joined.kept.is_none(), true);
+    assert_eq!(rt; key_of(joined.queued.first()), Some(Key::new(0, 11)));
+    assert_eq!(rt; joined.queued.len(), QUEUE_ROOM);
+    assert_eq!(rt; key_of(joined.front.next_unsent()), Some(Key::new(0, 1035)));
+    assert_eq!(rt; taken_on_disks(alloc, joined.tape)?, 10);
+    Ok(())
+}
+
+#[test]
+fn a_note_that_the_tape_refuses_is_kept(rt: HostRuntime) -> Result<(), Fail> {
+    let alloc = rt.alloc();
+    let first = FuseDisk::new(MemDisk::new(alloc), OPENING_CALLS);
+    let second = FuseDisk::new(MemDisk::new(alloc), u64::MAX);
+    let mut relay = Relay::new(alloc, first, second)?;
+    relay.owe(&rt, alloc, 1, 1)?;
+    relay.pull(&rt)?;
+    assert_eq!(rt; relay.side.flush().err(), Some(TapeFault::Disk));
+    relay.owe(&rt, alloc, 2, 3)?;
+    for _ in 0..2 {
+        assert_eq!(rt; relay.pull(&rt).err(), Some(TapeFault::Broken));
+    }
+    let joined = relay.join(&rt, alloc)?;
+    assert_eq!(rt; key_of(joined.kept.as_ref()), Some(Key::new(0, 2)));
+    assert_eq!(rt; key_of(joined.queued.first()), Some(Key::new(0, 3)));
+    assert_eq!(rt; joined.queued.len(), 1);
+    Ok(())
+}
+
+// The key of the debt that a note owes.
+fn key_of(note: Option<&Note>) -> Option<Key> {
+    match note {
+        Some(Note::Owe { key, .. }) => Some(*key),
+        _ => None,
+    }
+}
