@@ -12,10 +12,10 @@ use Rattle.funnel_files.specs.declared.line_file.LineFile.{LineFile}
 use Rattle.ledger_core.specs.State.{State, after}
 use Rattle.ledger_core.specs.declared.note.Note.{Note}
 use Rattle.backlog_files.specs.Imports.{Begins, Goes_on, Imports, TakesIn, TakesLine, TakesSome, closed, no_line}
-use Rattle.backlog_files.specs.declared.report.Report.{Report}
+use Rattle.backlog_files.specs.declared.import_report.ImportReport.{ImportReport}
 
 -- one line more
-line_more : (begun now next : State) (number next_number : ℕ) (before report : Report) (given : List (List ℕ))
+line_more : (begun now next : State) (number next_number : ℕ) (before report : ImportReport) (given : List (List ℕ))
     (line kept : List ℕ) (notes : List Note) → Imports begun (map clipped given) now before → number ≡ length given
     → next_number ≡ number + 1 → kept ≡ clipped line → TakesLine now next_number kept before notes report
     → next ≡ after now notes → Imports begun (map clipped (given ++ line ∷ [])) next report
@@ -49,7 +49,7 @@ behind_given octets read given more rest (Some later) c splits = (
 
 module _ {R : Type 0} {g : Ghosts R} where
   -- These lines of the octets were given, and taken in.
-  pub record Reaches (octets : List ℕ) (begun now : State) (number : ℕ) (report : Report) (file : LineFile R g) :
+  pub record Reaches (octets : List ℕ) (begun now : State) (number : ℕ) (report : ImportReport) (file : LineFile R g) :
       Type 0 where
     pub read : List ℕ
     pub given : List (List ℕ)
@@ -59,7 +59,7 @@ module _ {R : Type 0} {g : Ghosts R} where
     pub counted : number ≡ length given
 
   -- before the first line
-  pub reaches_none : (octets : List ℕ) (begun : State) (number : ℕ) (report : Report) (file : LineFile R g)
+  pub reaches_none : (octets : List ℕ) (begun : State) (number : ℕ) (report : ImportReport) (file : LineFile R g)
       → HasGiven file [] [] → left_of file ≡ Some octets → number ≡ 0 → report ≡ no_line
       → Reaches octets begun begun number report file
   reaches_none octets begun number report file stands known zero none = record {
@@ -72,7 +72,7 @@ module _ {R : Type 0} {g : Ghosts R} where
   }
 
   -- one line more was given and taken
-  pub reaches_line : (octets : List ℕ) (begun now next : State) (number next_number : ℕ) (before report : Report)
+  pub reaches_line : (octets : List ℕ) (begun now next : State) (number next_number : ℕ) (before report : ImportReport)
       (file new : LineFile R g) (kept : List ℕ) → Reaches octets begun now number before file
       → ((read : List ℕ) (given : List (List ℕ)) → HasGiven file read given
       → (line : List ℕ) × (kept ≡ clipped line) × HasGiven new read (given ++ line ∷ []))
@@ -93,7 +93,7 @@ module _ {R : Type 0} {g : Ghosts R} where
       }
 
   -- nothing more was given, and a piece more was read
-  pub reaches_piece : (octets : List ℕ) (begun now : State) (number : ℕ) (report : Report)
+  pub reaches_piece : (octets : List ℕ) (begun now : State) (number : ℕ) (report : ImportReport)
       (file new : LineFile R g) (piece : List ℕ) → Reaches octets begun now number report file
       → Consumes (left_of file) (left_of new) piece
       → ((read : List ℕ) (given : List (List ℕ)) → HasGiven file read given → HasGiven new (read ++ piece) given)
@@ -108,7 +108,7 @@ module _ {R : Type 0} {g : Ghosts R} where
   }
 
   -- a file of which nothing more is given
-  pub reaches_same : (octets : List ℕ) (begun now : State) (number : ℕ) (report : Report) (file new : LineFile R g)
+  pub reaches_same : (octets : List ℕ) (begun now : State) (number : ℕ) (report : ImportReport) (file new : LineFile R g)
       → Reaches octets begun now number report file
       → ((read : List ℕ) (given : List (List ℕ)) → HasGiven file read given
       → HasGiven new read given × ((rest : List ℕ) × Splits read given rest))
@@ -129,7 +129,7 @@ module _ {R : Type 0} {g : Ghosts R} where
       )
 
   -- at the end of what there is to read, all its lines were taken in
-  pub reaches_end : (octets : List ℕ) (begun now next : State) (number : ℕ) (report : Report) (has_rest : Bool)
+  pub reaches_end : (octets : List ℕ) (begun now next : State) (number : ℕ) (report : ImportReport) (has_rest : Bool)
       (file new : LineFile R g) (piece : List ℕ) (reached : Reaches octets begun now number report file)
       → ((rest : List ℕ) × Splits reached.read reached.given rest)
       → Consumes (left_of file) (left_of new) piece → IsAtEnd (left_of new) → piece ≡ []
@@ -158,7 +158,7 @@ module _ {R : Type 0} {g : Ghosts R} where
       }
 
   -- wherever it stops, the first lines were taken in
-  pub reaches_some : (octets : List ℕ) (begun now next : State) (number : ℕ) (report : Report) (file : LineFile R g)
+  pub reaches_some : (octets : List ℕ) (begun now next : State) (number : ℕ) (report : ImportReport) (file : LineFile R g)
       → Reaches octets begun now number report file → (next ≡ now) ⊎ (next ≡ closed now)
       → TakesSome octets begun next
   reaches_some octets begun now next number report file r ends =

@@ -12,10 +12,10 @@ use Rattle.ledger_core.specs.declared.note.Note.TheVariants.{Owe}
 use Rattle.peer_queue.specs.declared.limits.Owed.{Owed}
 use Rattle.peer_queue.specs.declared.limits.Owed.TheVariants.{Already, New}
 use Rattle.backlog_files.specs.Imports.{Is_malformed, Is_owed, Is_passed, TakesLine}
-use Rattle.backlog_files.specs.declared.report.Report.{Report}
+use Rattle.backlog_files.specs.declared.import_report.ImportReport.{ImportReport}
 
 -- a good line is owed, or passed over
-pub takes_good : (owed : Owed) (past now : State) (number : ℕ) (line token id : List ℕ) (before report : Report)
+pub takes_good : (owed : Owed) (past now : State) (number : ℕ) (line token id : List ℕ) (before report : ImportReport)
     → IsBacklogLine line token id
     → (owed ≡ New → (past.import_mark < number) × (now ≡ step past (Owe (key_of (past.closed + 1) number) token id)))
     → (owed ≡ Already → (number ≤ past.import_mark) × (now ≡ past))
@@ -47,7 +47,7 @@ has_fault NoMemory line result is long none token id = tt
 
 -- a malformed line owes nothing
 pub takes_malformed : {T : Type 0} (fault : LineFault) (past : State) (number : ℕ) (line : List ℕ)
-    (before report : Report) (result : Result T LineFault) → result ≡ Err fault
+    (before report : ImportReport) (result : Result T LineFault) → result ≡ Err fault
     → (IsErrOf result TooLong ↔ HasFault line TooLong) → (IsErrOf result NoToken ↔ HasFault line NoToken)
     → (IsErrOf result BadToken ↔ HasFault line BadToken) → (IsErrOf result BadId ↔ HasFault line BadId)
     → fault ≢ NoMemory

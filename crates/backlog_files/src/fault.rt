@@ -5,7 +5,7 @@ use std::io;
 use thiserror::Error;
 
 /// Why a file was not taken in to its end, or not all of it is acknowledged. What was taken in stays; unless the last
-/// flush failed its source stays open, so that the next try goes on behind it.
+/// flush failed, its source stays open, so that the next try goes on after what was taken in.
 #[derive(Debug, Drop, Error)]
 pub enum ImportFault {
     /// The file cannot be read on, for the system's reason; or memory was refused.

@@ -1,7 +1,7 @@
 // The backlog files of a directory.
 use crate::fault::BacklogFault;
 use crate::import::{close, take_in};
-use crate::report::Report;
+use crate::import_report::ImportReport;
 use crate::same_file::FileId;
 use disk_model::{Disk, TapeDirectory};
 use flusher::Peer;
@@ -20,7 +20,7 @@ pub struct BacklogFiles<'a, F> {
     // The directory, which is locked, and its path.
     tapes: &'a TapeDirectory,
     directory: &'a str,
-    // Files that serve for something else.
+    // Files that serve another purpose.
     others: Vec<FileId>,
 }
 
@@ -30,9 +30,9 @@ pub struct Imported {
     /// Its path.
     pub path: String,
     /// What became of its lines.
-    pub report: Report,
-    /// Whether it was left where it is, since it is another file by now, or a longer one: the next import takes that
-    /// one in.
+    pub report: ImportReport,
+    /// Whether it was left where it is, since there is another or a longer file by now: the next import takes that one
+    /// in.
     pub is_left: bool,
 }
 
@@ -47,7 +47,7 @@ impl<'a, F: AllocGlobal + Files<File = File>> BacklogFiles<'a, F> {
         }
     }
 
-    /// The file at this path, if there is one, serves for something else, and is never taken in.
+    /// The file at this path, if there is one, serves another purpose, and is never taken in.
     ///
     /// # Errors
     /// Memory was refused.
@@ -63,8 +63,8 @@ impl<'a, F: AllocGlobal + Files<File = File>> BacklogFiles<'a, F> {
     /// there later is not taken for the rest of it.
     ///
     /// # Errors
-    /// `Unread` if it is no regular file, or serves for something else: it was not touched; or if it cannot be opened,
-    /// or read to its end. `Station`: what the station refused. `Unremoved`: all was taken in, and would be once more.
+    /// `Unread` if it is no regular file, or serves another purpose: it was not touched; or if it cannot be opened, or
+    /// read to its end. `Station`: what the station refused. `Unremoved`: all was taken in, and would be once more.
     pub fn take_in<D: Disk>(&self, peer: &mut Peer<D>) -> Result<Option<Imported>, BacklogFault> {
         let path = self.path_of(&peer.name)?;
         match fs::symlink_metadata(self.files, path.as_str()) {
@@ -107,9 +107,9 @@ impl<'a, F: AllocGlobal + Files<File = File>> BacklogFiles<'a, F> {
         }
     }
 
-    // Opens the file that was found at this path, if it is one to be taken in. It is looked at before, since opening a
-    // FIFO might never end. What it has is made durable: else, after a power cut in the middle of the import, other
-    // lines might come under numbers that are noted.
+    // Opens the file that was found at this path, if it is to be taken in. It is checked first, since opening a FIFO
+    // might never return. What it has is made durable: else, after a power cut in the middle of the import, other lines
+    // might come under numbers that are noted.
     fn open(&self, path: &str, found: &Metadata) -> io::Result<File> {
         if !found.is_file() {
             return Err(no_backlog("it is not a regular file"));

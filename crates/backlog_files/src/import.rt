@@ -1,4 +1,4 @@
-// The lines of a backlog file, taken in one after another.
+// Importing the lines of a backlog file.
 ghost use Rattle.std.specs.Prelude.{◌≡◌, ◌⊎◌, ◌+◌, ◌<◌, ◌≤◌, [], ℕ, List};
 ghost use Rattle.std.specs.Prelude.{Err, IfErr, IfOk, MatchResult, Ok, OnErr, OnOk, Some};
 ghost use Rattle.backlog_files.specs.Faults.{IsImportFault};
@@ -10,7 +10,7 @@ ghost use Rattle.ledger_core.specs.declared.note.Note.{Note};
 ghost use Rattle.peer_queue.specs.Words.{ledger_of, open_key};
 
 use crate::fault::ImportFault;
-use crate::report::Report;
+use crate::import_report::ImportReport;
 use disk_model::Disk;
 use flusher::Peer;
 use funnel::{LineFault, MsgId, Token, read_backlog_line};
@@ -21,24 +21,23 @@ use recovery::TapeFault;
 use std::alloc::Global;
 use std::io::{self, ErrorKind, Read};
 
-/// Takes lines in, and counts them.
+/// Imports lines, and counts them.
 #[derive(Drop)]
 pub(crate) struct Import {
     alloc: Global,
     // The number of the last line, 0 before the first.
     number: u64,
-    report: Report,
+    report: ImportReport,
 }
 
 impl Import {
-    /// Of no line so far.
     pub fn new(alloc: Global) -> Self
         ensures { (result.number ≡ 0) × (result.report ≡ no_line) }
     {
         Import {
             alloc,
             number: 0,
-            report: Report::none(),
+            report: ImportReport::none(),
         }
     }
 
@@ -74,7 +73,7 @@ impl Import {
         peer: &mut Peer<D>,
         number: u64,
         line: &[u8],
-    ) -> Result<Report, StationFault>
+    ) -> Result<ImportReport, StationFault>
         ensures taken { IfOk result (λ report. (notes : List Note)
             × TakesLine (ledger_of peer.old.station) number line.now self.now.report notes report
             × (ledger_of peer.new.station ≡ after (ledger_of peer.old.station) notes)) }
@@ -94,14 +93,14 @@ impl Import {
     }
 
     /// What became of the lines so far.
-    pub fn report(&self) -> Report
+    pub fn report(&self) -> ImportReport
         ensures { result ≡ self.now.report }
     {
         self.report
     }
 }
 
-// Owes a line of the source that is open, after a flush if no more notes may pend.
+// Owes a line of the source that is open, after a flush if no more notes may be pending.
 fn owe<D: Disk>(
     peer: &mut Peer<D>,
     number: u64,
@@ -127,7 +126,7 @@ fn owe<D: Disk>(
     }
 }
 
-// Closes the source that is open, and gives it, after a flush if no more notes may pend.
+// Closes the source that is open, and returns it; after a flush if no more notes may be pending.
 fn close_source<D: Disk>(peer: &mut Peer<D>) -> Result<u32, StationFault>
     ensures source { IfOk result (λ source. source ≡ (ledger_of peer.old.station).closed + 1) }
     ensures closed { OnOk result
@@ -145,7 +144,8 @@ fn close_source<D: Disk>(peer: &mut Peer<D>) -> Result<u32, StationFault>
     }
 }
 
-/// Closes the source that is open, flushes, and gives the source: from then on the next one is open, whatever comes.
+/// Closes the source that is open, flushes, and returns the source: from then on the next one is open, even after a
+/// crash.
 ///
 /// # Errors
 /// Those of [`Peer::close_import`], but for `Tape(PendingFull)`, since a flush makes room; those of
@@ -168,16 +168,16 @@ pub(crate) fn close<D: Disk>(peer: &mut Peer<D>) -> Result<u32, StationFault>
 
 /// Takes in all lines of a file for this peer, as those of the source that is open, closes that source, and flushes:
 /// from `Ok` on they are acknowledged. The first line is line 1; a malformed one has a number, and owes nothing; a rest
-/// without LF is no line. It holds no more of the file than one piece.
+/// without LF is no line. No more than one piece of the file is in memory.
 ///
 /// # Errors
-/// That the file cannot be read on; the station's. What was taken in stays. Unless its last flush failed the source
-/// stays open, so that the next call with the same file goes on behind what was taken in.
+/// The file cannot be read on; the station's. What was taken in stays. Unless its last flush failed the source
+/// stays open, so that the next call with the same file goes on after what was taken in.
 pub fn take_in<D: Disk, R: Read + Drop>(
     alloc: Global,
     peer: &mut Peer<D>,
     lines: &mut LineFile<R>,
-) -> Result<Report, ImportFault>
+) -> Result<ImportReport, ImportFault>
     ensures imports { (octets : List ℕ) → HasGiven lines.old [] []
         → left_of lines.old ≡ Some octets → MatchResult result
         (TakesIn octets (ledger_of peer.old.station) (ledger_of peer.new.station))
@@ -195,7 +195,7 @@ pub fn take_in<D: Disk, R: Read + Drop>(
                 if !lines.read_piece()? {
                     close(peer)?;
                     let has_rest = lines.has_rest();
-                    return Ok(Report {
+                    return Ok(ImportReport {
                         has_rest,
                         ..import.report()
                     });

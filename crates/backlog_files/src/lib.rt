@@ -9,10 +9,10 @@
 mod fault;
 mod files;
 mod import;
-mod report;
+mod import_report;
 mod same_file;
 
 pub use fault::{BacklogFault, ImportFault};
 pub use files::{BacklogFiles, Imported};
 pub use import::take_in;
-pub use report::Report;
+pub use import_report::ImportReport;

@@ -1,4 +1,4 @@
-// Which file a file is.
+// The identity of a file.
 use std::fs::Metadata;
 use std::os::unix::fs::MetadataExt;
 
@@ -10,7 +10,7 @@ pub(crate) struct FileId {
 }
 
 impl FileId {
-    /// The file that this is told of.
+    /// The file with this metadata.
     pub fn of(metadata: &Metadata) -> Self {
         FileId {
             device: metadata.dev(),

@@ -32,7 +32,7 @@ fn add_line(out: &mut String, line: &str) -> Result<(), AllocError> {
     Ok(())
 }
 
-// What stands before a line's range, the range, and what stands behind it.
+// What stands before a line's range, the range, and what stands after it.
 fn split_range(line: &str) -> Option<(&str, (u64, u64), &str)> {
     let (before, rest) = line.split_once('{')?;
     let (range, after) = rest.split_once('}')?;

@@ -1,7 +1,7 @@
-//! Runs rows: drill scripts that lie beside what they print (README.md), and tells which print or end otherwise.
+//! Runs rows: drill scripts that lie beside what they print (README.md), and reports which print or end otherwise.
 //!
 //! It may touch the files of the folder that it runs in, memory and its output; it stands on `run_script` of `drill`.
-//! The file `rows` lists the rows. The status is 0 where none differs, else 1. Nothing stands above this crate.
+//! The file `rows` lists the rows. The status is 0 if none differs, otherwise 1. Nothing stands above this crate.
 #![tactic(auto)]
 
 mod fault;
@@ -46,9 +46,9 @@ struct Tally {
 
 impl Tally {
     // Counts one more row.
-    fn add(&mut self, told: &Result<u64, RowFault>) {
+    fn add(&mut self, result: &Result<u64, RowFault>) {
         self.rows = self.rows.saturating_add(1);
-        match told {
+        match result {
             Ok(scripts) => self.scripts = self.scripts.saturating_add(*scripts),
             Err(_) => self.differ = self.differ.saturating_add(1),
         }
@@ -66,14 +66,14 @@ fn check_rows<R: AllocGlobal + Files + Print>(rt: &R, index: &str) -> io::Result
         if line.is_empty() || line.starts_with('#') {
             continue;
         }
-        let told = check_line(rt, line);
-        tally.add(&told);
-        print_told(rt, line, &told)?;
+        let result = check_line(rt, line);
+        tally.add(&result);
+        print_result(rt, line, &result)?;
     }
     Ok(tally)
 }
 
-// Runs the row of a line of the index, and tells how many scripts it has.
+// Runs the row of a line of the index, and returns how many scripts it has.
 fn check_line<R: AllocGlobal + Files>(rt: &R, line: &str) -> Result<u64, RowFault> {
     match Row::read(line) {
         Some(row) => check_row(rt, &row),
@@ -81,13 +81,13 @@ fn check_line<R: AllocGlobal + Files>(rt: &R, line: &str) -> Result<u64, RowFaul
     }
 }
 
-// What is told of a row: `NAME ok, N scripts`, or what differs.
-fn print_told<R: Print>(rt: &R, line: &str, told: &Result<u64, RowFault>) -> io::Result<()> {
+// What is result of a row: `NAME ok, N scripts`, or what differs.
+fn print_result<R: Print>(rt: &R, line: &str, result: &Result<u64, RowFault>) -> io::Result<()> {
     let name = match line.split_once('.') {
         Some((name, _)) => name,
         None => line,
     };
-    match told {
+    match result {
         Ok(1) => println!(rt; "{name} ok, 1 script"),
         Ok(scripts) => println!(rt; "{name} ok, {scripts} scripts"),
         Err(fault) => println!(rt; "{name} DIFFERS: {fault}"),

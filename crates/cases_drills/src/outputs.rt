@@ -2,7 +2,7 @@
 use std::alloc::{AllocError, Global};
 use std::fmt;
 
-/// Where two texts differ: the first line that is not the same, from 1, in each; nothing where a text has ended.
+/// Where two texts differ: the first line that is not the same, from 1, in each; None if a text has ended.
 #[derive(Clone, Copy)]
 pub struct Difference<'a> {
     line: usize,
@@ -42,7 +42,7 @@ pub fn first_difference<'a>(outputs: &'a [String], printed: &'a str) -> Differen
     furthest
 }
 
-// The first line in which two texts differ; the one behind the last where they are the same.
+// The first line in which two texts differ; the one after the last if they are the same.
 fn compare<'a>(wanted: &'a str, printed: &'a str) -> Difference<'a> {
     let same = wanted
         .split('\n')

@@ -13,7 +13,7 @@ pub enum Form {
 }
 
 impl Form {
-    /// The form of a file whose name ends so, behind its dot.
+    /// The form of a file whose name ends so, after its dot.
     pub fn read(word: &str) -> Option<Form> {
         match word {
             "drill" => Some(Form::Script),

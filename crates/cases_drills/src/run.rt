@@ -17,7 +17,7 @@ struct Wanted<'a> {
     end: End,
 }
 
-/// Runs each script of a row, up to the first that prints or ends otherwise than it should; tells how many they are.
+/// Runs each script of a row, up to the first that prints or ends otherwise than it should. Returns how many they are.
 ///
 /// # Errors
 /// What is wrong with the row.
@@ -62,7 +62,7 @@ fn check_each(alloc: Global, template: &Template, wanted: &Wanted) -> Result<u64
     for number in 0..count {
         let script = template.script(alloc, number)?;
         match check_script(alloc, &script, wanted) {
-            Err(RowFault::Differs(what)) => return Err(told_of(alloc, &what, &script)),
+            Err(RowFault::Differs(what)) => return Err(difference_in(alloc, &what, &script)),
             checked => checked?,
         }
     }
@@ -70,9 +70,9 @@ fn check_each(alloc: Global, template: &Template, wanted: &Wanted) -> Result<u64
 }
 
 // What differs, of which of a template's scripts.
-fn told_of(alloc: Global, what: &str, script: &str) -> RowFault {
+fn difference_in(alloc: Global, what: &str, script: &str) -> RowFault {
     match format!(in alloc; "{what}, by the script {script:?}") {
-        Ok(told) => RowFault::Differs(told),
+        Ok(difference) => RowFault::Differs(difference),
         Err(refused) => RowFault::from(refused),
     }
 }
@@ -90,8 +90,8 @@ fn check_script(alloc: Global, script: &str, wanted: &Wanted) -> Result<(), RowF
         return Err(RowFault::Differs(difference.to_string(alloc)?));
     }
     if end != wanted.end {
-        let told = format!(in alloc; "wanted {:?} as its end, not {end:?}", wanted.end)?;
-        return Err(RowFault::Differs(told));
+        let difference = format!(in alloc; "wanted {:?} as its end, not {end:?}", wanted.end)?;
+        return Err(RowFault::Differs(difference));
     }
     Ok(())
 }

@@ -1,5 +1,5 @@
 // Templates: many scripts in one file. At its head stand lines `#NAME VALUE`, each a value of the variable NAME, or its
-// values FIRST to LAST where VALUE is `FIRST..LAST`; other lines there that begin with `#` are comments. Behind them
+// values FIRST to LAST if VALUE is `FIRST..LAST`; other lines there that begin with `#` are comments. After them
 // stands the script, in which `{NAME}` stands for a value: there is a script for each choice of a value of each
 // variable.
 use crate::long::{lines_of, read_range};

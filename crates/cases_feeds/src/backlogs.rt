@@ -1,6 +1,6 @@
 // Rows of backlog files.
 use crate::peers::{feed_from, feed_from_backlogs};
-use crate::row::{Row, list_owed, print_told};
+use crate::row::{Row, list_owed, print_output};
 use anyhow::Result;
 use cli::{Order, Source};
 use std::fs;
@@ -23,8 +23,8 @@ pub(crate) fn backlog_files<R: AllocGlobal + Threads + Wait + Print + Send + Syn
     meet_reserved(rt, host)
 }
 
-// Does what is ordered, and prints what was told, and what the backlog directory has then beside the tapes.
-fn tell<R: AllocGlobal + Threads + Wait + Print + Send + Sync + Drop + 'static>(
+// Does what is ordered, and prints its output, and what the backlog directory has then beside the tapes.
+fn print_run<R: AllocGlobal + Threads + Wait + Print + Send + Sync + Drop + 'static>(
     rt: &R,
     host: HostRuntime,
     row: &Row,
@@ -32,7 +32,7 @@ fn tell<R: AllocGlobal + Threads + Wait + Print + Send + Sync + Drop + 'static>(
     order: Order<'_>,
 ) -> Result<()> {
     println!(rt; "-- {what}")?;
-    print_told(rt, &row.obey_conf(rt, 1, PEERS, order)?)?;
+    print_output(rt, &row.obey_conf(rt, 1, PEERS, order)?)?;
     let mut names = Vec::new(rt.alloc());
     for entry in fs::read_dir(&host, row.path("backlog")?.as_str())? {
         names.push(String::from_str(rt.alloc(), entry?.file_name())?)?;
@@ -57,15 +57,15 @@ fn take_files<R: AllocGlobal + Threads + Wait + Print + Send + Sync + Drop + 'st
     fs::write(&host, p.as_str(), text)?;
     fs::write(&host, row.path("backlog/p.input")?.as_str(), b"a/9 <9@y>\n")?;
     let what = "four lines, two of them malformed, and a rest";
-    tell(rt, host, &row, what, feed_from_backlogs())?;
-    tell(rt, host, &row, "and is owed", list_owed())?;
+    print_run(rt, host, &row, what, feed_from_backlogs())?;
+    print_run(rt, host, &row, "and is owed", list_owed())?;
     fs::write(&host, p.as_str(), b"a/5 <u@y>\n")?;
     fs::write(&host, row.path("backlog/q")?.as_str(), b"a/1 <x@y>\n")?;
     row.funnel(b"a/6 <t@y> p\n")?;
     let funnel = row.path("funnel")?;
     let what = "a file for each peer, and a line of the funnel";
-    tell(rt, host, &row, what, feed_from(&funnel))?;
-    tell(rt, host, &row, "and is owed", list_owed())
+    print_run(rt, host, &row, what, feed_from(&funnel))?;
+    print_run(rt, host, &row, "and is owed", list_owed())
 }
 
 // What is no regular file is not touched, and nothing else is done.
@@ -80,7 +80,7 @@ fn meet_others<R: AllocGlobal + Threads + Wait + Print + Send + Sync + Drop + 's
     fs::write(&host, p.as_str(), b"a/2 <z@y>\n")?;
     fs::create_dir(&host, q.as_str())?;
     let what = "a file for p, a directory with the name of q";
-    tell(rt, host, &row, what, feed_from(&funnel))?;
+    print_run(rt, host, &row, what, feed_from(&funnel))?;
     fs::remove_dir(&host, q.as_str())?;
     let (reader, _writer) = pipe(&host)?;
     symlink(
@@ -88,11 +88,11 @@ fn meet_others<R: AllocGlobal + Threads + Wait + Print + Send + Sync + Drop + 's
         row.pipe_path(reader.as_raw_fd())?.as_str(),
         q.as_str(),
     )?;
-    tell(rt, host, &row, "a link to a pipe", feed_from(&funnel))?;
+    print_run(rt, host, &row, "a link to a pipe", feed_from(&funnel))?;
     fs::remove_file(&host, q.as_str())?;
     symlink(&host, "p", q.as_str())?;
-    tell(rt, host, &row, "a link to nothing", feed_from(&funnel))?;
-    tell(rt, host, &row, "and is owed", list_owed())
+    print_run(rt, host, &row, "a link to nothing", feed_from(&funnel))?;
+    print_run(rt, host, &row, "and is owed", list_owed())
 }
 
 // The funnel, the configuration and the status file are no backlog files, whatever their names.
@@ -103,15 +103,15 @@ fn meet_reserved<R: AllocGlobal + Threads + Wait + Print + Send + Sync + Drop + 
     let row = Row::new(rt, host, "reserved")?;
     let p = row.path("backlog/p")?;
     fs::write(&host, p.as_str(), b"a/1 <x@y> p\n")?;
-    tell(rt, host, &row, "the funnel is named p", feed_from(&p))?;
+    print_run(rt, host, &row, "the funnel is named p", feed_from(&p))?;
     let order = Order::Feed {
         conf: p.as_str(),
         source: Source::Backlogs,
         verbose: false,
     };
-    tell(rt, host, &row, "the configuration is", order)?;
-    tell(rt, host, &row, "neither is", feed_from_backlogs())?;
+    print_run(rt, host, &row, "the configuration is", order)?;
+    print_run(rt, host, &row, "neither is", feed_from_backlogs())?;
     fs::hard_link(&host, row.path("status")?.as_str(), p.as_str())?;
-    tell(rt, host, &row, "the status file is", feed_from_backlogs())?;
-    tell(rt, host, &row, "and is owed", list_owed())
+    print_run(rt, host, &row, "the status file is", feed_from_backlogs())?;
+    print_run(rt, host, &row, "and is owed", list_owed())
 }

@@ -1,7 +1,7 @@
 // Rows of a clock that runs faster than the system's.
 use crate::feeds::Fast;
 use crate::peers::feed_from;
-use crate::row::{NOBODY, Row, print_told};
+use crate::row::{NOBODY, Row, print_output};
 use anyhow::{Result, anyhow};
 use feed_run::System;
 use std::alloc::Global;
@@ -14,10 +14,10 @@ use std::sync::Wait;
 use std::thread::{self, Threads};
 use std::time::Duration;
 
-// How many times as fast it runs where peers are met.
+// How many times as fast it runs in rows with peers.
 const FAST: u32 = 30;
 
-// How many times as fast it runs where only the status file is waited for.
+// How many times as fast it runs in the row that only waits for the status file.
 const FASTER: u32 = 600;
 
 // The seconds of the clock at which something came.
@@ -65,12 +65,12 @@ pub(crate) fn waits<R: AllocGlobal + Threads + Wait + Print + Send + Sync + Drop
     )?;
     let p = thread::spawn(rt, move || defer_once(alloc, deferred, system))?;
     let q = thread::spawn(rt, move || close_thrice(alloc, closed, system, writer))?;
-    let told = tell(rt, &row, FAST, &conf, &reader)?;
+    let output = feed_pipe(rt, &row, FAST, &conf, &reader)?;
     let (p, q) = (p.join(rt), q.join(rt));
     println!(rt; "offered again after 60 s: {}", p.is_late(0, 60))?;
     println!(rt; "connected again after 30 s: {}", q.is_late(0, 30))?;
     println!(rt; "connected again after 60 s: {}", q.is_late(1, 60))?;
-    print_told(rt, &told)
+    print_output(rt, &output)
 }
 
 fn listen(host: HostRuntime) -> io::Result<TcpListener> {
@@ -78,13 +78,13 @@ fn listen(host: HostRuntime) -> io::Result<TcpListener> {
 }
 
 // Feeds from what comes out of a pipe.
-fn tell<R: Threads + Wait + Send + Sync + Drop + 'static>(
+fn feed_pipe<R: Threads + Wait + Send + Sync + Drop + 'static>(
     rt: &R,
     row: &Row,
     speed: u32,
     conf: &str,
     reader: &PipeReader,
-) -> Result<crate::row::Told> {
+) -> Result<crate::row::RunOutput> {
     let path = row.pipe_path(reader.as_raw_fd())?;
     row.obey_conf(rt, speed, conf, feed_from(&path))
 }
@@ -168,13 +168,13 @@ pub(crate) fn status<R: AllocGlobal + Threads + Wait + Print + Send + Sync + Dro
     let begun = system.time()?;
     let conf = format!(in alloc; "peer p {{ port-number: {NOBODY} }}\n")?;
     let seen = thread::spawn(rt, move || await_file(system, path, writer))?;
-    let told = tell(rt, &row, FASTER, &conf, &reader)?;
+    let output = feed_pipe(rt, &row, FASTER, &conf, &reader)?;
     let Some(seen) = seen.join(rt) else {
         return Err(anyhow!("there is no status file"));
     };
     let is_late = seen.saturating_sub(begun).as_secs() >= 600;
     println!(rt; "written after 600 s: {is_late}")?;
-    print_told(rt, &told)
+    print_output(rt, &output)
 }
 
 // Waits until a file is there, and closes what the funnel comes out of: when it was there.

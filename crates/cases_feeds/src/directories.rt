@@ -1,5 +1,5 @@
 // Rows of funnels that are directories of segments.
-use crate::row::{NOBODY, Row, Told, list_owed, print_told};
+use crate::row::{NOBODY, Row, RunOutput, list_owed, print_output};
 use anyhow::{Result, anyhow};
 use cli::{Order, Source};
 use std::fs::{self, OpenOptions};
@@ -12,14 +12,14 @@ use std::thread::{self, Threads};
 use std::time::Duration;
 
 // How long the first segment of an empty directory is waited for, in milliseconds.
-const AWAITED: u64 = 300;
+const AWAITED_MS: u64 = 300;
 
 // What is done to a directory. A name of digits stands for a segment's, which has zeros before it.
 #[derive(Clone, Copy)]
 enum Change {
     // Adds this text to this file, which is made if it is not there.
     Add(&'static str, &'static str),
-    // Writes this text in place of this file.
+    // Writes this text in directory of this file.
     Replace(&'static str, &'static str),
     // Removes this file.
     Remove(&'static str),
@@ -33,7 +33,7 @@ enum Change {
 
 // How a directory is read.
 #[derive(Clone, Copy)]
-enum Manner {
+enum ReadMode {
     Once,
     Tidied,
     Followed,
@@ -42,30 +42,30 @@ enum Manner {
 
 // A run: what is done before it, and what each time one more line is printed.
 #[derive(Clone, Copy)]
-struct Run {
+struct RunCase {
     what: &'static str,
-    manner: Manner,
+    mode: ReadMode,
     before: &'static [Change],
     steps: &'static [&'static [Change]],
 }
 
 // The directory of a row, and the file that asks a run to end.
 #[derive(Drop)]
-struct Place {
+struct FunnelDirectory {
     host: HostRuntime,
     directory: String,
     stop: String,
 }
 
-impl Place {
+impl FunnelDirectory {
     fn new(host: HostRuntime, row: &Row) -> Result<Self> {
-        let place = Place {
+        let directory = FunnelDirectory {
             host,
             directory: row.path("funnel")?,
             stop: row.path("backlog/~stop")?,
         };
-        fs::create_dir_all(&host, place.directory.as_str())?;
-        Ok(place)
+        fs::create_dir_all(&host, directory.directory.as_str())?;
+        Ok(directory)
     }
 
     // The path of a file of this name.
@@ -120,7 +120,7 @@ impl Place {
 // A standard output that makes one step after another, each once a line more has come.
 #[derive(Drop)]
 struct Stepping<'a> {
-    place: &'a Place,
+    directory: &'a FunnelDirectory,
     text: Vec<u8>,
     steps: &'static [&'static [Change]],
     done: usize,
@@ -133,7 +133,7 @@ impl Write for Stepping<'_> {
         if lines > self.done
             && let Some(step) = self.steps.get(self.done)
         {
-            self.place.change_all(step)?;
+            self.directory.change_all(step)?;
             self.done += 1;
         }
         Ok(octets.len())
@@ -145,65 +145,65 @@ impl Write for Stepping<'_> {
 }
 
 // The order to feed from the funnel at this path.
-fn order(path: &str, manner: Manner) -> Order<'_> {
+fn order(path: &str, mode: ReadMode) -> Order<'_> {
     Order::Feed {
         conf: "conf",
         source: Source::Funnel {
             path,
-            is_followed: matches!(manner, Manner::Followed | Manner::FollowedTidied),
-            is_tidied: matches!(manner, Manner::Tidied | Manner::FollowedTidied),
+            is_followed: matches!(mode, ReadMode::Followed | ReadMode::FollowedTidied),
+            is_tidied: matches!(mode, ReadMode::Tidied | ReadMode::FollowedTidied),
         },
         verbose: true,
     }
 }
 
-// Feeds from the directory, and prints what was told, which files it has then, and why it was not read on.
-fn tell<R: AllocGlobal + Threads + Wait + Print + Send + Sync + Drop + 'static>(
+// Feeds from the directory, and prints its output, which files it has then, and why it was not read on.
+fn print_run<R: AllocGlobal + Threads + Wait + Print + Send + Sync + Drop + 'static>(
     rt: &R,
     row: &Row,
-    place: &Place,
-    run: &Run,
+    directory: &FunnelDirectory,
+    run: &RunCase,
 ) -> Result<()> {
     println!(rt; "-- {}", run.what)?;
-    place.change_all(run.before)?;
+    directory.change_all(run.before)?;
     let mut out = Stepping {
-        place,
+        directory,
         text: Vec::new(rt.alloc()),
         steps: run.steps,
         done: 0,
     };
     let conf = format!(in rt.alloc(); "peer p {{ port-number: {NOBODY} }}\n")?;
-    let order = order(place.directory.as_str(), run.manner);
-    let mut told = row.obey_into(rt, 1, &conf, order, &mut out)?;
-    told.out = out.text;
-    print_reasons(rt, told)?;
-    for name in place.names()? {
+    let order = order(directory.directory.as_str(), run.mode);
+    let mut output = row.obey_into(rt, 1, &conf, order, &mut out)?;
+    output.out = out.text;
+    print_reasons(rt, output)?;
+    for name in directory.names()? {
         println!(rt; "has {name}")?;
     }
     Ok(())
 }
 
-// Prints what was told, and of the log why a file was not read or removed.
-fn print_reasons<R: AllocGlobal + Print>(rt: &R, told: Told) -> Result<()> {
-    let mut told = told;
+// Prints the output, and of the log why a file was not read or removed.
+fn print_reasons<R: AllocGlobal + Print>(rt: &R, output: RunOutput) -> Result<()> {
+    let mut output = output;
     let mut reasons = Vec::new(rt.alloc());
-    for line in told.log.split_inclusive(|octet| *octet == b'\n') {
+    for line in output.log.split_inclusive(|octet| *octet == b'\n') {
         if line.starts_with(b"cannot read ") || line.starts_with(b"cannot remove ") {
             reasons.extend_from_slice(line)?;
         }
     }
-    told.log = reasons;
-    print_told(rt, &told)
+    output.log = reasons;
+    print_output(rt, &output)
 }
 
 // The rows: a name, and what is run over its directory.
-const ROWS: [(&'static str, &'static [Run]); 12] = [
+const ROWS: [(&'static str, &'static [RunCase]); 12] = [
     (
         "segments",
         &[
-            Run {
+            RunCase {
                 what: "lines are added, then segments, and the first segment is removed",
-                manner: Manner::Followed,
+                mode: ReadMode::Followed,
                 before: &[
                     Change::Add("1", "1 <1@x> p\n2 <2@x> p\n"),
                     Change::Add("note", "no line\n"),
@@ -218,15 +218,15 @@ const ROWS: [(&'static str, &'static [Run]); 12] = [
                     &[Change::Stop],
                 ],
             },
-            Run {
+            RunCase {
                 what: "the segment that was read last is complete, and the next one has a rest",
-                manner: Manner::Once,
+                mode: ReadMode::Once,
                 before: &[Change::Add("7", "7 <7@x> p\n8 <8@x> p\n9")],
                 steps: &[],
             },
-            Run {
+            RunCase {
                 what: "the rest's end",
-                manner: Manner::Followed,
+                mode: ReadMode::Followed,
                 before: &[Change::Add("7", " <9@x> p\n")],
                 steps: &[&[Change::Stop]],
             },
@@ -235,9 +235,9 @@ const ROWS: [(&'static str, &'static [Run]); 12] = [
     (
         "tidied",
         &[
-            Run {
+            RunCase {
                 what: "segments are removed once the next one is read",
-                manner: Manner::FollowedTidied,
+                mode: ReadMode::FollowedTidied,
                 before: &[
                     Change::Add("1", "1 <1@x> p\n2 <2@x> p\n"),
                     Change::Add("3", "3 <3@x> p\n"),
@@ -248,9 +248,9 @@ const ROWS: [(&'static str, &'static [Run]); 12] = [
                     &[Change::Stop],
                 ],
             },
-            Run {
+            RunCase {
                 what: "segments that are acknowledged are there again",
-                manner: Manner::Tidied,
+                mode: ReadMode::Tidied,
                 before: &[
                     Change::Add("1", "1 <1@x> p\n2 <2@x> p\n"),
                     Change::Add("4", "4 <4@x> p\n"),
@@ -258,15 +258,15 @@ const ROWS: [(&'static str, &'static [Run]); 12] = [
                 ],
                 steps: &[],
             },
-            Run {
+            RunCase {
                 what: "nothing is to be removed",
-                manner: Manner::Once,
+                mode: ReadMode::Once,
                 before: &[Change::Add("8", "8 <8@x> p\n")],
                 steps: &[],
             },
-            Run {
+            RunCase {
                 what: "an empty segment comes last",
-                manner: Manner::Tidied,
+                mode: ReadMode::Tidied,
                 before: &[Change::Add("8", "9 <9@x> p\n"), Change::Add("10", "")],
                 steps: &[],
             },
@@ -275,18 +275,18 @@ const ROWS: [(&'static str, &'static [Run]); 12] = [
     (
         "unremoved",
         &[
-            Run {
+            RunCase {
                 what: "three lines",
-                manner: Manner::Once,
+                mode: ReadMode::Once,
                 before: &[
                     Change::Add("1", "1 <1@x> p\n2 <2@x> p\n"),
                     Change::Add("3", "3 <3@x> p\n"),
                 ],
                 steps: &[],
             },
-            Run {
+            RunCase {
                 what: "a directory has the name of the first segment",
-                manner: Manner::Tidied,
+                mode: ReadMode::Tidied,
                 before: &[
                     Change::Remove("1"),
                     Change::Nest("1"),
@@ -299,15 +299,15 @@ const ROWS: [(&'static str, &'static [Run]); 12] = [
     (
         "gap",
         &[
-            Run {
+            RunCase {
                 what: "the first line is missing",
-                manner: Manner::Followed,
+                mode: ReadMode::Followed,
                 before: &[Change::Add("2", "2 <2@x> p\n")],
                 steps: &[],
             },
-            Run {
+            RunCase {
                 what: "the second line is missing",
-                manner: Manner::Once,
+                mode: ReadMode::Once,
                 before: &[
                     Change::Add("1", "1 <1@x> p\n"),
                     Change::Remove("2"),
@@ -315,9 +315,9 @@ const ROWS: [(&'static str, &'static [Run]); 12] = [
                 ],
                 steps: &[],
             },
-            Run {
+            RunCase {
                 what: "the third line is missing, of a segment that comes later",
-                manner: Manner::Followed,
+                mode: ReadMode::Followed,
                 before: &[Change::Remove("3"), Change::Add("1", "2 <2@x> p\n")],
                 steps: &[&[Change::Add("4", "4 <4@x> p\n")]],
             },
@@ -326,18 +326,18 @@ const ROWS: [(&'static str, &'static [Run]); 12] = [
     (
         "overlap",
         &[
-            Run {
+            RunCase {
                 what: "the third line is there twice",
-                manner: Manner::Once,
+                mode: ReadMode::Once,
                 before: &[
                     Change::Add("1", "1 <1@x> p\n2 <2@x> p\n3 <3@x> p\n"),
                     Change::Add("3", "3 <3@x> p\n"),
                 ],
                 steps: &[],
             },
-            Run {
+            RunCase {
                 what: "the fourth line is there twice, in a segment that comes later",
-                manner: Manner::Followed,
+                mode: ReadMode::Followed,
                 before: &[Change::Add("3", "4 <4@x> p\n")],
                 steps: &[&[Change::Add("4", "4 <4@x> p\n")]],
             },
@@ -345,9 +345,9 @@ const ROWS: [(&'static str, &'static [Run]); 12] = [
     ),
     (
         "rest",
-        &[Run {
+        &[RunCase {
             what: "the first segment ends in a rest, where one line is missing",
-            manner: Manner::Once,
+            mode: ReadMode::Once,
             before: &[
                 Change::Add("1", "1 <1@x> p\n2 <2@x> p"),
                 Change::Add("3", "3 <3@x> p\n"),
@@ -357,9 +357,9 @@ const ROWS: [(&'static str, &'static [Run]); 12] = [
     ),
     (
         "rest_more",
-        &[Run {
+        &[RunCase {
             what: "the first segment ends in a rest, where none is missing",
-            manner: Manner::Tidied,
+            mode: ReadMode::Tidied,
             before: &[
                 Change::Add("1", "1 <1@x> p\n2"),
                 Change::Add("2", "2 <2@x> p\n"),
@@ -370,30 +370,30 @@ const ROWS: [(&'static str, &'static [Run]); 12] = [
     (
         "cut_off",
         &[
-            Run {
+            RunCase {
                 what: "three lines",
-                manner: Manner::Once,
+                mode: ReadMode::Once,
                 before: &[Change::Add("1", "1 <1@x> p\n2 <2@x> p\n3 <3@x> p\n")],
                 steps: &[],
             },
-            Run {
+            RunCase {
                 what: "two lines and a rest",
-                manner: Manner::Followed,
+                mode: ReadMode::Followed,
                 before: &[Change::Replace("1", "1 <1@x> p\n2 <2@x> p\n3 <3@x> p")],
                 steps: &[],
             },
-            Run {
+            RunCase {
                 what: "two lines, and a segment after the third",
-                manner: Manner::Once,
+                mode: ReadMode::Once,
                 before: &[
                     Change::Replace("1", "1 <1@x> p\n2 <2@x> p\n"),
                     Change::Add("5", "5 <5@x> p\n"),
                 ],
                 steps: &[],
             },
-            Run {
+            RunCase {
                 what: "a segment after the third alone",
-                manner: Manner::Once,
+                mode: ReadMode::Once,
                 before: &[Change::Remove("1")],
                 steps: &[],
             },
@@ -401,9 +401,9 @@ const ROWS: [(&'static str, &'static [Run]); 12] = [
     ),
     (
         "shrinks",
-        &[Run {
+        &[RunCase {
             what: "two lines, then one",
-            manner: Manner::Followed,
+            mode: ReadMode::Followed,
             before: &[Change::Add("1", "1 <1@x> p\n2 <2@x> p\n")],
             steps: &[&[Change::Replace("1", "1 <1@x> p\n")]],
         }],
@@ -411,27 +411,27 @@ const ROWS: [(&'static str, &'static [Run]); 12] = [
     (
         "names",
         &[
-            Run {
+            RunCase {
                 what: "no segment",
-                manner: Manner::Once,
+                mode: ReadMode::Once,
                 before: &[Change::Add("note", "1 <1@x> p\n")],
                 steps: &[],
             },
-            Run {
+            RunCase {
                 what: "a segment from line 0",
-                manner: Manner::Once,
+                mode: ReadMode::Once,
                 before: &[Change::Add("0", ""), Change::Add("1", "1 <1@x> p\n")],
                 steps: &[],
             },
-            Run {
+            RunCase {
                 what: "a segment from a line above the greatest number",
-                manner: Manner::Followed,
+                mode: ReadMode::Followed,
                 before: &[Change::Remove("0"), Change::Add("18446744073709551616", "")],
                 steps: &[],
             },
-            Run {
+            RunCase {
                 what: "a segment from the greatest number, where lines are missing",
-                manner: Manner::Once,
+                mode: ReadMode::Once,
                 before: &[
                     Change::Remove("18446744073709551616"),
                     Change::Add("18446744073709551615", ""),
@@ -442,35 +442,35 @@ const ROWS: [(&'static str, &'static [Run]); 12] = [
     ),
     (
         "nested",
-        &[Run {
+        &[RunCase {
             what: "a directory is no segment",
-            manner: Manner::Followed,
+            mode: ReadMode::Followed,
             before: &[Change::Nest("1")],
             steps: &[],
         }],
     ),
     (
         "missing",
-        &[Run {
+        &[RunCase {
             what: "no directory",
-            manner: Manner::FollowedTidied,
+            mode: ReadMode::FollowedTidied,
             before: &[Change::Vanish],
             steps: &[],
         }],
     ),
 ];
 
-/// What is told of directories of segments, and which of their lines are owed.
+/// What runs print over directories of segments, and which of their lines are owed.
 pub(crate) fn read_directories<
     R: AllocGlobal + Threads + Wait + Print + Send + Sync + Drop + 'static,
 >(rt: &R, host: HostRuntime) -> Result<()> {
     for (name, runs) in ROWS {
         let row = Row::new(rt, host, name)?;
-        let place = Place::new(host, &row)?;
+        let directory = FunnelDirectory::new(host, &row)?;
         for run in runs {
-            tell(rt, &row, &place, run)?;
+            print_run(rt, &row, &directory, run)?;
         }
-        tell_owed(rt, &row)?;
+        print_owed(rt, &row)?;
     }
     await_first(rt, host)?;
     meet_pipe(rt, host)?;
@@ -478,13 +478,13 @@ pub(crate) fn read_directories<
 }
 
 // Prints what is owed.
-fn tell_owed<R: AllocGlobal + Threads + Wait + Print + Send + Sync + Drop + 'static>(
+fn print_owed<R: AllocGlobal + Threads + Wait + Print + Send + Sync + Drop + 'static>(
     rt: &R,
     row: &Row,
 ) -> Result<()> {
     let conf = format!(in rt.alloc(); "peer p {{ port-number: {NOBODY} }}\n")?;
     println!(rt; "-- and is owed")?;
-    print_told(rt, &row.obey_conf(rt, 1, &conf, list_owed())?)
+    print_output(rt, &row.obey_conf(rt, 1, &conf, list_owed())?)
 }
 
 // An empty directory is followed until its first segment comes.
@@ -493,18 +493,21 @@ fn await_first<R: AllocGlobal + Threads + Wait + Print + Send + Sync + Drop + 's
     host: HostRuntime,
 ) -> Result<()> {
     let row = Row::new(rt, host, "awaited")?;
-    let (place, writer) = (Place::new(host, &row)?, Place::new(host, &row)?);
+    let (directory, writer) = (
+        FunnelDirectory::new(host, &row)?,
+        FunnelDirectory::new(host, &row)?,
+    );
     let writing = thread::spawn(rt, move || {
-        host.sleep(Duration::from_millis(AWAITED));
+        host.sleep(Duration::from_millis(AWAITED_MS));
         writer.change(Change::Add("1", "1 <1@x> p\n")).is_ok()
     })?;
-    let run = Run {
+    let run = RunCase {
         what: "the first segment comes later",
-        manner: Manner::FollowedTidied,
+        mode: ReadMode::FollowedTidied,
         before: &[],
         steps: &[&[Change::Stop]],
     };
-    tell(rt, &row, &place, &run)?;
+    print_run(rt, &row, &directory, &run)?;
     if !writing.join(rt) {
         return Err(anyhow!("the segment was not written"));
     }
@@ -517,17 +520,17 @@ fn meet_pipe<R: AllocGlobal + Threads + Wait + Print + Send + Sync + Drop + 'sta
     host: HostRuntime,
 ) -> Result<()> {
     let row = Row::new(rt, host, "piped")?;
-    let place = Place::new(host, &row)?;
+    let directory = FunnelDirectory::new(host, &row)?;
     let (reader, _writer) = pipe(&host)?;
     let target = row.pipe_path(reader.as_raw_fd())?;
-    symlink(&host, target.as_str(), place.path("1")?.as_str())?;
-    let run = Run {
+    symlink(&host, target.as_str(), directory.path("1")?.as_str())?;
+    let run = RunCase {
         what: "a pipe is no segment",
-        manner: Manner::Followed,
+        mode: ReadMode::Followed,
         before: &[],
         steps: &[],
     };
-    tell(rt, &row, &place, &run)?;
+    print_run(rt, &row, &directory, &run)?;
     let file = Row::new(rt, host, "tidied_file")?;
     file.lines(1)?;
     println!(rt; "-- a file is to be tidied")?;
@@ -535,7 +538,7 @@ fn meet_pipe<R: AllocGlobal + Threads + Wait + Print + Send + Sync + Drop + 'sta
     let path = file.path("funnel")?;
     print_reasons(
         rt,
-        file.obey_conf(rt, 1, &conf, order(path.as_str(), Manner::Tidied))?,
+        file.obey_conf(rt, 1, &conf, order(path.as_str(), ReadMode::Tidied))?,
     )
 }
 
@@ -545,7 +548,7 @@ fn read_long<R: AllocGlobal + Threads + Wait + Print + Send + Sync + Drop + 'sta
     host: HostRuntime,
 ) -> Result<()> {
     let row = Row::new(rt, host, "long_segments")?;
-    let place = Place::new(host, &row)?;
+    let directory = FunnelDirectory::new(host, &row)?;
     let mut wanted = Vec::new(host.alloc());
     for (first, end) in [(1, 1_001), (1_001, 1_501), (1_501, 2_001)] {
         let mut text = Vec::new(host.alloc());
@@ -553,16 +556,16 @@ fn read_long<R: AllocGlobal + Threads + Wait + Print + Send + Sync + Drop + 'sta
             writeln!(text, "{number:04} <{number:066}@x> p")?;
             writeln!(wanted, "p {number} {number:04} <{number:066}@x>")?;
         }
-        let path = place.path(format!(in host.alloc(); "{first}")?.as_str())?;
+        let path = directory.path(format!(in host.alloc(); "{first}")?.as_str())?;
         fs::write(&host, path.as_str(), text.as_slice())?;
     }
-    let run = Run {
+    let run = RunCase {
         what: "1,000 lines of 80 octets, and twice 500",
-        manner: Manner::Tidied,
+        mode: ReadMode::Tidied,
         before: &[],
         steps: &[],
     };
-    tell(rt, &row, &place, &run)?;
+    print_run(rt, &row, &directory, &run)?;
     let conf = format!(in rt.alloc(); "peer p {{ port-number: {NOBODY} }}\n")?;
     let is_wanted = row.obey_conf(rt, 1, &conf, list_owed())?.out == wanted;
     println!(rt; "each number has a token and an id as in its lines: {is_wanted}")?;

@@ -1,7 +1,7 @@
 // Feeds by a clock that runs faster than the system's, with a file in place of standard error.
 use cli::{FeedEnd, Feeds, Source};
 use feed_conf::Conf;
-use feed_run::{Machine, System, SystemFeeds, feed_with};
+use feed_run::{System, SystemFeeds, ThreadRuntime, feed_with};
 use resolver::SystemLookUp;
 use std::alloc::Global;
 use std::fmt::Display;
@@ -15,7 +15,7 @@ use std::time::Duration;
 /// The file that has what a run logs.
 pub(crate) const LOG: &str = "rows/log";
 
-/// A clock that runs so many times as fast as the system's, and the file `LOG` as the log.
+/// A clock that runs `speed` times as fast as the system's, and the file `LOG` as the log.
 #[derive(Clone, Copy)]
 pub(crate) struct Fast {
     pub host: HostRuntime,
@@ -40,7 +40,7 @@ impl System for Fast {
         Ok(time.saturating_mul(self.speed))
     }
 
-    fn tell<D: Display>(&self, line: &D) {
+    fn write_log<D: Display>(&self, line: &D) {
         let _ = self.add(line);
     }
 }
@@ -75,7 +75,7 @@ impl<R: Threads + Wait + Send + Sync + Drop + 'static> Feeds for FastFeeds<'_, R
         out: &mut W,
     ) -> FeedEnd {
         let host = self.system.host;
-        let rt = Machine::<R, Fast>::new(host, self.system, verbose);
+        let rt = ThreadRuntime::<R, Fast>::new(host, self.system, verbose);
         feed_with(
             &rt,
             self.files,

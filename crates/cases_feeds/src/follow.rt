@@ -1,6 +1,6 @@
 // Rows of funnels that are followed.
 use crate::feeds::Fast;
-use crate::row::{NOBODY, Row, Told, list_owed, print_lines, print_told};
+use crate::row::{NOBODY, Row, RunOutput, list_owed, print_lines, print_output};
 use anyhow::{Result, anyhow};
 use cli::{Order, Source};
 use feed_run::System;
@@ -13,15 +13,15 @@ use std::sync::Wait;
 use std::thread::{self, Threads};
 use std::time::Duration;
 
-// How many times as fast the clock runs where connections are closed.
+// How many times as fast the clock runs in the row whose connections are closed.
 const FAST: u32 = 30;
 
-// How many times as fast it runs where connections are idle: a feeder that nothing wakes looks once in a second of the
-// system's clock, so once in 20 of these.
+// How many times as fast it runs in the row with idle connections: a feeder that nothing wakes looks once in a second
+// of the system's clock, so once in 20 of these.
 const IDLE: u32 = 20;
 
 // After how many seconds of that clock a peer closes an idle connection itself.
-const CLOSES: u64 = 50;
+const CLOSES_AFTER_SECONDS: u64 = 50;
 
 // The order to follow the funnel at this path.
 fn follow(path: &String) -> Order<'_> {
@@ -36,7 +36,7 @@ fn follow(path: &String) -> Order<'_> {
     }
 }
 
-// What a standard output does once it has so many lines.
+// What a standard output does once it has a certain number of lines.
 #[derive(Clone, Copy)]
 enum Deed {
     // Adds this to the funnel.
@@ -106,19 +106,19 @@ fn add(host: HostRuntime, path: &str, text: &[u8]) -> io::Result<()> {
 }
 
 // Follows a funnel of two lines, with these deeds.
-fn tell<R: Threads + Wait + Send + Sync + Drop + 'static>(
+fn run_deeds<R: Threads + Wait + Send + Sync + Drop + 'static>(
     rt: &R,
     host: HostRuntime,
     row: &Row,
     port: u16,
     deeds: &'static [Deed],
-) -> Result<Told> {
+) -> Result<RunOutput> {
     let mut out = Doing::new(host, row, deeds)?;
     let path = row.path("funnel")?;
     let conf = format!(in host.alloc(); "peer p {{ port-number: {port} }}\n")?;
-    let mut told = row.obey_into(rt, 1, &conf, follow(&path), &mut out)?;
-    told.out = out.text;
-    Ok(told)
+    let mut output = row.obey_into(rt, 1, &conf, follow(&path), &mut out)?;
+    output.out = out.text;
+    Ok(output)
 }
 
 /// What is added at the end of a funnel is taken, a rest without LF only once that has come, until the run is asked to
@@ -139,23 +139,23 @@ pub(crate) fn grows<R: AllocGlobal + Threads + Wait + Print + Send + Sync + Drop
         Deed::Add(b" p\n5 <5@x> p"),
         Deed::Stop,
     ];
-    print_told(rt, &tell(rt, host, &row, NOBODY, deeds)?)?;
+    print_output(rt, &run_deeds(rt, host, &row, NOBODY, deeds)?)?;
     println!(rt;
         "the file that asked for it is there: {}",
         fs::exists(&host, stop.as_str())?
     )?;
     println!(rt; "-- and is owed")?;
     let conf = format!(in host.alloc(); "peer p {{ port-number: {NOBODY} }}\n")?;
-    print_told(rt, &row.obey_conf(rt, 1, &conf, list_owed())?)?;
+    print_output(rt, &row.obey_conf(rt, 1, &conf, list_owed())?)?;
     println!(rt; "-- the rest's end, then a shorter funnel")?;
     add(host, row.path("funnel")?.as_str(), b"\n")?;
     let deeds = &[Deed::Replace(b"1 <1@x> p\n")];
-    print_told(rt, &tell(rt, host, &row, NOBODY, deeds)?)
+    print_output(rt, &run_deeds(rt, host, &row, NOBODY, deeds)?)
 }
 
 // What a peer that is idle has seen.
 #[derive(Drop)]
-struct Seen {
+struct IdlePeer {
     // How long it heard nothing before it was asked to end, in seconds of the clock.
     idle: u64,
     // How many connections it had.
@@ -180,13 +180,13 @@ pub(crate) fn idle<R: AllocGlobal + Threads + Wait + Print + Send + Sync + Drop 
     let (funnel, stop) = (row.path("funnel")?, row.path("backlog/~stop")?);
     let peer = thread::spawn(rt, move || be_idle(host, alloc, listener, funnel, stop))?;
     let path = row.path("funnel")?;
-    let told = row.obey_conf(rt, IDLE, &conf, follow(&path))?;
+    let output = row.obey_conf(rt, IDLE, &conf, follow(&path))?;
     let Some(seen) = peer.join(rt) else {
         return Err(anyhow!("the peer failed"));
     };
     println!(rt; "left after a minute: {}", (60..140).contains(&seen.idle))?;
     println!(rt; "connections: {}", seen.connections)?;
-    print_told(rt, &told)
+    print_output(rt, &output)
 }
 
 // Has three sessions, each with an article: what was seen.
@@ -196,9 +196,9 @@ fn be_idle(
     listener: TcpListener,
     funnel: String,
     stop: String,
-) -> Option<Seen> {
+) -> Option<IdlePeer> {
     let system = Fast { host, speed: IDLE };
-    let mut seen = Seen {
+    let mut seen = IdlePeer {
         idle: 0,
         connections: 0,
     };
@@ -247,9 +247,9 @@ fn converse(alloc: Global, stream: &TcpStream, system: Fast, closes: bool) -> io
             writer.write_all(id)?;
             writer.write_all(b"\r\n")?;
             if closes {
-                system
-                    .host
-                    .sleep(Duration::from_millis(CLOSES * 1_000 / u64::from(IDLE)));
+                system.host.sleep(Duration::from_millis(
+                    CLOSES_AFTER_SECONDS * 1_000 / u64::from(IDLE),
+                ));
                 return Ok(idle);
             }
         } else if line.starts_with(b"QUIT") {
@@ -277,16 +277,16 @@ pub(crate) fn closes<R: AllocGlobal + Threads + Wait + Print + Send + Sync + Dro
     let stop = row.path("backlog/~stop")?;
     let peer = thread::spawn(rt, move || close_agreed(host, alloc, listener, stop))?;
     let path = row.path("funnel")?;
-    let told = row.obey_conf(rt, FAST, &conf, follow(&path))?;
+    let output = row.obey_conf(rt, FAST, &conf, follow(&path))?;
     let waited = peer.join(rt).unwrap_or(0);
     println!(rt; "a connection each 30 s: {}", waited >= 58)?;
     // Whether the line is put off, which is logged, hangs on how much was sent before each close.
-    println!(rt; "status {}", told.status)?;
-    print_lines(rt, "", &told.out)?;
-    print_lines(rt, "", &told.err)
+    println!(rt; "status {}", output.status)?;
+    print_lines(rt, "", &output.out)?;
+    print_lines(rt, "", &output.err)
 }
 
-// Closes three connections behind 203: the seconds of the clock from the first to the third.
+// Closes three connections after 203: the seconds of the clock from the first to the third.
 fn close_agreed(
     host: HostRuntime,
     alloc: Global,

@@ -1,6 +1,6 @@
 // Rows of funnels: long ones, silent ones, and lines that go nowhere.
 use crate::peers::feed_from;
-use crate::row::{NOBODY, Row, list_owed, print_told};
+use crate::row::{NOBODY, Row, list_owed, print_output};
 use anyhow::{Result, anyhow};
 use std::io::{self, PipeWriter, Write, pipe};
 use std::os::fd::AsRawFd;
@@ -22,14 +22,14 @@ pub(crate) fn long_funnel<R: AllocGlobal + Threads + Wait + Print + Send + Sync 
             writeln!(text, "{number:04} <{number:066}@x> p")?;
         }
         row.funnel(&text)?;
-        print_told(rt, &row.obey_conf(rt, 1, &conf, feed_from(&path))?)?;
+        print_output(rt, &row.obey_conf(rt, 1, &conf, feed_from(&path))?)?;
     }
-    let told = row.obey_conf(rt, 1, &conf, list_owed())?;
+    let output = row.obey_conf(rt, 1, &conf, list_owed())?;
     let mut wanted = Vec::new(host.alloc());
     for number in 1..=2_000 {
         writeln!(wanted, "p {number} {number:04} <{number:066}@x>")?;
     }
-    let says = if told.out == wanted {
+    let says = if output.out == wanted {
         "as in its lines"
     } else {
         "another"
@@ -49,15 +49,15 @@ pub(crate) fn shed<R: AllocGlobal + Threads + Wait + Print + Send + Sync + Drop 
     let conf = format!(in host.alloc();
         "backlog-limit: 100\npeer p {{ port-number: {NOBODY} }}\n"
     )?;
-    print_told(
+    print_output(
         rt,
         &row.obey_conf(rt, 1, &conf, feed_from(&row.path("funnel")?))?,
     )?;
     println!(rt; "-- and is owed")?;
-    print_told(rt, &row.obey_conf(rt, 1, &conf, list_owed())?)
+    print_output(rt, &row.obey_conf(rt, 1, &conf, list_owed())?)
 }
 
-/// Lines that name unknown peers, and lines that are malformed, are told without -v, each once.
+/// Lines that name unknown peers, and lines that are malformed, are logged without -v, each once.
 pub(crate) fn nowhere<R: AllocGlobal + Threads + Wait + Print + Send + Sync + Drop + 'static>(
     rt: &R,
     host: HostRuntime,
@@ -75,20 +75,20 @@ pub(crate) fn nowhere<R: AllocGlobal + Threads + Wait + Print + Send + Sync + Dr
     let path = row.path("funnel")?;
     for what in ["24 lines", "the same once more"] {
         println!(rt; "-- {what}")?;
-        print_told(rt, &row.obey_conf(rt, 1, &conf, feed_from(&path))?)?;
+        print_output(rt, &row.obey_conf(rt, 1, &conf, feed_from(&path))?)?;
     }
     Ok(())
 }
 
-// A standard output that closes a pipe when so many lines were written to it.
+// A standard output that closes a pipe once `lines` lines were written to it.
 #[derive(Drop)]
-struct Closing {
+struct PipeCloser {
     text: Vec<u8>,
     lines: usize,
     pipe: Option<PipeWriter>,
 }
 
-impl Write for Closing {
+impl Write for PipeCloser {
     fn write(&mut self, octets: &[u8]) -> io::Result<usize> {
         self.text.extend_from_slice(octets)?;
         let lines = self.text.iter().filter(|octet| **octet == b'\n').count();
@@ -118,16 +118,16 @@ pub(crate) fn silent_pipe<R: AllocGlobal + Threads + Wait + Print + Send + Sync 
     let (reader, mut writer) = pipe(&host)?;
     writer.write_all(b"1 <1@x> p\n2 <2@x> p\n")?;
     let path = row.pipe_path(reader.as_raw_fd())?;
-    let mut out = Closing {
+    let mut out = PipeCloser {
         text: Vec::new(host.alloc()),
         lines: 2,
         pipe: Some(writer),
     };
     let conf = format!(in host.alloc(); "peer p {{ port-number: {NOBODY} }}\n")?;
-    let mut told = row.obey_into(rt, 1, &conf, feed_from(&path), &mut out)?;
+    let mut output = row.obey_into(rt, 1, &conf, feed_from(&path), &mut out)?;
     if out.pipe.is_some() {
         return Err(anyhow!("the pipe is open"));
     }
-    told.out = out.text;
-    print_told(rt, &told)
+    output.out = out.text;
+    print_output(rt, &output)
 }

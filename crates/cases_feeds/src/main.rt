@@ -1,5 +1,5 @@
-//! What the program tells of whole feeds, and what a peer hears of them, over sockets of this machine and files that it
-//! makes in the folder that it runs in (README.md).
+//! What the program prints of whole feeds, and what a peer hears of them, over sockets of this machine and files that
+//! it makes in the folder that it runs in (README.md).
 //!
 //! It may start threads, listen on and connect to 127.0.0.1, make files, and print. Nothing stands above this crate.
 #![tactic(auto)]
@@ -28,7 +28,7 @@ use std::sync::Wait;
 use std::thread::Threads;
 
 // How many octets a peer answers to one article, from its greeting to the final answer.
-const ANSWERS: usize = 38;
+const ANSWERS_OCTETS: usize = 38;
 
 fn main(rt: HostRuntime) -> Result<()> {
     // What a run that was broken off has left.
@@ -72,7 +72,7 @@ fn main(rt: HostRuntime) -> Result<()> {
     let row = Row::new(&rt, rt, "cut")?;
     row.lines(1)?;
     row.take(&rt, "one line, nobody listens")?;
-    for octets in 0..=ANSWERS {
+    for octets in 0..=ANSWERS_OCTETS {
         row.cut(&rt, octets)?;
     }
     gone(&rt, rt)?;

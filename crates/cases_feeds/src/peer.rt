@@ -12,23 +12,23 @@ pub(crate) enum Manner {
     Ihave,
     /// It wants each article later.
     Defers,
-    /// It ends the session by 400 behind its first article.
+    /// It ends the session by 400 after its first article.
     Ends,
     /// It says nothing.
     Silent,
-    /// It streams; in its first session it sends so many octets, then its end, and says no more.
+    /// It streams; in its first session it sends this many octets, then its end, and says no more.
     Cut(usize),
 }
 
 /// How long a peer may take to answer, in seconds: so long that none is ever late.
-pub(crate) const PATIENCE: u64 = 60;
+pub(crate) const PATIENCE_SECONDS: u64 = 60;
 
 impl Manner {
     /// How long the feeder is to wait for an answer of such a peer, in seconds.
     pub fn patience(self) -> u64 {
         match self {
             Manner::Silent => 1,
-            _ => PATIENCE,
+            _ => PATIENCE_SECONDS,
         }
     }
 }
@@ -146,7 +146,7 @@ fn id_of(line: &[u8]) -> &[u8] {
 }
 
 impl Session<'_> {
-    // Says a line, as far as it may. False where that is the end.
+    // Says a line, as far as it may. False if that is the end.
     fn say(&mut self, text: &[u8]) -> io::Result<bool> {
         if matches!(self.manner, Manner::Silent) {
             return Ok(true);
@@ -159,7 +159,7 @@ impl Session<'_> {
         Ok(self.left > 0)
     }
 
-    // Answers a line. False where the session is over.
+    // Answers a line. False if the session is over.
     fn answer<B: BufRead>(
         &mut self,
         line: &[u8],

@@ -1,6 +1,6 @@
 // Rows of several peers.
-use crate::peer::{Heard, Manner, PATIENCE, serve};
-use crate::row::{NOBODY, Row, list_owed, print_lines, print_told};
+use crate::peer::{Heard, Manner, PATIENCE_SECONDS, serve};
+use crate::row::{NOBODY, Row, list_owed, print_lines, print_output};
 use anyhow::{Result, anyhow};
 use cli::{Order, Source};
 use std::io::Write;
@@ -23,9 +23,9 @@ pub(crate) fn four_peers<R: AllocGlobal + Threads + Wait + Print + Send + Sync +
     println!(rt; "-- eight lines, nobody listens")?;
     let conf = conf_of(host, NOBODY, NOBODY, NOBODY)?;
     let path = row.path("funnel")?;
-    print_told(rt, &row.obey_conf(rt, 1, &conf, feed_from(&path))?)?;
+    print_output(rt, &row.obey_conf(rt, 1, &conf, feed_from(&path))?)?;
     println!(rt; "-- and is owed")?;
-    print_told(rt, &row.obey_conf(rt, 1, &conf, list_owed())?)?;
+    print_output(rt, &row.obey_conf(rt, 1, &conf, list_owed())?)?;
 
     println!(rt; "-- a streams, b knows IHAVE alone, nobody is c, d says nothing")?;
     let alloc = host.alloc();
@@ -41,7 +41,7 @@ pub(crate) fn four_peers<R: AllocGlobal + Threads + Wait + Print + Send + Sync +
         return Err(anyhow!("a peer has no port"));
     };
     let conf = conf_of(host, a, b, d)?;
-    let told = row.obey_conf(rt, 1, &conf, feed_from_backlogs());
+    let output = row.obey_conf(rt, 1, &conf, feed_from_backlogs());
     // These stay open until the peers have heard them.
     let mut last = Vec::new(alloc);
     for port in &ports {
@@ -53,18 +53,18 @@ pub(crate) fn four_peers<R: AllocGlobal + Threads + Wait + Print + Send + Sync +
     for peer in peers {
         heard.push(peer.join(rt))?;
     }
-    print_told(rt, &told?)?;
+    print_output(rt, &output?)?;
     for (name, heard) in ["a ", "b ", "d "].iter().zip(&heard) {
         print_lines(rt, name, &heard.lines)?;
     }
     println!(rt; "-- and is owed")?;
-    print_told(rt, &row.obey_conf(rt, 1, &conf, list_owed())?)
+    print_output(rt, &row.obey_conf(rt, 1, &conf, list_owed())?)
 }
 
 // The peers, in another order than that of their names. Nobody is c.
 fn conf_of(host: HostRuntime, a: u16, b: u16, d: u16) -> Result<String> {
     let alloc = host.alloc();
-    let mut conf = format!(in alloc; "response-timeout: {PATIENCE}\n")?;
+    let mut conf = format!(in alloc; "response-timeout: {PATIENCE_SECONDS}\n")?;
     for (name, port, more) in [
         ("d", d, "response-timeout: 1"),
         ("b", b, ""),

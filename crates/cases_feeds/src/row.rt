@@ -1,6 +1,6 @@
-// A feed, and what is told of it.
+// A feed, and its output.
 use crate::feeds::{Fast, FastFeeds, LOG};
-use crate::peer::{Heard, Manner, PATIENCE, serve};
+use crate::peer::{Heard, Manner, PATIENCE_SECONDS, serve};
 use anyhow::{Result, anyhow};
 use cli::{Order, ReadFile, Source, run};
 use std::alloc::Global;
@@ -30,11 +30,11 @@ pub(crate) fn list_owed() -> Order<'static> {
 
 // A configuration.
 #[derive(Drop)]
-struct Conf {
+struct ConfFile {
     text: Vec<u8>,
 }
 
-impl ReadFile for Conf {
+impl ReadFile for ConfFile {
     fn read_file(&self, alloc: Global, _path: &str) -> io::Result<Vec<u8>> {
         Ok(Vec::from_slice(alloc, &self.text)?)
     }
@@ -65,7 +65,7 @@ impl Row {
         Ok(format!(in self.host.alloc(); "/proc/self/fd/{descriptor}")?)
     }
 
-    /// Writes so many articles.
+    /// Writes `count` articles.
     pub fn spool(&self, count: u64) -> Result<()> {
         for number in 1..=count {
             let path = format!(in self.host.alloc(); "rows/articles/{number}")?;
@@ -75,7 +75,7 @@ impl Row {
         Ok(())
     }
 
-    /// Writes a funnel of so many lines.
+    /// Writes a funnel of `count` lines.
     pub fn lines(&self, count: u64) -> Result<()> {
         let mut text = Vec::new(self.host.alloc());
         for number in 1..=count {
@@ -84,7 +84,7 @@ impl Row {
         self.funnel(&text)
     }
 
-    /// Writes a funnel of so many lines, the last one without its LF.
+    /// Writes a funnel of `count` lines, the last one without its LF.
     pub fn lines_cut_short(&self, count: u64) -> Result<()> {
         self.lines(count)?;
         let mut text = fs::read(&self.host, self.path("funnel")?.as_str())?;
@@ -92,7 +92,7 @@ impl Row {
         self.funnel(&text)
     }
 
-    /// Writes a funnel of so many lines, of which each hundredth alone names an article that is there.
+    /// Writes a funnel of `count` lines, of which only each hundredth names an article that is there.
     pub fn lines_of_gone(&self, count: u64) -> Result<()> {
         let mut text = Vec::new(self.host.alloc());
         for number in 1..=count {
@@ -109,9 +109,9 @@ impl Row {
     }
 }
 
-/// What a run told.
+/// What a run wrote, and its status.
 #[derive(Drop)]
-pub(crate) struct Told {
+pub(crate) struct RunOutput {
     pub status: u8,
     pub out: Vec<u8>,
     pub log: Vec<u8>,
@@ -119,17 +119,17 @@ pub(crate) struct Told {
 }
 
 impl Row {
-    /// Takes the funnel's lines for a peer that nobody is, and prints what was told.
+    /// Takes the funnel's lines for a peer that nobody is, and prints its output.
     pub fn take<R: Threads + Wait + Print + Send + Sync + Drop + 'static>(
         &self,
         rt: &R,
         what: &str,
     ) -> Result<()> {
         println!(rt; "-- {what}")?;
-        print_told(rt, &self.run(rt, NOBODY, PATIENCE, true)?)
+        print_output(rt, &self.run(rt, NOBODY, PATIENCE_SECONDS, true)?)
     }
 
-    /// Feeds this peer from the backlog alone, and prints what was told and what the peer heard.
+    /// Feeds this peer from the backlog alone, and prints its output and what the peer heard.
     pub fn feed<R: Threads + Wait + Print + Send + Sync + Drop + 'static>(
         &self,
         rt: &R,
@@ -137,20 +137,20 @@ impl Row {
         what: &str,
     ) -> Result<()> {
         println!(rt; "-- {what}")?;
-        let (told, heard) = self.meet(rt, manner, false)?;
-        print_told(rt, &told)?;
+        let (output, heard) = self.meet(rt, manner, false)?;
+        print_output(rt, &output)?;
         print_lines(rt, "peer ", &heard.lines)
     }
 
-    /// Feeds a peer that streams from the funnel, and prints what was told and how many articles the peer heard.
+    /// Feeds a peer that streams from the funnel, and prints its output and how many articles the peer heard.
     pub fn feed_many<R: Threads + Wait + Print + Send + Sync + Drop + 'static>(
         &self,
         rt: &R,
         what: &str,
     ) -> Result<()> {
         println!(rt; "-- {what}")?;
-        let (told, heard) = self.meet(rt, Manner::Streams, true)?;
-        print_told(rt, &told)?;
+        let (output, heard) = self.meet(rt, Manner::Streams, true)?;
+        print_output(rt, &output)?;
         let lines = heard.lines.split(|octet| *octet == b'\n');
         let articles = lines.filter(|line| line.starts_with(b"TAKETHIS")).count();
         println!(rt; "peer has {articles} articles")?;
@@ -164,23 +164,31 @@ impl Row {
         what: &str,
     ) -> Result<()> {
         println!(rt; "-- {what}")?;
-        let told = self.obey(rt, NOBODY, PATIENCE, list_owed())?;
-        let lines = told.out.split(|octet| *octet == b'\n').count();
-        println!(rt; "status {}, {} debts", told.status, lines.saturating_sub(1))?;
+        let output = self.obey(rt, NOBODY, PATIENCE_SECONDS, list_owed())?;
+        let lines = output.out.split(|octet| *octet == b'\n').count();
+        println!(rt;
+            "status {}, {} debts",
+            output.status,
+            lines.saturating_sub(1)
+        )?;
         Ok(())
     }
 
-    /// Feeds from the backlog a peer that closes once it has sent so many octets, and prints what is owed then.
+    /// Feeds from the backlog a peer that closes once it has sent `octets` octets, and prints what is owed then.
     pub fn cut<R: Threads + Wait + Print + Send + Sync + Drop + 'static>(
         &self,
         rt: &R,
         octets: usize,
     ) -> Result<()> {
-        let (told, _) = self.meet(rt, Manner::Cut(octets), false)?;
-        let owed = if told.err.is_empty() { "nothing" } else { "it" };
+        let (output, _) = self.meet(rt, Manner::Cut(octets), false)?;
+        let owed = if output.err.is_empty() {
+            "nothing"
+        } else {
+            "it"
+        };
         println!(rt;
             "cut behind {octets} octets: status {}, owes {owed}",
-            told.status
+            output.status
         )?;
         Ok(())
     }
@@ -191,26 +199,26 @@ impl Row {
         rt: &R,
         manner: Manner,
         funnel: bool,
-    ) -> Result<(Told, Heard)> {
+    ) -> Result<(RunOutput, Heard)> {
         let alloc = self.host.alloc();
         let listener = TcpListener::bind(&self.host, "127.0.0.1:0")?;
         let port = listener.local_addr()?.port();
         let peer = thread::spawn(rt, move || serve(alloc, listener, manner))?;
-        let told = self.run(rt, port, manner.patience(), funnel);
+        let output = self.run(rt, port, manner.patience(), funnel);
         let mut last = TcpStream::connect(&self.host, ("127.0.0.1", port))?;
         last.write_all(b"END\r\n")?;
         let heard = peer.join(rt);
-        Ok((told?, heard))
+        Ok((output?, heard))
     }
 
-    // Feeds the peer at this port, which has so many seconds to answer.
+    // Feeds the peer at this port, which has `patience` seconds to answer.
     fn run<R: Threads + Wait + Send + Sync + Drop + 'static>(
         &self,
         rt: &R,
         port: u16,
         patience: u64,
         funnel: bool,
-    ) -> Result<Told> {
+    ) -> Result<RunOutput> {
         let path = self.path("funnel")?;
         let order = Order::Feed {
             conf: "conf",
@@ -228,14 +236,14 @@ impl Row {
         self.obey(rt, port, patience, order)
     }
 
-    // Does what is ordered, by a configuration of one peer at this port, which has so many seconds to answer.
+    // Does what is ordered, by a configuration of one peer at this port, which has `patience` seconds to answer.
     fn obey<R: Threads + Wait + Send + Sync + Drop + 'static>(
         &self,
         rt: &R,
         port: u16,
         patience: u64,
         order: Order<'_>,
-    ) -> Result<Told> {
+    ) -> Result<RunOutput> {
         let alloc = self.host.alloc();
         let peer = format!(in alloc;
             "response-timeout: {patience}\npeer p {{ port-number: {port} }}\n"
@@ -243,7 +251,7 @@ impl Row {
         self.obey_conf(rt, 1, &peer, order)
     }
 
-    /// Does what is ordered, by a clock so many times as fast as the system's, and by a configuration that has these
+    /// Does what is ordered, by a clock `speed` times as fast as the system's, and by a configuration that has these
     /// lines.
     pub fn obey_conf<R: Threads + Wait + Send + Sync + Drop + 'static>(
         &self,
@@ -251,11 +259,11 @@ impl Row {
         speed: u32,
         lines: &str,
         order: Order<'_>,
-    ) -> Result<Told> {
+    ) -> Result<RunOutput> {
         let mut out = Vec::new(self.host.alloc());
-        let mut told = self.obey_into(rt, speed, lines, order, &mut out)?;
-        told.out = out;
-        Ok(told)
+        let mut output = self.obey_into(rt, speed, lines, order, &mut out)?;
+        output.out = out;
+        Ok(output)
     }
 
     /// The same, with this as standard output.
@@ -266,9 +274,9 @@ impl Row {
         lines: &str,
         order: Order<'_>,
         out: &mut W,
-    ) -> Result<Told> {
+    ) -> Result<RunOutput> {
         let alloc = self.host.alloc();
-        let mut conf = Conf {
+        let mut conf = ConfFile {
             text: Vec::new(alloc),
         };
         writeln!(conf.text, "news-spool: rows/articles")?;
@@ -285,7 +293,7 @@ impl Row {
         let mut input: &[u8] = &[];
         let mut err = Vec::new(alloc);
         let ended = run(alloc, order, &conf, &mut feeds, &mut input, out, &mut err);
-        Ok(Told {
+        Ok(RunOutput {
             status: ended.exit.status(),
             out: Vec::new(alloc),
             log: fs::read(&self.host, LOG)?,
@@ -294,15 +302,15 @@ impl Row {
     }
 }
 
-/// Prints what a run told.
-pub(crate) fn print_told<R: Print>(rt: &R, told: &Told) -> Result<()> {
-    println!(rt; "status {}", told.status)?;
-    print_lines(rt, "", &told.out)?;
-    print_lines(rt, "", &told.log)?;
-    print_lines(rt, "", &told.err)
+/// Prints what a run wrote, and its status.
+pub(crate) fn print_output<R: Print>(rt: &R, output: &RunOutput) -> Result<()> {
+    println!(rt; "status {}", output.status)?;
+    print_lines(rt, "", &output.out)?;
+    print_lines(rt, "", &output.log)?;
+    print_lines(rt, "", &output.err)
 }
 
-/// Prints each line of a text behind this word.
+/// Prints each line of a text after this word.
 pub(crate) fn print_lines<R: Print>(rt: &R, word: &str, text: &[u8]) -> Result<()> {
     let Ok(text) = std::str::from_utf8(text) else {
         return Err(anyhow!("no text"));

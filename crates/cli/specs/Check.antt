@@ -1,4 +1,4 @@
--- What is told of settings (docs/MANUAL.md).
+-- The report of settings (docs/MANUAL.md).
 use Rattle.std.specs.Prelude.{ℕ, Bool, true, false, List, [], ◌∷◌, ◌++◌, Option, None, Some, length, codes, decimal}
 use Rattle.std.specs.Prelude.{flat_map}
 use Rattle.feed_conf.specs.Advice.{advice}
@@ -21,12 +21,12 @@ report_text report =
 abbrev pub count_text : ℕ → List ℕ
 count_text count = codes "peers " ++ decimal count ++ 10 ∷ []
 
--- What is said of settings on standard error: with -v, what their reports mean for the feed.
+-- The advice on settings on standard error: with -v, what their reports mean for the feed.
 abbrev pub advice_line : (verbose : Bool) → (path : List ℕ) → Outcome → Option (List ℕ)
 advice_line true path outcome = Some (advice path outcome)
 advice_line false path outcome = None
 
--- What is said beside a fault of the configuration with this text: with -v, what it means.
+-- The explanation of a fault of the configuration with this text, with -v.
 abbrev pub more_text : (verbose : Bool) → (path text : List ℕ) → ConfFault → List ℕ
 more_text true path text fault = explanation path text fault
 more_text false path text fault = []

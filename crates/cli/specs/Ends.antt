@@ -23,13 +23,13 @@ use Rattle.cli.specs.declared.exit.Exit.{Exit}
 use Rattle.cli.specs.declared.exit.Exit.TheVariants.{Done, Refused, Usage, Unreadable, NoMemory}
 use Rattle.cli.specs.declared.feeds.FeedEnd.{FeedEnd}
 use Rattle.cli.specs.declared.order.Order.{Order}
-use Rattle.cli.specs.declared.order.Order.TheVariants.{DrillFromInput, Drill, Check, Owed, Feed, Tell, Mistake}
+use Rattle.cli.specs.declared.order.Order.TheVariants.{DrillFromInput, Drill, Check, Owed, Feed, Print, Mistake}
 
 -- what a configuration's text means: its settings, or its first fault
 abbrev pub Means : List ℕ → Result Outcome ConfFault → Type 0
 Means text meant = (lines : List (List Lexeme)) → HaveLexemes (lines_of text) lines → meaning lines ≡ meant
 
--- memory was refused, of which nothing is said
+-- memory was refused, and nothing is printed
 abbrev pub LacksMemory : Exit → Option (List ℕ) → Type 0
 LacksMemory exit line = (exit ≡ NoMemory) × (line ≡ None)
 
@@ -45,7 +45,7 @@ LosesInput exit line = (exit ≡ Unreadable) × ((reason : List ℕ) × (line �
 abbrev pub MissesFile : (Option (List ℕ) → Type 0) → List ℕ → Exit → Option (List ℕ) → Type 0
 MissesFile says path exit line = says None × (exit ≡ Unreadable) × (line ≡ Some (unread_text path))
 
--- a text was printed, and this said on standard error; or it could not be printed
+-- a text was printed, and this on standard error; or it could not be printed
 abbrev pub PrintsBeside : (said : Option (List ℕ)) → List ℕ →
     Option (List ℕ) → Option (List ℕ) → Exit → Option (List ℕ) → Type 0
 PrintsBeside said text old new exit line =
@@ -57,14 +57,15 @@ PrintsBeside said text old new exit line =
 abbrev pub Prints : List ℕ → Option (List ℕ) → Option (List ℕ) → Exit → Option (List ℕ) → Type 0
 Prints = PrintsBeside None
 
--- the line that tells of a drill's ending, of a script from here: which line or which peer's tape was refused, and why
+-- the line that reports the ending of a drill, whose script has this source: which line or which peer's tape was
+-- refused, and why
 abbrev pub line_of_ending : List ℕ → Ending → Option (List ℕ)
 line_of_ending source AllTaken = None
 line_of_ending source (LineRefused refusal) = Some (refusal_text source refusal)
 line_of_ending source (TapeRefused refusal) = Some (no_tape_text refusal)
 line_of_ending source WantsMemory = None
 
--- The script was run: standard output gets what that prints, and the status and the line tell its ending; or standard
+-- The script was run: standard output gets what that prints, and the status and the line report its ending; or standard
 -- output could not be written.
 abbrev pub Runs : (text source : List ℕ) → Option (List ℕ) → Option (List ℕ) → Exit → Option (List ℕ) → Type 0
 Runs text source old new exit line =
@@ -73,15 +74,14 @@ Runs text source old new exit line =
     ⊎ LosesOutput exit line
     ⊎ LacksMemory exit line
 
--- A configuration has settings, of which standard output gets what is told of them; with -v it is said on standard
--- error what that means.
+-- A configuration has settings, and standard output gets their report; with -v standard error gets what that means.
 abbrev pub Passes : (verbose : Bool) → (path text : List ℕ) →
     Option (List ℕ) → Option (List ℕ) → Exit → Option (List ℕ) → Type 0
 Passes verbose path text old new exit line =
     (outcome : Outcome) × Means text (Ok outcome)
     × PrintsBeside (advice_line verbose path outcome) (check_text outcome) old new exit line
 
--- A configuration has a fault, which is the line on standard error; with -v it is said there what that means.
+-- A configuration has a fault, which is the line on standard error; with -v it is explained there.
 abbrev pub Refuses : (verbose : Bool) → (path text : List ℕ) → Exit → Option (List ℕ) → Type 0
 Refuses verbose path text exit line =
     (fault : ConfFault) × Means text (Err fault) × (exit ≡ Refused)
@@ -96,12 +96,12 @@ Checks says path verbose old new exit line =
     ⊎ (MissesFile says path exit line × Keeps old new)
     ⊎ LacksMemory exit line
 
--- what feeds was asked, did this by these settings, and ended so: the status and the lines tell that end
+-- what feeds was asked, did this by these settings, and ended so: the status and the lines report that end
 abbrev pub EndsFeed : (Outcome → FeedEnd → Type 0) → Outcome → Exit → Option (List ℕ) → Type 0
 EndsFeed did outcome exit line =
     (end : FeedEnd) × did outcome end × (exit ≡ exit_of_end end) × (line ≡ Some (end_text end))
 
--- Something that what feeds does with the settings in a file, which is asked for nothing where there are none.
+-- Something that what feeds does with the settings in a file; it is asked for nothing if there are none.
 abbrev pub Works : (Option (List ℕ) → Type 0) → (did : Outcome → FeedEnd → Type 0) → (unasked : Type 0) → List ℕ →
     (verbose : Bool) → Option (List ℕ) → Option (List ℕ) → Exit → Option (List ℕ) → Type 0
 Works says did unasked path verbose old new exit line =
@@ -111,7 +111,7 @@ Works says did unasked path verbose old new exit line =
     ⊎ (MissesFile says path exit line × Keeps old new × unasked)
     ⊎ (LacksMemory exit line × Keeps old new × unasked)
 
--- A drill from standard input, which holds this where that is known.
+-- A drill from standard input, which holds this, if that is known.
 abbrev pub DrillsInput : Option (List ℕ) →
     Option (List ℕ) → Option (List ℕ) → Exit → Option (List ℕ) → Type 0
 DrillsInput holds old new exit line =
@@ -126,8 +126,8 @@ DrillsFile says path old new exit line =
     ⊎ (MissesFile says path exit line × Keeps old new)
     ⊎ LacksMemory exit line
 
--- What an order comes to, where this is said of the files, and known of what feeds; where standard input holds this,
--- and standard output had and has these octets.
+-- What an order comes to, if this is said of the files and known of what feeds, if standard input holds this, and if
+-- standard output had and has these octets.
 abbrev pub Does : (List ℕ → Option (List ℕ) → Type 0) → Feeding →
     Option (List ℕ) → Option (List ℕ) → Option (List ℕ) → Order → Exit → Option (List ℕ) → Type 0
 Does says feeds holds old new DrillFromInput exit line = DrillsInput holds old new exit line
@@ -140,12 +140,12 @@ Does says feeds holds old new (Owed path verbose) exit line =
 Does says feeds holds old new (Feed path source verbose) exit line =
     Works (says path.now) (λ conf end. feeds.fed conf (source_view source) verbose end) feeds.unasked
     path.now verbose old new exit line
-Does says feeds holds old new (Tell text) exit line = Prints (string_bytes text) old new exit line
+Does says feeds holds old new (Print text) exit line = Prints (string_bytes text) old new exit line
 Does says feeds holds old new (Mistake what) exit line =
     (exit ≡ Usage) × (line ≡ Some (mistake_text (string_bytes what))) × Keeps old new
 
 -- What a line, a feed's lines or none makes of standard error, which had and has these octets; of one that could not be
 -- written nothing is known.
-abbrev pub Tells : Option (List ℕ) → Option (List ℕ) → Result Unit Error → Option (List ℕ) → Type 0
-Tells old new told None = Keeps old new
-Tells old new told (Some line) = OnOk told (Appends old new line)
+abbrev pub Reports : Option (List ℕ) → Option (List ℕ) → Result Unit Error → Option (List ℕ) → Type 0
+Reports old new reported None = Keeps old new
+Reports old new reported (Some line) = OnOk reported (Appends old new line)

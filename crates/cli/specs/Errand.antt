@@ -10,8 +10,8 @@ use Rattle.cli.specs.declared.runner.Errand.TheVariants.{List as ListOwed, Feed}
 abbrev pub DoesErrand : {P : Type 0}
     → (fed : P → Option (List ℕ) → Outcome → Source → Bool → FeedEnd → P → Option (List ℕ) → Type 0)
     → (listed : P → Option (List ℕ) → Outcome → Bool → FeedEnd → P → Option (List ℕ) → Type 0)
-    → (before behind : P) → (old new : Option (List ℕ)) → Errand → Outcome → FeedEnd → Type 0
-DoesErrand fed listed before behind old new (ListOwed verbose) conf end =
-    (feeding_of fed listed before behind old new).listed conf verbose end
-DoesErrand fed listed before behind old new (Feed source verbose) conf end =
-    (feeding_of fed listed before behind old new).fed conf (source_view source) verbose end
+    → (before after : P) → (old new : Option (List ℕ)) → Errand → Outcome → FeedEnd → Type 0
+DoesErrand fed listed before after old new (ListOwed verbose) conf end =
+    (feeding_of fed listed before after old new).listed conf verbose end
+DoesErrand fed listed before after old new (Feed source verbose) conf end =
+    (feeding_of fed listed before after old new).fed conf (source_view source) verbose end

@@ -14,7 +14,7 @@ status_of Tape = 3
 status_of Unreadable = 4
 status_of NoMemory = 5
 
--- how the program ends behind a drill
+-- how the program ends after a drill
 abbrev pub exit_of : Ending → Exit
 exit_of DrillDone = Done
 exit_of (DrillRefused refusal) = Refused

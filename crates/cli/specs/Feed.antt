@@ -1,19 +1,19 @@
--- The status that tells how a feed ended (docs/MANUAL.md).
+-- The status of how a feed ended (docs/MANUAL.md).
 use Rattle.std.specs.Prelude.{Bool, true, false, List, [], ◌∷◌}
 use Rattle.cli.specs.declared.exit.Exit.{Exit}
 use Rattle.cli.specs.declared.exit.Exit.TheVariants.{Done, Tape, Unreadable, NoMemory}
 use Rattle.cli.specs.declared.feeds.FeedEnd.{FeedEnd}
-use Rattle.cli.specs.declared.feeds.FileTrouble.{FileTrouble}
-use Rattle.cli.specs.declared.feeds.TapeTrouble.{TapeTrouble}
+use Rattle.cli.specs.declared.feeds.FileError.{FileError}
+use Rattle.cli.specs.declared.feeds.TapeError.{TapeError}
 
--- by what is wrong with tapes, whether memory, a thread or what sockets want was refused, and what is wrong with other
+-- by the errors of tapes, whether memory, a thread or a system resource for sockets was refused, and the errors of other
 -- files
-abbrev pub worst : List TapeTrouble → Bool → List FileTrouble → Exit
-worst (trouble ∷ more) lacks files = Tape
+abbrev pub worst : List TapeError → Bool → List FileError → Exit
+worst (error ∷ more) lacks_resources files = Tape
 worst [] true files = NoMemory
-worst [] false (trouble ∷ more) = Unreadable
+worst [] false (error ∷ more) = Unreadable
 worst [] false [] = Done
 
--- what is wrong with tapes goes first, then memory, a thread or what sockets want, then other files
+-- errors of tapes go first, then refused resources, then errors of other files
 abbrev pub exit_of_end : FeedEnd → Exit
-exit_of_end end = worst end.tapes.items end.lacks end.files.items
+exit_of_end end = worst end.tapes.items end.lacks_resources end.files.items

@@ -5,7 +5,7 @@ use Rattle.cli.specs.declared.feeds.FeedEnd.{FeedEnd}
 use Rattle.cli.specs.declared.order.Order.{Order}
 use Rattle.cli.specs.declared.order.Source.{Source as HeldSource}
 use Rattle.cli.specs.declared.order.Source.TheVariants as held
-use Rattle.cli.specs.declared.order.Order.TheVariants.{DrillFromInput, Drill, Check, Owed, Feed, Tell, Mistake}
+use Rattle.cli.specs.declared.order.Order.TheVariants.{DrillFromInput, Drill, Check, Owed, Feed, Print, Mistake}
 
 -- where the lines of a feed come from
 pub data Source : Type 0 where
@@ -26,15 +26,15 @@ pub record Feeding : Type 1 where
   pub listed : Outcome → Bool → FeedEnd → Type 0
   pub unasked : Type 0
 
--- of what feeds, before and behind the order, and with what standard output had and has
+-- of what feeds, before and after the order, and with what standard output had and has
 abbrev pub feeding_of : {P : Type 0}
     → (fed : P → Option (List ℕ) → Outcome → Source → Bool → FeedEnd → P → Option (List ℕ) → Type 0)
     → (listed : P → Option (List ℕ) → Outcome → Bool → FeedEnd → P → Option (List ℕ) → Type 0)
-    → (before behind : P) → (old new : Option (List ℕ)) → Feeding
-feeding_of fed listed before behind old new = record {
-  fed = λ conf source verbose end. fed before old conf source verbose end behind new;
-  listed = λ conf verbose end. listed before old conf verbose end behind new;
-  unasked = behind ≡ before;
+    → (before after : P) → (old new : Option (List ℕ)) → Feeding
+feeding_of fed listed before after old new = record {
+  fed = λ conf source verbose end. fed before old conf source verbose end after new;
+  listed = λ conf verbose end. listed before old conf verbose end after new;
+  unasked = after ≡ before;
 }
 
 -- whether an order asks what feeds peers
@@ -44,5 +44,5 @@ asks_feeds (Drill path) = false
 asks_feeds (Check path verbose) = false
 asks_feeds (Owed path verbose) = true
 asks_feeds (Feed path source verbose) = true
-asks_feeds (Tell text) = false
+asks_feeds (Print text) = false
 asks_feeds (Mistake what) = false

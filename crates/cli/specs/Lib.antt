@@ -2,7 +2,7 @@ pub mod Check
 pub mod Ends
 pub mod Errand
 pub mod Exit
-pub mod Fault
+pub mod OrderFault
 pub mod Feed
 pub mod Feeding
 pub mod FeedLines

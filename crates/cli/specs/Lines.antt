@@ -32,7 +32,7 @@ input_text reason = codes "innfeed: cannot read standard input: " ++ reason ++ 1
 abbrev pub output_text : List ℕ → List ℕ
 output_text reason = codes "innfeed: cannot write standard output: " ++ reason ++ 10 ∷ []
 
--- what is wrong with the words of the command line, and what they are to be
+-- a mistake in the arguments, and the usage
 abbrev pub mistake_text : List ℕ → List ℕ
 mistake_text what =
     codes "innfeed: " ++ what

@@ -1,5 +1,4 @@
-// What is told of a configuration: what is ignored or limited in it, and how many peers it has
-// (docs/MANUAL.md).
+// The report of a configuration: what is ignored or limited in it, and how many peers it has (docs/MANUAL.md).
 ghost use Rattle.std.specs.Prelude.{◌≡◌, ◌≢◌, ◌++◌, ◌⊎◌, List, Ok, Err, IfOk, OnOk, MatchResult};
 ghost use Rattle.std.specs.Prelude.{option_map};
 ghost use Rattle.feed_conf.specs.ConfView.{conf_view};
@@ -7,22 +6,22 @@ ghost use Rattle.feed_conf.specs.ReaderView.{report_view};
 ghost use Rattle.feed_conf.specs.Settings.{Outcome};
 ghost use Rattle.cli.specs.Check.{advice_line, check_text, count_text, more_text, report_text};
 ghost use Rattle.cli.specs.Ends.{LacksMemory, Means, Refuses};
-ghost use Rattle.cli.specs.Fault.{ComesBy};
+ghost use Rattle.cli.specs.OrderFault.{ComesBy};
 
-use crate::fault::Fault;
+use crate::fault::OrderFault;
 use feed_conf::{Conf, ConfFault, ConfFaultKind, Ignored, advise, explain, read_conf};
 use std::alloc::{AllocError, Global};
 
-/// What is told of a configuration without a fault.
+/// The report of a configuration without a fault.
 #[derive(Drop)]
 pub struct Checked {
     /// On standard output: a line for each setting that is ignored or limited, and then how many peers there are.
     pub report: Vec<u8>,
-    /// On standard error: what that means for the feed, if this is asked for.
+    /// On standard error: what that means for the feed, if `verbose`.
     pub advice: Option<Vec<u8>>,
 }
 
-/// What is told of the configuration in this text, of the file at this path.
+/// Checks the configuration in this text, which is that of the file at `path`.
 ///
 /// # Errors
 /// The configuration's fault; `NoMemory`.
@@ -31,11 +30,11 @@ pub fn check<'a>(
     path: &str,
     text: &[u8],
     verbose: bool,
-) -> Result<Checked, Fault<'a>>
+) -> Result<Checked, OrderFault<'a>>
     ensures { MatchResult result
-        (λ told. (outcome : Outcome) × Means text.now (Ok outcome)
-        × (told.report.items ≡ check_text outcome)
-        × (option_map (λ lines. lines.items) told.advice ≡ advice_line verbose path.now outcome))
+        (λ checked. (outcome : Outcome) × Means text.now (Ok outcome)
+        × (checked.report.items ≡ check_text outcome)
+        × (option_map (λ lines. lines.items) checked.advice ≡ advice_line verbose path.now outcome))
         (ComesBy (λ exit line. Refuses verbose path.now text.now exit line
         ⊎ LacksMemory exit line)) }
 {
@@ -48,7 +47,7 @@ pub fn check<'a>(
     }
 }
 
-/// The settings that this text has, of the file at this path.
+/// The settings in this text, which is that of the file at `path`.
 ///
 /// # Errors
 /// The configuration's fault, with an explanation if `verbose`; `NoMemory`.
@@ -57,7 +56,7 @@ pub fn settings_of<'a>(
     path: &str,
     text: &[u8],
     verbose: bool,
-) -> Result<Conf, Fault<'a>>
+) -> Result<Conf, OrderFault<'a>>
     ensures { MatchResult result
         (λ conf. Means text.now (Ok (conf_view conf)))
         (ComesBy (λ exit line. Refuses verbose path.now text.now exit line
@@ -65,15 +64,15 @@ pub fn settings_of<'a>(
 {
     match read_conf(alloc, text) {
         Ok(conf) => Ok(conf),
-        Err(fault) if fault.kind == ConfFaultKind::NoMemory => Err(Fault::NoMemory),
-        Err(fault) => Err(Fault::Config {
+        Err(fault) if fault.kind == ConfFaultKind::NoMemory => Err(OrderFault::NoMemory),
+        Err(fault) => Err(OrderFault::Config {
             fault,
             more: more(alloc, path, text, fault, verbose)?,
         }),
     }
 }
 
-// What is said of a fault beside its line.
+// The explanation of a fault.
 fn more(
     alloc: Global,
     path: &str,
@@ -90,7 +89,6 @@ fn more(
     }
 }
 
-// What is said of settings on standard error.
 fn advice(
     alloc: Global,
     path: &str,
@@ -107,17 +105,16 @@ fn advice(
     }
 }
 
-// What is told of settings on standard output.
 fn report(alloc: Global, conf: &Conf) -> Result<Vec<u8>, AllocError>
-    ensures { IfOk result (λ told. told.items ≡ check_text (conf_view conf.now)) }
+    ensures { IfOk result (λ text. text.items ≡ check_text (conf_view conf.now)) }
 {
-    let mut told = Vec::new(alloc);
+    let mut text = Vec::new(alloc);
     let reports = conf.ignored();
     for report in reports {
-        add_report(&mut told, report)?;
+        add_report(&mut text, report)?;
     }
-    add_count(&mut told, conf.peers().len())?;
-    Ok(told)
+    add_count(&mut text, conf.peers().len())?;
+    Ok(text)
 }
 
 // `line N: KEY ignored` or `line N: KEY limited`.

@@ -8,15 +8,15 @@ use drill::Ending;
 pub enum Exit {
     /// All is done: status 0.
     Done,
-    /// The configuration has a fault, the script breaks its rules, or a step of it was refused: status 1.
+    /// The configuration has a fault, the script is malformed, or a step of it was refused: status 1.
     Refused,
-    /// The words of the command line are none that it knows: status 2.
+    /// The arguments are wrong: status 2.
     Usage,
     /// A tape cannot be opened, broke, is damaged or full: status 3.
     Tape,
-    /// A file or standard input could not be read, or another file or an output not be written: status 4.
+    /// A file or standard input could not be read, or a file or an output could not be written: status 4.
     Unreadable,
-    /// Memory, a thread or what sockets want was refused: status 5.
+    /// Memory, a thread or a system resource for sockets was refused: status 5.
     NoMemory,
 }
 

@@ -1,11 +1,11 @@
-// Why an order did not end well, or how a feed ended, and what says so on standard error (docs/MANUAL.md).
+// Why an order failed, or how a feed ended, and the lines on standard error that report it (docs/MANUAL.md).
 ghost use Rattle.std.specs.Prelude.{◌≡◌, ◌≢◌, ◌++◌, ◌∷◌, [], ℕ, List, IfOk, codes, option_map};
-ghost use Rattle.cli.specs.Fault.{exit_of_fault, IsFaultOf, IsLineOf};
+ghost use Rattle.cli.specs.OrderFault.{exit_of_fault, IsFaultOf, IsLineOf};
 ghost use Rattle.cli.specs.Lines.{config_text, mistake_text, no_tape_text, refusal_text};
 ghost use Rattle.cli.specs.Lines.{unread_text};
-ghost use Rattle.cli.specs.declared.fault.Fault.TheVariants.{NoMemory};
+ghost use Rattle.cli.specs.declared.fault.OrderFault.TheVariants.{NoMemory};
 
-use crate::ending::{add_tape_line, end_lines};
+use crate::end_lines::{add_tape_line, end_lines};
 use crate::exit::Exit;
 use crate::feeds::FeedEnd;
 use drill::{Refusal, TapeRefusal};
@@ -13,21 +13,21 @@ use feed_conf::ConfFault;
 use std::alloc::{AllocError, Global};
 use std::io::{self, ErrorKind};
 
-// What stands behind what is wrong with the words.
+// What follows a mistake in the arguments.
 const USAGE: &[u8] =
     b"; usage: innfeed -c FILE [-C] [-x] [-v] [--owed] [--follow] [--tidy] [FUNNEL] | innfeed --drill FILE \
     | innfeed < SCRIPT\n";
 
-/// Why an order did not end well, or how a feed ended.
+/// Why an order failed, or how a feed ended.
 #[derive(Drop)]
-pub enum Fault<'a> {
-    /// Memory was refused, of which nothing is said.
+pub enum OrderFault<'a> {
+    /// Memory was refused. Nothing is printed.
     NoMemory,
-    /// The configuration has this fault, of which this is said too.
+    /// The configuration has this fault, and `more` explains it.
     Config { fault: ConfFault, more: Vec<u8> },
-    /// A configuration has none, and this is said of its settings.
+    /// A configuration has no fault, and this is the advice on its settings.
     Checked(Vec<u8>),
-    /// A line of the script from here was refused.
+    /// A line of the script from this source was refused.
     Refused(&'a str, Refusal),
     /// The tape of a peer of a script was refused.
     NoTape(TapeRefusal),
@@ -37,67 +37,67 @@ pub enum Fault<'a> {
     Input(io::Error),
     /// Standard output cannot be written.
     Output(io::Error),
-    /// This is wrong with the words of the command line.
+    /// This is wrong with the arguments.
     Mistake(String),
-    /// A feed ended so, or a list of what is owed.
+    /// A feed, or a list of what is owed, ended like this.
     Fed(FeedEnd),
 }
 
-impl From<AllocError> for Fault<'_> {
+impl From<AllocError> for OrderFault<'_> {
     ghost from_gives = { λ _ fault. fault ≡ NoMemory };
 
     fn from(_: AllocError) -> Self {
-        Fault::NoMemory
+        OrderFault::NoMemory
     }
 }
 
-impl<'a> Fault<'a> {
-    /// Why the file at this path was not read.
+impl<'a> OrderFault<'a> {
+    /// The file at this path could not be read.
     pub fn of_file(path: &'a str, error: io::Error) -> Self
-        ensures { IsFaultOf error (Fault.Unread path.entry) result }
+        ensures { IsFaultOf error (OrderFault.Unread path.entry) result }
     {
         match error.kind() {
-            ErrorKind::OutOfMemory => Fault::NoMemory,
-            _ => Fault::Unread(path),
+            ErrorKind::OutOfMemory => OrderFault::NoMemory,
+            _ => OrderFault::Unread(path),
         }
     }
 
-    /// Why standard input was not read.
+    /// Standard input could not be read.
     pub fn of_input(error: io::Error) -> Self
-        ensures { IsFaultOf error (Fault.Input error) result }
+        ensures { IsFaultOf error (OrderFault.Input error) result }
     {
         match error.kind() {
-            ErrorKind::OutOfMemory => Fault::NoMemory,
-            _ => Fault::Input(error),
+            ErrorKind::OutOfMemory => OrderFault::NoMemory,
+            _ => OrderFault::Input(error),
         }
     }
 
-    /// Why standard output was not written.
+    /// Standard output could not be written.
     pub fn of_output(error: io::Error) -> Self
-        ensures { IsFaultOf error (Fault.Output error) result }
+        ensures { IsFaultOf error (OrderFault.Output error) result }
     {
         match error.kind() {
-            ErrorKind::OutOfMemory => Fault::NoMemory,
-            _ => Fault::Output(error),
+            ErrorKind::OutOfMemory => OrderFault::NoMemory,
+            _ => OrderFault::Output(error),
         }
     }
 
-    /// The status that tells of it.
     pub fn exit(&self) -> Exit
         ensures { result ≡ exit_of_fault self.now }
     {
         match self {
-            Fault::NoMemory => Exit::NoMemory,
-            Fault::Config { .. } | Fault::Refused(_, _) => Exit::Refused,
-            Fault::Checked(_) => Exit::Done,
-            Fault::NoTape(_) => Exit::Tape,
-            Fault::Unread(_) | Fault::Input(_) | Fault::Output(_) => Exit::Unreadable,
-            Fault::Mistake(_) => Exit::Usage,
-            Fault::Fed(end) => end.exit(),
+            OrderFault::NoMemory => Exit::NoMemory,
+            OrderFault::Config { .. } | OrderFault::Refused(_, _) => Exit::Refused,
+            OrderFault::Checked(_) => Exit::Done,
+            OrderFault::NoTape(_) => Exit::Tape,
+            OrderFault::Unread(_) | OrderFault::Input(_) | OrderFault::Output(_) =>
+                Exit::Unreadable,
+            OrderFault::Mistake(_) => Exit::Usage,
+            OrderFault::Fed(end) => end.exit(),
         }
     }
 
-    /// The line that tells of it, with its end, or all lines of a feed; want of memory has none.
+    /// The line that reports it, with its LF, or all lines of a feed. None if memory was refused.
     ///
     /// # Errors
     /// Memory was refused.
@@ -106,25 +106,27 @@ impl<'a> Fault<'a> {
             (λ line. IsLineOf self.now (option_map (λ octets. octets.items) line)) }
     {
         match self {
-            Fault::NoMemory => Ok(None),
-            Fault::Config { fault, more } => Ok(Some(config_lines(alloc, fault, more)?)),
-            Fault::Checked(lines) => Ok(Some(Vec::from_slice(alloc, lines)?)),
-            Fault::Refused(source, refusal) => Ok(Some(refusal_line(alloc, source, *refusal)?)),
-            Fault::NoTape(refusal) => Ok(Some(no_tape_line(alloc, refusal)?)),
-            Fault::Unread(path) => Ok(Some(unread_line(alloc, path)?)),
-            Fault::Input(error) => {
+            OrderFault::NoMemory => Ok(None),
+            OrderFault::Config { fault, more } => Ok(Some(config_lines(alloc, fault, more)?)),
+            OrderFault::Checked(lines) => Ok(Some(Vec::from_slice(alloc, lines)?)),
+            OrderFault::Refused(source, refusal) => Ok(Some(refusal_line(
+                alloc, source, *refusal,
+            )?)),
+            OrderFault::NoTape(refusal) => Ok(Some(no_tape_line(alloc, refusal)?)),
+            OrderFault::Unread(path) => Ok(Some(unread_line(alloc, path)?)),
+            OrderFault::Input(error) => {
                 Ok(Some(stream_line(alloc, b"cannot read standard input", error)?))
             }
-            Fault::Output(error) => {
+            OrderFault::Output(error) => {
                 Ok(Some(stream_line(alloc, b"cannot write standard output", error)?))
             }
-            Fault::Mistake(what) => Ok(Some(mistake_line(alloc, what.as_str())?)),
-            Fault::Fed(end) => Ok(Some(end_lines(alloc, end)?)),
+            OrderFault::Mistake(what) => Ok(Some(mistake_line(alloc, what.as_str())?)),
+            OrderFault::Fed(end) => Ok(Some(end_lines(alloc, end)?)),
         }
     }
 }
 
-// `config line N: KIND`, and what is said of it too.
+// `config line N: KIND`, and the explanation.
 fn config_lines(alloc: Global, fault: &ConfFault, more: &[u8]) -> Result<Vec<u8>, AllocError>
     ensures { IfOk result (λ lines. lines.items ≡ config_text fault.now ++ more.now) }
 {

@@ -1,4 +1,4 @@
-// What feeds peers, and what it tells at its end.
+// What feeds peers, and how a feed ends.
 ghost use Rattle.std.specs.Prelude.{ℕ, List, Option, Bool};
 ghost use Rattle.feed_conf.specs.ConfView.{conf_view};
 ghost use Rattle.feed_conf.specs.Settings.{Outcome};
@@ -14,16 +14,16 @@ use std::io::Write;
 
 /// What is wrong with the tapes.
 #[derive(Drop)]
-pub enum TapeTrouble {
+pub enum TapeError {
     /// Another process works on the backlog directory of this path.
     Taken(String),
-    /// The tape of this name, a peer's or `~intake`, could not be opened, or failed under way.
+    /// The tape of this name, a peer's or `~intake`, could not be opened, or failed during the run.
     Failed { name: Vec<u8>, fault: TapeFault },
 }
 
 /// What is wrong with other files.
 #[derive(Drop)]
-pub enum FileTrouble {
+pub enum FileError {
     /// The file at this path cannot be read.
     Unread(Vec<u8>),
     /// The file at this path cannot be written.
@@ -47,11 +47,11 @@ pub struct Owing {
 #[derive(Drop)]
 pub struct FeedEnd {
     /// What went wrong with tapes, in the order of the tapes' names.
-    pub tapes: Vec<TapeTrouble>,
+    pub tapes: Vec<TapeError>,
     /// What went wrong with other files.
-    pub files: Vec<FileTrouble>,
-    /// Whether memory, a thread or what sockets want was refused, of which nothing is told.
-    pub lacks: bool,
+    pub files: Vec<FileError>,
+    /// Whether memory, a thread or a system resource for sockets was refused. Nothing is printed for it.
+    pub lacks_resources: bool,
     /// The peers that are still owed debts, by name.
     pub owing: Vec<Owing>,
 }
@@ -62,25 +62,24 @@ impl FeedEnd {
 
     /// A feed that ended well, with nothing owed.
     pub fn well(alloc: Global) -> Self
-        ensures { (result.tapes.items ≡ []) × (result.files.items ≡ []) × (result.lacks ≡ false)
-            × (result.owing.items ≡ []) }
+        ensures { (result.tapes.items ≡ []) × (result.files.items ≡ [])
+            × (result.lacks_resources ≡ false) × (result.owing.items ≡ []) }
     {
         FeedEnd {
             tapes: Vec::new(alloc),
             files: Vec::new(alloc),
-            lacks: false,
+            lacks_resources: false,
             owing: Vec::new(alloc),
         }
     }
 
-    /// The status that tells of it: what is wrong with tapes goes first, then memory, a thread or what sockets want
-    /// where that was refused, then other files.
+    /// Its status: errors of tapes go first, then refused resources, then errors of other files.
     pub fn exit(&self) -> Exit
         ensures { result ≡ exit_of_end self.now }
     {
         if !self.tapes.is_empty() {
             Exit::Tape
-        } else if self.lacks {
+        } else if self.lacks_resources {
             Exit::NoMemory
         } else if !self.files.is_empty() {
             Exit::Unreadable
@@ -92,19 +91,17 @@ impl FeedEnd {
 
 /// What feeds peers, and lists what they are owed.
 pub trait Feeds {
-    /// What a feed made of it, and of what was written, by these settings, from this source, logging or not, where it
-    /// ended so. Where no more is said of it than that it ended, as by the default, this
-    /// holds of all.
+    /// What a feed with these settings, from this source, logging or not, made of the value and of what was written, if
+    /// it ended like this. The default holds of everything: it says no more than that the feed ended.
     ghost fed: { Self → Option (List ℕ) → Outcome → Source → Bool → FeedEnd → Self
         → Option (List ℕ) → Type 0 } = { λ _ _ _ _ _ _ _ _. Unit {0} };
 
-    /// What a list of what is owed made of it, and of what was written, by these settings, logging or not, in the same
-    /// way.
+    /// The same for a list of what is owed.
     ghost listed: { Self → Option (List ℕ) → Outcome → Bool → FeedEnd → Self
         → Option (List ℕ) → Type 0 } = { λ _ _ _ _ _ _ _. Unit {0} };
 
-    /// Feeds the peers of these settings, which were read from the file at this path, from this source, and writes
-    /// `taken N` for each acknowledged batch of lines. If `verbose`, what becomes of connections is logged.
+    /// Feeds the peers of these settings, which were read from the file at `path`, from this source, and writes `taken
+    /// N` for each acknowledged batch of lines. If `verbose`, what becomes of connections is logged.
     fn feed<W: Write>(
         &mut self,
         alloc: Global,

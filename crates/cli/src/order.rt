@@ -3,12 +3,12 @@
 /// Where the lines of a feed come from.
 #[derive(Clone, Copy, Debug, PartialEq, Eq)]
 pub enum Source<'a> {
-    /// From nowhere: peers are fed from their backlogs alone.
+    /// From nowhere: peers are fed from their backlogs only.
     Backlogs,
     /// From the funnel at this path, a file or a directory of segments.
     Funnel {
         path: &'a str,
-        /// Whether what is added to it is read too, until the run is ended.
+        /// Whether what is added to it is read too, until the run is asked to end.
         is_followed: bool,
         /// Whether segments whose lines are all acknowledged are removed.
         is_tidied: bool,
@@ -41,7 +41,7 @@ pub enum Order<'a> {
         verbose: bool,
     },
     /// Print this text, the help or the version.
-    Tell(String),
-    /// Say what is wrong with the words, which is this, in one line without its end.
+    Print(String),
+    /// Report this mistake in the arguments, one line without its LF.
     Mistake(String),
 }

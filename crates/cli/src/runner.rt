@@ -2,14 +2,14 @@
 ghost use Rattle.std.specs.Prelude.{◌≡◌, ◌≢◌, List, ℕ, Option, OnOk, false, option_map};
 ghost use Rattle.std.specs.Io.KnownBytes.{Appends};
 ghost use Rattle.feed_conf.specs.ConfView.{conf_view};
-ghost use Rattle.cli.specs.Ends.{Checks, Does, DrillsFile, DrillsInput, Prints, PrintsBeside, Runs, Tells, Works};
+ghost use Rattle.cli.specs.Ends.{Checks, Does, DrillsFile, DrillsInput, Prints, PrintsBeside, Runs, Reports, Works};
 ghost use Rattle.cli.specs.Errand.{DoesErrand};
 ghost use Rattle.cli.specs.Feeding.{asks_feeds, feeding_of};
-ghost use Rattle.cli.specs.Fault.{Comes, IsLineOf};
+ghost use Rattle.cli.specs.OrderFault.{Comes, IsLineOf};
 
 use crate::check::{Checked, check, settings_of};
 use crate::exit::Exit;
-use crate::fault::Fault;
+use crate::fault::OrderFault;
 use crate::feeds::{FeedEnd, Feeds};
 use crate::files::ReadFile;
 use crate::order::{Order, Source};
@@ -23,12 +23,12 @@ use std::io::{self, Read, Write};
 pub struct Ended {
     /// The exit status.
     pub exit: Exit,
-    /// Whether its line on standard error was written; `Ok` where it had none.
-    pub told: io::Result<()>,
+    /// Whether its line on standard error was written; `Ok` if it had none.
+    pub reported: io::Result<()>,
 }
 
-/// Does what an order asks for, and writes one line on standard error where that does not end well, but none for want
-/// of memory. The status is the same whether that line could be written or not.
+/// Does what an order asks for. If that fails, writes one line on standard error, but none if memory was refused. The
+/// status is the same whether that line could be written or not.
 pub fn run<F: ReadFile, P: Feeds, S: Read, W: Write, E: Write>(
     alloc: Global,
     order: Order<'_>,
@@ -39,7 +39,7 @@ pub fn run<F: ReadFile, P: Feeds, S: Read, W: Write, E: Write>(
     err: &mut E,
 ) -> Ended
     ensures does { (line : Option (List ℕ))
-        × Tells (E.contents err.old) (E.contents err.new) result.told line
+        × Reports (E.contents err.old) (E.contents err.new) result.reported line
         × Does (F.says files.now)
         (feeding_of P.fed P.listed feeds.old feeds.new (W.contents out.old) (W.contents out.new))
         (S.remaining input.old) (W.contents out.old) (W.contents out.new)
@@ -48,18 +48,21 @@ pub fn run<F: ReadFile, P: Feeds, S: Read, W: Write, E: Write>(
     ensures unasked { asks_feeds order.entry ≡ false → feeds.new ≡ feeds.old }
 {
     match perform(alloc, order, files, feeds, input, out) {
-        Ok(exit) => Ended { exit, told: Ok(()) },
+        Ok(exit) => Ended {
+            exit,
+            reported: Ok(()),
+        },
         Err(fault) => Ended {
             exit: fault.exit(),
-            told: tell(alloc, &fault, err),
+            reported: report_fault(alloc, &fault, err),
         },
     }
 }
 
-// Writes the line that tells of a fault.
-fn tell<E: Write>(alloc: Global, fault: &Fault<'_>, err: &mut E) -> io::Result<()>
+// Writes the line that reports a fault.
+fn report_fault<E: Write>(alloc: Global, fault: &OrderFault<'_>, err: &mut E) -> io::Result<()>
     ensures { (line : Option (List ℕ)) × IsLineOf fault.now line
-        × Tells (E.contents err.old) (E.contents err.new) result line }
+        × Reports (E.contents err.old) (E.contents err.new) result line }
 {
     match fault.line(alloc) {
         Ok(None) => Ok(()),
@@ -68,7 +71,7 @@ fn tell<E: Write>(alloc: Global, fault: &Fault<'_>, err: &mut E) -> io::Result<(
     }
 }
 
-// Writes all of a text, and keeps none of it back.
+// Writes all of a text, and flushes it.
 fn write_whole<W: Write>(writer: &mut W, text: &[u8]) -> io::Result<()>
     ensures { OnOk result (Appends (W.contents writer.old) (W.contents writer.new) text.now) }
 {
@@ -76,7 +79,6 @@ fn write_whole<W: Write>(writer: &mut W, text: &[u8]) -> io::Result<()>
     writer.flush()
 }
 
-// Does what an order asks for.
 fn perform<'a, F: ReadFile, P: Feeds, S: Read, W: Write>(
     alloc: Global,
     order: Order<'a>,
@@ -84,7 +86,7 @@ fn perform<'a, F: ReadFile, P: Feeds, S: Read, W: Write>(
     feeds: &mut P,
     input: &mut S,
     out: &mut W,
-) -> Result<Exit, Fault<'a>>
+) -> Result<Exit, OrderFault<'a>>
     ensures does { Comes (Does (F.says files.now)
         (feeding_of P.fed P.listed feeds.old feeds.new (W.contents out.old) (W.contents out.new))
         (S.remaining input.old) (W.contents out.old) (W.contents out.new) order.entry)
@@ -108,8 +110,8 @@ fn perform<'a, F: ReadFile, P: Feeds, S: Read, W: Write>(
             let errand = Errand::Feed { source, verbose };
             serve(alloc, files, feeds, conf, verbose, errand, out)
         }
-        Order::Tell(text) => print(out, text.as_bytes()),
-        Order::Mistake(what) => Err(Fault::Mistake(what)),
+        Order::Print(text) => print(out, text.as_bytes()),
+        Order::Mistake(what) => Err(OrderFault::Mistake(what)),
     }
 }
 
@@ -117,7 +119,7 @@ fn drill_input<'a, S: Read, W: Write>(
     alloc: Global,
     input: &mut S,
     out: &mut W,
-) -> Result<Exit, Fault<'a>>
+) -> Result<Exit, OrderFault<'a>>
     ensures { Comes
         (DrillsInput (S.remaining input.old) (W.contents out.old) (W.contents out.new))
         result }
@@ -125,7 +127,7 @@ fn drill_input<'a, S: Read, W: Write>(
     let mut script = Vec::new(alloc);
     match input.read_to_end(&mut script) {
         Ok(_) => drill(alloc, &script, "standard input", out),
-        Err(error) => Err(Fault::of_input(error)),
+        Err(error) => Err(OrderFault::of_input(error)),
     }
 }
 
@@ -134,34 +136,34 @@ fn drill_file<'a, F: ReadFile, W: Write>(
     files: &F,
     path: &'a str,
     out: &mut W,
-) -> Result<Exit, Fault<'a>>
+) -> Result<Exit, OrderFault<'a>>
     ensures { Comes
         (DrillsFile (F.says files.now path.now) path.now (W.contents out.old) (W.contents out.new))
         result }
 {
     match files.read_file(alloc, path) {
         Ok(script) => drill(alloc, &script, path, out),
-        Err(error) => Err(Fault::of_file(path, error)),
+        Err(error) => Err(OrderFault::of_file(path, error)),
     }
 }
 
-// Runs a drill script, which is told as from this source.
+// Runs a drill script, which messages name by its source.
 fn drill<'a, W: Write>(
     alloc: Global,
     script: &[u8],
     source: &'a str,
     out: &mut W,
-) -> Result<Exit, Fault<'a>>
+) -> Result<Exit, OrderFault<'a>>
     ensures { Comes
         (Runs script.now source.now (W.contents out.old) (W.contents out.new))
         result }
 {
     let mut script = script;
     match run_script(alloc, &mut script, out) {
-        Ok(Ending::Refused(refusal)) => Err(Fault::Refused(source, refusal)),
-        Ok(Ending::NoTape(refusal)) => Err(Fault::NoTape(refusal)),
+        Ok(Ending::Refused(refusal)) => Err(OrderFault::Refused(source, refusal)),
+        Ok(Ending::NoTape(refusal)) => Err(OrderFault::NoTape(refusal)),
         Ok(ending) => Ok(Exit::from(ending)),
-        Err(error) => Err(Fault::of_output(error)),
+        Err(error) => Err(OrderFault::of_output(error)),
     }
 }
 
@@ -171,7 +173,7 @@ fn check_file<'a, F: ReadFile, W: Write>(
     path: &'a str,
     verbose: bool,
     out: &mut W,
-) -> Result<Exit, Fault<'a>>
+) -> Result<Exit, OrderFault<'a>>
     ensures { Comes
         (Checks (F.says files.now path.now) path.now verbose (W.contents out.old)
         (W.contents out.new))
@@ -179,26 +181,26 @@ fn check_file<'a, F: ReadFile, W: Write>(
 {
     match files.read_file(alloc, path) {
         Ok(text) => print_checked(out, check(alloc, path, &text, verbose)?),
-        Err(error) => Err(Fault::of_file(path, error)),
+        Err(error) => Err(OrderFault::of_file(path, error)),
     }
 }
 
-// Prints what is told of a configuration on standard output, and hands on what is said on standard error.
-fn print_checked<'a, W: Write>(out: &mut W, checked: Checked) -> Result<Exit, Fault<'a>>
+// Prints the report of a configuration on standard output, and hands on the advice for standard error.
+fn print_checked<'a, W: Write>(out: &mut W, checked: Checked) -> Result<Exit, OrderFault<'a>>
     ensures { Comes (PrintsBeside (option_map (λ lines. lines.items) checked.advice)
         checked.report.items (W.contents out.old) (W.contents out.new)) result }
 {
     let Checked { report, advice } = checked;
     match write_whole(out, &report) {
         Ok(()) => match advice {
-            Some(lines) => Err(Fault::Checked(lines)),
+            Some(lines) => Err(OrderFault::Checked(lines)),
             None => Ok(Exit::Done),
         },
-        Err(error) => Err(Fault::of_output(error)),
+        Err(error) => Err(OrderFault::of_output(error)),
     }
 }
 
-// What is done with the settings in a file.
+// What is to be done with the settings in a file.
 #[derive(Clone, Copy)]
 enum Errand<'a> {
     // Lists what their peers are owed.
@@ -207,7 +209,6 @@ enum Errand<'a> {
     Feed { source: Source<'a>, verbose: bool },
 }
 
-// Runs an errand with the settings in a file.
 fn serve<'a, F: ReadFile, P: Feeds, W: Write>(
     alloc: Global,
     files: &F,
@@ -216,7 +217,7 @@ fn serve<'a, F: ReadFile, P: Feeds, W: Write>(
     verbose: bool,
     errand: Errand<'_>,
     out: &mut W,
-) -> Result<Exit, Fault<'a>>
+) -> Result<Exit, OrderFault<'a>>
     ensures { Comes
         (Works (F.says files.now path.now)
         (DoesErrand P.fed P.listed feeds.old feeds.new (W.contents out.old) (W.contents out.new)
@@ -226,14 +227,14 @@ fn serve<'a, F: ReadFile, P: Feeds, W: Write>(
 {
     match files.read_file(alloc, path) {
         Ok(text) => match settings_of(alloc, path, &text, verbose) {
-            Ok(conf) => Err(Fault::Fed(run_errand(alloc, feeds, conf, path, errand, out))),
+            Ok(conf) => Err(OrderFault::Fed(run_errand(alloc, feeds, conf, path, errand, out))),
             Err(fault) => Err(fault),
         },
-        Err(error) => Err(Fault::of_file(path, error)),
+        Err(error) => Err(OrderFault::of_file(path, error)),
     }
 }
 
-// Runs an errand with these settings, which were read from the file at this path.
+// Runs an errand with these settings, which were read from the file at `path`.
 fn run_errand<P: Feeds, W: Write>(
     alloc: Global,
     feeds: &mut P,
@@ -251,12 +252,11 @@ fn run_errand<P: Feeds, W: Write>(
     }
 }
 
-// Prints a text on standard output.
-fn print<'a, W: Write>(out: &mut W, text: &[u8]) -> Result<Exit, Fault<'a>>
+fn print<'a, W: Write>(out: &mut W, text: &[u8]) -> Result<Exit, OrderFault<'a>>
     ensures { Comes (Prints text.now (W.contents out.old) (W.contents out.new)) result }
 {
     match write_whole(out, text) {
         Ok(()) => Ok(Exit::Done),
-        Err(error) => Err(Fault::of_output(error)),
+        Err(error) => Err(OrderFault::of_output(error)),
     }
 }

@@ -1,10 +1,10 @@
-//! The words of innfeed's command line, and what they ask for.
+//! The arguments of innfeed's command line, and the order that they give.
 //!
-//! May touch nothing but the words that it is given; it stands on `clap`, which reads options, and on the orders of
-//! `cli`. The program above uses `read_words`. It stands apart from the program because `clap` is heavy to load:
-//! here it is proved once, and neither the program nor the tests of the words prove it again.
+//! May touch nothing but the arguments that it is given; it stands on `clap`, which reads options, and on the orders of
+//! `cli`. The program above uses `read_args`. It stands apart from the program because `clap` is heavy to load:
+//! here it is proved once, and neither the program nor the tests of the command line prove it again.
 #![tactic(auto)]
 
-mod words;
+mod args;
 
-pub use words::read_words;
+pub use args::read_args;

@@ -4,7 +4,7 @@ use Rattle.std.specs.Prelude.{flat_map, length, slice_get, take, IfSome}
 use Rattle.std.specs.Io.KnownBytes.{Appends, Keeps}
 use Rattle.std.specs.List.Sorted.{IsPermutation}
 use Rattle.drill_script.specs.Script.{BreaksAt, IsScript}
-use Rattle.drill_script.specs.declared.fault.Reason.{Reason}
+use Rattle.drill_script.specs.declared.fault.BrokenRule.{BrokenRule}
 use Rattle.drill_script.specs.declared.read.Script.{Script}
 use Rattle.world_core.specs.Given.{GivenPeer, IsGiven, RefusesFirst, given_names}
 use Rattle.world_core.specs.Past.{Life}
@@ -32,7 +32,7 @@ pub record IsBegun (peers : List GivenPeer) (life : Life) : Type 0 where
   pub rises : NamesRise (given_names ordered)
   pub fresh : IsGiven ordered life
 
--- All steps were taken: the lines of what each told are printed, each peer's counts, and how many steps there were.
+-- All steps were taken: the lines of what each output are printed, each peer's counts, and how many steps there were.
 pub record WasTaken (script : Script) (printed : List ℕ) : Type 0 where
   pub begun : Life
   pub begins : IsBegun script.peers.items begun
@@ -42,7 +42,8 @@ pub record WasTaken (script : Script) (printed : List ℕ) : Type 0 where
   pub prints : printed
       ≡ steps_text lines ++ (flat_map totals_text (counts_of later) ++ end_text (length script.steps.items))
 
--- The step that this line says was refused for this fault: the lines of what those before it told are printed, and it.
+-- The step that this line says was refused for this fault: the lines of what those before it output are printed, and
+-- the refusal.
 pub record WasRefused (script : Script) (printed : List ℕ) (line : ℕ) (fault : Fault) : Type 0 where
   pub begun : Life
   pub begins : IsBegun script.peers.items begun
@@ -59,7 +60,7 @@ pub record WasRefused (script : Script) (printed : List ℕ) (line : ℕ) (fault
   pub sound : IsSoundLife later
   pub prints : printed ≡ steps_text lines ++ refused_text (index + 1) fault
 
--- there was no memory for a step, for what all of them tell, or for the tapes, of which nothing is printed
+-- there was no memory for a step, for what all of them output, or for the tapes, for which nothing is printed
 abbrev pub LacksMemory : Script → List ℕ → Type 0
 LacksMemory script printed =
     ((line : ℕ) × WasRefused script printed line NoMemory) ⊎ ((printed ≡ refused_text 1 NoMemory) ⊎ (printed ≡ []))
@@ -80,10 +81,10 @@ IsPlayed script printed (Refused refusal) = EndsAt script printed refusal.line r
 IsPlayed script printed (NoTape refusal) = HasNoTape script printed refusal
 IsPlayed script printed NoMemoryLeft = LacksMemory script printed
 
--- The text is no script: the first line that breaks the rules of one is printed and told, and why it does.
+-- The text is no script: the first line that breaks the rules of one is printed and reported, and why it does.
 pub record IsNoScript (text printed : List ℕ) (ending : Ending) : Type 0 where
   pub line : ℕ
-  pub reason : Reason
+  pub reason : BrokenRule
   pub breaks : BreaksAt text line reason
   pub prints : printed ≡ broken_text line
   pub ends : ending ≡ Refused (record { line = line; why = ByScript reason })
@@ -93,7 +94,7 @@ abbrev pub IsDrill : (text printed : List ℕ) → Ending → Type 0
 IsDrill text printed ending =
     ((script : Script) × IsScript text script × IsPlayed script printed ending) ⊎ IsNoScript text printed ending
 
--- What a reader has left, where that is known, was played, and what that printed is all that the writer got; or there
+-- What a reader has left, if that is known, was played, and what that printed is all that the writer got; or there
 -- was no memory for the script or for what it prints, and the writer got nothing.
 abbrev pub Drills : (says old new : Option (List ℕ)) → Ending → Type 0
 Drills says old new ending =
@@ -106,7 +107,7 @@ abbrev pub ending_without : TapesFault → Ending
 ending_without (TapeOf peer fault) = NoTape (record { peer = peer; fault = fault })
 ending_without NoTapesMemory = NoMemoryLeft
 
--- the line of a step, from 1, among these; 0 where there is none
+-- the line of a step, from 1, among these; 0 if there is none
 abbrev pub line_of : List ℕ → ℕ → ℕ
 line_of lines zero = 0
 line_of lines (suc index) = slice_index_or lines index 0

@@ -1,4 +1,4 @@
--- What a drill prints (docs/FORMATS.md): the lines of what its steps tell are those of the world.
+-- What a drill prints (docs/FORMATS.md): the lines of its steps are those of the world.
 use Rattle.std.specs.Prelude.{ℕ, List, [], ◌∷◌, ◌++◌, codes, decimal, flat_map}
 use Rattle.ledger_core.specs.declared.ledger.Totals.{Totals}
 use Rattle.world_core.specs.Fault.{fault_name}
@@ -6,11 +6,11 @@ use Rattle.world_core.specs.Lines.{line_text}
 use Rattle.world_core.specs.Told.{Said}
 use Rattle.world_core.specs.declared.fault.Fault.{Fault}
 
--- what a step tells, a line each
+-- what a step outputs, a line each
 abbrev pub step_text : List Said → List ℕ
 step_text said = flat_map line_text said
 
--- what steps tell, one after another
+-- what steps output, one after another
 abbrev pub steps_text : List (List Said) → List ℕ
 steps_text lines = flat_map step_text lines
 

@@ -2,7 +2,7 @@
 ghost use Rattle.std.specs.Prelude.{◌≡◌};
 ghost use Rattle.drill.specs.Words.{step_words, tape_words, why_words};
 
-use drill_script::Reason;
+use drill_script::BrokenRule;
 use funnel::PeerName;
 use recovery::TapeFault;
 use world_core::Fault;
@@ -25,7 +25,7 @@ pub enum Ending {
 pub struct TapeRefusal {
     /// The peer, the first in byte order of the names whose tape is refused.
     pub peer: PeerName,
-    /// Why it was refused: `Damaged` where what it is given is no tape, or `Disk` where a disk in memory was refused
+    /// Why it was refused: `Damaged` if what the script gives is no tape, or `Disk` if a disk in memory was refused
     /// memory.
     pub fault: TapeFault,
 }
@@ -43,7 +43,7 @@ pub struct Refusal {
 #[derive(Clone, Copy, Debug, PartialEq, Eq)]
 pub enum Why {
     /// It is the first that breaks the rules of a script.
-    Script(Reason),
+    Script(BrokenRule),
     /// Its step was refused.
     Step(Fault),
 }

@@ -23,7 +23,7 @@ pub struct Played {
     pub ending: Ending,
 }
 
-/// Plays the script that a text is, or tells which line is the first that breaks its rules.
+/// Plays the script that a text is, or reports the first line that breaks the rules.
 ///
 /// # Errors
 /// Memory was refused for reading the script or for what is printed.
@@ -66,7 +66,7 @@ fn play_script(alloc: Global, script: Script) -> Result<Played, AllocError>
     }
 }
 
-// No world was made, of which nothing is printed.
+// No world was made. Nothing is printed.
 fn not_begun(alloc: Global, fault: TapesFault) -> Played
     ensures prints { result.printed.items ≡ [] }
     ensures ends { result.ending ≡ ending_without fault }
@@ -81,7 +81,7 @@ fn not_begun(alloc: Global, fault: TapesFault) -> Played
     }
 }
 
-// So many steps were taken, all that there were.
+// All steps were taken.
 fn done(alloc: Global, report: &Report, steps: usize) -> Result<Played, AllocError>
     ensures prints { IfOk result (λ played. played.printed.items
         ≡ steps_text (said_by report.now.lines.items)
@@ -98,7 +98,6 @@ fn done(alloc: Global, report: &Report, steps: usize) -> Result<Played, AllocErr
     })
 }
 
-// A step was refused.
 fn refused(alloc: Global, lines: &[usize], fault: &WorldFault) -> Result<Played, AllocError>
     ensures prints { IfOk result (λ played. played.printed.items
         ≡ steps_text (said_by fault.now.lines.items)
@@ -120,7 +119,7 @@ fn refused(alloc: Global, lines: &[usize], fault: &WorldFault) -> Result<Played,
     })
 }
 
-// How a drill ends whose step was refused, the steps standing on these lines.
+// How a drill ends if a step was refused; these are the steps' lines.
 fn ending_of(lines: &[usize], step: usize, kind: Fault) -> Ending
     ensures no_memory { kind ≡ Fault.NoMemory → result ≡ Ending.NoMemory }
     ensures refused { kind ≢ Fault.NoMemory → result ≡ Ending.Refused (record {
@@ -137,7 +136,7 @@ fn ending_of(lines: &[usize], step: usize, kind: Fault) -> Ending
     }
 }
 
-// The line of a step, from 1, or 0 where there is no such step.
+// The line of a step, from 1, or 0 if there is no such step.
 fn line_of(lines: &[usize], step: usize) -> usize
     ensures { result ≡ line_of lines.now step }
 {

@@ -9,23 +9,23 @@ use ledger_core::Totals;
 use std::alloc::AllocError;
 use world_core::{Fault, PeerTotals, Told};
 
-/// The lines of what each step told.
+/// The lines that the steps print.
 pub fn add_steps(out: &mut Vec<u8>, lines: &[Vec<Told>]) -> Result<(), AllocError>
     ensures { OnOk result (out.new.items ≡ out.old.items ++ steps_text (said_by lines.now)) }
 {
-    for told in lines {
-        add_step(out, told)?;
+    for step in lines {
+        add_step(out, step)?;
     }
     Ok(())
 }
 
-// The lines of what a step told.
-fn add_step(out: &mut Vec<u8>, told: &[Told]) -> Result<(), AllocError>
-    ensures { OnOk result (out.new.items ≡ out.old.items ++ step_text (map said_of told.now)) }
+// The lines that a step prints.
+fn add_step(out: &mut Vec<u8>, step: &[Told]) -> Result<(), AllocError>
+    ensures { OnOk result (out.new.items ≡ out.old.items ++ step_text (map said_of step.now)) }
 {
     let alloc = *out.allocator();
-    for one in told {
-        out.extend_from_slice(&one.line(alloc)?)?;
+    for told in step {
+        out.extend_from_slice(&told.line(alloc)?)?;
     }
     Ok(())
 }

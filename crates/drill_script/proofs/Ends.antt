@@ -9,12 +9,12 @@ use Rattle.funnel.specs.Stream.{BeginsWithLine, IsUnended, ended}
 use Rattle.funnel.specs.StreamLaws.{ended_first, first_line_once, whole_line_ends}
 use Rattle.drill_script.specs.Line.{SentenceView, Declares, Gives}
 use Rattle.drill_script.specs.Script.{IsFirstBroken, IsWhy, KeepsOrder, KeepsRules, LineSays, MayFollow, Reads}
-use Rattle.drill_script.specs.declared.fault.Reason.{Reason}
-use Rattle.drill_script.specs.declared.fault.Reason.TheVariants.{NoStep, NoPeer, PeerBehindStep, DeclaredTwice, NoTape}
-use Rattle.drill_script.specs.declared.fault.Reason.TheVariants.{TapeBehindStep, NoPeerOfTape, TapeTwice, Unended}
+use Rattle.drill_script.specs.declared.fault.BrokenRule.{BrokenRule}
+use Rattle.drill_script.specs.declared.fault.BrokenRule.TheVariants.{NoStep, NoPeer, PeerBehindStep, DeclaredTwice, NoTape}
+use Rattle.drill_script.specs.declared.fault.BrokenRule.TheVariants.{TapeBehindStep, NoPeerOfTape, TapeTwice, Unended}
 use Rattle.drill_script.proofs.Once.{says_once}
 
--- no line stands first in what is left that may stand behind these sentences, and something is left
+-- no line stands first in what is left that may stand after these sentences, and something is left
 pub record Blocks (before : List SentenceView) (left : List ℕ) : Type 0 where
   pub some : left ≢ []
   pub none : (line behind : List ℕ) → BeginsWithLine left line behind → (said : SentenceView) →
@@ -36,7 +36,7 @@ moved : (left l m x y : List ℕ) (said : SentenceView) → BeginsWithLine left 
 moved left l m x y said p q says = subst (λ (k : List ℕ). LineSays k said) (same_line left l m x y p q) says
 
 -- a reason blocks
-why_blocks : (before : List SentenceView) (left : List ℕ) (reason : Reason) → IsWhy before left reason →
+why_blocks : (before : List SentenceView) (left : List ℕ) (reason : BrokenRule) → IsWhy before left reason →
     Blocks before left
 why_blocks before left NoStep why = record {
   some = begun_is_some left why.0 why.1 why.2;
@@ -100,13 +100,13 @@ why_blocks before left Unended why = record {
   none = λ line behind begins said says may. whole_line_ends line behind (subst IsUnended begins.0 why.1);
 }
 
--- some lines that say sentences, in their order behind others
+-- some lines that say sentences, in their order after others
 pub record Keeps (before : List SentenceView) (lines : List (List ℕ)) (sentences : List SentenceView) : Type 0 where
   pub each : All IsUnended lines
   pub says : AllZip LineSays lines sentences
   pub order : KeepsOrder before sentences
 
--- a front that goes on behind the line number where the other one ends
+-- a prefix that goes on after the line number at which the other one ends
 goes_on : (before : List SentenceView) (line : List ℕ) (lines : List (List ℕ)) (said : SentenceView)
     (sentences : List SentenceView) (x y : List ℕ) →
     Keeps before (line ∷ lines) (said ∷ sentences) → x ≡ ended (line ∷ lines) ++ y → Blocks before x → ⊥

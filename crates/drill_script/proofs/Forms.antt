@@ -124,7 +124,7 @@ module _ (line word : List ℕ) (text : Option (List ℕ)) (solid : IsSolid word
       subst (λ (x : List ℕ). StepOf x text step) (sym same.word)
       (subst (λ (o : Option (List ℕ)). StepOf w o step) (sym same.text) says)
 
-  -- the number of a connection, and what stands behind it
+  -- the number of a connection, and what stands after it
   on_step : (w written : List ℕ) (t : Option (List ℕ)) (rest : List ℕ) (number : ℕ) (action : ActionView) →
       list_all is_solid w ≡ true → line ≡ w ++ 32 ∷ rest →
       IsCut rest written t → u64_of written ≡ Some number → ActionOf w t action →

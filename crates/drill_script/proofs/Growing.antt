@@ -28,8 +28,8 @@ use Rattle.drill_script.specs.Script.{steps_of, tape_of}
 use Rattle.drill_script.specs.Step.{StepView, step_view}
 use Rattle.drill_script.specs.Sentence.{sentence_view}
 use Rattle.drill_script.specs.declared.draft.Draft.{Draft}
-use Rattle.drill_script.specs.declared.fault.Reason.TheVariants.{NoStep, NoPeer, PeerBehindStep, DeclaredTwice, NoTape}
-use Rattle.drill_script.specs.declared.fault.Reason.TheVariants.{TapeBehindStep, NoPeerOfTape, TapeTwice, Unended}
+use Rattle.drill_script.specs.declared.fault.BrokenRule.TheVariants.{NoStep, NoPeer, PeerBehindStep, DeclaredTwice, NoTape}
+use Rattle.drill_script.specs.declared.fault.BrokenRule.TheVariants.{TapeBehindStep, NoPeerOfTape, TapeTwice, Unended}
 use Rattle.drill_script.specs.declared.fault.ScriptFault.{ScriptFault}
 use Rattle.drill_script.specs.declared.fault.ScriptFault.TheVariants.{Broken, NoMemory}
 use Rattle.drill_script.specs.declared.sentence.Sentence.{Sentence}
@@ -55,7 +55,7 @@ peers_of-append (Declares peer ∷ a) b = ap (λ (s : List Settings). peer ∷ s
 peers_of-append (Gives name octets ∷ a) b = peers_of-append a b
 peers_of-append (Takes step ∷ a) b = peers_of-append a b
 
--- the line numbers of some sentences go on behind those of others
+-- the line numbers of some sentences go on after those of others
 line_numbers_append : (line_number next : ℕ) (a b : List SentenceView) → next ≡ line_number + length a →
     line_numbers_from line_number (a ++ b) ≡ line_numbers_from line_number a ++ line_numbers_from next b
 line_numbers_append line_number next [] b e =
@@ -66,7 +66,7 @@ line_numbers_append line_number next (Gives name octets ∷ a) b e = line_number
 line_numbers_append line_number next (Takes step ∷ a) b e =
     ap (λ (ps : List ℕ). line_number ∷ ps) (line_numbers_append (line_number + 1) next a b (omega (arith, e)))
 
--- the first of two, where it is there
+-- the first of two, if it is there
 abbrev pub or_else : Option (List ℕ) → Option (List ℕ) → Option (List ℕ)
 or_else None other = other
 or_else (Some octets) other = Some octets
@@ -267,7 +267,7 @@ gains_peer old new conf key before none is absent keys peers tapes steps lines d
     (ap (map step_view) steps ∙ d.steps ∙ sym (append-nil (steps_of before)))
     (lines ∙ d.lines ∙ sym (append-nil (line_numbers_of before)))
 
--- a tape that is given where none of that name was
+-- a tape that is given if none of that name was
 tape_given : (name q octets : List ℕ) (old new before : Option (List ℕ)) → before ≡ old →
     (name ≡ q → (new ≡ Some octets) × (old ≡ None)) → (name ≢ q → new ≡ old) → (this : Bool) →
     Decides this (name ≡ q) → new ≡ or_else before (if this then Some octets else None)
@@ -324,12 +324,12 @@ tape_refused line_number line name octets before (Broken at TapeTwice) says r =
 tape_refused line_number line name octets before (Broken at Unended) says r = absurd r.1
 tape_refused line_number line name octets before NoMemory says r = tt
 
-pub tape_told : {A : Type 0} (draft : Draft) (line_number : ℕ) (line name octets : List ℕ) (answer : Result A ScriptFault) →
+pub tape_reported : {A : Type 0} (draft : Draft) (line_number : ℕ) (line name octets : List ℕ) (answer : Result A ScriptFault) →
     Says line (Gives name octets) → IfErr answer (λ fault. (before : List SentenceView) → Drafts draft before →
     IsTapeRefusal line_number name before fault) →
     IfErr answer (λ fault. (before : List SentenceView) → Drafts draft before → IsRefusal line_number line before fault)
-tape_told draft line_number line name octets (Ok a) says told = tt
-tape_told draft line_number line name octets (Err fault) says told = λ before drafts.
+tape_reported draft line_number line name octets (Ok a) says told = tt
+tape_reported draft line_number line name octets (Err fault) says told = λ before drafts.
     tape_refused line_number line name octets before fault says (told before drafts)
 
 -- an answer that a key is not new

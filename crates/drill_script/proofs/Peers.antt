@@ -39,7 +39,7 @@ pub cut_named : (declaration name : List ℕ) (text : Option (List ℕ)) → IsC
 cut_named declaration name None cut = inl (cut, refl)
 cut_named declaration name (Some items) cut = inr cut
 
--- a cut, and the items that stand behind it
+-- a cut, and the items that stand after it
 record NamedCut (declaration name items : List ℕ) : Type 0 where
   text : Option (List ℕ)
   cut : IsCut declaration name text
@@ -66,7 +66,7 @@ parts_once declaration m n i j p q a b =
           ∙ sym other.are;
     }
 
--- what stands behind the word
+-- what stands after the word
 pub behind_once : (x y : List ℕ) → codes "peer " ++ x ≡ codes "peer " ++ y → x ≡ y
 behind_once x y e = cc
 
@@ -149,7 +149,7 @@ module _ (declaration name items : List ℕ) (solid : IsSolid name) (parts : IsN
       let never : Err fault ≡ Ok has.outcome = sym (means has.lexemes has.have) ∙ has.means in
       cc
 
-  -- and a good one declares what it has alone, where that is of this name
+  -- and a good one declares what it has alone, if that is of this name
   pub says_found : (outcome : Outcome) (peers : List PeerConf) (found : Option PeerConf) →
       ((lines : List (List Lexeme)) → HaveLexemes (lines_of (peer_text name items)) lines →
       meaning lines ≡ Ok outcome) →

@@ -7,13 +7,13 @@ use Rattle.funnel.specs.Line.{without_cr}
 use Rattle.funnel.specs.Stream.{BeginsWithLine}
 use Rattle.drill_script.specs.Draft.{Drafts, Gains, HasRead, IsRefusal}
 use Rattle.drill_script.specs.Line.{SentenceView, Blank, Declares, Gives, Says, Takes}
-use Rattle.drill_script.specs.Script.{BreaksAt, Holds, IsFirstBroken, IsScript, IsToldOf, KeepsRules, NamesLine, Reads}
+use Rattle.drill_script.specs.Script.{BreaksAt, Holds, IsFirstBroken, IsScript, IsReportedOf, KeepsRules, NamesLine, Reads}
 use Rattle.drill_script.specs.Script.{line_numbers_from, steps_of}
 use Rattle.drill_script.specs.Step.{StepView, step_view}
 use Rattle.drill_script.specs.declared.draft.Draft.{Draft}
-use Rattle.drill_script.specs.declared.fault.Reason.{Reason}
-use Rattle.drill_script.specs.declared.fault.Reason.TheVariants.{NoStep, NoPeer, PeerBehindStep, DeclaredTwice, NoTape}
-use Rattle.drill_script.specs.declared.fault.Reason.TheVariants.{TapeBehindStep, NoPeerOfTape, TapeTwice, Unended}
+use Rattle.drill_script.specs.declared.fault.BrokenRule.{BrokenRule}
+use Rattle.drill_script.specs.declared.fault.BrokenRule.TheVariants.{NoStep, NoPeer, PeerBehindStep, DeclaredTwice, NoTape}
+use Rattle.drill_script.specs.declared.fault.BrokenRule.TheVariants.{TapeBehindStep, NoPeerOfTape, TapeTwice, Unended}
 use Rattle.drill_script.specs.declared.fault.ScriptFault.{ScriptFault}
 use Rattle.drill_script.specs.declared.fault.ScriptFault.TheVariants.{Broken, NoMemory}
 use Rattle.drill_script.specs.declared.read.Script.{Script}
@@ -24,7 +24,7 @@ abbrev pub Answer : Type 0
 Answer = Result Script ScriptFault
 
 -- an answer is Ok exactly for a text that keeps the rules
-pub keeps_both : (text : List ℕ) (answer : Answer) → IfOk answer (IsScript text) → IfErr answer (IsToldOf text) →
+pub keeps_both : (text : List ℕ) (answer : Answer) → IfOk answer (IsScript text) → IfErr answer (IsReportedOf text) →
     answer ≢ Err NoMemory → IsOk answer ↔ KeepsRules text
 keeps_both text (Ok script) good told had = (λ ok. (good.0, good.1), λ keeps. refl)
 keeps_both text (Err (Broken line_number reason)) good told had =
@@ -35,12 +35,12 @@ ok_names_none : (script : Script) (line : ℕ) → NamesLine (Ok script) line �
 ok_names_none script line named = let made : Answer = Ok script in let other : made ≡ Err (Broken line named.0) =
     named.1 in cc
 
-same_line_number : (line_number line : ℕ) (reason other : Reason) →
+same_line_number : (line_number line : ℕ) (reason other : BrokenRule) →
     (let one : Answer = Err (Broken line_number reason) in one ≡ Err (Broken line other)) → line_number ≡ line
 same_line_number line_number line reason other e = cc
 
 -- and it names exactly the first broken line
-pub first_both : (text : List ℕ) (answer : Answer) → IfOk answer (IsScript text) → IfErr answer (IsToldOf text) →
+pub first_both : (text : List ℕ) (answer : Answer) → IfOk answer (IsScript text) → IfErr answer (IsReportedOf text) →
     (line : ℕ) → answer ≢ Err NoMemory →
     NamesLine answer line ↔ IsFirstBroken text line
 first_both text (Ok script) good told line had =
@@ -51,11 +51,11 @@ first_both text (Err (Broken line_number reason)) good told line had = (
 )
 first_both text (Err NoMemory) good told line had = absurd (had refl)
 
--- a refusal of the first line that is left is told of the text
+-- a refusal of the first line that is left is one of the text
 pub refusal_told : (text rest line more : List ℕ) (line_number : ℕ) (sentences : List SentenceView) →
     Reads text sentences rest → line_number ≡ length sentences + 1 →
     BeginsWithLine rest line more → (fault : ScriptFault) → IsRefusal line_number (without_cr line) sentences fault →
-    IsToldOf text fault
+    IsReportedOf text fault
 refusal_told text rest line more line_number sentences reads at begins (Broken p NoStep) r =
     record { sentences = sentences; left = rest; reads = reads; at = r.0 ∙ at; why = (line, more, begins, r.1) }
 refusal_told text rest line more line_number sentences reads at begins (Broken p NoPeer) r =
@@ -95,10 +95,10 @@ has_more text rest line more line_number old new begins has adds =
     }
 
 -- an answer that is this fault
-pub fault_told : (text : List ℕ) (answer : Answer) (fault : ScriptFault) → IsErrAnd answer (λ f. f ≡ fault) →
-    IsToldOf text fault → IfErr answer (IsToldOf text)
-fault_told text (Ok script) fault is told = tt
-fault_told text (Err f) fault is told = subst (IsToldOf text) (sym is) told
+pub fault_reported : (text : List ℕ) (answer : Answer) (fault : ScriptFault) → IsErrAnd answer (λ f. f ≡ fault) →
+    IsReportedOf text fault → IfErr answer (IsReportedOf text)
+fault_reported text (Ok script) fault is told = tt
+fault_reported text (Err f) fault is told = subst (IsReportedOf text) (sym is) told
 
 pub fault_good : (text : List ℕ) (answer : Answer) (fault : ScriptFault) → IsErrAnd answer (λ f. f ≡ fault) →
     IfOk answer (IsScript text)

@@ -3,7 +3,7 @@ use Rattle.std.proofs.Common.{◌≡◌, ℕ, List, [], ◌∷◌, ◌++◌, Non
 use Rattle.std.specs.Prelude.{codes}
 use Rattle.article_store.specs.declared.store.Found.TheVariants.{Gone}
 use Rattle.drill_script.specs.Action.{Ends, Hands, IsWritten, Receives, Spells, Supplies}
-use Rattle.drill_script.specs.Arming.{arming_of}
+use Rattle.drill_script.specs.StopRequest.{request_of}
 use Rattle.drill_script.specs.Line.{Blank, Gives, Says, SaysStep, Takes}
 use Rattle.drill_script.specs.Numbers.{u64_of}
 use Rattle.drill_script.specs.Script.{KeepsOrder, tape_of}
@@ -22,7 +22,7 @@ lone_line = inl (refl, refl)
 line_of_a_feed : SaysStep (codes "line a/1 <x@y> p") (Lines (codes "a/1 <x@y> p"))
 line_of_a_feed = inr refl
 
--- octets behind the one space belong to the text
+-- octets after the one space belong to the text
 line_with_a_leading_space : SaysStep (codes "line  a") (Lines (codes " a"))
 line_with_a_leading_space = inr refl
 
@@ -100,12 +100,12 @@ signed_number : u64_of (codes "+1") ≡ None
 signed_number = refl
 
 -- a stop comes at a call from 1 on, and fills with an octet
-call_zero : arming_of (codes "p" ∷ codes "0" ∷ codes "1" ∷ []) ≡ None
+call_zero : request_of (codes "p" ∷ codes "0" ∷ codes "1" ∷ []) ≡ None
 call_zero = refl
 
-fill_too_great : arming_of (codes "p" ∷ codes "1" ∷ codes "1" ∷ codes "256" ∷ []) ≡ None
+fill_too_great : request_of (codes "p" ∷ codes "1" ∷ codes "1" ∷ codes "256" ∷ []) ≡ None
 fill_too_great = refl
 
--- steps may stand behind one another, and blank lines anywhere
+-- steps may stand after one another, and blank lines anywhere
 steps_in_order : KeepsOrder [] (Takes Stops ∷ Blank ∷ Takes Restarts ∷ [])
 steps_in_order = (tt, (tt, (tt, tt)))

@@ -48,10 +48,10 @@ says_none_alone word line flush begin seal stop restart (Sheds name) says = says
 says_none_alone word line flush begin seal stop restart (Rotates name) says = says
 says_none_alone word line flush begin seal stop restart (Imports name text) says = says
 says_none_alone word line flush begin seal stop restart Stops says = stop says
-says_none_alone word line flush begin seal stop restart (Arms arming) says = says
+says_none_alone word line flush begin seal stop restart (Arms request) says = says
 says_none_alone word line flush begin seal stop restart Restarts says = restart says
 
--- a word that names none of the other steps says a step on a connection, where one is said
+-- a word that names none of the other steps says a step on a connection, if one is said
 module _ (word : List ℕ) (line : word ≢ codes "line") (part : word ≢ codes "part") (connect : word ≢ codes "connect")
     (shed : word ≢ codes "shed") (rotate : word ≢ codes "rotate") (tick : word ≢ codes "tick")
     (stop : word ≢ codes "stop") where
@@ -68,7 +68,7 @@ module _ (word : List ℕ) (line : word ≢ codes "line") (part : word ≢ codes
   says_no_step rest none (Rotates name) says = rotate says.0
   says_no_step rest none (Imports name text) says = none.imports says.0 name text says.1
   says_no_step rest none Stops says = says
-  says_no_step rest none (Arms arming) says = stop says.0
+  says_no_step rest none (Arms request) says = stop says.0
   says_no_step rest none Restarts says = says
 
   pub says_step : {T E : Type 0} (view : T → List ℕ) (text : Option T) (rest : List ℕ)
@@ -94,7 +94,7 @@ behind_other word rest (Ok None) other h =
     record { acts = h; imports = λ is name octets names. absurd (other is) }
 behind_other word rest (Ok (Some step)) other h = h
 
--- What stands behind a word is cut there.
+-- What stands after a word is cut there.
 module _ (word rest written : List ℕ) (text : Option (List ℕ)) (solid : IsSolid written)
     (cut : IsCut rest written text) where
   -- no number is written there

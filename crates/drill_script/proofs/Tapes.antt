@@ -1,4 +1,4 @@
--- A peer's name with a text behind it is read in one way: what a `tape` line says, and an `import` line.
+-- A peer's name with a text after it is read in one way: what a `tape` line says, and an `import` line.
 use Rattle.std.proofs.Common.{◌≡◌, ℕ, List, ◌∷◌, ◌++◌, Option, None, Some, sym, subst, ◌∙◌}
 use Rattle.std.specs.Prelude.{◌↔◌, IsSome, IsTrue, codes}
 use Rattle.funnel.specs.Names.{is_peer_name}
@@ -31,7 +31,7 @@ tape_once line m n a b p q =
 
 -- Octets that are cut at their first space, and begin with no name and a space.
 module _ (text word : List ℕ) (rest : Option (List ℕ)) (solid : IsSolid word) (cut : IsCut text word rest) where
-  -- nothing stands behind the word
+  -- nothing stands after the word
   pub none_behind : rest ≡ None → (name behind : List ℕ) → text ≡ name ++ 32 ∷ behind → IsTrue (is_peer_name name) → ⊥
   none_behind none name behind says named =
       let once = cuts_once text word name rest (Some behind) solid (name_solid name named) cut says in

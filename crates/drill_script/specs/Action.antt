@@ -30,13 +30,13 @@ line_of text = text ++ 13 ∷ 10 ∷ []
 abbrev pub Spells : List ℕ → List ℕ → Type 0
 Spells digits octets = (digits ≢ []) × (decode_of digits ≡ Ok octets)
 
--- a letter behind a backslash stands for an octet: n for LF, r for CR, 0 for NUL, and a backslash for itself
+-- a letter after a backslash stands for an octet: n for LF, r for CR, 0 for NUL, and a backslash for itself
 abbrev pub Escapes : ℕ → ℕ → Type 0
 Escapes letter octet =
     ((letter ≡ 110) × (octet ≡ 10)) ⊎
     (((letter ≡ 114) × (octet ≡ 13)) ⊎ (((letter ≡ 48) × (octet ≡ 0)) ⊎ ((letter ≡ 92) × (octet ≡ 92))))
 
--- a text is written octet by octet, some of them behind a backslash
+-- a text is written octet by octet, some of them after a backslash
 pub data IsWritten : (written text : List ℕ) → Type 0 where
   Ends : IsWritten [] []
   Plain : (octet : ℕ) (written text : List ℕ) → octet ≢ 92 → IsWritten written text →

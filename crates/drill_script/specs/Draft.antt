@@ -16,14 +16,14 @@ use Rattle.drill_script.specs.Script.{BeginsAsPeer, BeginsAsTape, IsWhyLine, May
 use Rattle.drill_script.specs.Script.{line_numbers_of, steps_of, tape_of}
 use Rattle.drill_script.specs.Step.{step_view}
 use Rattle.drill_script.specs.declared.draft.Draft.{Draft}
-use Rattle.drill_script.specs.declared.fault.Reason.{Reason}
-use Rattle.drill_script.specs.declared.fault.Reason.TheVariants.{NoStep, NoPeer, PeerBehindStep, DeclaredTwice, NoTape}
-use Rattle.drill_script.specs.declared.fault.Reason.TheVariants.{TapeBehindStep, NoPeerOfTape, TapeTwice, Unended}
+use Rattle.drill_script.specs.declared.fault.BrokenRule.{BrokenRule}
+use Rattle.drill_script.specs.declared.fault.BrokenRule.TheVariants.{NoStep, NoPeer, PeerBehindStep, DeclaredTwice, NoTape}
+use Rattle.drill_script.specs.declared.fault.BrokenRule.TheVariants.{TapeBehindStep, NoPeerOfTape, TapeTwice, Unended}
 use Rattle.drill_script.specs.declared.fault.ScriptFault.{ScriptFault}
 use Rattle.drill_script.specs.declared.fault.ScriptFault.TheVariants.{Broken, NoMemory}
 use Rattle.world_core.specs.Given.{GivenPeer}
 
--- what the tape of the peer of this name holds among these, or none where it is not among them
+-- what the tape of the peer of this name holds among these, or none if it is not among them
 abbrev pub held_at : BTreeMap (Vec ℕ) (Vec ℕ) → List ℕ → Option (List ℕ)
 held_at tapes name = option_map vec_items (get_by (λ key. slice_cmp nat_cmp name (vec_items key)) tapes)
 
@@ -40,7 +40,7 @@ pub record Drafts (draft : Draft) (sentences : List SentenceView) : Type 0 where
 abbrev pub HaveOtherNames : List PeerConf → Type 0
 HaveOtherNames confs = IsDistinct bytes_eq (map (λ (conf : PeerConf). conf.name) confs)
 
--- a peer is given what its tape holds among these, or nothing where it is not among them
+-- a peer is given what its tape holds among these, or nothing if it is not among them
 abbrev pub IsGiven : BTreeMap (Vec ℕ) (Vec ℕ) → PeerConf → GivenPeer → Type 0
 IsGiven tapes conf given = (given.0 ≡ conf) × (given.1.items ≡ unwrap_or (held_at tapes conf.name) [])
 
@@ -49,13 +49,13 @@ pub record Gains (old new : Draft) (before : List SentenceView) (said : Sentence
   pub may : MayFollow before said
   pub drafts : Drafts new (before ++ said ∷ [])
 
--- the line is refused at its line number for a reason that it has behind these sentences
+-- the line is refused at its line number for a reason that it has after these sentences
 abbrev pub IsRefusal : (line_number : ℕ) (line : List ℕ) → List SentenceView → ScriptFault → Type 0
 IsRefusal line_number line before (Broken at reason) = (at ≡ line_number) × IsWhyLine before line reason
 IsRefusal line_number line before NoMemory = Unit {0}
 
--- why a peer may not stand behind these sentences
-abbrev pub IsWhyPeer : List SentenceView → Settings → Reason → Type 0
+-- why a peer may not stand after these sentences
+abbrev pub IsWhyPeer : List SentenceView → Settings → BrokenRule → Type 0
 IsWhyPeer before peer NoStep = ⊥
 IsWhyPeer before peer NoPeer = ⊥
 IsWhyPeer before peer PeerBehindStep = steps_of before ≢ []
@@ -66,13 +66,13 @@ IsWhyPeer before peer NoPeerOfTape = ⊥
 IsWhyPeer before peer TapeTwice = ⊥
 IsWhyPeer before peer Unended = ⊥
 
--- the peer is refused at its line number for a reason that it has behind these sentences
+-- the peer is refused at its line number for a reason that it has after these sentences
 abbrev pub IsPeerRefusal : (line_number : ℕ) → Settings → List SentenceView → ScriptFault → Type 0
 IsPeerRefusal line_number peer before (Broken at reason) = (at ≡ line_number) × IsWhyPeer before peer reason
 IsPeerRefusal line_number peer before NoMemory = Unit {0}
 
--- why this peer's tape may not stand behind these sentences
-abbrev pub IsWhyTape : List SentenceView → List ℕ → Reason → Type 0
+-- why this peer's tape may not stand after these sentences
+abbrev pub IsWhyTape : List SentenceView → List ℕ → BrokenRule → Type 0
 IsWhyTape before name NoStep = ⊥
 IsWhyTape before name NoPeer = ⊥
 IsWhyTape before name PeerBehindStep = ⊥
@@ -84,13 +84,13 @@ IsWhyTape before name TapeTwice =
     (steps_of before ≡ []) × Contains (names_of before) name × (tape_of before name ≢ None)
 IsWhyTape before name Unended = ⊥
 
--- the tape is refused at its line number for a reason that it has behind these sentences
+-- the tape is refused at its line number for a reason that it has after these sentences
 abbrev pub IsTapeRefusal : (line_number : ℕ) → List ℕ → List SentenceView → ScriptFault → Type 0
 IsTapeRefusal line_number name before (Broken at reason) = (at ≡ line_number) × IsWhyTape before name reason
 IsTapeRefusal line_number name before NoMemory = Unit {0}
 
 -- of a line that says nothing: whether it begins as the line of a peer or of a tape
-abbrev pub IsReasonOf : List ℕ → Reason → Type 0
+abbrev pub IsReasonOf : List ℕ → BrokenRule → Type 0
 IsReasonOf line NoStep = (BeginsAsPeer line → ⊥) × (BeginsAsTape line → ⊥)
 IsReasonOf line NoPeer = BeginsAsPeer line
 IsReasonOf line PeerBehindStep = ⊥

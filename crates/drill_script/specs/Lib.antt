@@ -1,5 +1,5 @@
 pub mod Action
-pub mod Arming
+pub mod StopRequest
 pub mod Draft
 pub mod Line
 pub mod Numbers

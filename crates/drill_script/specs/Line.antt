@@ -5,14 +5,14 @@ use Rattle.article_store.specs.declared.store.Found.TheVariants.{Article, Gone, 
 use Rattle.feed_conf.specs.Settings.{Settings}
 use Rattle.funnel.specs.Names.{is_peer_name}
 use Rattle.drill_script.specs.Action.{ActionView, Hands, Receives, Supplies, Breaks, IsWritten, Spells, line_of}
-use Rattle.drill_script.specs.Arming.{arming_of}
+use Rattle.drill_script.specs.StopRequest.{request_of}
 use Rattle.drill_script.specs.Numbers.{u64_of}
 use Rattle.drill_script.specs.Peer.{SaysPeer}
 use Rattle.drill_script.specs.Step.{StepView, Lines, Flushes, Begins, Parts, Seals, Connects, Acts, Ticks, Sheds}
 use Rattle.drill_script.specs.Step.{Rotates}
 use Rattle.drill_script.specs.Step.{Imports, Stops, Arms, Restarts}
 
--- the name of a peer, one space, and behind it what is a writing of these octets
+-- the name of a peer, one space, and after it what is a writing of these octets
 abbrev pub NamesText : (IsWriting : List ℕ → List ℕ → Type 0) → (text name octets : List ℕ) → Type 0
 NamesText IsWriting text name octets =
     (written : List ℕ) × (text ≡ name ++ 32 ∷ written) × IsTrue (is_peer_name name) × IsWriting written octets
@@ -48,7 +48,7 @@ SaysStep line (Imports name text) =
 SaysStep line Stops = line ≡ codes "stop"
 SaysStep line (Arms armed) =
     (words : List ℕ) × (line ≡ codes "stop " ++ words)
-    × (arming_of (slice_split (λ octet. octet == 32) words) ≡ Some armed)
+    × (request_of (slice_split (λ octet. octet == 32) words) ≡ Some armed)
 SaysStep line Restarts = line ≡ codes "restart"
 
 -- a line says that the first disk of this peer's tape holds these octets

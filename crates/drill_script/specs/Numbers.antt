@@ -6,6 +6,6 @@ use Rattle.feed_conf.specs.Values.{is_number, decimal}
 abbrev pub within_u64 : ℕ → Option ℕ
 within_u64 number = if nat_lt number (2 ^ 64) then Some number else None
 
--- the number that digits alone spell, where it has 64 bits
+-- the number that digits alone spell, if it has 64 bits
 abbrev pub u64_of : List ℕ → Option ℕ
 u64_of octets = if is_number octets then within_u64 (decimal 0 octets) else None

@@ -1,10 +1,10 @@
--- What the first word of a line says with what stands behind it: the forms of a line, cut at their first spaces.
+-- What the first word of a line says with what stands after it: the forms of a line, cut at their first spaces.
 use Rattle.std.specs.Prelude.{◌≡◌, ◌≢◌, ◌⊎◌, ◌==◌, ℕ, List, [], Option, None, Some, IsTrue, codes}
 use Rattle.std.specs.List.{slice_split}
 use Rattle.article_store.specs.declared.store.Found.TheVariants.{Article, Gone, Unsendable}
 use Rattle.funnel.specs.Names.{is_peer_name}
 use Rattle.drill_script.specs.Action.{ActionView, Hands, Receives, Supplies, Breaks, IsWritten, Spells, line_of}
-use Rattle.drill_script.specs.Arming.{arming_of}
+use Rattle.drill_script.specs.StopRequest.{request_of}
 use Rattle.drill_script.specs.Line.{NamesText}
 use Rattle.drill_script.specs.Numbers.{u64_of}
 use Rattle.drill_script.specs.Step.{StepView, Lines, Flushes, Begins, Parts, Seals, Connects, Acts, Ticks, Sheds}
@@ -12,7 +12,7 @@ use Rattle.drill_script.specs.Step.{Rotates}
 use Rattle.drill_script.specs.Step.{Imports, Stops, Arms, Restarts}
 use Rattle.drill_script.specs.Words.{IsCut}
 
--- a word with what stands behind the connection's number says this action
+-- a word with what stands after the connection's number says this action
 abbrev pub ActionOf : List ℕ → Option (List ℕ) → ActionView → Type 0
 ActionOf word None Hands = word ≡ codes "hand"
 ActionOf word None (Receives octets) = ⊥
@@ -27,7 +27,7 @@ ActionOf word (Some text) (Supplies Gone) = (word ≡ codes "article") × (text 
 ActionOf word (Some text) (Supplies Unsendable) = ⊥
 ActionOf word (Some text) Breaks = ⊥
 
--- a word, and the number of a connection with what stands behind it, say this action of that connection
+-- a word, and the number of a connection with what stands after it, say this action of that connection
 pub record SaysOn (word rest : List ℕ) (number : ℕ) (action : ActionView) : Type 0 where
   pub written : List ℕ
   pub text : Option (List ℕ)
@@ -35,7 +35,7 @@ pub record SaysOn (word rest : List ℕ) (number : ℕ) (action : ActionView) : 
   pub connection : u64_of written ≡ Some number
   pub says : ActionOf word text action
 
--- a word with what stands behind it says this step
+-- a word with what stands after it says this step
 abbrev pub StepOf : List ℕ → Option (List ℕ) → StepView → Type 0
 StepOf word None (Lines text) = (word ≡ codes "line") × (text ≡ [])
 StepOf word (Some rest) (Lines text) = (word ≡ codes "line") × (text ≡ rest)
@@ -63,11 +63,11 @@ StepOf word None Stops = word ≡ codes "stop"
 StepOf word (Some rest) Stops = ⊥
 StepOf word None (Arms armed) = ⊥
 StepOf word (Some rest) (Arms armed) =
-    (word ≡ codes "stop") × (arming_of (slice_split (λ octet. octet == 32) rest) ≡ Some armed)
+    (word ≡ codes "stop") × (request_of (slice_split (λ octet. octet == 32) rest) ≡ Some armed)
 StepOf word None Restarts = word ≡ codes "restart"
 StepOf word (Some rest) Restarts = ⊥
 
--- a word with what stands behind it says neither what a connection does nor that a backlog file is taken in
+-- a word with what stands after it says neither what a connection does nor that a backlog file is taken in
 pub record SaysNoneBehind (word rest : List ℕ) : Type 0 where
   pub acts : (number : ℕ) (action : ActionView) → SaysOn word rest number action → ⊥
   pub imports : word ≡ codes "import" → (name octets : List ℕ) → NamesText IsWritten rest name octets → ⊥

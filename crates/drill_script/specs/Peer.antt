@@ -17,7 +17,7 @@ pub record HasOnly (text : List ℕ) (peer : Settings) : Type 0 where
   pub means : meaning lexemes ≡ Ok outcome
   pub only : outcome.peers ≡ peer ∷ []
 
--- what stands behind `peer `: a name alone, or a name, one space and items
+-- what stands after `peer `: a name alone, or a name, one space and items
 abbrev pub IsNamedWith : (declaration name items : List ℕ) → Type 0
 IsNamedWith declaration name items = ((declaration ≡ name) × (items ≡ [])) ⊎ (declaration ≡ name ++ 32 ∷ items)
 

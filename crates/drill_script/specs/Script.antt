@@ -13,9 +13,9 @@ use Rattle.funnel.specs.Line.{without_cr}
 use Rattle.funnel.specs.Stream.{BeginsWithLine, IsUnended, ended}
 use Rattle.drill_script.specs.Line.{SentenceView, Blank, Declares, Gives, Takes, Says}
 use Rattle.drill_script.specs.Step.{StepView, step_view}
-use Rattle.drill_script.specs.declared.fault.Reason.{Reason}
-use Rattle.drill_script.specs.declared.fault.Reason.TheVariants.{NoStep, NoPeer, PeerBehindStep, DeclaredTwice, NoTape}
-use Rattle.drill_script.specs.declared.fault.Reason.TheVariants.{TapeBehindStep, NoPeerOfTape, TapeTwice, Unended}
+use Rattle.drill_script.specs.declared.fault.BrokenRule.{BrokenRule}
+use Rattle.drill_script.specs.declared.fault.BrokenRule.TheVariants.{NoStep, NoPeer, PeerBehindStep, DeclaredTwice, NoTape}
+use Rattle.drill_script.specs.declared.fault.BrokenRule.TheVariants.{TapeBehindStep, NoPeerOfTape, TapeTwice, Unended}
 use Rattle.drill_script.specs.declared.fault.ScriptFault.{ScriptFault}
 use Rattle.drill_script.specs.declared.fault.ScriptFault.TheVariants.{Broken, NoMemory}
 use Rattle.drill_script.specs.declared.read.Script.{Script}
@@ -29,7 +29,7 @@ steps_of (Declares peer ∷ sentences) = steps_of sentences
 steps_of (Gives name octets ∷ sentences) = steps_of sentences
 steps_of (Takes step ∷ sentences) = step ∷ steps_of sentences
 
--- the line numbers of the lines that say them, where the first sentence's line has this line number
+-- the line numbers of the lines that say them, if the first sentence's line has this line number
 abbrev pub line_numbers_from : ℕ → List SentenceView → List ℕ
 line_numbers_from line_number [] = []
 line_numbers_from line_number (Blank ∷ sentences) = line_numbers_from (line_number + 1) sentences
@@ -52,7 +52,7 @@ peers_of (Takes step ∷ sentences) = peers_of sentences
 abbrev pub names_of : List SentenceView → List (List ℕ)
 names_of sentences = map (λ (peer : Settings). peer.name) (peers_of sentences)
 
--- what the first of them that gives this peer's tape says that it holds; none where none does
+-- what the first of them that gives this peer's tape says that it holds; none if none does
 abbrev pub tape_of : List SentenceView → List ℕ → Option (List ℕ)
 tape_of [] name = None
 tape_of (Blank ∷ sentences) name = tape_of sentences name
@@ -60,7 +60,7 @@ tape_of (Declares peer ∷ sentences) name = tape_of sentences name
 tape_of (Gives peer octets ∷ sentences) name = if bytes_eq peer name then Some octets else tape_of sentences name
 tape_of (Takes step ∷ sentences) name = tape_of sentences name
 
--- a sentence may stand behind these: a peer where no step is among them and none of its name, and a tape where no step
+-- a sentence may stand after these: a peer if no step is among them and none of its name, and a tape if no step
 -- is among them, its peer is, and no tape of that
 abbrev pub MayFollow : List SentenceView → SentenceView → Type 0
 MayFollow before Blank = Unit {0}
@@ -69,7 +69,7 @@ MayFollow before (Gives name octets) =
     (steps_of before ≡ []) × Contains (names_of before) name × (tape_of before name ≡ None)
 MayFollow before (Takes step) = Unit {0}
 
--- each of the later sentences may stand behind the earlier ones and those before it
+-- each of the later sentences may stand after the earlier ones and those before it
 abbrev pub KeepsOrder : (earlier later : List SentenceView) → Type 0
 KeepsOrder earlier [] = Unit {0}
 KeepsOrder earlier (sentence ∷ later) = MayFollow earlier sentence × KeepsOrder (earlier ++ sentence ∷ []) later
@@ -78,7 +78,7 @@ KeepsOrder earlier (sentence ∷ later) = MayFollow earlier sentence × KeepsOrd
 abbrev pub LineSays : List ℕ → SentenceView → Type 0
 LineSays line sentence = Says (without_cr line) sentence
 
--- The text begins with whole lines that say these sentences and keep their order, and behind them stands this rest.
+-- The text begins with whole lines that say these sentences and keep their order, and after them stands this rest.
 pub record Reads (text : List ℕ) (sentences : List SentenceView) (rest : List ℕ) : Type 0 where
   pub lines : List (List ℕ)
   pub whole : text ≡ ended lines ++ rest
@@ -98,7 +98,7 @@ confs_of peers = map (λ (given : GivenPeer). given.0) peers
 abbrev pub IsInByteOrder : List PeerConf → Type 0
 IsInByteOrder peers = IsSortedBy (λ (a : PeerConf) (b : PeerConf). is_lt (slice_cmp nat_cmp a.name b.name)) peers
 
--- a peer's tape holds what its line says, or nothing where it has none
+-- a peer's tape holds what its line says, or nothing if it has none
 abbrev pub HoldsTape : List SentenceView → GivenPeer → Type 0
 HoldsTape sentences given = given.1.items ≡ unwrap_or (tape_of sentences given.0.name) []
 
@@ -127,8 +127,8 @@ BeginsAsTape line = (text : List ℕ) × (line ≡ codes "tape " ++ text)
 abbrev pub SaysNone : List ℕ → Type 0
 SaysNone line = (said : SentenceView) → Says line said → ⊥
 
--- why a line may not stand behind these sentences
-abbrev pub IsWhyLine : List SentenceView → (line : List ℕ) → Reason → Type 0
+-- why a line may not stand after these sentences
+abbrev pub IsWhyLine : List SentenceView → (line : List ℕ) → BrokenRule → Type 0
 IsWhyLine before line NoStep = (BeginsAsPeer line → ⊥) × (BeginsAsTape line → ⊥) × SaysNone line
 IsWhyLine before line NoPeer = BeginsAsPeer line × SaysNone line
 IsWhyLine before line PeerBehindStep = (peer : Settings) × Says line (Declares peer) × (steps_of before ≢ [])
@@ -146,12 +146,12 @@ IsWhyLine before line TapeTwice =
 IsWhyLine before line Unended = ⊥
 
 -- the first line of what is left breaks the rules for this reason
-abbrev pub FirstBreaks : List SentenceView → (left : List ℕ) → Reason → Type 0
+abbrev pub FirstBreaks : List SentenceView → (left : List ℕ) → BrokenRule → Type 0
 FirstBreaks before left reason =
     (line behind : List ℕ) × BeginsWithLine left line behind × IsWhyLine before (without_cr line) reason
 
--- why the first line of what is left breaks the rules, or the octets behind the last LF
-abbrev pub IsWhy : List SentenceView → (left : List ℕ) → Reason → Type 0
+-- why the first line of what is left breaks the rules, or the octets after the last LF
+abbrev pub IsWhy : List SentenceView → (left : List ℕ) → BrokenRule → Type 0
 IsWhy before left NoStep = FirstBreaks before left NoStep
 IsWhy before left NoPeer = FirstBreaks before left NoPeer
 IsWhy before left PeerBehindStep = FirstBreaks before left PeerBehindStep
@@ -163,7 +163,7 @@ IsWhy before left TapeTwice = FirstBreaks before left TapeTwice
 IsWhy before left Unended = (left ≢ []) × IsUnended left
 
 -- The line at this line number, from 1, is the first that breaks the rules, and this is why.
-pub record BreaksAt (text : List ℕ) (line_number : ℕ) (reason : Reason) : Type 0 where
+pub record BreaksAt (text : List ℕ) (line_number : ℕ) (reason : BrokenRule) : Type 0 where
   pub sentences : List SentenceView
   pub left : List ℕ
   pub reads : Reads text sentences left
@@ -171,13 +171,13 @@ pub record BreaksAt (text : List ℕ) (line_number : ℕ) (reason : Reason) : Ty
   pub why : IsWhy sentences left reason
 
 abbrev pub IsFirstBroken : List ℕ → ℕ → Type 0
-IsFirstBroken text line_number = (reason : Reason) × BreaksAt text line_number reason
+IsFirstBroken text line_number = (reason : BrokenRule) × BreaksAt text line_number reason
 
 -- the answer names this line
 abbrev pub NamesLine : Result Script ScriptFault → ℕ → Type 0
-NamesLine answer line_number = (reason : Reason) × (answer ≡ Err (Broken line_number reason))
+NamesLine answer line_number = (reason : BrokenRule) × (answer ≡ Err (Broken line_number reason))
 
 -- a fault that names a line names the first broken one, and says why it is
-abbrev pub IsToldOf : List ℕ → ScriptFault → Type 0
-IsToldOf text (Broken line_number reason) = BreaksAt text line_number reason
-IsToldOf text NoMemory = Unit {0}
+abbrev pub IsReportedOf : List ℕ → ScriptFault → Type 0
+IsReportedOf text (Broken line_number reason) = BreaksAt text line_number reason
+IsReportedOf text NoMemory = Unit {0}

@@ -5,7 +5,7 @@ use Rattle.world_core.specs.declared.step.Step.TheVariants.{Line, Flush, Begin, 
 use Rattle.world_core.specs.declared.step.Step.TheVariants.{Article, Break, Tick, Shed, Rotate, Import, Stop}
 use Rattle.world_core.specs.declared.step.Step.TheVariants.{Restart}
 use Rattle.drill_script.specs.Action.{ActionView, Hands, Receives, Supplies, Breaks}
-use Rattle.drill_script.specs.Arming.{Armed}
+use Rattle.drill_script.specs.StopRequest.{Armed}
 
 pub data StepView : Type 0 where
   -- a funnel line

@@ -6,7 +6,7 @@ use Rattle.std.specs.List.{All}
 abbrev pub IsSolid : List ℕ → Type 0
 IsSolid octets = All (λ octet. octet ≢ 32) octets
 
--- the octets are this word alone, or this word, one space and behind it this text
+-- the octets are this word alone, or this word, one space and after it this text
 abbrev pub IsCut : (octets word : List ℕ) → Option (List ℕ) → Type 0
 IsCut octets word None = octets ≡ word
 IsCut octets word (Some text) = octets ≡ word ++ 32 ∷ text

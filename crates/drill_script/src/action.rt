@@ -26,8 +26,7 @@ pub enum Action {
 }
 
 impl Action {
-    /// Reads the action that a word names, with what stands behind the connection's number; nothing where there is
-    /// none.
+    /// Reads the action that a word names, with the text after the connection's number; None if it names none.
     ///
     /// # Errors
     /// Memory was refused.
@@ -69,7 +68,7 @@ impl Action {
     }
 }
 
-// A text and CR LF behind it.
+// A text with CR LF.
 fn line_of(alloc: Global, text: &[u8]) -> Result<Vec<u8>, AllocError>
     ensures { IfOk result (λ line. line.items ≡ line_of text.now) }
 {
@@ -78,7 +77,7 @@ fn line_of(alloc: Global, text: &[u8]) -> Result<Vec<u8>, AllocError>
     Ok(line)
 }
 
-/// The octets that pairs of hexadecimal digits spell, one pair or more; nothing where there is another octet.
+/// The octets that one pair or more of hexadecimal digits spell; None if anything else is among them.
 ///
 /// # Errors
 /// Memory was refused.
@@ -97,7 +96,7 @@ pub(crate) fn octets_of(alloc: Global, digits: &[u8]) -> Result<Option<Vec<u8>>,
     }
 }
 
-// What a text says was found of an article: that it is gone, or its text; nothing where neither is written.
+// What was found of an article by this text: that it is gone, or its text; None if it says neither.
 fn found_of(alloc: Global, text: &[u8]) -> Result<Option<Found>, AllocError>
     ensures { IfOk result (λ found. MatchOption found
         ((told : Found) → ActionOf (codes "article") (Some text.now) (Supplies told) → ⊥)
@@ -112,7 +111,7 @@ fn found_of(alloc: Global, text: &[u8]) -> Result<Option<Found>, AllocError>
     }
 }
 
-/// The text that is written with escapes; nothing if a backslash escapes no known letter.
+/// The text that is written with escapes; None if a backslash escapes no known letter.
 ///
 /// # Errors
 /// Memory was refused.
@@ -133,7 +132,7 @@ pub(crate) fn unescape(alloc: Global, written: &[u8]) -> Result<Option<Vec<u8>>,
     Ok(Some(text))
 }
 
-// The first octet that is written, and what stands behind it; nothing if a backslash escapes no known letter.
+// The first octet that is written, and what follows it; None if a backslash escapes no known letter.
 fn first_octet(written: &[u8]) -> Option<(u8, &[u8])>
     ensures none { IfNone result (written.now ≢ []
         → (text : List ℕ) → IsWritten written.now text → ⊥) }
@@ -151,7 +150,7 @@ fn first_octet(written: &[u8]) -> Option<(u8, &[u8])>
     }
 }
 
-// The octet that a letter behind a backslash stands for; nothing where it stands for none.
+// The octet that a letter after a backslash stands for; None if it stands for none.
 fn escaped_octet(letter: u8) -> Option<u8>
     ensures { MatchOption result ((octet : ℕ) → Escapes letter octet → ⊥)
         (λ octet. Escapes letter octet) }

@@ -9,7 +9,7 @@ ghost use Rattle.drill_script.specs.Line.{Declares, Gives, Says, SentenceView, T
 ghost use Rattle.drill_script.specs.Script.{Holds, MayFollow};
 ghost use Rattle.drill_script.specs.Step.{step_view};
 
-use crate::fault::{Reason, ScriptFault};
+use crate::fault::{BrokenRule, ScriptFault};
 use crate::read::Script;
 use crate::sentence::{Sentence, read_sentence};
 use feed_conf::PeerConf;
@@ -25,7 +25,7 @@ pub struct Draft {
     peers: Vec<PeerConf>,
     // Their names.
     names: BTreeSet<Vec<u8>>,
-    // What their tapes hold, by their names, where a line says so.
+    // What their tapes hold, by their names, if a line gives it.
     tapes: BTreeMap<Vec<u8>, Vec<u8>>,
     // The steps, in order.
     steps: Vec<Step>,
@@ -50,7 +50,7 @@ impl Draft {
     /// Takes in the line at this line number, which is without its LF and the CR before that.
     ///
     /// # Errors
-    /// `Broken` where the line breaks the rules behind the lines so far; `NoMemory`.
+    /// `Broken` if the line breaks the rules, after the lines so far; `NoMemory`.
     pub fn add(&mut self, alloc: Global, line_number: usize, line: &[u8]) -> Result<(), ScriptFault>
         ensures ok { OnOk result ((before : List SentenceView) → Drafts self.old before
             → line_number ≡ length before + 1
@@ -100,14 +100,14 @@ impl Draft {
         if !self.steps.is_empty() {
             return Err(ScriptFault::Broken {
                 line: line_number,
-                reason: Reason::PeerBehindStep,
+                reason: BrokenRule::PeerBehindStep,
             });
         }
         let name = Vec::from_slice(alloc, conf.name.bytes())?;
         if !self.names.insert(name)? {
             return Err(ScriptFault::Broken {
                 line: line_number,
-                reason: Reason::DeclaredTwice,
+                reason: BrokenRule::DeclaredTwice,
             });
         }
         self.peers.push(conf)?;
@@ -138,18 +138,18 @@ impl Draft {
         Ok(())
     }
 
-    // Why the tape of the peer of this name may not stand behind the lines so far; nothing where it may.
-    fn why_no_tape(&self, name: &PeerName) -> Option<Reason>
+    // Why the tape of the peer of this name may not follow the lines so far; None if it may.
+    fn why_no_tape(&self, name: &PeerName) -> Option<BrokenRule>
         ensures { (before : List SentenceView) → Drafts self.now before → MatchOption result
             ((octets : List ℕ) → MayFollow before (Gives name.now octets))
             (λ reason. IsWhyTape before name.now reason) }
     {
         if !self.steps.is_empty() {
-            Some(Reason::TapeBehindStep)
+            Some(BrokenRule::TapeBehindStep)
         } else if !self.names.contains(name.bytes()) {
-            Some(Reason::NoPeerOfTape)
+            Some(BrokenRule::NoPeerOfTape)
         } else if self.tapes.contains_key(name.bytes()) {
-            Some(Reason::TapeTwice)
+            Some(BrokenRule::TapeTwice)
         } else {
             None
         }
@@ -197,14 +197,14 @@ fn with_tapes(
 }
 
 // Why a line that says nothing breaks the rules.
-fn reason_of(line: &[u8]) -> Reason
+fn reason_of(line: &[u8]) -> BrokenRule
     ensures { IsReasonOf line.now result }
 {
     if line.starts_with(b"peer ") {
-        Reason::NoPeer
+        BrokenRule::NoPeer
     } else if line.starts_with(b"tape ") {
-        Reason::NoTape
+        BrokenRule::NoTape
     } else {
-        Reason::NoStep
+        BrokenRule::NoStep
     }
 }

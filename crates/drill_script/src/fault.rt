@@ -9,18 +9,18 @@ use thiserror::Error;
 /// Why a line breaks the rules of a script.
 #[derive(Clone, Copy, Debug, PartialEq, Eq, Error)]
 #[error("{}", self.words())]
-pub enum Reason {
-    /// It says neither a peer nor a tape nor a step, and it is no comment.
+pub enum BrokenRule {
+    /// It is neither a peer, a tape, a step nor a comment.
     NoStep,
-    /// It begins as the line of a peer, and its settings are not those of one peer of that name.
+    /// It begins like the line of a peer, and its settings are not those of one peer of that name.
     NoPeer,
-    /// It declares a peer behind a step.
+    /// It declares a peer after a step.
     PeerBehindStep,
     /// It declares a peer whose name is declared already.
     DeclaredTwice,
-    /// It begins as the line of a tape, and has no name and pairs of hexadecimal digits behind that.
+    /// It begins like the line of a tape, and is not followed by a name and pairs of hexadecimal digits.
     NoTape,
-    /// It gives a tape behind a step.
+    /// It gives a tape after a step.
     TapeBehindStep,
     /// It gives the tape of a peer that no line before it declares.
     NoPeerOfTape,
@@ -30,21 +30,21 @@ pub enum Reason {
     Unended,
 }
 
-impl Reason {
-    /// What messages say of it.
+impl BrokenRule {
+    /// Its text in messages.
     pub fn words(self) -> &'static str
         ensures { result.now ≡ reason_words self }
     {
         match self {
-            Reason::NoStep => "unknown or malformed step",
-            Reason::NoPeer => "malformed settings of a peer",
-            Reason::PeerBehindStep => "a peer line after the first step",
-            Reason::DeclaredTwice => "peer declared twice",
-            Reason::NoTape => "malformed tape line",
-            Reason::TapeBehindStep => "a tape line after the first step",
-            Reason::NoPeerOfTape => "no earlier line declares the peer of this tape",
-            Reason::TapeTwice => "tape given twice",
-            Reason::Unended => "no newline at end of file",
+            BrokenRule::NoStep => "unknown or malformed step",
+            BrokenRule::NoPeer => "malformed settings of a peer",
+            BrokenRule::PeerBehindStep => "a peer line after the first step",
+            BrokenRule::DeclaredTwice => "peer declared twice",
+            BrokenRule::NoTape => "malformed tape line",
+            BrokenRule::TapeBehindStep => "a tape line after the first step",
+            BrokenRule::NoPeerOfTape => "no earlier line declares the peer of this tape",
+            BrokenRule::TapeTwice => "tape given twice",
+            BrokenRule::Unended => "no newline at end of file",
         }
     }
 }
@@ -54,7 +54,7 @@ impl Reason {
 pub enum ScriptFault {
     /// The line at this line number, from 1, is the first that breaks the rules.
     #[error("line {line}: {reason}")]
-    Broken { line: usize, reason: Reason },
+    Broken { line: usize, reason: BrokenRule },
     /// Memory was refused.
     #[error("NoMemory")]
     NoMemory,

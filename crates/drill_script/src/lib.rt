@@ -8,7 +8,6 @@
 #![tactic(auto)]
 
 mod action;
-mod arming;
 mod draft;
 mod fault;
 pub mod laws;
@@ -17,9 +16,10 @@ mod peer;
 mod read;
 mod sentence;
 mod step;
+mod stop_request;
 mod words;
 
-pub use fault::{Reason, ScriptFault};
+pub use fault::{BrokenRule, ScriptFault};
 pub use read::{Script, read_script};
 /// Memory was refused.
 pub use std::alloc::AllocError as NoMemory;

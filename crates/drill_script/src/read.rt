@@ -2,12 +2,12 @@
 ghost use Rattle.std.specs.Prelude.{◌≡◌, ◌≢◌, ◌↔◌, ℕ, Err, IfErr, IfOk, IsOk, length};
 ghost use Rattle.std.specs.List.{IsDistinct};
 ghost use Rattle.std.specs.Str.{bytes_eq};
-ghost use Rattle.drill_script.specs.Script.{IsFirstBroken, IsScript, IsToldOf, KeepsRules, NamesLine};
+ghost use Rattle.drill_script.specs.Script.{IsFirstBroken, IsScript, IsReportedOf, KeepsRules, NamesLine};
 ghost use Rattle.drill_script.specs.declared.fault.ScriptFault.TheVariants.{NoMemory};
 ghost use Rattle.world_core.specs.Given.{given_names};
 
 use crate::draft::Draft;
-use crate::fault::{Reason, ScriptFault};
+use crate::fault::{BrokenRule, ScriptFault};
 use feed_conf::PeerConf;
 use funnel::{first_line, without_cr};
 use std::alloc::Global;
@@ -27,7 +27,7 @@ pub struct Script {
 /// Reads a script. Each of its lines ends with LF, and one CR before that is dropped.
 ///
 /// # Errors
-/// `Broken` at the first line that breaks the rules, the octets behind the last LF among the lines; `NoMemory`.
+/// `Broken` at the first line that breaks the rules; octets after the last LF count as a line. `NoMemory`.
 pub fn read_script(alloc: Global, text: &[u8]) -> Result<Script, ScriptFault>
     // What a script says.
     ensures ok { IfOk result (IsScript text.now) }
@@ -38,7 +38,7 @@ pub fn read_script(alloc: Global, text: &[u8]) -> Result<Script, ScriptFault>
     ensures placed { IfOk result
         (λ script. length script.lines.items ≡ length script.steps.items) }
     // Which line a fault names, and why.
-    ensures broken { IfErr result (IsToldOf text.now) }
+    ensures broken { IfErr result (IsReportedOf text.now) }
     // Memory aside, each of the two comes exactly where it should.
     ensures keeps { result ≢ Err NoMemory → IsOk result ↔ KeepsRules text.now }
     ensures first { (line : ℕ) → result ≢ Err NoMemory
@@ -55,7 +55,7 @@ pub fn read_script(alloc: Global, text: &[u8]) -> Result<Script, ScriptFault>
     if !rest.is_empty() {
         return Err(ScriptFault::Broken {
             line: line_number,
-            reason: Reason::Unended,
+            reason: BrokenRule::Unended,
         });
     }
     let script = draft.finish(alloc)?;

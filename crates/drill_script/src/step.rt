@@ -6,15 +6,15 @@ ghost use Rattle.drill_script.specs.Parts.{SaysNoneBehind, SaysOn, StepOf};
 ghost use Rattle.drill_script.specs.Step.{StepView, Stops, step_view};
 
 use crate::action::{Action, unescape};
-use crate::arming::Arming;
 use crate::numbers::read_number;
+use crate::stop_request::StopRequest;
 use crate::words::{split_name, split_word};
 use disk_model::Choice;
 use funnel::PeerName;
 use std::alloc::{AllocError, Global};
 use world_core::Step;
 
-/// Reads a step; nothing where a line says none.
+/// Reads a step; None if the line says none.
 ///
 /// # Errors
 /// Memory was refused.
@@ -27,7 +27,7 @@ pub fn read_step(alloc: Global, line: &[u8]) -> Result<Option<Step>, AllocError>
     step_of(alloc, word, text)
 }
 
-// The step that a word names, with what stands behind it.
+// The step that a word names, with the text after it.
 fn step_of(alloc: Global, word: &[u8], text: Option<&[u8]>) -> Result<Option<Step>, AllocError>
     ensures { IfOk result (λ step. MatchOption step
         ((said : StepView) → StepOf word.now (option_map (λ t. t.now) text.entry) said → ⊥)
@@ -56,8 +56,8 @@ fn step_of(alloc: Global, word: &[u8], text: Option<&[u8]>) -> Result<Option<Ste
             Some(moment) => Ok(Some(Step::Tick(moment))),
             None => Ok(None),
         },
-        (b"stop", Some(words)) => match Arming::read(alloc, words)? {
-            Some(arming) => Ok(Some(arming.into_step())),
+        (b"stop", Some(words)) => match StopRequest::read(alloc, words)? {
+            Some(request) => Ok(Some(request.into_step())),
             None => Ok(None),
         },
         (word, Some(rest)) => step_behind(alloc, word, rest),
@@ -80,7 +80,7 @@ fn lone_step(alloc: Global, word: &[u8]) -> Option<Step>
     }
 }
 
-// A stop at rest, of which nothing but its call is looked at.
+// A stop at rest: only its call is looked at.
 fn rest_now() -> Step
     ensures { step_view result ≡ Stops }
 {
@@ -111,7 +111,7 @@ fn step_behind(alloc: Global, word: &[u8], rest: &[u8]) -> Result<Option<Step>, 
     }
 }
 
-// A step on one connection, whose number stands first behind the word.
+// A step on one connection, whose number follows the word.
 fn step_on(alloc: Global, word: &[u8], rest: &[u8]) -> Result<Option<Step>, AllocError>
     ensures { IfOk result (λ step. MatchOption step
         ((number : ℕ) (said : ActionView) → SaysOn word.now rest.now number said → ⊥)

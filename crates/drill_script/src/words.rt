@@ -1,4 +1,4 @@
-// Words and names with a space behind them.
+// Words and names before a space.
 ghost use Rattle.std.specs.Prelude.{◌≡◌, ◌++◌, ◌∷◌, ℕ, List, option_map, IfOk, IsTrue, MatchOption};
 ghost use Rattle.funnel.specs.Names.{is_peer_name};
 ghost use Rattle.drill_script.specs.Words.{IsCut, IsSolid};
@@ -7,7 +7,7 @@ use funnel::PeerName;
 use memchr::memchr;
 use std::alloc::{AllocError, Global};
 
-/// What stands before the first space, and behind it where there is one.
+/// The text before the first space, and after it if there is one.
 pub fn split_word(text: &[u8]) -> (&[u8], Option<&[u8]>)
     ensures cut { IsCut text.now result.0.now (option_map (λ t. t.now) result.1) }
     ensures solid { IsSolid result.0.now }
@@ -18,7 +18,7 @@ pub fn split_word(text: &[u8]) -> (&[u8], Option<&[u8]>)
     }
 }
 
-/// The name of a peer before the first space, and what stands behind that; nothing if there is no such name or space.
+/// The name of a peer before the first space, and the text after it; None if there is no such name or space.
 ///
 /// # Errors
 /// Memory was refused.

@@ -1,3 +1,3 @@
 mod Counts
 mod OneEach
-mod PlanLists
+mod TargetLists

@@ -1,3 +1,3 @@
 pub mod Nowhere
 pub mod OpenFiles
-pub mod Plans
+pub mod Targets

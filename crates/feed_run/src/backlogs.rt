@@ -1,5 +1,5 @@
-// The backlog files of the peers, taken in before the work.
-use crate::trouble::Trouble;
+// Importing the peers' backlog files before the work.
+use crate::run_error::RunError;
 use backlog_files::{BacklogFiles, Imported};
 use cli::Source;
 use disk_model::{FileDisk, TapeDirectory, TapeFile};
@@ -9,50 +9,48 @@ use std::alloc::AllocError;
 use std::fs::File;
 use std::rt::Files;
 
-/// The paths of the files that serve for something else, wherever they are, and are never taken in.
+/// The paths of files that serve another purpose, wherever they are, and are never imported.
 #[derive(Clone, Copy)]
-pub(crate) struct Others<'a> {
-    /// The configuration.
+pub(crate) struct OtherFiles<'a> {
     pub conf: &'a str,
-    /// The status file.
     pub status: &'a str,
-    /// The funnel, if there is one.
+    /// Has the funnel's path, if there is a funnel.
     pub source: Source<'a>,
 }
 
-/// Takes in the backlog files of these peers, in their order, from the directory at this path, which is locked, and
-/// tells what became of each.
+/// Imports the backlog files of these peers, in their order, from the directory at this path, which is locked, and logs
+/// what became of each.
 ///
 /// # Errors
-/// The first file that is not taken in, or not removed, and the peer's tape.
+/// The first file that cannot be imported or removed; the first failure of a tape.
 pub(crate) fn take_backlogs<R: Log, F: AllocGlobal + Files<File = File>>(
     rt: &R,
     files: &F,
     tapes: &TapeDirectory,
     directory: &str,
-    others: Others<'_>,
+    others: OtherFiles<'_>,
     peers: &mut [Peer<FileDisk<TapeFile>>],
-) -> Result<(), Trouble> {
+) -> Result<(), RunError> {
     let backlogs = backlog_files(files, tapes, directory, others)?;
     for peer in peers {
         match backlogs.take_in(peer) {
-            Ok(Some(imported)) => tell(rt, &imported),
+            Ok(Some(imported)) => log_import(rt, &imported),
             Ok(None) => {}
             Err(fault) => {
                 let name = peer.name.bytes();
-                return Err(Trouble::backlog(rt, files.alloc(), name, fault));
+                return Err(RunError::backlog(rt, files.alloc(), name, fault));
             }
         }
     }
     Ok(())
 }
 
-// The backlog files of this directory, none of which is one of the others.
+// The backlog files of this directory, without the other files.
 fn backlog_files<'a, F: AllocGlobal + Files<File = File>>(
     files: &'a F,
     tapes: &'a TapeDirectory,
     directory: &'a str,
-    others: Others<'_>,
+    others: OtherFiles<'_>,
 ) -> Result<BacklogFiles<'a, F>, AllocError> {
     let mut backlogs = BacklogFiles::new(files, tapes, directory);
     backlogs.spare(others.conf)?;
@@ -63,8 +61,8 @@ fn backlog_files<'a, F: AllocGlobal + Files<File = File>>(
     Ok(backlogs)
 }
 
-// Tells what became of a file: that lines of it are malformed, or that it was left, with no `-v` too.
-fn tell<R: Log>(rt: &R, imported: &Imported) {
+// Logs what became of a file: a warning if lines of it are malformed, or if it was left in place.
+fn log_import<R: Log>(rt: &R, imported: &Imported) {
     let Imported {
         path,
         report,

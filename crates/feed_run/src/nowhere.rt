@@ -8,43 +8,42 @@ use log::{Log, warn};
 use std::alloc::{AllocError, Global};
 use std::str;
 
-// How many unknown peers are told by name.
-const NAMED: usize = 16;
+// How many unknown peers are logged by name.
+const NAMED_MAX: usize = 16;
 
 /// An unknown peer.
 #[derive(Drop)]
-pub(crate) struct Stray {
-    /// Its name.
+pub(crate) struct UnknownPeer {
     pub name: PeerName,
-    /// How many lines name it, up to the greatest u64.
+    /// How many lines name it, at most the greatest u64.
     pub lines: u64,
 }
 
 /// The lines that name unknown peers: the first 16 peers by name, and the others together.
 #[derive(Drop)]
-pub(crate) struct Strays {
-    /// The peers that are told by name, in the order of their first lines.
-    pub named: Vec<Stray>,
-    /// How many lines name another one, up to the greatest u64.
+pub(crate) struct UnknownPeers {
+    /// The peers that are logged by name, in the order of their first lines.
+    pub named: Vec<UnknownPeer>,
+    /// How many lines name a further one, at most the greatest u64.
     pub others: u64,
 }
 
-impl Strays {
-    /// None.
+impl UnknownPeers {
     pub fn new(alloc: Global) -> Self
         ensures { (result.named.items ≡ []) × (result.others ≡ 0) }
     {
-        Strays {
+        UnknownPeers {
             named: Vec::new(alloc),
             others: 0,
         }
     }
 
-    /// Counts a line that names these unknown peers, once for each, however often it names it.
+    /// Counts a line that names these unknown peers, once for each peer, however often the line names it.
     ///
     /// # Errors
     /// Memory was refused: the line is not counted.
     pub fn add_line(&mut self, names: &[PeerName]) -> Result<(), AllocError>
+        // At most `NAMED_MAX` peers are logged by name: `few` keeps that true for the next call, which requires it.
         requires { length self.old.named.items ≤ 16 }
         ensures ok { OnOk result (AddsLine names.now self.old self.new) }
         ensures few { length self.new.named.items ≤ 16 }
@@ -55,7 +54,7 @@ impl Strays {
         Ok(())
     }
 
-    // Counts a line that names another peer than those that are told by name.
+    // Counts a line that names a peer that is not logged by name.
     fn count_others(&mut self, names: &[PeerName])
         ensures named { self.new.named ≡ self.old.named }
         ensures others { self.new.others ≡ (if has_all self.old.named.items names.now
@@ -66,14 +65,14 @@ impl Strays {
         }
     }
 
-    // Whether all these peers are told by name.
+    // Whether all these peers are logged by name.
     fn has_all(&self, names: &[PeerName]) -> bool
         ensures { result ≡ has_all self.now.named.items names.now }
     {
         names.iter().all(|name| self.has(name))
     }
 
-    // Has peers told by name, as far as there is room, with no line so far.
+    // Has peers logged by name, as far as there is room, with no line counted yet.
     #[tactic(auto, using(crate::proofs::Counts::keeps_none))]
     fn keep_all(&mut self, names: &[PeerName]) -> Result<(), AllocError>
         requires { length self.old.named.items ≤ 16 }
@@ -86,41 +85,41 @@ impl Strays {
         Ok(())
     }
 
-    // Has a peer told by name if there is room, with no line so far.
+    // Has a peer logged by name if there is room, with no line counted yet.
     fn keep(&mut self, name: &PeerName) -> Result<(), AllocError>
         requires { length self.old.named.items ≤ 16 }
         ensures ok { OnOk result (KeepsOne name.now self.old self.new) }
         ensures few { length self.new.named.items ≤ 16 }
     {
-        if self.named.len() >= NAMED || self.has(name) {
+        if self.named.len() >= NAMED_MAX || self.has(name) {
             return Ok(());
         }
         let name = name.clone()?;
-        self.named.push(Stray { name, lines: 0 })?;
+        self.named.push(UnknownPeer { name, lines: 0 })?;
         Ok(())
     }
 
-    // Whether a peer is told by name.
+    // Whether a peer is logged by name.
     fn has(&self, name: &PeerName) -> bool
         ensures { result ≡ has_name self.now.named.items name.now }
     {
         self.named
             .iter()
-            .any(|stray| stray.name.bytes() == name.bytes())
+            .any(|peer| peer.name.bytes() == name.bytes())
     }
 
-    // Counts a line at each peer that is told by name.
+    // Counts a line at each of these peers that is logged by name.
     fn count(&mut self, names: &[PeerName])
         ensures named { self.new.named.items ≡ map (counted names.now) self.old.named.items }
         ensures others { self.new.others ≡ self.old.others }
     {
-        for stray in self.named.iter_mut() {
-            stray.count(names);
+        for peer in self.named.iter_mut() {
+            peer.count(names);
         }
     }
 }
 
-impl Stray {
+impl UnknownPeer {
     // Counts a line that names these peers, if this is one of them.
     fn count(&mut self, names: &[PeerName])
         ensures { self.new ≡ counted names.now self.old }
@@ -131,7 +130,6 @@ impl Stray {
     }
 }
 
-// Whether a name is one of these.
 fn is_named(names: &[PeerName], name: &PeerName) -> bool
     ensures { result ≡ is_named names.now name.now }
 {
@@ -141,18 +139,18 @@ fn is_named(names: &[PeerName], name: &PeerName) -> bool
 /// The lines of a run's funnel that go nowhere.
 #[derive(Drop)]
 pub(crate) struct Nowhere {
-    strays: Strays,
+    unknown: UnknownPeers,
     malformed: Option<Malformed>,
-    // Whether a line was counted since they were told.
+    // Whether a line was counted since `log_new`.
     is_new: bool,
-    ghost few: { length strays.named.items ≤ 16 },
+    // At most `NAMED_MAX` are logged by name, as `add_line` requires.
+    ghost few: { length unknown.named.items ≤ 16 },
 }
 
 impl Nowhere {
-    /// None.
     pub fn new(alloc: Global) -> Self {
         Nowhere {
-            strays: Strays::new(alloc),
+            unknown: UnknownPeers::new(alloc),
             malformed: None,
             is_new: false,
         }
@@ -162,47 +160,46 @@ impl Nowhere {
     ///
     /// # Errors
     /// Memory was refused: the line is not counted.
-    pub fn add_strays(&mut self, names: &[PeerName]) -> Result<(), AllocError> {
+    pub fn add_unknown(&mut self, names: &[PeerName]) -> Result<(), AllocError> {
         if names.is_empty() {
             return Ok(());
         }
         self.is_new = true;
-        self.strays.add_line(names)
+        self.unknown.add_line(names)
     }
 
-    /// Counts a malformed line.
+    /// Counts a malformed line, which has this number.
     pub fn add_malformed(&mut self, number: u64, fault: LineFault) {
         self.is_new = true;
         self.malformed = Some(Malformed::add(self.malformed, number, fault));
     }
 
-    /// Tells of them, a line for each unknown peer and one for what is malformed, if one was counted since they were
-    /// told last. The funnel has this path.
-    pub fn tell_new<R: Log>(&mut self, rt: &R, path: &[u8]) {
+    /// Logs them if a line was counted since the last call. `path` is the funnel's.
+    pub fn log_new<R: Log>(&mut self, rt: &R, path: &[u8]) {
         if self.is_new {
             self.is_new = false;
-            self.tell(rt, path);
+            self.log(rt, path);
         }
     }
 
-    /// Tells of them, a line for each unknown peer and one for what is malformed. The funnel has this path.
-    pub fn tell<R: Log>(&self, rt: &R, path: &[u8]) {
+    /// Logs them: a line for each unknown peer, and one for the malformed lines. `path` is the funnel's.
+    pub fn log<R: Log>(&self, rt: &R, path: &[u8]) {
         let path = text_of(path);
-        for stray in &self.strays.named {
-            let name = text_of(stray.name.bytes());
-            if stray.lines == 1 {
+        for peer in &self.unknown.named {
+            let name = text_of(peer.name.bytes());
+            if peer.lines == 1 {
                 warn!(rt; "{}: 1 line names unknown peer {}", path, name);
             } else {
-                warn!(rt; "{}: {} lines name unknown peer {}", path, stray.lines, name);
+                warn!(rt; "{}: {} lines name unknown peer {}", path, peer.lines, name);
             }
         }
-        tell_others(rt, path, self.strays.others);
-        tell_malformed(rt, path, self.malformed);
+        log_others(rt, path, self.unknown.others);
+        log_malformed(rt, path, self.malformed);
     }
 }
 
-// Tells of the lines that name other unknown peers.
-fn tell_others<R: Log>(rt: &R, path: &str, lines: u64) {
+// Logs how many lines name further unknown peers.
+fn log_others<R: Log>(rt: &R, path: &str, lines: u64) {
     match lines {
         0 => {}
         1 => warn!(rt; "{}: 1 line names other unknown peers", path),
@@ -210,8 +207,7 @@ fn tell_others<R: Log>(rt: &R, path: &str, lines: u64) {
     }
 }
 
-// Tells of malformed lines.
-fn tell_malformed<R: Log>(rt: &R, path: &str, malformed: Option<Malformed>) {
+fn log_malformed<R: Log>(rt: &R, path: &str, malformed: Option<Malformed>) {
     let Some(
         Malformed {
             lines,

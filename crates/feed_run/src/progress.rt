@@ -1,4 +1,4 @@
-// How far a run has come, where its runtime logs.
+// The progress of a run, for its log.
 use disk_model::Disk;
 use flusher::{Naming, Post};
 use funnel::PeerName;
@@ -9,26 +9,25 @@ use std::str;
 use std::sync::Wait;
 use std::time::Instant;
 
-// How often it is told, in seconds.
-const PERIOD: u64 = 10;
+const PERIOD_SECONDS: u64 = 10;
 
-/// When it was told last, and what had been answered by each peer then.
+/// When the progress was logged last, and how many debts each peer had answered then.
 #[derive(Drop)]
 pub(crate) struct Progress {
-    told: Instant,
+    logged: Instant,
     answered: Vec<u64>,
 }
 
 impl Progress {
-    /// At this moment it counts as told.
+    /// It counts as logged now.
     pub fn new(alloc: Global, now: Instant) -> Self {
         Progress {
-            told: now,
+            logged: now,
             answered: Vec::new(alloc),
         }
     }
 
-    /// Notes what each peer has answered before the work.
+    /// Keeps how many debts each peer has answered before the work.
     ///
     /// # Errors
     /// Memory was refused.
@@ -43,29 +42,29 @@ impl Progress {
         Ok(())
     }
 
-    /// Tells, if it is due, what each peer that is owed something or has answered since has had, is owed, and answers a
-    /// second.
-    pub fn tell<D: Disk, N: Naming, R: Wait + Clock + Log>(
+    /// If it is due, logs for each peer that is owed something or has answered since: how many debts it was given, has
+    /// answered and is owed, and how many it answers a second.
+    pub fn log<D: Disk, N: Naming, R: Wait + Clock + Log>(
         &mut self,
         rt: &R,
         post: &Post<D, N>,
         names: &[PeerName],
     ) {
-        let Ok(passed) = self.told.elapsed(rt) else {
+        let Ok(passed) = self.logged.elapsed(rt) else {
             return;
         };
-        if passed.as_secs() < PERIOD {
+        if passed.as_secs() < PERIOD_SECONDS {
             return;
         }
         if let Ok(now) = Instant::now(rt) {
-            self.told = now;
+            self.logged = now;
         }
         if log_enabled!(rt; Level::Info) {
-            self.tell_peers(rt, post, names, passed.as_secs());
+            self.log_peers(rt, post, names, passed.as_secs());
         }
     }
 
-    fn tell_peers<D: Disk, N: Naming, R: Wait + Log>(
+    fn log_peers<D: Disk, N: Naming, R: Wait + Log>(
         &mut self,
         rt: &R,
         post: &Post<D, N>,

@@ -1,24 +1,24 @@
-// A whole run: what is opened before, what the threads do, and what is written at the end.
+// A whole run: what is opened first, what the threads do, and what is written at the end.
 ghost use Rattle.std.specs.Prelude.{◌≡◌, length};
 ghost use Rattle.flusher.specs.Post.{names_of};
 
-use crate::backlogs::{Others, take_backlogs};
-use crate::intake::Intake;
-use crate::leaving::{Leaving, Left};
+use crate::backlogs::{OtherFiles, take_backlogs};
+use crate::countdown::{Countdown, CountedWorker};
+use crate::intake_worker::IntakeWorker;
 use crate::nowhere::Nowhere;
 use crate::open_files::most_connections;
-use crate::plans::{by_name, hosts_of, plans_of};
 use crate::progress::Progress;
+use crate::run_error::{RunError, add_all};
 use crate::status_file::StatusFile;
 use crate::stop_file::StopFile;
 use crate::system::Spools;
 use crate::tapes::{Tapes, open_tapes};
-use crate::trouble::{Trouble, add_all};
+use crate::targets::{by_name, hosts_of, targets_of};
 use article_store::SpoolDirectory;
-use cli::{FeedEnd, FileTrouble, Owing, Source};
+use cli::{FeedEnd, FileError, Owing, Source};
 use disk_model::{Disk, FileDisk, TapeDirectory, TapeFile};
 use feed_conf::{Conf, PeerConf};
-use feeder::{Feeder, FeederFault, PeerPlan, Spool, UnreadPaths};
+use feeder::{Feeder, FeederFault, PeerTarget, Spool, UnreadPaths};
 use flusher::{
     Blanks, FeederShare, Flusher, Free, Naming, NoThread, Peer, Post, PostFault, Signals,
     run_threads,
@@ -40,10 +40,10 @@ use std::sync::{Arc, Wait};
 use std::thread::Threads;
 use std::time::Instant;
 
-/// What a run works with: the runtime of its threads, files for this thread, what opens the spool, the leave to open
-/// sockets, and what looks hosts up.
+/// What a run uses: the runtime of its threads, files for this thread, what opens the spool, the capability to open
+/// sockets, and what looks up hosts.
 #[derive(Drop)]
-pub(crate) struct Means<'a, R, F, H, C, L> {
+pub(crate) struct RunEnv<'a, R, F, H, C, L> {
     pub rt: &'a R,
     pub files: &'a F,
     pub spools: H,
@@ -51,22 +51,22 @@ pub(crate) struct Means<'a, R, F, H, C, L> {
     pub look_up: L,
 }
 
-// What stands before the threads start, but for the tapes.
+// What is prepared before the threads start, besides the tapes.
 #[derive(Drop)]
 struct Prepared<'a, S, F> {
     names: Vec<PeerName>,
-    plans: (Vec<PeerPlan>, Vec<PeerPlan>),
+    targets: (Vec<PeerTarget>, Vec<PeerTarget>),
     hosts: Vec<Host>,
     spools: (Spool<S>, Spool<S>),
     funnel: Option<Funnel<'a, F>>,
     status: Vec<u8>,
-    // What asks the run to end, if it follows its funnel.
+    // The file that asks the run to end, if it follows its funnel.
     stop: Option<StopFile<'a, F>>,
     start: Instant,
 }
 
-/// Feeds the peers of these settings, which were read from the file at this path, from this source, and adds to `end`
-/// what went wrong at work, and what is still owed.
+/// Feeds the peers of these settings, which were read from the file at `path`, from this source. Adds to `end` what
+/// went wrong at work, and what is still owed.
 ///
 /// # Errors
 /// The first thing that went wrong before the work.
@@ -79,50 +79,50 @@ pub(crate) fn feed<
     L: LookUp + Copy + Send + Sync + Drop + 'static,
     W: Write,
 >(
-    means: &Means<'_, R, F, H, C, L>,
+    env: &RunEnv<'_, R, F, H, C, L>,
     conf: Conf,
     path: &str,
     source: Source<'_>,
     out: &mut W,
     end: &mut FeedEnd,
-) -> Result<(), Trouble> {
-    let alloc = means.files.alloc();
+) -> Result<(), RunError> {
+    let alloc = env.files.alloc();
     let directory = Vec::from_slice(alloc, conf.backlog_directory())?;
     let spool = Vec::from_slice(alloc, conf.news_spool())?;
     let status = Vec::from_slice(alloc, conf.status_file())?;
     let peers = by_name(conf);
-    // The directory is locked until the end.
+    // `tapes` holds the directory's lock until the end.
     let Tapes {
         directory: tapes,
         peers: mut stations,
         intake,
-    } = open_tapes(means.rt, means.files, &directory, &peers)?;
-    // One that is asked to end while backlog files are taken in ends after them.
-    let stop = stop_file(means, source, &directory)?;
-    let others = Others {
+    } = open_tapes(env.rt, env.files, &directory, &peers)?;
+    // A run that is asked to end while backlog files are imported ends after that.
+    let stop = stop_file(env, source, &directory)?;
+    let others = OtherFiles {
         conf: path,
         status: text_of(&status),
         source,
     };
     take_backlogs(
-        means.rt,
-        means.files,
+        env.rt,
+        env.files,
         &tapes,
         text_of(&directory),
         others,
         &mut stations,
     )
-    .inspect_err(|_| tell_fault(means.rt, &directory, &tapes))?;
-    let funnel = open_funnel(means, source, intake.mark())?;
-    let prepared = prepare(means, &peers, &spool, funnel, stop, status)?;
+    .inspect_err(|_| log_fault(env.rt, &directory, &tapes))?;
+    let funnel = open_funnel(env, source, intake.mark())?;
+    let prepared = prepare(env, &peers, &spool, funnel, stop, status)?;
     let blanks = Blanks::new(stations.len() as u64);
-    work::<Brand, R, F, S, H, C, L, W>(means, prepared, stations, intake, blanks, out, end)?;
-    tell_fault(means.rt, &directory, &tapes);
+    work::<Brand, R, F, S, H, C, L, W>(env, prepared, stations, intake, blanks, out, end)?;
+    log_fault(env.rt, &directory, &tapes);
     Ok(())
 }
 
-// Logs why the system refused a call of a tape's file, if it did: of several the first is told.
-fn tell_fault<R: Log>(rt: &R, directory: &[u8], tapes: &TapeDirectory) {
+// Logs why the system refused a call on a tape's file, the first one only.
+fn log_fault<R: Log>(rt: &R, directory: &[u8], tapes: &TapeDirectory) {
     if let Some(fault) = tapes.first_fault() {
         info!(rt; "tape file {}/{}: {}", text_of(directory), fault.name, fault.reason);
     }
@@ -133,34 +133,37 @@ fn text_of(path: &[u8]) -> &str {
     str::from_utf8(path).unwrap_or("")
 }
 
-// Opens the spool for each feeder, and makes what it has to know of the peers. No host is looked up yet.
+// Opens the spool for each feeder, and makes its targets. No host is looked up yet.
 fn prepare<'a, R: Clock + Log, F: AllocGlobal, S: Drop, H: Spools<Store = S>, C, L>(
-    means: &Means<'a, R, F, H, C, L>,
+    env: &RunEnv<'a, R, F, H, C, L>,
     peers: &[PeerConf],
     spool: &[u8],
     funnel: Option<Funnel<'a, F>>,
     stop: Option<StopFile<'a, F>>,
     status: Vec<u8>,
-) -> Result<Prepared<'a, S, F>, Trouble> {
-    let alloc = means.files.alloc();
+) -> Result<Prepared<'a, S, F>, RunError> {
+    let alloc = env.files.alloc();
     let Ok(path) = str::from_utf8(spool) else {
         let invalid = io::Error::from(ErrorKind::InvalidInput);
-        return Err(Trouble::unread(means.rt, alloc, spool, &invalid));
+        return Err(RunError::unread(env.rt, alloc, spool, &invalid));
     };
-    let most = most_connections(means.rt, peers);
+    let most = most_connections(env.rt, peers);
     let mut names = Vec::new(alloc);
     for peer in peers {
         names.push(peer.name.clone()?)?;
     }
-    let start = match Instant::now(means.rt) {
+    let start = match Instant::now(env.rt) {
         Ok(start) => start,
-        Err(error) => return Err(Trouble::refused(means.rt, "read the clock", &error)),
+        Err(error) => return Err(RunError::refused(env.rt, "read the clock", &error)),
     };
     Ok(Prepared {
         names,
-        plans: (plans_of(alloc, peers, most)?, plans_of(alloc, peers, most)?),
+        targets: (
+            targets_of(alloc, peers, most)?,
+            targets_of(alloc, peers, most)?,
+        ),
         hosts: hosts_of(alloc, peers)?,
-        spools: (open_spool(means, path)?, open_spool(means, path)?),
+        spools: (open_spool(env, path)?, open_spool(env, path)?),
         funnel,
         status,
         stop,
@@ -170,17 +173,26 @@ fn prepare<'a, R: Clock + Log, F: AllocGlobal, S: Drop, H: Spools<Store = S>, C,
 
 // The spool below the directory at this path.
 fn open_spool<R, F: AllocGlobal, S: Drop, H: Spools<Store = S>, C, L>(
-    means: &Means<'_, R, F, H, C, L>,
+    env: &RunEnv<'_, R, F, H, C, L>,
     path: &str,
 ) -> Result<Spool<S>, AllocError> {
-    let alloc = means.files.alloc();
+    let alloc = env.files.alloc();
     Ok(Spool {
-        store: means.spools.open(alloc, path)?,
+        store: env.spools.open(alloc, path)?,
         path: String::from_str(alloc, path)?,
     })
 }
 
-// Runs the threads, and tells what came of them.
+// Runs the threads, writes the status file, and adds to `end` what went wrong and what is still owed.
+//
+// The `requires` are those of `Post::new`. They tie the blanks, of which the counting ledgers are made, to these peers:
+//
+// - `names`: the ledgers `N` are named after these blanks and these peers. `feed` picks such an `N`
+//   (`proofs/run/feed`).
+// - The others say into how many parts each ledger is cut. Who counts in a ledger holds one of its parts. The intake
+//   alone counts what is taken (`workers.parts ≡ 1`); two feeders and the flusher count what is answered and what is
+//   dropped (3). On the other side each station counts, one for each peer. So nobody else can count, and the workers'
+//   totals are those of the stations.
 fn work<
     N: Naming + Send + Sync,
     R: AllocGlobal + Threads + Wait + Clock + Log + Send + Sync + 'static,
@@ -191,14 +203,14 @@ fn work<
     L: LookUp + Copy + Send + Sync + Drop + 'static,
     W: Write,
 >(
-    means: &Means<'_, R, F, H, C, L>,
+    env: &RunEnv<'_, R, F, H, C, L>,
     prepared: Prepared<'_, S, F>,
     stations: Vec<Peer<FileDisk<TapeFile>>>,
     intake: Tape<FileDisk<TapeFile>>,
     blanks: Blanks,
     out: &mut W,
     end: &mut FeedEnd,
-) -> Result<(), Trouble>
+) -> Result<(), RunError>
     requires names { N.names ≡ names_of blanks stations.items }
     requires taken { (blanks.taken.workers.parts ≡ 1)
         × (blanks.taken.stations.parts ≡ length stations.items) }
@@ -207,14 +219,14 @@ fn work<
     requires dropped { (blanks.dropped.workers.parts ≡ 3)
         × (blanks.dropped.stations.parts ≡ length stations.items) }
 {
-    let alloc = means.files.alloc();
+    let alloc = env.files.alloc();
     let acknowledged = intake.mark();
     let (post, share, one, other, third) = Post::<FileDisk<TapeFile>, N>::new(
         alloc, stations, intake, blanks,
     )?;
     let Prepared {
         names,
-        plans,
+        targets,
         hosts,
         spools,
         funnel,
@@ -222,50 +234,50 @@ fn work<
         stop,
         start,
     } = prepared;
-    let resolver = Resolver::start(means.rt, alloc, hosts, means.look_up)?;
+    let resolver = Resolver::start(env.rt, alloc, hosts, env.look_up)?;
     let (first, second) = feeders(
-        means,
+        env,
         &resolver,
-        plans,
+        targets,
         spools,
         start,
         (one, other),
         stop.is_some(),
     )?;
     let wakers = (
-        waker_of(means.rt, alloc, &resolver, &first)?,
-        waker_of(means.rt, alloc, &resolver, &second)?,
+        waker_of(env.rt, alloc, &resolver, &first)?,
+        waker_of(env.rt, alloc, &resolver, &second)?,
     );
-    let left = Left::new(2);
-    let mut intake = Intake {
+    let countdown = Countdown::new(2);
+    let mut intake = IntakeWorker {
         alloc,
         share,
         funnel,
         out,
         wakers,
         names: &names,
-        status: StatusFile::new(means.files, status, start),
+        status: StatusFile::new(env.files, status, start),
         progress: Progress::new(alloc, start),
         nowhere: Nowhere::new(alloc),
         acknowledged,
-        told: start,
-        left: &left,
+        nowhere_logged: start,
+        countdown: &countdown,
         stop,
         has_no_status: false,
         end: FeedEnd::well(alloc),
     };
-    let first = Leaving {
+    let first = CountedWorker {
         worker: first,
-        left: &left,
+        countdown: &countdown,
     };
-    let second = Leaving {
+    let second = CountedWorker {
         worker: second,
-        left: &left,
+        countdown: &countdown,
     };
     let (signals, flusher) = (Signals::new(), Flusher::new(third));
     let feeders = (first, second);
     let ended = run_threads(
-        means.rt,
+        env.rt,
         &post,
         &signals,
         feeders,
@@ -273,102 +285,102 @@ fn work<
         &mut intake,
         &Free,
     );
-    let Intake {
+    let IntakeWorker {
         status,
         stop,
         has_no_status,
-        end: told,
+        end: intake_end,
         ..
     } = intake;
     match ended {
         Ok((first, second, flusher)) => {
             let (first, second) = (first.worker, second.worker);
             let faults = (flusher.fault, first.fault, second.fault);
-            add_faults(alloc, &names, faults, told, end);
+            add_faults(alloc, &names, faults, intake_end, end);
             add_unread(first.unread, second.unread, end);
         }
-        Err(NoThread) => Trouble::Lack.add_to(end),
+        Err(NoThread) => RunError::OutOfResources.add_to(end),
     }
-    close(means.rt, &post, &names, (status, has_no_status), end);
-    obeyed(means.rt, stop, end);
+    close(env.rt, &post, &names, (status, has_no_status), end);
+    remove_stop(env.rt, stop, end);
     Ok(())
 }
 
-// The file by which the run is asked to end, if it follows its funnel.
+// The file that asks the run to end, if it follows its funnel.
 fn stop_file<'a, R: Log, F: AllocGlobal + Files<File = File>, H, C, L>(
-    means: &Means<'a, R, F, H, C, L>,
+    env: &RunEnv<'a, R, F, H, C, L>,
     source: Source<'_>,
     directory: &[u8],
-) -> Result<Option<StopFile<'a, F>>, Trouble> {
+) -> Result<Option<StopFile<'a, F>>, RunError> {
     match source {
         Source::Funnel {
             is_followed: true,
             ..
         } => {
-            let stop = StopFile::new(means.rt, means.files, text_of(directory))?;
+            let stop = StopFile::new(env.rt, env.files, text_of(directory))?;
             Ok(Some(stop))
         }
         Source::Backlogs | Source::Funnel { .. } => Ok(None),
     }
 }
 
-// Removes the file by which the run may have been asked to end.
-fn obeyed<R: Log, F: AllocGlobal + Files<File = File>>(
+// Removes the file that may have asked the run to end.
+fn remove_stop<R: Log, F: AllocGlobal + Files<File = File>>(
     rt: &R,
     stop: Option<StopFile<'_, F>>,
     end: &mut FeedEnd,
 ) {
     if let Some(stop) = stop
-        && let Err(trouble) = stop.remove(rt)
+        && let Err(error) = stop.remove(rt)
     {
-        trouble.add_to(end);
+        error.add_to(end);
     }
 }
 
-// The two feeders, which share this resolver, and may leave idle connections.
+// The two feeders, which share this resolver. `is_lasting` is whether they leave idle connections.
 fn feeders<N: Naming, R: Log, F: AllocGlobal, S: SpoolDirectory + Drop, H, C: Net + Copy + Drop, L>(
-    means: &Means<'_, R, F, H, C, L>,
+    env: &RunEnv<'_, R, F, H, C, L>,
     resolver: &Resolver,
-    plans: (Vec<PeerPlan>, Vec<PeerPlan>),
+    targets: (Vec<PeerTarget>, Vec<PeerTarget>),
     spools: (Spool<S>, Spool<S>),
     start: Instant,
     shares: (FeederShare<N>, FeederShare<N>),
     is_lasting: bool,
-) -> Result<(Feeder<S, C, N>, Feeder<S, C, N>), Trouble> {
-    let alloc = means.files.alloc();
+) -> Result<(Feeder<S, C, N>, Feeder<S, C, N>), RunError> {
+    let alloc = env.files.alloc();
     let (hosts, others) = (resolver.try_clone()?, resolver.try_clone()?);
     let mut first = Feeder::new(
-        alloc, means.net, hosts, spools.0, 0, plans.0, start, shares.0,
+        alloc, env.net, hosts, spools.0, 0, targets.0, start, shares.0,
     )
-    .map_err(|error| lacking(means.rt, &error))?;
+    .map_err(|error| lacking(env.rt, &error))?;
     let mut second = Feeder::new(
-        alloc, means.net, others, spools.1, 1, plans.1, start, shares.1,
+        alloc, env.net, others, spools.1, 1, targets.1, start, shares.1,
     )
-    .map_err(|error| lacking(means.rt, &error))?;
+    .map_err(|error| lacking(env.rt, &error))?;
     first.is_lasting = is_lasting;
     second.is_lasting = is_lasting;
     Ok((first, second))
 }
 
-// What wakes a feeder. Each answer of the resolver does.
+// A feeder's waker, by which the resolver too wakes it for each answer.
 fn waker_of<R: Wait + Log, S: SpoolDirectory + Drop, C: Net + Drop, N: Naming>(
     rt: &R,
     alloc: Global,
     resolver: &Resolver,
     feeder: &Feeder<S, C, N>,
-) -> Result<Arc<Waker>, Trouble> {
+) -> Result<Arc<Waker>, RunError> {
     let waker = feeder.waker().map_err(|error| lacking(rt, &error))?;
     let waker = Arc::new(alloc, waker)?;
     resolver.wake_by(rt, Arc::try_clone(&waker)?)?;
     Ok(waker)
 }
 
-// The system refused, for this reason, what a feeder waits with.
-fn lacking<R: Log>(rt: &R, error: &io::Error) -> Trouble {
-    Trouble::refused(rt, "poll sockets", error)
+// The system refused a poll or a waker, for this reason.
+fn lacking<R: Log>(rt: &R, error: &io::Error) -> RunError {
+    RunError::refused(rt, "poll sockets", error)
 }
 
-// Adds what went wrong at work: the flusher's fault first, since what it meets the others meet after it.
+// Adds what went wrong at work: the flusher's fault first, since the others meet the same fault after it.
 fn add_faults(
     alloc: Global,
     names: &[PeerName],
@@ -377,14 +389,14 @@ fn add_faults(
     end: &mut FeedEnd,
 ) {
     if let Some(fault) = faults.0 {
-        Trouble::post(alloc, names, fault).add_to(end);
+        RunError::post(alloc, names, fault).add_to(end);
     }
     add_all(intake, end);
     if let Some(fault) = faults.1 {
-        Trouble::feeder(alloc, names, fault).add_to(end);
+        RunError::feeder(alloc, names, fault).add_to(end);
     }
     if let Some(fault) = faults.2 {
-        Trouble::feeder(alloc, names, fault).add_to(end);
+        RunError::feeder(alloc, names, fault).add_to(end);
     }
 }
 
@@ -393,44 +405,44 @@ fn add_unread(first: UnreadPaths, second: UnreadPaths, end: &mut FeedEnd) {
     let first = first.into_paths();
     for path in second.into_paths() {
         if !first.contains(&path) {
-            Trouble::File(FileTrouble::Unread(path)).add_to(end);
+            RunError::File(FileError::Unread(path)).add_to(end);
         }
     }
     for path in first {
-        Trouble::File(FileTrouble::Unread(path)).add_to(end);
+        RunError::File(FileError::Unread(path)).add_to(end);
     }
 }
 
-// Flushes what still pends, writes the status file, of which it may be told that this failed before, and adds what is
-// still owed. After a fault of a tape the others are
-// flushed alone, and nothing is acknowledged; what its peer is owed is not known, and not told.
+// Flushes what is still pending, writes the status file, and adds what is still owed. `is_reported` is whether it was
+// reported before that the status file cannot be written. After a fault of a tape only the other tapes are flushed, and
+// nothing is acknowledged; what the tape's peer is owed is not known, and not reported.
 fn close<D: Disk, N: Naming, R: Wait + Clock + Log, F: AllocGlobal + Files<File = File>>(
     rt: &R,
     post: &Post<D, N>,
     names: &[PeerName],
-    (status, is_told): (StatusFile<'_, F>, bool),
+    (status, is_reported): (StatusFile<'_, F>, bool),
     end: &mut FeedEnd,
 ) {
     let mut status = status;
     if let Err(fault) = flush(rt, post, end.tapes.is_empty()) {
-        Trouble::post(*end.tapes.allocator(), names, fault).add_to(end);
+        RunError::post(*end.tapes.allocator(), names, fault).add_to(end);
     }
-    if let Err(trouble) = status.write(rt, post, names)
-        && !is_told
+    if let Err(error) = status.write(rt, post, names)
+        && !is_reported
     {
-        trouble.add_to(end);
+        error.add_to(end);
     }
     for (peer, name) in names.iter().enumerate() {
         if peer < post.peers() {
             let reported = post.reported(rt, peer);
             if !reported.has_failed && add_owing(name, reported.totals.owed, end).is_err() {
-                end.lacks = true;
+                end.lacks_resources = true;
             }
         }
     }
 }
 
-// Flushes all tapes if they are well, else those that are.
+// Flushes all tapes if none has failed, and otherwise those that have not.
 fn flush<D: Disk, N: Naming, R: Wait>(
     rt: &R,
     post: &Post<D, N>,
@@ -443,7 +455,6 @@ fn flush<D: Disk, N: Naming, R: Wait>(
     post.flush_working(rt, &Free)
 }
 
-// Adds what a peer is still owed.
 fn add_owing(name: &PeerName, owed: u64, end: &mut FeedEnd) -> Result<(), AllocError> {
     if owed > 0 {
         let name = Vec::from_slice(*end.owing.allocator(), name.bytes())?;
@@ -452,13 +463,14 @@ fn add_owing(name: &PeerName, owed: u64, end: &mut FeedEnd) -> Result<(), AllocE
     Ok(())
 }
 
-// Opens the funnel, behind the lines that are acknowledged. One that has not all of them is another, and is not read.
+// Opens the funnel after the lines that are acknowledged. A funnel with fewer lines than that is another one, and is
+// refused.
 fn open_funnel<'a, R: Log, F: AllocGlobal + Files<File = File>, H, C: Net, L>(
-    means: &Means<'a, R, F, H, C, L>,
+    env: &RunEnv<'a, R, F, H, C, L>,
     source: Source<'_>,
     acknowledged: u64,
-) -> Result<Option<Funnel<'a, F>>, Trouble> {
-    let alloc = means.files.alloc();
+) -> Result<Option<Funnel<'a, F>>, RunError> {
+    let alloc = env.files.alloc();
     let Source::Funnel {
         path,
         is_followed,
@@ -468,14 +480,14 @@ fn open_funnel<'a, R: Log, F: AllocGlobal + Files<File = File>, H, C: Net, L>(
         return Ok(None);
     };
     match Funnel::open(
-        means.files,
-        &means.net,
+        env.files,
+        &env.net,
         path,
         acknowledged,
         is_followed,
         is_tidied,
     ) {
         Ok(funnel) => Ok(Some(funnel)),
-        Err(fault) => Err(Trouble::funnel(means.rt, alloc, path.as_bytes(), fault)),
+        Err(fault) => Err(RunError::funnel(env.rt, alloc, path.as_bytes(), fault)),
     }
 }

@@ -1,5 +1,5 @@
 // The status file.
-use crate::trouble::Trouble;
+use crate::run_error::RunError;
 use disk_model::Disk;
 use flusher::{Naming, Post};
 use funnel::PeerName;
@@ -13,10 +13,9 @@ use std::str;
 use std::sync::Wait;
 use std::time::Instant;
 
-// How often it is written, in seconds.
-const PERIOD: u64 = 600;
+const PERIOD_SECONDS: u64 = 600;
 
-/// The status file, which says what each peer was given and is owed.
+/// The status file, which has what each peer was given and is owed.
 #[derive(Drop)]
 pub(crate) struct StatusFile<'a, F> {
     files: &'a F,
@@ -25,7 +24,7 @@ pub(crate) struct StatusFile<'a, F> {
 }
 
 impl<'a, F: AllocGlobal + Files<File = File>> StatusFile<'a, F> {
-    /// The file at this path, which is to be written first so long after this moment as it is written again later.
+    /// The file at this path, which counts as written now.
     pub fn new(files: &'a F, path: Vec<u8>, now: Instant) -> Self {
         StatusFile {
             files,
@@ -34,26 +33,26 @@ impl<'a, F: AllocGlobal + Files<File = File>> StatusFile<'a, F> {
         }
     }
 
-    /// Until when it need not be written, in seconds from now on; 0 where it is due.
+    /// For how many seconds it need not be written; 0 if it is due.
     pub fn wait<R: Clock>(&self, rt: &R) -> u64 {
         match self.written.elapsed(rt) {
-            Ok(passed) => PERIOD.saturating_sub(passed.as_secs()),
-            Err(_) => PERIOD,
+            Ok(passed) => PERIOD_SECONDS.saturating_sub(passed.as_secs()),
+            Err(_) => PERIOD_SECONDS,
         }
     }
 
-    /// Writes what the peers of these names have: a file beside it first, which takes its place once it is whole. What
-    /// is there and is no regular file, a device or a FIFO, is written into. A peer whose tape has failed has the
-    /// figures of its last flush that went well.
+    /// Writes the figures of the peers of these names, into a file beside it, which is renamed to it once it is whole.
+    /// If there is something at its path that is no regular file, as a device or a FIFO, that is written to. A peer
+    /// whose tape has failed has the figures of its last flush that succeeded.
     ///
     /// # Errors
-    /// Memory; that it cannot be written.
+    /// Memory was refused; it cannot be written.
     pub fn write<D: Disk, N: Naming, R: Wait + Clock + Log>(
         &mut self,
         rt: &R,
         post: &Post<D, N>,
         names: &[PeerName],
-    ) -> Result<(), Trouble> {
+    ) -> Result<(), RunError> {
         let alloc = self.files.alloc();
         if let Ok(now) = Instant::now(rt) {
             self.written = now;
@@ -61,7 +60,7 @@ impl<'a, F: AllocGlobal + Files<File = File>> StatusFile<'a, F> {
         let text = text_of(alloc, rt, post, names)?;
         match self.put(&text) {
             Ok(()) => Ok(()),
-            Err(error) => Err(Trouble::unwritten(rt, alloc, &self.path, &error)),
+            Err(error) => Err(RunError::unwritten(rt, alloc, &self.path, &error)),
         }
     }
 
@@ -75,13 +74,12 @@ impl<'a, F: AllocGlobal + Files<File = File>> StatusFile<'a, F> {
         }
     }
 
-    // Writes into what is there.
     fn write_into(&self, path: &str, text: &[u8]) -> io::Result<()> {
         let mut there = OpenOptions::new().write(true).open(self.files, path)?;
         there.write_all(text)
     }
 
-    // Writes a file beside the one at this path, and gives it its place.
+    // Writes a file beside the one at this path, and renames it to that.
     fn replace(&self, path: &str, text: &[u8]) -> io::Result<()> {
         let mut beside = String::from_str(self.files.alloc(), path)?;
         beside.push_str(".new")?;

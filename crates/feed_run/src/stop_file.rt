@@ -1,12 +1,12 @@
-// The file by which a run that follows its funnel is asked to end.
-use crate::trouble::Trouble;
+// The file that asks a run that follows its funnel to end.
+use crate::run_error::RunError;
 use log::Log;
 use std::fs::{self, File};
 use std::io::ErrorKind;
 use std::rt::{Clock, Files};
 use std::time::Instant;
 
-// Its name in the backlog directory: no peer's, and no tape's.
+// Its name in the backlog directory, which neither a peer nor a tape can have.
 const NAME: &str = "/~stop";
 
 /// The file `~stop` in the backlog directory. Whoever makes it asks the run to end in good order.
@@ -14,17 +14,16 @@ const NAME: &str = "/~stop";
 pub(crate) struct StopFile<'a, F> {
     files: &'a F,
     path: String,
-    // When it was looked for last.
     looked: Option<Instant>,
     has_come: bool,
 }
 
 impl<'a, F: AllocGlobal + Files<File = File>> StopFile<'a, F> {
-    /// The one in the directory at this path. One that is there already asks nothing of this run, and is removed.
+    /// The one in the directory at this path. If it is there already, it was not meant for this run, and is removed.
     ///
     /// # Errors
-    /// Memory; that it cannot be removed.
-    pub fn new<R: Log>(rt: &R, files: &'a F, directory: &str) -> Result<Self, Trouble> {
+    /// Memory was refused; it cannot be removed.
+    pub fn new<R: Log>(rt: &R, files: &'a F, directory: &str) -> Result<Self, RunError> {
         let mut path = String::from_str(files.alloc(), directory)?;
         path.push_str(NAME)?;
         let file = StopFile {
@@ -56,14 +55,14 @@ impl<'a, F: AllocGlobal + Files<File = File>> StopFile<'a, F> {
     /// Removes it, if it is there.
     ///
     /// # Errors
-    /// Memory; that it cannot be removed.
-    pub fn remove<R: Log>(&self, rt: &R) -> Result<(), Trouble> {
+    /// Memory was refused; it cannot be removed.
+    pub fn remove<R: Log>(&self, rt: &R) -> Result<(), RunError> {
         match fs::remove_file(self.files, self.path.as_str()) {
             Ok(()) => Ok(()),
             Err(error) if error.kind() == ErrorKind::NotFound => Ok(()),
             Err(error) => {
                 let path = self.path.as_bytes();
-                Err(Trouble::unremoved(rt, self.files.alloc(), path, &error))
+                Err(RunError::unremoved(rt, self.files.alloc(), path, &error))
             }
         }
     }

@@ -1,7 +1,7 @@
-// What `cli` has feed peers.
-use crate::machine::Machine;
-use crate::plans::by_name;
-use crate::run::{Means, feed};
+// Feeding peers for `cli`, with the system's files, sockets and threads.
+use crate::run::{RunEnv, feed};
+use crate::targets::by_name;
+use crate::thread_runtime::ThreadRuntime;
 use article_store::Folder;
 use cli::{FeedEnd, Feeds, Source};
 use feed_conf::Conf;
@@ -16,9 +16,9 @@ use std::rt::{Clock, Files};
 use std::sync::Wait;
 use std::thread::Threads;
 
-// What opens the folder of the articles, once for each feeder.
+// Opens the folder of articles, once for each feeder.
 pub(crate) trait Spools {
-    /// What gives articles.
+    /// A store of articles.
     type Store;
 
     /// The articles below the directory at this path.
@@ -28,7 +28,7 @@ pub(crate) trait Spools {
     fn open(&self, alloc: Global, directory: &str) -> Result<Self::Store, AllocError>;
 }
 
-// Folders of the system's files.
+// Opens folders of the system's files.
 #[derive(Drop)]
 pub(crate) struct HostSpools {
     host: HostRuntime,
@@ -42,8 +42,8 @@ impl Spools for HostSpools {
     }
 }
 
-/// Feeds the peers of these settings, which were read from the file at this path, as [`cli::Feeds`] says: with
-/// this runtime of its threads, the files of `files`, the articles and the sockets of `host`, and what looks hosts up.
+/// Feeds the peers of these settings, which were read from the file at `path`, as [`cli::Feeds`] says. `rt` is the
+/// runtime of the threads; articles and sockets are those of `host`.
 pub fn feed_with<
     M: AllocGlobal + Threads + Wait + Clock + Log + Send + Sync + 'static,
     F: AllocGlobal + Files<File = File>,
@@ -59,7 +59,7 @@ pub fn feed_with<
     source: Source<'_>,
     out: &mut W,
 ) -> FeedEnd {
-    let means = Means {
+    let env = RunEnv {
         rt,
         files,
         spools: HostSpools { host },
@@ -67,29 +67,28 @@ pub fn feed_with<
         look_up,
     };
     let mut end = FeedEnd::well(files.alloc());
-    if let Err(trouble) = feed(&means, conf, path, source, out, &mut end) {
-        trouble.tell(rt);
-        trouble.add_to(&mut end);
+    if let Err(error) = feed(&env, conf, path, source, out, &mut end) {
+        error.log_unopened(rt);
+        error.add_to(&mut end);
     }
     end
 }
 
-/// Feeds with files, sockets, threads, the clock and the standard error of the system's, the threads by the leave of
-/// `R`.
+/// Feeds with the system's files, sockets, threads, clock and standard error; the capability of `R` starts the threads.
 #[derive(Drop)]
 pub struct SystemFeeds<'a, R, F> {
     files: &'a F,
     host: HostRuntime,
-    leave: PhantomData<R>,
+    capability: PhantomData<R>,
 }
 
 impl<'a, R, F> SystemFeeds<'a, R, F> {
-    /// With what may start threads, what opens files in this one, and what opens articles and sockets in the others.
+    /// `files` opens files in this thread, `host` articles and sockets in the others; `_threads` may start threads.
     pub fn new(_threads: &R, files: &'a F, host: HostRuntime) -> Self {
         SystemFeeds {
             files,
             host,
-            leave: PhantomData,
+            capability: PhantomData,
         }
     }
 }
@@ -105,7 +104,7 @@ impl<R: Threads + Wait + Send + Sync + 'static, F: AllocGlobal + Files<File = Fi
         verbose: bool,
         out: &mut W,
     ) -> FeedEnd {
-        let rt = Machine::<R, HostRuntime>::new(self.host, self.host, verbose);
+        let rt = ThreadRuntime::<R, HostRuntime>::new(self.host, self.host, verbose);
         let look_up = SystemLookUp(self.host);
         feed_with(&rt, self.files, self.host, look_up, conf, path, source, out)
     }
@@ -117,12 +116,12 @@ impl<R: Threads + Wait + Send + Sync + 'static, F: AllocGlobal + Files<File = Fi
         verbose: bool,
         out: &mut W,
     ) -> FeedEnd {
-        let rt = Machine::<R, HostRuntime>::new(self.host, self.host, verbose);
+        let rt = ThreadRuntime::<R, HostRuntime>::new(self.host, self.host, verbose);
         match Vec::from_slice(alloc, conf.backlog_directory()) {
             Ok(directory) => list_owed(&rt, self.files, &directory, &by_name(conf), out),
             Err(_) => {
                 let mut end = FeedEnd::well(alloc);
-                end.lacks = true;
+                end.lacks_resources = true;
                 end
             }
         }

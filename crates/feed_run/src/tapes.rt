@@ -1,6 +1,6 @@
-// The tapes of all peers and of the intake, opened.
+// Opening the tapes of all peers and of the intake.
 use crate::disks::{Disks, open_disks};
-use crate::trouble::{INTAKE, Trouble};
+use crate::run_error::{INTAKE, RunError};
 use disk_model::{FileDisk, TapeDirectory, TapeFile};
 use feed_conf::PeerConf;
 use flusher::Peer;
@@ -13,7 +13,7 @@ use std::rt::{Clock, Files};
 /// The files of a tape, the first and the second.
 type TapeFiles = (FileDisk<TapeFile>, FileDisk<TapeFile>);
 
-/// The tapes of all peers, by name, and of the intake, and the directory, which is locked as long as this lives.
+/// The tapes of all peers, by name, and of the intake; and the directory, which is locked as long as this lives.
 #[derive(Drop)]
 pub(crate) struct Tapes {
     pub directory: TapeDirectory,
@@ -24,13 +24,13 @@ pub(crate) struct Tapes {
 /// Opens the tapes in the backlog directory at this path, of these peers and then of the intake.
 ///
 /// # Errors
-/// The first of the tapes that could not be opened.
+/// Of the first tape that could not be opened.
 pub(crate) fn open_tapes<R: Clock, F: AllocGlobal + Files<File = File>>(
     rt: &R,
     files: &F,
     path: &[u8],
     peers: &[PeerConf],
-) -> Result<Tapes, Trouble> {
+) -> Result<Tapes, RunError> {
     let alloc = files.alloc();
     let Disks {
         directory,
@@ -42,12 +42,12 @@ pub(crate) fn open_tapes<R: Clock, F: AllocGlobal + Files<File = File>>(
     let mut opened = Vec::new(alloc);
     for peer in peers {
         let Some(both) = disks.next() else {
-            return Err(missed.unwrap_or(Trouble::Lack));
+            return Err(missed.unwrap_or(RunError::OutOfResources));
         };
         opened.push(open_peer(alloc, peer, both)?)?;
     }
     let Some(both) = disks.next() else {
-        return Err(missed.unwrap_or(Trouble::Lack));
+        return Err(missed.unwrap_or(RunError::OutOfResources));
     };
     Ok(Tapes {
         directory,
@@ -56,12 +56,11 @@ pub(crate) fn open_tapes<R: Clock, F: AllocGlobal + Files<File = File>>(
     })
 }
 
-// Opens what is kept of a peer from its tape's files.
 fn open_peer(
     alloc: Global,
     conf: &PeerConf,
     files: TapeFiles,
-) -> Result<Peer<FileDisk<TapeFile>>, Trouble> {
+) -> Result<Peer<FileDisk<TapeFile>>, RunError> {
     let limits = Limits {
         backlog_limit: conf.backlog_limit,
         backlog_high: conf.backlog_high,
@@ -70,7 +69,7 @@ fn open_peer(
     let (a, b) = files;
     match Peer::open(alloc, conf.name.clone()?, a, b, limits) {
         Ok(peer) => Ok(peer),
-        Err(refused) => Err(Trouble::tape(alloc, conf.name.bytes(), refused.fault)),
+        Err(refused) => Err(RunError::tape(alloc, conf.name.bytes(), refused.fault)),
     }
 }
 
@@ -78,10 +77,10 @@ fn open_tape(
     alloc: Global,
     name: &[u8],
     files: TapeFiles,
-) -> Result<Tape<FileDisk<TapeFile>>, Trouble> {
+) -> Result<Tape<FileDisk<TapeFile>>, RunError> {
     let (a, b) = files;
     match Tape::open(alloc, a, b) {
         Ok(tape) => Ok(tape),
-        Err(refused) => Err(Trouble::tape(alloc, name, refused.fault)),
+        Err(refused) => Err(RunError::tape(alloc, name, refused.fault)),
     }
 }

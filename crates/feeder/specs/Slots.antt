@@ -48,7 +48,7 @@ misses (Missed ∷ h) = misses h + 1
 misses (Lost now ∷ h) = 0
 misses (Left ∷ h) = 0
 
--- it could not be made to one of so many addresses: it is lost where that was so at as many in a row
+-- it could not be made to one of so many addresses: it is lost if that was so at as many in a row
 abbrev pub unmade : (now addresses : ℕ) → List Event → List Event
 unmade now addresses h = (if nat_lt (misses h + 1) addresses then Missed else Lost now) ∷ h
 
@@ -82,7 +82,7 @@ abbrev pub StandsFor : Slot → List Event → Type 0
 StandsFor slot h = (slot.standing ≡ stands_at slot h) × (slot.tries ≡ min (tries h) (2 ^ 64 - 1))
     × (slot.missed ≡ misses h) × Failed slot.backoff (losses h)
 
--- the two have the same plan and the same waits
+-- the two have the same target and the same waits
 abbrev pub IsSameSlot : Slot → Slot → Type 0
-IsSameSlot old new = (new.plan ≡ old.plan) × (first_wait_of new.backoff ≡ first_wait_of old.backoff)
+IsSameSlot old new = (new.target ≡ old.target) × (first_wait_of new.backoff ≡ first_wait_of old.backoff)
     × (most_wait_of new.backoff ≡ most_wait_of old.backoff)

@@ -1,8 +1,8 @@
-// Making connections.
+// Opening connections.
 use crate::Feeder;
-use crate::connection::{Connection, Place};
-use crate::desk::Desk;
-use crate::telling::{name_of, tell_unknown, tell_unmade};
+use crate::logging::{log_unknown, log_unmade, name_of};
+use crate::peer_connection::{ConnectionOwner, PeerConnection};
+use crate::post_view::PostView;
 use article_store::SpoolDirectory;
 use conn_core::{Conn, CxnId};
 use disk_model::Disk;
@@ -16,81 +16,81 @@ use std::io::{self, ErrorKind};
 use std::net::Net;
 use std::sync::Wait;
 
-// What became of a slot that was to be given a connection.
+// Whether to go on with the peer's next slot.
 #[derive(Clone, Copy, PartialEq, Eq)]
-enum Begun {
-    // It has one, or failed: the peer's next slot is to be looked at.
+enum SlotScan {
+    // The slot has a connection now, or failed.
     Next,
-    // The peer's connections have room for all that it is owed, or nothing can be done now.
+    // The peer's connections have room for all that it is owed, or nothing more can be done now.
     Enough,
 }
 
 impl<S: SpoolDirectory + Drop, C: Net + Drop, N: Naming> Feeder<S, C, N> {
-    /// If slots are to be looked at, and debts are claimed, begins to connect those that are due, of each peer as many
-    /// as it needs. What is not known now, since a station is in use, is looked at once more.
+    /// Begins to connect the slots that are due, for each peer as many as it needs, if slots are to be checked and
+    /// debts are claimed. A peer whose station is in use is checked again at the next turn.
     pub(crate) fn connect_due<D: Disk, R: Wait + Log, P: Pace>(
         &mut self,
         rt: &R,
-        desk: &Desk<'_, D, N, P>,
+        view: &PostView<'_, D, N, P>,
         last_phase: bool,
     ) {
-        if !self.looks {
+        if !self.checks_slots {
             return;
         }
-        self.looks = false;
-        if !desk.claims {
+        self.checks_slots = false;
+        if !view.claims {
             return;
         }
         for at in 0..self.peers.len() {
-            self.hear_of(rt, at);
-            self.connect_peer(rt, desk, at, last_phase);
+            self.read_news(rt, at);
+            self.connect_peer(rt, view, at, last_phase);
         }
     }
 
-    // Takes what was found of a peer's host. A name that was known before keeps its addresses.
-    fn hear_of<R: Wait + Log>(&mut self, rt: &R, at: usize) {
+    // Takes the resolver's answer for a peer's host, if there is a new one. A name that was known keeps its addresses.
+    fn read_news<R: Wait + Log>(&mut self, rt: &R, at: usize) {
         let Some(peer) = self.peers.get_mut(at) else {
             return;
         };
         match self
             .hosts
-            .news(rt, peer.plan.peer, &mut peer.seen)
+            .news(rt, peer.target.peer, &mut peer.seen)
             .unwrap_or(None)
         {
             Some(Answer::Found(addresses)) => {
                 peer.is_unknown = false;
-                peer.plan.addresses = addresses;
+                peer.target.addresses = addresses;
             }
             Some(Answer::Unknown(reason)) => {
-                peer.is_unknown = peer.plan.addresses.is_empty();
-                // Both feeders hear of it.
+                peer.is_unknown = peer.target.addresses.is_empty();
+                // Both feeders get the answer; one logs it.
                 if self.which == 0 {
-                    tell_unknown(rt, name_of(&self.peers, at), reason.as_str());
+                    log_unknown(rt, name_of(&self.peers, at), reason.as_str());
                 }
             }
             None => {}
         }
     }
 
-    // Begins to connect the slots of a peer that are due, while it is owed more than its connections can hold.
+    // Begins to connect slots of a peer that are due, while it is owed more than its connections can hold.
     fn connect_peer<D: Disk, R: Wait + Log, P: Pace>(
         &mut self,
         rt: &R,
-        desk: &Desk<'_, D, N, P>,
+        view: &PostView<'_, D, N, P>,
         at: usize,
         last_phase: bool,
     ) {
         for slot in self.slots_from(at)..self.slots_to(at) {
             let is_due = match self.slots.get(slot) {
-                Some(slot) => slot.is_due(desk.now, last_phase),
+                Some(slot) => slot.is_due(view.now, last_phase),
                 None => false,
             };
-            if is_due && self.connect_slot(rt, desk, at, slot, last_phase) == Begun::Enough {
+            if is_due && self.connect_slot(rt, view, at, slot, last_phase) == SlotScan::Enough {
                 break;
             }
         }
         if let Some(peer) = self.peers.get_mut(at) {
-            peer.is_unknown &= self.looks;
+            peer.is_unknown &= self.checks_slots;
         }
     }
 
@@ -98,40 +98,40 @@ impl<S: SpoolDirectory + Drop, C: Net + Drop, N: Naming> Feeder<S, C, N> {
     fn connect_slot<D: Disk, R: Wait + Log, P: Pace>(
         &mut self,
         rt: &R,
-        desk: &Desk<'_, D, N, P>,
+        view: &PostView<'_, D, N, P>,
         at: usize,
         slot: usize,
         last_phase: bool,
-    ) -> Begun {
+    ) -> SlotScan {
         let Some(peer) = self.peers.get(at) else {
-            return Begun::Enough;
+            return SlotScan::Enough;
         };
         if peer.is_closed {
-            return Begun::Enough;
+            return SlotScan::Enough;
         }
-        let (index, room) = (peer.plan.peer, peer.plan.room());
-        match desk.take_room(index, room) {
+        let (index, room) = (peer.target.peer, peer.target.room());
+        match view.take_room(index, room) {
             Some(true) => {}
-            Some(false) => return Begun::Enough,
+            Some(false) => return SlotScan::Enough,
             None => {
-                self.looks = true;
-                return Begun::Enough;
+                self.checks_slots = true;
+                return SlotScan::Enough;
             }
         }
-        if peer.plan.addresses.is_empty() && !peer.is_unknown {
-            desk.give_room(index, room);
-            self.ask(rt, at, desk.now);
-            return Begun::Enough;
+        if peer.target.addresses.is_empty() && !peer.is_unknown {
+            view.give_room(index, room);
+            self.ask(rt, at, view.now);
+            return SlotScan::Enough;
         }
-        self.begin(rt, desk, at, slot, last_phase);
-        Begun::Next
+        self.begin(rt, view, at, slot, last_phase);
+        SlotScan::Next
     }
 
-    // Begins to connect a slot. If it waited, its peer's host is looked up again meanwhile.
+    // Begins to connect a slot. If the slot had to wait, its peer's host is looked up again meanwhile.
     fn begin<D: Disk, R: Wait + Log, P: Pace>(
         &mut self,
         rt: &R,
-        desk: &Desk<'_, D, N, P>,
+        view: &PostView<'_, D, N, P>,
         at: usize,
         slot: usize,
         last_phase: bool,
@@ -141,30 +141,29 @@ impl<S: SpoolDirectory + Drop, C: Net + Drop, N: Naming> Feeder<S, C, N> {
             None => false,
         };
         if waited {
-            self.ask(rt, at, desk.now);
+            self.ask(rt, at, view.now);
         }
-        if let Err(error) = self.connect(at, slot, desk.now) {
+        if let Err(error) = self.connect(at, slot, view.now) {
             if !self.is_unknown(at) {
-                tell_unmade(rt, name_of(&self.peers, at), &error);
+                log_unmade(rt, name_of(&self.peers, at), &error);
             }
             if let Some(peer) = self.peers.get(at) {
-                desk.give_room(peer.plan.peer, peer.plan.room());
+                view.give_room(peer.target.peer, peer.target.room());
             }
-            self.unmade(desk, slot, last_phase);
+            self.unmade(view, slot, last_phase);
         }
     }
 
-    // Has a peer's host looked up, once in a second at most.
+    // Has a peer's host looked up, at most once a second.
     fn ask<R: Wait>(&mut self, rt: &R, at: usize, now: u64) {
         if let Some(peer) = self.peers.get_mut(at)
             && peer.asked != Some(now)
         {
             peer.asked = Some(now);
-            self.hosts.ask(rt, peer.plan.peer);
+            self.hosts.ask(rt, peer.target.peer);
         }
     }
 
-    // Whether a peer's host was looked up and is not known.
     fn is_unknown(&self, at: usize) -> bool {
         match self.peers.get(at) {
             Some(peer) => peer.is_unknown,
@@ -172,25 +171,25 @@ impl<S: SpoolDirectory + Drop, C: Net + Drop, N: Naming> Feeder<S, C, N> {
         }
     }
 
-    /// A slot's connection could not be made, to one of as many addresses as its peer has now. In the last phase the
-    /// peer's other slots are tried at once then.
+    /// A slot could not be connected to one of its peer's addresses. In the last phase the peer's other slots are then
+    /// tried at once.
     pub(crate) fn unmade<D: Disk, P: Pace>(
         &mut self,
-        desk: &Desk<'_, D, N, P>,
+        view: &PostView<'_, D, N, P>,
         at: usize,
         last_phase: bool,
     ) {
         let Some(slot) = self.slots.get_mut(at) else {
             return;
         };
-        let Some(peer) = self.peers.get(slot.plan()) else {
+        let Some(peer) = self.peers.get(slot.target()) else {
             return;
         };
-        slot.unmade(desk.now, peer.plan.addresses.len());
+        slot.unmade(view.now, peer.target.addresses.len());
         if last_phase {
-            desk.set_failing(peer.plan.peer, true);
+            view.set_failing(peer.target.peer, true);
         }
-        self.looks = true;
+        self.checks_slots = true;
     }
 
     // Begins to connect a slot, to the next address of its peer.
@@ -198,7 +197,7 @@ impl<S: SpoolDirectory + Drop, C: Net + Drop, N: Naming> Feeder<S, C, N> {
         let (Some(slot), Some(peer)) = (self.slots.get_mut(slot_at), self.peers.get(at)) else {
             return Err(io::Error::from(ErrorKind::NotFound));
         };
-        let address = peer.plan.address(slot.tries());
+        let address = peer.target.address(slot.tries());
         slot.tried();
         let Some(address) = address else {
             return Err(io::Error::from(ErrorKind::AddrNotAvailable));
@@ -207,15 +206,15 @@ impl<S: SpoolDirectory + Drop, C: Net + Drop, N: Naming> Feeder<S, C, N> {
         let Some(next) = self.number.checked_add(2) else {
             return Err(io::Error::from(ErrorKind::QuotaExceeded));
         };
-        let conn = Conn::new(self.alloc, CxnId(self.number), peer.plan.options)?;
+        let conn = Conn::new(self.alloc, CxnId(self.number), peer.target.options)?;
         self.connections.reserve(1)?;
         link.register(self.poll.registry(), Token(self.connections.vacant_key()))?;
-        let place = Place {
-            peer: peer.plan.peer,
+        let owner = ConnectionOwner {
+            peer: peer.target.peer,
             slot: slot_at,
-            room: peer.plan.room(),
+            room: peer.target.room(),
         };
-        let made = Connection::new(self.alloc, conn, link, address, place, now);
+        let made = PeerConnection::new(self.alloc, conn, link, address, owner, now);
         let _ = self.connections.insert_reserved(made);
         self.number = next;
         Ok(())

@@ -8,10 +8,10 @@ pub enum FeederFault {
     /// The post refused what the feeder can't do without.
     #[error("{0}")]
     Post(PostFault),
-    /// A plan names a peer that the post has not.
+    /// A target names a peer that the post does not have.
     #[error("NoPeer")]
     NoPeer,
-    /// The system could not tell the time, or which sockets are ready.
+    /// The clock could not be read, or the sockets not be polled.
     #[error("System")]
     System,
 }

@@ -1,34 +1,35 @@
-//! Feeders: each is one thread's work, and runs its share of the connections to all peers over real sockets.
+//! Feeders: each is the work of one thread, and runs its share of the connections to all peers over real sockets.
 //!
-//! May touch sockets, the clock, a store of articles, what knows the peers' addresses, and the stations behind a post,
-//! and wait for their locks.
-//! The crates above make a [`Feeder`] for each thread and run it as a [`flusher::Work`]; connection k of each peer is
-//! feeder k mod 2's. What is decided apart from sockets, when a slot is tried again ([`Slot`]), at which address
-//! ([`PeerPlan`]) and how long a feeder sleeps, has contracts; connections and links have theirs in `conn_core` and
-//! `event_loop`.
+//! May touch sockets, the clock, a store of articles, the resolver, and the stations of a post, and wait for their
+//! locks.
+//! The crates above make a [`Feeder`] for each thread and run it as a [`flusher::Work`]; connection k of each peer
+//! belongs to feeder k mod 2. What is decided apart from sockets has contracts: when a slot is tried again ([`Slot`]),
+//! at which address ([`PeerTarget`]), and how long a feeder sleeps. Connections and links have theirs in `conn_core`
+//! and `event_loop`.
 #![tactic(auto)]
 
+mod close_reason;
 mod connecting;
-mod connection;
-mod desk;
-mod ending;
 mod fault;
 mod feeder;
-mod leaving;
-mod moment;
-mod peer;
-mod plan;
+mod logging;
+mod peer_connection;
+mod peer_state;
+mod post_view;
+mod service;
 mod setbacks;
+mod shutdown;
 mod slot;
 mod spool;
-mod telling;
+mod target;
 mod turn;
-mod unread;
-mod visit;
+mod unread_paths;
+mod uptime;
+mod wake_reason;
 
 pub use fault::FeederFault;
 pub use feeder::Feeder;
-pub use plan::PeerPlan;
 pub use slot::Slot;
 pub use spool::Spool;
-pub use unread::UnreadPaths;
+pub use target::PeerTarget;
+pub use unread_paths::UnreadPaths;

@@ -1,18 +1,16 @@
-// The debts of a peer at which its connections failed.
+// The debts of a peer at which connections failed.
 ghost use Rattle.std.specs.Prelude.{◌≡◌, ◌≤◌, ◌↔◌, IfSome, IsNone, IsSome, false, true};
 
 use ledger_core::Key;
 use std::alloc::Global;
 use std::collections::BTreeMap;
 
-// How long a debt is put off for the first time, in seconds.
-const FIRST_WAIT: u64 = 60;
+// How long a debt is put off the first time.
+const WAIT_MIN_SECONDS: u64 = 60;
 
-// How long it is put off at most, in seconds.
-const MOST_WAIT: u64 = 3_600;
+const WAIT_MAX_SECONDS: u64 = 3_600;
 
-// How many debts are remembered at most.
-const MOST_DEBTS: usize = 4_096;
+const DEBTS_MAX: usize = 4_096;
 
 /// How a connection failed at a debt.
 #[derive(Clone, Copy, Debug, PartialEq, Eq)]
@@ -20,11 +18,11 @@ pub(crate) enum Failure {
     /// The debt is the likely cause: its command was the first without an answer when a reply came that answers
     /// nothing, or its article could not be read.
     AtDebt,
-    /// It broke, while the debt's command was the first without an answer: that may be by chance.
+    /// It broke while the debt's command was the first without an answer, which may be by chance.
     Broke,
 }
 
-// What is known of a debt at which a connection failed.
+// The failures at one debt.
 #[derive(Drop)]
 struct Setback {
     // A connection broke at it.
@@ -40,15 +38,14 @@ pub(crate) struct Setbacks {
 }
 
 impl Setbacks {
-    /// No connection has failed.
     pub fn new(alloc: Global) -> Self {
         Setbacks {
             debts: BTreeMap::new(alloc),
         }
     }
 
-    /// A connection failed so at the debt of this key: for how many seconds the debt is to be put off, twice as long
-    /// each time, or None if it is not. If a debt cannot be remembered, each failure counts as its first.
+    /// A connection failed at the debt of this key. Returns for how many seconds the debt is to be put off, twice as
+    /// long each time, or None if it is not to be. If a debt cannot be remembered, each failure counts as its first.
     pub fn wait_after(&mut self, key: Key, failure: Failure) -> Option<u64>
         ensures at_debt { failure ≡ Failure.AtDebt → IsSome result }
         ensures within { IfSome result (λ wait. (60 ≤ wait) × (wait ≤ 3600)) }
@@ -59,7 +56,6 @@ impl Setbacks {
         }
     }
 
-    // The first failure at a debt.
     fn first_wait(&mut self, key: Key, failure: Failure) -> Option<u64>
         ensures at_debt { failure ≡ Failure.AtDebt → IsSome result }
         ensures broke { failure ≡ Failure.Broke → IsNone result }
@@ -67,8 +63,8 @@ impl Setbacks {
     {
         let mut setback = Setback::new();
         let wait = setback.wait_after(failure);
-        if self.debts.len() >= MOST_DEBTS {
-            // The oldest: it may have ended without a word to this feeder.
+        if self.debts.len() >= DEBTS_MAX {
+            // The oldest: it may have ended without this feeder's knowledge.
             let _ = self.debts.pop_first();
         }
         let _ = self.debts.insert(key, setback);
@@ -82,7 +78,6 @@ impl Setbacks {
 }
 
 impl Setback {
-    // None yet.
     fn new() -> Self
         ensures { result.has_broken ≡ false }
     {
@@ -92,7 +87,6 @@ impl Setback {
         }
     }
 
-    // A connection failed so: for how long the debt is put off, if it is.
     fn wait_after(&mut self, failure: Failure) -> Option<u64>
         ensures none { IsNone result
             ↔ ((failure ≡ Failure.Broke) × (self.old.has_broken ≡ false)) }
@@ -104,7 +98,10 @@ impl Setback {
             self.has_broken = true;
             return None;
         }
-        self.wait = self.wait.saturating_mul(2).clamp(FIRST_WAIT, MOST_WAIT);
+        self.wait = self
+            .wait
+            .saturating_mul(2)
+            .clamp(WAIT_MIN_SECONDS, WAIT_MAX_SECONDS);
         Some(self.wait)
     }
 }

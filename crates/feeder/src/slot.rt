@@ -4,14 +4,15 @@ ghost use Rattle.deferral.specs.Failed.{first_wait_of, most_wait_of};
 
 use deferral::Backoff;
 
-/// The slot of one connection of a peer. It has one, or may be given one, or waits since its last one was lost.
+/// The slot of one connection of a peer. It has a connection, or may be given one, or waits because it lost its last
+/// one.
 ///
-/// Contracts see what happened at it, newest first: each of its calls is an event more.
+/// Contracts see the list of its events, newest first: each call adds one.
 #[derive(Clone, Copy, Debug)]
 pub struct Slot {
-    plan: usize,
+    target: usize,
     tries: u64,
-    // At how many of its peer's addresses in a row no connection could be made, since it was lost or left, or its peer
+    // How many addresses of its peer in a row could not be connected to, since the slot was lost or left, or its peer
     // agreed to a mode.
     missed: u64,
     standing: Standing,
@@ -21,11 +22,12 @@ pub struct Slot {
 // What a slot has.
 #[derive(Clone, Copy, Debug, PartialEq, Eq)]
 enum Standing {
-    // No connection, and the last one was not lost: none was tried yet, it was left, or another address is next.
+    // No connection, and the last one was not lost: none was tried yet, or it was left, or the next address is to be
+    // tried.
     Vacant,
-    // A connection, from the try on.
+    // A connection, which may still be being made.
     Taken,
-    // No connection, since the last one was lost: it is not tried before this moment.
+    // No connection, because the last one was lost: no try before this time.
     Waiting { until: u64 },
 }
 
@@ -33,16 +35,16 @@ impl Slot {
     ghost use Rattle.feeder.specs.Slots.{Event, Tried, Agreed, Lost, Left};
     ghost use Rattle.feeder.specs.Slots.{IsSameSlot, StandsFor, is_due, is_waiting, stands_at, tries, unmade};
 
-    /// A slot that was never tried, of the peer of this plan, with its first wait and the most that it waits, in
+    /// A slot that was never tried, with the index of its peer's target, its first wait and its longest wait, in
     /// seconds.
-    pub fn new(plan: usize, first_wait: u64, most_wait: u64) -> Self
+    pub fn new(target: usize, first_wait: u64, most_wait: u64) -> Self
         ensures stands { StandsFor result [] }
-        ensures plan { result.plan ≡ plan }
+        ensures target { result.target ≡ target }
         ensures first { first_wait_of result.backoff ≡ first_wait }
         ensures most { most_wait_of result.backoff ≡ most_wait }
     {
         Slot {
-            plan,
+            target,
             tries: 0,
             missed: 0,
             standing: Standing::Vacant,
@@ -50,11 +52,11 @@ impl Slot {
         }
     }
 
-    /// The index of its peer's plan among the plans.
-    pub fn plan(&self) -> usize
-        ensures { result ≡ self.now.plan }
+    /// The index of its peer among the targets.
+    pub fn target(&self) -> usize
+        ensures { result ≡ self.now.target }
     {
-        self.plan
+        self.target
     }
 
     /// How many tries there were, at most the greatest u64.
@@ -65,7 +67,7 @@ impl Slot {
         self.tries
     }
 
-    /// Whether its last connection was lost, and it has none since.
+    /// Whether it lost its last connection and has none now.
     pub fn is_waiting(&self) -> bool
         ensures { (h : List Event) → StandsFor self.now h
             → result ≡ is_waiting (stands_at self.now h) }
@@ -77,8 +79,8 @@ impl Slot {
         }
     }
 
-    /// Whether it is to be given a connection at this moment. In the last phase one that lost its connection is not
-    /// tried again.
+    /// Whether it is to be given a connection now. In the last phase a slot that lost its connection is not tried
+    /// again.
     pub fn is_due(&self, now: u64, last_phase: bool) -> bool
         ensures { (h : List Event) → StandsFor self.now h
             → result ≡ is_due (stands_at self.now h) now last_phase }
@@ -90,7 +92,7 @@ impl Slot {
         }
     }
 
-    /// Whether it never gets a connection any more: in the last phase, where its last one was lost.
+    /// Whether it gets no connection any more: in the last phase, if its last one was lost.
     pub fn is_given_up(&self, last_phase: bool) -> bool
         ensures { (h : List Event) → StandsFor self.now h
             → result ≡ (last_phase && is_waiting (stands_at self.now h)) }
@@ -98,7 +100,7 @@ impl Slot {
         last_phase && self.is_waiting()
     }
 
-    /// A connection begins to be made.
+    /// A connection is begun.
     pub fn tried(&mut self)
         ensures stands { (h : List Event) → StandsFor self.old h → StandsFor self.new (Tried ∷ h) }
         ensures keeps_slot { IsSameSlot self.old self.new }
@@ -107,7 +109,7 @@ impl Slot {
         self.standing = Standing::Taken;
     }
 
-    /// The peer agreed to a mode over its connection: the next loss is a first one.
+    /// The peer agreed to a mode over its connection: the next loss counts as the first.
     pub fn agreed(&mut self)
         ensures stands { (h : List Event) → StandsFor self.old h
             → StandsFor self.new (Agreed ∷ h) }
@@ -117,8 +119,8 @@ impl Slot {
         self.backoff.opened();
     }
 
-    /// Its connection could not be made to one of its peer's addresses, of which there are so many: at each of them in
-    /// a row it is lost, and before that it is tried at once again, with the next. Where there is none it is lost.
+    /// It could not be connected to one of its peer's addresses. The next address is tried at once; if as many tries in
+    /// a row failed as there are addresses, it is lost.
     pub fn unmade(&mut self, now: u64, addresses: usize)
         ensures stands { (h : List Event) → StandsFor self.old h
             → StandsFor self.new (unmade now addresses h) }
@@ -132,8 +134,7 @@ impl Slot {
         }
     }
 
-    /// Its connection closed for another reason than that it was left in good order, or could be made to no address: it
-    /// waits, from this moment on.
+    /// Its connection closed, but not in good order, or could be made to no address: it waits from now on.
     pub fn lost(&mut self, now: u64)
         ensures stands { (h : List Event) → StandsFor self.old h
             → StandsFor self.new (Lost now ∷ h) }
@@ -145,7 +146,7 @@ impl Slot {
         self.standing = Standing::Waiting { until };
     }
 
-    /// Its connection was left in good order.
+    /// Its connection was ended in good order.
     pub fn left(&mut self)
         ensures stands { (h : List Event) → StandsFor self.old h → StandsFor self.new (Left ∷ h) }
         ensures keeps_slot { IsSameSlot self.old self.new }

@@ -1,10 +1,9 @@
-// The articles, and where they lie.
+// The articles, and the directory that they are in.
 
-/// What gives articles, and the directory below which they lie.
+/// A store of articles, and the directory that they are in.
 #[derive(Drop)]
 pub struct Spool<S> {
-    /// What gives them.
     pub store: S,
-    /// The path of the directory (`news-spool`), which is named if an article can't be read.
+    /// The path of the directory (`news-spool`), for messages.
     pub path: String,
 }

@@ -63,7 +63,7 @@ passes_more lines left missing a b c piece p read counted some = record {
   within = inr some;
 }
 
--- lines behind octets that end none of them alone
+-- lines after octets that end none of them alone
 whole : (octets lines : List ℕ) (left : ℕ) → (octets ≡ []) ⊎ (0 < left) → ends_in lines ≡ left
     → (lines ≡ []) ⊎ ((body : List ℕ) × (lines ≡ body ++ 10 ∷ []))
     → (octets ++ lines ≡ []) ⊎ ((body : List ℕ) × (octets ++ lines ≡ body ++ 10 ∷ []))

@@ -8,7 +8,7 @@ use Rattle.std.proofs.lemmas.List.Sums.{fold-append, fold_push}
 use Rattle.funnel.specs.Stream.{IsUnended, Splits, ended}
 use Rattle.funnel_files.specs.Rest.{leaves_rest}
 
--- more octets behind some
+-- more octets after some
 pub leaves-append : (before : Bool) (a b : List ℕ) → leaves_rest before (a ++ b) ≡ leaves_rest (leaves_rest before a) b
 leaves-append before a b = fold-append (λ (left : Bool) octet. not (octet == 10)) before a b
 
@@ -17,7 +17,7 @@ pub leaves-push : (before : Bool) (front : List ℕ) (last : ℕ)
     → leaves_rest before (front ++ last ∷ []) ≡ not (last == 10)
 leaves-push before front last = fold_push (λ (left : Bool) octet. not (octet == 10)) before front last
 
--- behind whole lines none is left
+-- after whole lines none is left
 lines_leave : (lines : List (List ℕ)) → leaves_rest false (ended lines) ≡ false
 lines_leave [] = refl
 lines_leave (line ∷ lines) =
@@ -25,7 +25,7 @@ lines_leave (line ∷ lines) =
     ∙ ap (λ left. leaves_rest left (ended lines)) (leaves-push false line 10)
     ∙ lines_leave lines
 
--- behind octets among which there is no LF, all of them are
+-- after octets among which there is no LF, all of them are
 unended_leave : (octet : ℕ) (octets : List ℕ) → IsUnended (octet ∷ octets) → leaves_rest false (octet ∷ octets) ≡ true
 unended_leave octet octets unended = all false octet octets unended
   where
@@ -39,7 +39,7 @@ rest_shows (octet ∷ octets) unended =
     let some : nat_lt 0 (length (octet ∷ octets)) ≡ true = grind (arith, common_steps) in
     unended_leave octet octets unended ∙ sym some
 
--- a rest is left if there is one behind the lines
+-- a rest is left if there is one after the lines
 pub rest_left : (octets : List ℕ) (lines : List (List ℕ)) (rest : List ℕ) → Splits octets lines rest
     → leaves_rest false octets ≡ nat_lt 0 (length rest)
 rest_left octets lines rest splits =

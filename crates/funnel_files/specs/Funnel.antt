@@ -8,7 +8,7 @@ abbrev pub ends_in : List ℕ → ℕ
 ends_in [] = 0
 ends_in (octet ∷ octets) = (if octet == 10 then 1 else 0) + ends_in octets
 
--- The octets are so many lines, each with its LF, and nothing behind them.
+-- The octets are so many lines, each with its LF, and nothing after them.
 pub record AreLines (count : ℕ) (octets : List ℕ) : Type 0 where
   pub ends : ends_in octets ≡ count
   pub whole : (octets ≡ []) ⊎ ((body : List ℕ) × (octets ≡ body ++ 10 ∷ []))
@@ -19,7 +19,7 @@ pub record IsBehind (count : ℕ) (octets rest : List ℕ) : Type 0 where
   pub are : AreLines count lines
   pub parts : octets ≡ lines ++ rest
 
--- So many lines were read, where what was left to read is known, and what was read behind them was fed to the cutter.
+-- So many lines were read, if what was left to read is known, and what was read after them was fed to the cutter.
 pub record PassesLines (count : ℕ) (old new : Option (List ℕ)) (cutter : Held) : Type 0 where
   pub octets : List ℕ
   pub rest : List ℕ

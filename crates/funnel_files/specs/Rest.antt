@@ -1,6 +1,6 @@
--- Octets behind the last LF (profile).
+-- Octets after the last LF (profile).
 use Rattle.std.specs.Prelude.{◌==◌, ℕ, Bool, not, List, fold}
 
--- whether a rest without LF is left behind these octets, if one was left before them
+-- whether a rest without LF is left after these octets, if one was left before them
 abbrev pub leaves_rest : Bool → List ℕ → Bool
 leaves_rest before octets = fold (λ (left : Bool) octet. not (octet == 10)) before octets

@@ -4,7 +4,7 @@ use std::alloc::AllocError;
 use std::io::{self, ErrorKind};
 use thiserror::Error;
 
-/// Why a funnel cannot be read on, or a segment of it cannot be removed. The text is for a log, behind the funnel's
+/// Why a funnel cannot be read on, or a segment of it cannot be removed. The text is for a log, after the funnel's
 /// path. `segment` is the number of a segment's first line, which names it.
 #[derive(Debug, Drop, Error)]
 pub enum FunnelFault {

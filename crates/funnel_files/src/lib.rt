@@ -1,19 +1,19 @@
 //! Reading a funnel, which is a file, a pipe or a directory of segments, line by line.
 //!
 //! May touch the funnel's files: it reads them, makes what it read of segments durable, and removes segments if it is
-//! asked to. The crate above uses [`Funnel`]: `next` gives the lines as they come, and `tidy` removes the segments that
-//! lie below a mark. Proved are which lines are passed over (`specs/Funnel.antt`), when segments do not fit together
+//! asked to. The crate above uses [`Funnel`]: `next` returns the lines as they come, and `tidy` removes the segments up
+//! to a mark. Proved are which lines are passed over (`specs/Funnel.antt`), when segments do not fit together
 //! (`Position`) and when some may have become removable (`specs/Due.antt`); what the system's files give is tested.
 #![tactic(auto)]
 
-mod directory;
 mod fault;
 mod line_file;
 mod lines;
 mod plain;
 mod position;
 mod segment;
-mod segment_reader;
+mod segment_directory;
+mod segmented;
 mod tidying;
 mod watch;
 

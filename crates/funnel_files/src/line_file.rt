@@ -1,4 +1,4 @@
-// The lines of a file, of whatever gives its octets.
+// The lines of whatever gives octets.
 ghost use Rattle.std.specs.Prelude.{◌≡◌, ◌↔◌, ◌+◌, ◌<◌, ◌≤◌, [], ◌∷◌, ◌++◌};
 ghost use Rattle.std.specs.Prelude.{IfErr, IfOk, OnErr, OnOk};
 ghost use Rattle.std.specs.Prelude.{ℕ, IfNone, IfSome, IsErrOf, IsTrue, List, length, nat_lt, take};
@@ -13,12 +13,12 @@ use std::io::{self, ErrorKind, Read};
 use thiserror::Error;
 
 // How many octets are read at a time.
-const PIECE: usize = 65_536;
+const PIECE_OCTETS: usize = 65_536;
 
 /// Why lines were not passed over.
 #[derive(Debug, Drop, Error)]
 pub(crate) enum SkipFault {
-    /// There are not so many: these are missing.
+    /// There are fewer: this many are missing.
     #[error("{missing} lines are missing")]
     Short { missing: u64 },
     /// The system's reason, or that memory was refused.
@@ -54,9 +54,9 @@ pub struct LineFile<R: Read + Drop> {
     reader: R,
     cutter: LineCutter,
     piece: Vec<u8>,
-    // How many octets were read, up to the greatest u64.
+    // How many octets were read, at most the greatest u64.
     read: u64,
-    // Whether something was read, and does not end in an LF.
+    // Whether what was read does not end in an LF.
     has_rest: bool,
     ghost room: { 0 < length piece.items },
 }
@@ -75,7 +75,7 @@ impl<R: Read + Drop> LineFile<R> {
         Ok(LineFile {
             reader,
             cutter: LineCutter::new(alloc),
-            piece: vec![in alloc; 0u8; PIECE]?,
+            piece: vec![in alloc; 0u8; PIECE_OCTETS]?,
             read: 0,
             has_rest: false,
         })
@@ -95,12 +95,12 @@ impl<R: Read + Drop> LineFile<R> {
         self.cutter.next()
     }
 
-    /// What it is read from, and how many octets were, up to the greatest u64.
+    /// What it reads from, and how many octets were read, at most the greatest u64.
     pub fn reader(&self) -> (&R, u64) {
         (&self.reader, self.read)
     }
 
-    /// Whether what was read ends in a rest without LF, which is no line.
+    /// Whether what was read ends in a rest without LF. That is no line.
     pub fn has_rest(&self) -> bool
         ensures { (read : List ℕ) (given : List (List ℕ)) (rest : List ℕ)
             → HasGiven self.now read given → Splits read given rest
@@ -109,10 +109,10 @@ impl<R: Read + Drop> LineFile<R> {
         self.has_rest
     }
 
-    /// Reads a piece, and tells whether there was one: at the end there is none. A rest without LF is no line.
+    /// Reads a piece. Returns whether there was one: at the end there is none. A rest without LF is no line.
     ///
     /// # Errors
-    /// The system's; that memory was refused, after which nothing more is to be read.
+    /// The system's; memory was refused: then nothing more may be read.
     pub fn read_piece(&mut self) -> io::Result<bool>
         ensures read { IfOk result (λ some. (piece : List ℕ)
             × Consumes (left_of self.old) (left_of self.new) piece
@@ -127,11 +127,11 @@ impl<R: Read + Drop> LineFile<R> {
         Ok(count > 0)
     }
 
-    /// Passes over the first lines, without a copy, and takes in what stands behind them in the piece that has the last
-    /// of them. Nothing may have been read before.
+    /// Passes over the first `lines` lines, without a copy, and takes in what follows them in the piece that has the
+    /// last of them. Nothing may have been read before.
     ///
     /// # Errors
-    /// `Short` if there are not so many lines; the system's.
+    /// `Short` if there are fewer lines; the system's.
     #[tactic(auto, using(crate::proofs::Passes::passes_none, crate::proofs::Passes::passes_more))]
     pub(crate) fn skip(&mut self, lines: u64) -> Result<(), SkipFault>
         requires { StandsFor self.old.cutter [] [] }
@@ -152,7 +152,7 @@ impl<R: Read + Drop> LineFile<R> {
         Err(SkipFault::Failed(io::Error::from(ErrorKind::TimedOut)))
     }
 
-    // Reads a piece, and gives its length: 0 at the end.
+    // Reads a piece, and returns its length: 0 at the end.
     fn read(&mut self) -> io::Result<usize>
         ensures within { IfOk result (λ count. count ≤ length self.new.piece.items) }
         ensures gave { IfOk result (λ count. Consumes (R.remaining self.old.reader)
@@ -179,7 +179,7 @@ impl<R: Read + Drop> LineFile<R> {
     }
 }
 
-// Whether a rest without LF is left behind a piece, if one was left before it.
+// Whether a rest without LF is left after a piece, if one was left before it.
 fn leaves_rest(before: bool, piece: &[u8]) -> bool
     ensures { result ≡ leaves_rest before piece.now }
 {
@@ -189,7 +189,7 @@ fn leaves_rest(before: bool, piece: &[u8]) -> bool
     }
 }
 
-// What stands behind the first lines of a piece; if it has not so many, how many are missing.
+// What follows the first `lines` lines of a piece; if it has fewer, how many are missing.
 #[tactic(auto, using(crate::proofs::Passes::behind_none, crate::proofs::Passes::behind_more))]
 fn behind(piece: &[u8], lines: u64) -> Result<&[u8], u64>
     ensures found { IfOk result (λ rest. IsBehind lines piece.now rest.now) }

@@ -1,20 +1,20 @@
-// The funnel: its lines as they come, of whatever it is.
-use crate::directory::Directory;
+// The funnel: its lines as they come, whatever kind of file it is.
 use crate::fault::FunnelFault;
 use crate::plain::PlainFunnel;
-use crate::segment_reader::SegmentReader;
+use crate::segment_directory::SegmentDirectory;
+use crate::segmented::SegmentedFunnel;
 use std::fs::{self, File};
 use std::net::Net;
 use std::rt::Files;
 
-/// What comes next of a funnel.
+/// What comes next in a funnel.
 #[derive(Drop)]
 pub enum Next {
     /// A line without its LF.
     Line(Vec<u8>),
     /// Nothing came for a tenth of a second.
     Silence,
-    /// It is at its end for now: what may be added to it comes later.
+    /// It is at its end for now, and more may be added.
     Pause,
     /// Its end; a rest without LF is no line.
     End,
@@ -31,16 +31,16 @@ pub struct Funnel<'a, F> {
 #[derive(Drop)]
 enum Lines<'a, F> {
     File(PlainFunnel),
-    Directory(SegmentReader<'a, F>),
+    Directory(SegmentedFunnel<'a, F>),
 }
 
 impl<'a, F: AllocGlobal + Files<File = File>> Funnel<'a, F> {
-    /// Opens the funnel at this path, behind so many lines: a file, a pipe or the like, or a directory of segments. If
+    /// Opens the funnel at this path, after the line `mark`: a file, a pipe or the like, or a directory of segments. If
     /// it is followed, more may be added at its end. If it is tidied, [`Funnel::tidy`] removes segments.
     ///
     /// # Errors
-    /// `NotADirectory` if it is to be tidied and is none; `Failed` with `UnexpectedEof` if a file has not so many
-    /// lines; of a directory, `NoSegment` if it has none and is not followed, and what [`Funnel::next`] has; the
+    /// `NotADirectory` if it is to be tidied and is no directory; `Failed` with `UnexpectedEof` if a file has fewer
+    /// lines; of a directory, `NoSegment` if it has none and is not followed, and those of [`Funnel::next`]; the
     /// system's.
     pub fn open<C: Net>(
         files: &'a F,
@@ -52,11 +52,11 @@ impl<'a, F: AllocGlobal + Files<File = File>> Funnel<'a, F> {
     ) -> Result<Self, FunnelFault> {
         let alloc = files.alloc();
         let lines = if fs::metadata(files, path).is_ok_and(|there| there.is_dir()) {
-            let directory = Directory {
+            let directory = SegmentDirectory {
                 files,
                 path: String::from_str(alloc, path)?,
             };
-            Lines::Directory(SegmentReader::open(directory, mark, is_followed, is_tidied)?)
+            Lines::Directory(SegmentedFunnel::open(directory, mark, is_followed, is_tidied)?)
         } else {
             let file = PlainFunnel::open(files, net, path, mark, is_followed)?;
             if is_tidied {
@@ -75,7 +75,7 @@ impl<'a, F: AllocGlobal + Files<File = File>> Funnel<'a, F> {
         &self.path
     }
 
-    /// What comes next. Nothing more is to be read after an error.
+    /// What comes next. Nothing more may be read after an error.
     ///
     /// # Errors
     /// `Failed` with `UnexpectedEof` if a file that is followed has become shorter than what was read of it; of a

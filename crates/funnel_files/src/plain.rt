@@ -7,26 +7,26 @@ use std::io::{self, ErrorKind};
 use std::net::Net;
 use std::rt::Files;
 
-// How long a silent funnel is waited for at a time, in milliseconds.
-const SILENCE: u64 = 100;
+// How long one wait for a silent funnel is at most.
+const SILENCE_MAX_MS: u64 = 100;
 
 /// The lines of a file, a pipe or the like.
 #[derive(Drop)]
 pub(crate) struct PlainFunnel {
     lines: LineFile<File>,
-    // None if it can be read at once.
+    // None if reading never has to wait.
     watch: Option<Watch>,
     // Whether something may be added at its end.
     is_followed: bool,
 }
 
 impl PlainFunnel {
-    /// Opens the file at this path, behind so many lines. If it is followed, more may be added at its end. The first
-    /// piece of a plain file is read, so that a path that cannot be read is known at once; what may be silent is read
-    /// here only if lines have to be passed over.
+    /// Opens the file at this path, after its first `lines` lines. If it is followed, more may be added at its end. The
+    /// first piece of a plain file is read, so that a path that cannot be read is known at once; what may be silent is
+    /// read here only if lines have to be passed over.
     ///
     /// # Errors
-    /// The system's; `UnexpectedEof` if there are not so many lines.
+    /// The system's; `UnexpectedEof` if there are fewer lines.
     pub fn open<F: AllocGlobal + Files<File = File>, C: Net>(
         files: &F,
         net: &C,
@@ -58,7 +58,7 @@ impl PlainFunnel {
                 return Ok(Next::Line(line));
             }
             if let Some(watch) = &mut self.watch
-                && !watch.wait(SILENCE)?
+                && !watch.wait(SILENCE_MAX_MS)?
             {
                 return Ok(Next::Silence);
             }
@@ -69,7 +69,7 @@ impl PlainFunnel {
         Ok(Next::End)
     }
 
-    // What its end is: more can be added to a plain file alone.
+    // What its end is: only to a plain file more can be added.
     fn end(&self) -> io::Result<Next> {
         if !self.is_followed || self.watch.is_some() {
             return Ok(Next::End);

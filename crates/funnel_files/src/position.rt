@@ -33,7 +33,7 @@ pub(crate) struct Position {
 }
 
 impl Position {
-    /// In this segment, behind this line, with this segment after it, if there is one.
+    /// In this segment, after the line `last`, with `following` as the next segment, if there is one.
     pub fn new(segment: u64, last: u64, following: Option<u64>) -> Self
         ensures { result ≡ record { segment = segment; last = last; following = following } }
     {
@@ -61,8 +61,8 @@ impl Position {
     /// Takes the segment's next line.
     ///
     /// # Errors
-    /// `Overlap` if it is the next segment's, or behind that one's first; `Full` if no number is left for it. It counts
-    /// as taken if there is a number for it, so that the fault is found at the segment's end too.
+    /// `Overlap` if the next segment has it or an earlier line; `Full` if no number is left for it. It counts as taken
+    /// if there is a number for it, so that the fault is found at the segment's end too.
     pub fn take_line(&mut self) -> Result<(), Misfit>
         ensures overlap { (next : ℕ) → IsErrOf result (Misfit.Overlap self.old.segment next)
             ↔ ((self.old.following ≡ Some next) × (next ≤ self.old.last + 1)) }

@@ -1,8 +1,8 @@
 // A segment that is open.
-use crate::directory::Directory;
 use crate::fault::FunnelFault;
 use crate::line_file::{LineFile, SkipFault};
 use crate::position::{Misfit, Position};
+use crate::segment_directory::SegmentDirectory;
 use segments::{Place, Segments};
 use std::fs::File;
 use std::io;
@@ -17,12 +17,12 @@ pub(crate) struct OpenSegment {
 }
 
 impl OpenSegment {
-    /// Opens the segment of this place, behind the lines up to this mark, among those that there are.
+    /// Opens the segment of this place, one of these, after the lines up to this mark.
     ///
     /// # Errors
     /// `NoFile`; `Short`, or `Gap` if there is a next one, if it has not all lines up to the mark; the system's.
     pub fn open<F: AllocGlobal + Files<File = File>>(
-        directory: &Directory<'_, F>,
+        directory: &SegmentDirectory<'_, F>,
         segments: &Segments,
         place: Place,
         mark: u64,
@@ -58,7 +58,7 @@ impl OpenSegment {
         Ok(Some(line))
     }
 
-    /// Reads a piece, and tells whether there was one.
+    /// Reads a piece. Returns whether there was one.
     ///
     /// # Errors
     /// The system's.
@@ -101,7 +101,7 @@ impl OpenSegment {
     /// The system's.
     pub fn is_replaced<F: AllocGlobal + Files<File = File>>(
         &self,
-        directory: &Directory<'_, F>,
+        directory: &SegmentDirectory<'_, F>,
     ) -> Result<bool, FunnelFault> {
         let (file, read) = self.lines.reader();
         if read > 0 {

@@ -10,7 +10,7 @@ pub(crate) struct Tidying {
 }
 
 impl Tidying {
-    /// What may be removable at once.
+    /// Segments may be removable at once.
     pub fn new() -> Self
         ensures { result.due ≡ Some 1 }
     {
@@ -27,14 +27,14 @@ impl Tidying {
         }
     }
 
-    /// All were removed before the segment that has this one after it.
+    /// The removable segments were removed. The last one that stays is followed by this one, if by any.
     pub fn remove(&mut self, after: Option<u64>)
         ensures { self.new.due ≡ after }
     {
         self.due = after;
     }
 
-    /// The segment that begins with this line is there.
+    /// There is a segment that begins with this line.
     pub fn come(&mut self, first: u64)
         ensures first { IfNone self.old.due (self.new.due ≡ Some first) }
         ensures later { IfSome self.old.due (λ due. self.new.due ≡ Some due) }

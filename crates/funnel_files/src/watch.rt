@@ -8,7 +8,6 @@ use std::net::Net;
 use std::os::fd::{AsRawFd, RawFd};
 use std::time::Duration;
 
-// What it is registered under.
 const TOKEN: Token = Token(0);
 
 /// What waits until something can be read from a pipe, a terminal or the like. The descriptor stays as it is, since
@@ -44,12 +43,12 @@ impl Watch {
         }
     }
 
-    /// Waits until something can be read or the end has come, so many milliseconds at most, and tells whether it is so.
+    /// Waits until something can be read or the end has come, `at_most` milliseconds at most. Returns whether it has.
     ///
     /// # Errors
     /// The system's.
     pub fn wait(&mut self, at_most: u64) -> io::Result<bool> {
-        // What was there before the last wait is reported once more after this alone.
+        // Only after this is what was there before the last wait reported again.
         let mut source = SourceFd(&self.descriptor);
         self.poll
             .registry()

@@ -1,16 +1,16 @@
 //! `innfeed`, the outgoing feeder of a news server: the program.
 //!
 //! It may touch its arguments, the files that they and the configuration name, standard input, both outputs, sockets
-//! and threads; the work is done by `cli`. The words of the command line become an order by `cli_args::read_words`,
-//! which `cli::run` does with the system's files and streams, and with `feed_run` where peers are to be fed. Nothing
-//! stands above it: what it promises is what those calls' contracts promise, and what their tests show.
+//! and threads; the work is done by `cli`. `cli_args::read_args` makes an order of the arguments, which `cli::run` does
+//! with the system's files and streams, and with `feed_run` if peers are to be fed. Nothing stands above it: what it
+//! promises is what the contracts of those calls promise, and what their tests show.
 #![tactic(auto)]
 
 mod files;
 mod streams;
 
 use cli::{Exit, Feeds, Order, run};
-use cli_args::read_words;
+use cli_args::read_args;
 use feed_run::SystemFeeds;
 use files::SystemFiles;
 use std::env;
@@ -24,27 +24,27 @@ const NO_NULL: &[u8] = b"innfeed: cannot open /dev/null in place of closed stand
 const NOT_TEXT: &str = "an argument of the command line is not valid UTF-8";
 
 fn main(rt: HostRuntime) -> ExitCode {
-    // Held to the end: before it is there nothing else is opened.
+    // Held to the end; nothing else is opened before.
     let Ok(_stand_ins) = stand_in(&rt) else {
         let _ = rt.stderr().write_all(NO_NULL);
         return ExitCode::from(Exit::Unreadable.status());
     };
-    // Outside of an order nothing fails but for want of memory.
+    // Besides the order, the only failure is that memory is refused.
     let mut feeds = SystemFeeds::new(&rt, &rt, rt);
-    let exit = obey_words(&rt, &mut feeds, &mut rt.stderr()).unwrap_or(Exit::NoMemory);
+    let exit = obey_args(&rt, &mut feeds, &mut rt.stderr()).unwrap_or(Exit::NoMemory);
     ExitCode::from(exit.status())
 }
 
-// Does what the words of the command line ask for.
-fn obey_words<R: AllocGlobal + Input + Print + Env + Files, P: Feeds, E: Write>(
+// Does what the arguments ask for.
+fn obey_args<R: AllocGlobal + Input + Print + Env + Files, P: Feeds, E: Write>(
     rt: &R,
     feeds: &mut P,
     err: &mut E,
 ) -> io::Result<Exit> {
     match env::args(rt) {
         Ok(args) => {
-            let words: Vec<String> = args.collect(rt.alloc())?;
-            let order = read_words(rt.alloc(), &words)?;
+            let args: Vec<String> = args.collect(rt.alloc())?;
+            let order = read_args(rt.alloc(), &args)?;
             obey(rt, order, feeds, err)
         }
         Err(error) if error.kind() == ErrorKind::OutOfMemory => Err(error),

@@ -2,7 +2,7 @@
 use Rattle.std.specs.Prelude.{ℕ, ◌+◌, ◌==◌, if◌then◌else◌, List, [], ◌∷◌, take}
 use Rattle.tape_journal.specs.Segment.{open_gate, told_length}
 
--- how many octets it has by its gate and the length that it tells; a closed gate stands alone
+-- how many octets it has, by its gate and the length in it; a closed gate stands alone
 abbrev pub first_length : List ℕ → ℕ
 first_length [] = 0
 first_length (gate ∷ rest) = if gate == open_gate then 5 + told_length (gate ∷ rest) else 1

@@ -3,19 +3,19 @@ ghost use Rattle.std.specs.Prelude.{◌≡◌};
 ghost use Rattle.owed_list.specs.FirstRecord.{first_record_of};
 
 // An open gate.
-const OPEN: u8 = 0xa5;
+const OPEN_GATE: u8 = 0xa5;
 
-// How many octets a record has before its payload: the gate and the payload's length.
-const RECORD_HEAD: usize = 5;
+// A record before its payload: the gate and the payload's length.
+const RECORD_HEAD_OCTETS: usize = 5;
 
-/// The octets of the first record of a segment, or all of them if it is not whole. If the first gate is closed there is
-/// no record, and it is that gate alone.
+/// The octets of the first record of a segment, or all octets if it is not whole. If the first gate is closed there is
+/// no record: then it is that gate.
 pub(crate) fn first_record(octets: &[u8]) -> &[u8]
     ensures { result.now ≡ first_record_of octets.now }
 {
     let len = match octets {
-        [gate, ..] if *gate != OPEN => 1,
-        [_, a, b, c, d, ..] => RECORD_HEAD + u32::from_be_bytes([*a, *b, *c, *d]) as usize,
+        [gate, ..] if *gate != OPEN_GATE => 1,
+        [_, a, b, c, d, ..] => RECORD_HEAD_OCTETS + u32::from_be_bytes([*a, *b, *c, *d]) as usize,
         _ => octets.len(),
     };
     &octets[..len.min(octets.len())]

@@ -20,16 +20,16 @@ const INTAKE: &[u8] = b"~intake";
 // A tape as it was read.
 type ReadTape = Tape<FileDisk<Snapshot>>;
 
-/// Writes a line for each debt of these peers, in their order and by rising key, as the tapes in the backlog
-/// directory at this path have them. Nothing is written there, and what is missing is not made. The octets of one
-/// peer's tape are in memory at a time, and its ledger.
+/// Writes a line for each debt of these peers, in their order and by rising key, as the tapes in the backlog directory
+/// at this path have them. Nothing is written there, and what is missing is not made. One peer's tape at a time is in
+/// memory, with its ledger.
 ///
 /// If a run works on the directory, that is logged as a warning: the list is as of a moment ago. The number of the last
 /// line that is acknowledged is logged at the end. It is read first, so that each debt of a line up to that one is in
 /// the list or has ended.
 ///
-/// It ends at the first trouble: that of the directory, which is told of the first tape; that of a peer's tape; that of
-/// the output; that of the intake tape.
+/// It ends at the first error: that of the directory, which is reported for the first tape; that of a peer's tape; that
+/// of the output; that of the intake tape.
 pub fn list_owed<R: AllocGlobal + Log, F: Files<File = File>, W: Write>(
     rt: &R,
     files: &F,
@@ -97,7 +97,7 @@ fn look_at<'a, R: Log, F: Files<File = File>>(
     Ok(path)
 }
 
-// Whether a run holds the lock of the directory at this path. The shared lock ends with this call.
+// Whether a run holds the lock of the directory at this path. The shared lock that is tried ends with this call.
 fn is_locked<F: Files<File = File>>(files: &F, path: &str) -> io::Result<bool> {
     match File::open(files, path)?.try_lock_shared() {
         Ok(()) => Ok(false),
@@ -163,7 +163,7 @@ fn add_debt(
 ) -> Result<(), ListFault> {
     let debt = match tape.debt(key) {
         Ok(Some(debt)) => debt,
-        Ok(None) | Err(TapeFault::NoMemory) => return Err(ListFault::Lack),
+        Ok(None) | Err(TapeFault::NoMemory) => return Err(ListFault::NoMemory),
         Err(fault) => return Err(ListFault::tape(*line.allocator(), name, fault)),
     };
     line.extend_from_slice(name)?;

@@ -1,16 +1,16 @@
 // Reading the files of a tape while a run may work on them.
 //
-// A run adds records to the segment that lives, and writes the other one in a rotation alone, its first record last of
-// all (docs/FORMATS.md). So if the first records of both are what they were after both files were read, no rotation has
-// ended meanwhile, and what was read of the segment that lives is a prefix that it had.
+// A run adds records to the live segment, and writes the other one only in a rotation, its first record last
+// (docs/FORMATS.md). So if the first records of both are unchanged after both files were read, no rotation has ended
+// meanwhile, and what was read of the live segment is a prefix that it had.
 use crate::first_record::first_record;
 use log::{Log, info};
 use std::fs::{self, File};
 use std::io::{self, ErrorKind, Read};
 use std::rt::Files;
 
-// So many readings of a tape may be disturbed.
-const MOST_READINGS: u32 = 10;
+// How often a tape is read if a run disturbs the reading.
+const READINGS_MAX: u32 = 10;
 
 /// The paths of the two files of a tape.
 #[derive(Drop)]
@@ -22,8 +22,8 @@ pub(crate) struct TapePaths {
 /// The octets of the two files of a tape.
 pub(crate) type TapeOctets = (Vec<u8>, Vec<u8>);
 
-/// The octets of the files at these paths; a missing file has none. They are read again if a run has rotated the tape
-/// meanwhile, or made a file shorter.
+/// The octets of the files at these paths; a missing file has none. They are read again if a run has meanwhile rotated
+/// the tape or made a file shorter.
 ///
 /// # Errors
 /// The system's, which is logged; `InvalidInput` if one is no regular file; `TimedOut` if 10 readings were disturbed.
@@ -32,7 +32,7 @@ pub(crate) fn read_files<R: AllocGlobal + Log, F: Files<File = File>>(
     files: &F,
     paths: &TapePaths,
 ) -> io::Result<TapeOctets> {
-    for _reading in 0..MOST_READINGS {
+    for _reading in 0..READINGS_MAX {
         if let Some(both) = read_once(rt, files, paths)? {
             return Ok(both);
         }
@@ -83,20 +83,24 @@ fn begins_as_read<R: AllocGlobal + Log, F: Files<File = File>>(
     let Some(mut file) = open_file(rt, files, path)? else {
         return Ok(octets.is_empty());
     };
-    match read_front(rt, &mut file, first.len().max(1)) {
-        Ok((front, len)) => Ok(front.as_slice() == first && len >= octets.len() as u64),
+    match read_prefix(rt, &mut file, first.len().max(1)) {
+        Ok((prefix, len)) => Ok(prefix.as_slice() == first && len >= octets.len() as u64),
         Err(error) => Err(unread(rt, path, error)),
     }
 }
 
-// So many octets of the front of a file, as far as it has them, and its length after they were read.
-fn read_front<R: AllocGlobal>(rt: &R, file: &mut File, count: usize) -> io::Result<(Vec<u8>, u64)> {
-    let mut front = Vec::new(rt.alloc());
-    file.take(count as u64).read_to_end(&mut front)?;
-    Ok((front, file.metadata()?.len()))
+// The first octets of a file, `count` at most, and its length after they were read.
+fn read_prefix<R: AllocGlobal>(
+    rt: &R,
+    file: &mut File,
+    count: usize,
+) -> io::Result<(Vec<u8>, u64)> {
+    let mut prefix = Vec::new(rt.alloc());
+    file.take(count as u64).read_to_end(&mut prefix)?;
+    Ok((prefix, file.metadata()?.len()))
 }
 
-// Opens a file to be read, None if it is missing. It is looked at first, since opening a FIFO might never end.
+// Opens a file to be read; None if it is missing. It is checked first, since opening a FIFO might never return.
 fn open_file<R: Log, F: Files<File = File>>(
     rt: &R,
     files: &F,

@@ -1,22 +1,21 @@
-// A tape's file, as it was read.
+// A tape's file as it was read.
 ghost use Rattle.std.specs.Prelude.{[]};
 
 use disk_model::{RawFault, RawFile};
 
-/// The octets of a file of a tape, in memory. What is written goes there alone, and not into the file.
+/// The octets of a tape's file, in memory. What is written goes there, and not into the file.
 #[derive(Drop)]
 pub(crate) struct Snapshot {
     octets: Vec<u8>,
 }
 
 impl Snapshot {
-    /// These octets.
     pub fn new(octets: Vec<u8>) -> Self {
         Snapshot { octets }
     }
 }
 
-/// It keeps no record of what happened to it, so nothing is claimed of it but that each call answers.
+/// It keeps no log of its events, so nothing is claimed of it except that each call returns.
 impl RawFile for Snapshot {
     ghost honest = { λ _. ⊥ };
 
@@ -46,8 +45,8 @@ impl RawFile for Snapshot {
         }
         let start = start as usize;
         let from = &from[done..];
-        let (within, behind) = from.split_at(from.len().min(self.octets.len() - start));
-        if self.octets.extend_from_slice(behind).is_err() {
+        let (within, after) = from.split_at(from.len().min(self.octets.len() - start));
+        if self.octets.extend_from_slice(after).is_err() {
             return Err(RawFault::Failed);
         }
         self.octets[start..start + within.len()].copy_from_slice(within);

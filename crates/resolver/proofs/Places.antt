@@ -1,8 +1,8 @@
--- What becomes of the first places of a list where an element is taken out of them.
+-- What becomes of the first places of a list if an element is taken out of them.
 use Rattle.std.proofs.Common.{◌≡◌, ℕ, zero, suc, ◌<◌, ◌≤◌, List, [], ◌∷◌, ◌++◌, length, take, drop, refl, ap, arith}
 use Rattle.std.specs.Prelude.{remove, slice_get, option_to_list}
 
--- the element at n is the first behind n others
+-- the element at n is the first after n others
 slice_get-first : (xs : List ℕ) (n : ℕ) → slice_get xs n ≡ slice_get (drop n xs) 0
 slice_get-first [] zero = refl
 slice_get-first [] (suc n) = refl

@@ -1,2 +1,2 @@
-pub mod Desk
-pub mod Told
+pub mod LookUpQueue
+pub mod LatestAnswer

@@ -33,7 +33,7 @@ impl Host {
 }
 
 impl Answer {
-    ghost use Rattle.resolver.specs.Told.{SaysSame};
+    ghost use Rattle.resolver.specs.LatestAnswer.{SaysSame};
 
     /// The same answer once more.
     ///

@@ -13,7 +13,7 @@ pub trait LookUp {
     fn look_up(&self, alloc: Global, name: &str, port: u16) -> io::Result<Vec<SocketAddr>>;
 }
 
-/// Names are looked up by the system, by this leave to use sockets.
+/// Looks names up by the system, with this capability to use sockets.
 #[derive(Clone, Copy, Debug)]
 pub struct SystemLookUp<C>(pub C);
 

@@ -1,8 +1,8 @@
-// Look-ups in threads.
-use crate::desk::{Desk, MOST, Start};
+// Looking hosts up in threads.
 use crate::host::{Answer, Host};
+use crate::latest_answer::LatestAnswer;
 use crate::look_up::LookUp;
-use crate::told::Told;
+use crate::look_up_queue::{LOOK_UPS_MAX, LookUpQueue, Start};
 use crossbeam_channel::{Receiver, Sender, bounded};
 use mio::Waker;
 use std::alloc::{AllocError, Global};
@@ -19,7 +19,7 @@ use std::thread::Threads;
 #[derive(Drop)]
 pub struct Resolver {
     shared: Arc<Shared>,
-    // What a thread takes its next host from; none if no thread could be started.
+    // What the threads take their next hosts from; none if no thread could be started.
     due: Option<Sender<usize>>,
 }
 
@@ -28,15 +28,15 @@ pub struct Resolver {
 struct Shared {
     alloc: Global,
     hosts: Vec<Host>,
-    desk: Mutex<Desk>,
+    queue: Mutex<LookUpQueue>,
     wakers: Mutex<Vec<Arc<Waker>>>,
 }
 
-// The leave of `R` to wait, for a thread of its own.
+// The capability of `R` to wait, for a thread of its own.
 #[derive(Drop)]
-struct Leave<R>(PhantomData<R>);
+struct Capability<R>(PhantomData<R>);
 
-impl<R: Wait> Wait for Leave<R> {}
+impl<R: Wait> Wait for Capability<R> {}
 
 impl Resolver {
     /// A resolver of these hosts, which are named by their indices from here on. It starts as many threads as there
@@ -55,20 +55,20 @@ impl Resolver {
             .iter()
             .filter(|host| host.literal().is_none())
             .count()
-            .min(MOST);
-        let desk = Mutex::new(Desk::new(alloc, told_of(alloc, &hosts)?)?);
+            .min(LOOK_UPS_MAX);
+        let queue = Mutex::new(LookUpQueue::new(alloc, latest_of(alloc, &hosts)?)?);
         let wakers = Mutex::new(Vec::new(alloc));
         let shared = Arc::new(
             alloc,
             Shared {
                 alloc,
                 hosts,
-                desk,
+                queue,
                 wakers,
             },
         )?;
         let look_up = Arc::new(alloc, look_up)?;
-        let (sender, receiver) = bounded(alloc, MOST)?;
+        let (sender, receiver) = bounded(alloc, LOOK_UPS_MAX)?;
         let mut has_thread = false;
         for _ in 0..wanted {
             has_thread |= has_started(rt, Worker::new(&shared, &look_up, &receiver));
@@ -109,9 +109,9 @@ impl Resolver {
         if self.shared.is_literal(host) {
             return;
         }
-        let start = self.shared.desk.lock(rt).ask(host);
+        let start = self.shared.queue.lock(rt).ask(host);
         if start == Start::Now && !self.has_sent(rt, host) {
-            self.shared.tell(
+            self.shared.put_answer(
                 rt,
                 host,
                 Answer::unknown(self.shared.alloc, "no thread could be started"),
@@ -140,7 +140,7 @@ impl Resolver {
     ) -> Result<Option<Answer>, AllocError> {
         let news = self
             .shared
-            .desk
+            .queue
             .lock(rt)
             .news(self.shared.alloc, host, *seen)?;
         match news {
@@ -154,7 +154,7 @@ impl Resolver {
 
     /// Whether a host is being looked up or waits for it.
     pub fn is_looking<R: Wait>(&self, rt: &R, host: usize) -> bool {
-        self.shared.desk.lock(rt).is_looking(host)
+        self.shared.queue.lock(rt).is_looking(host)
     }
 }
 
@@ -167,7 +167,7 @@ impl Shared {
         }
     }
 
-    // What a look-up of this host gives.
+    // The answer of a look-up of this host.
     fn answer<L: LookUp>(&self, look_up: &L, host: usize) -> Answer {
         let Some(host) = self.hosts.get(host) else {
             return Answer::unknown(self.alloc, "no such host");
@@ -182,9 +182,9 @@ impl Shared {
         }
     }
 
-    // Tells the answer of a host that was being looked up, and gives the one that takes its place.
-    fn tell<R: Wait>(&self, rt: &R, host: usize, answer: Answer) -> Option<usize> {
-        let next = self.desk.lock(rt).answered(host, answer);
+    // Puts the answer of a host that was being looked up, and returns the host that takes its place.
+    fn put_answer<R: Wait>(&self, rt: &R, host: usize, answer: Answer) -> Option<usize> {
+        let next = self.queue.lock(rt).answered(host, answer);
         let wakers = self.wakers.lock(rt);
         for waker in wakers.iter() {
             let _ = waker.wake();
@@ -198,29 +198,29 @@ fn has_started<R: Threads + Wait + Send + 'static, L: LookUp + Send + Sync + Dro
     rt: &R,
     worker: Result<Worker<L>, AllocError>,
 ) -> bool {
-    let leave = Leave::<R>(PhantomData);
+    let capability = Capability::<R>(PhantomData);
     match worker {
-        Ok(worker) => thread::spawn(rt, move || worker.run(&leave)).is_ok(),
+        Ok(worker) => thread::spawn(rt, move || worker.run(&capability)).is_ok(),
         Err(_) => false,
     }
 }
 
-// What is known of the hosts from the start.
-fn told_of(alloc: Global, hosts: &[Host]) -> Result<Vec<Told>, AllocError> {
+// The answers that are known from the start.
+fn latest_of(alloc: Global, hosts: &[Host]) -> Result<Vec<LatestAnswer>, AllocError> {
     let mut all = Vec::with_capacity(alloc, hosts.len())?;
     for host in hosts {
-        let mut told = Told::new();
+        let mut latest = LatestAnswer::new();
         if let Some(address) = host.literal() {
             let mut addresses = Vec::new(alloc);
             addresses.push(address)?;
-            told.tell(Answer::Found(addresses));
+            latest.put(Answer::Found(addresses));
         }
-        all.push(told)?;
+        all.push(latest)?;
     }
     Ok(all)
 }
 
-// What a thread works with.
+// What a thread uses.
 #[derive(Drop)]
 struct Worker<L: Drop> {
     shared: Arc<Shared>,
@@ -257,7 +257,7 @@ impl<L: LookUp + Drop> Worker<L> {
         let mut host = host;
         for _ in rt.forever() {
             let answer = self.shared.answer(&*self.look_up, host);
-            match self.shared.tell(rt, host, answer) {
+            match self.shared.put_answer(rt, host, answer) {
                 Some(next) => host = next,
                 None => return,
             }

@@ -1,4 +1,4 @@
-// The columns of a line: a text with spaces behind it or before it, up to the column's width.
+// The columns of a line: a text padded with spaces, after it or before it, to the column's width.
 ghost use Rattle.std.specs.Prelude.{◌≤◌, OnOk, OnErr};
 ghost use Rattle.std.specs.Io.KnownBytes.{Appends};
 ghost use Rattle.status.specs.Fronts.{AppendsFront};
@@ -10,9 +10,9 @@ use funnel::PeerName;
 use std::io::Write;
 
 // The widest column.
-const WIDEST: usize = 20;
+const COLUMN_MAX_OCTETS: usize = 20;
 
-const SPACES: [u8; WIDEST] = [b' '; WIDEST];
+const SPACES: [u8; COLUMN_MAX_OCTETS] = [b' '; COLUMN_MAX_OCTETS];
 
 // Writes a name at the left of a column.
 pub(crate) fn put_name<W: Write>(
@@ -45,7 +45,6 @@ pub(crate) fn put_number<W: Write>(out: &mut W, width: usize, value: u64) -> Res
     put(out, digits)
 }
 
-// Writes so many spaces.
 fn put_spaces<W: Write>(out: &mut W, count: usize) -> Result<(), ReportFault>
     requires { count ≤ 20 }
     ensures whole { OnOk result

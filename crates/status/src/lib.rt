@@ -3,7 +3,7 @@
 //! May touch nothing but the writer that it is given, and takes no memory; it stands on `funnel` for names and on
 //! `ledger_core` for what a ledger counts.
 //! The crates above use `report`: its clauses give the whole text (`specs/Report.antt`), and after a fault of the
-//! writer what came out is a front of it.
+//! writer a prefix of it was written.
 #![tactic(auto)]
 
 mod columns;

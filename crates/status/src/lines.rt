@@ -14,7 +14,7 @@ use thiserror::Error;
 const HEADER: &[u8] =
     b"peer                      taken   answered    dropped       owed        bytes\n";
 
-/// What is told of one peer.
+/// The figures of one peer.
 #[derive(Clone, Copy)]
 pub struct PeerStatus<'a> {
     /// Its name.
@@ -35,7 +35,7 @@ pub enum ReportFault {
 /// The writer is not flushed.
 ///
 /// # Errors
-/// [`ReportFault::Write`] where the writer failed; a front of the report came out.
+/// [`ReportFault::Write`] if the writer failed; a prefix of the report was written.
 pub fn report<W: Write>(peers: &[PeerStatus<'_>], out: &mut W) -> Result<(), ReportFault>
     ensures whole { OnOk result
         (Appends (W.contents out.old) (W.contents out.new) (report_text peers.now)) }

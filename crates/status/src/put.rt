@@ -1,4 +1,4 @@
-// Writes texts so that after a fault a front of them came out.
+// Writes texts so that after a fault a prefix of them was written.
 ghost use Rattle.std.specs.Prelude.{◌≤◌, length, take, IfOk, OnOk, OnErr};
 ghost use Rattle.std.specs.Io.KnownBytes.{Appends};
 ghost use Rattle.status.specs.Fronts.{AppendsFront};
@@ -7,7 +7,7 @@ use crate::lines::ReportFault;
 use std::io::{ErrorKind, Write};
 
 #[tactic(auto, using(crate::proofs::Parts::at_start, crate::proofs::Parts::at_end, crate::proofs::Parts::rest_left))]
-// Writes all of a text. `write_all` would do the same, but says nothing of what came out before a fault.
+// Writes all of a text. `write_all` would do the same, but says nothing of what was written before a fault.
 pub(crate) fn put<W: Write>(out: &mut W, text: &[u8]) -> Result<(), ReportFault>
     ensures whole { OnOk result (Appends (W.contents out.old) (W.contents out.new) text.now) }
     ensures front { OnErr result (AppendsFront (W.contents out.old) (W.contents out.new) text.now) }
@@ -25,7 +25,7 @@ pub(crate) fn put<W: Write>(out: &mut W, text: &[u8]) -> Result<(), ReportFault>
 }
 
 #[tactic(auto, using(crate::proofs::Parts::write_front, crate::proofs::Parts::kept_none))]
-// Writes some of a text that is not empty, and tells how many octets; none where the write was interrupted.
+// Writes some of a text that is not empty, and returns how many octets; none if the write was interrupted.
 fn put_some<W: Write>(out: &mut W, text: &[u8]) -> Result<usize, ReportFault>
     ensures within { IfOk result (λ count. count ≤ length text.now) }
     ensures some { IfOk result (λ count.

@@ -1,7 +1,7 @@
 // Checks of configurations.
 
 use crate::feeds::Ends;
-use crate::streams::{Asked, OneFile, told};
+use crate::streams::{Asked, OneFile, printed};
 use std::test::Fail;
 
 const EXAMPLE: &[u8] = b"# feed
@@ -56,7 +56,7 @@ const ROWS: [(&[u8], &[u8]); 13] = [
     ),
 ];
 
-// Values that their keys do not take, behind a fault that is not of a value.
+// Values that their keys do not take, after a fault that is not of a value.
 const MISTAKES: &[u8] =
     b"peer p {\n  response-timeout: 0 port-number: 0\n  no-check-high: x.5 # a comment\n}\n\
     group g { streaming: \"\" ip-name: \"\" peer q { max-connections: many } }\n\
@@ -147,7 +147,7 @@ fn configurations_are_explained(rt: HostRuntime) -> Result<(), Fail> {
     for (text, wanted) in EXPLAINED {
         let file = OneFile("x.conf", Ok(text));
         let asked = Asked::CheckExplained("x.conf");
-        let got = told(rt.alloc(), asked, Ends("T"), &file, b"")?;
+        let got = printed(rt.alloc(), asked, Ends("T"), &file, b"")?;
         assert_eq!(rt; got.as_slice(), wanted);
     }
     Ok(())
@@ -164,7 +164,7 @@ fn faults_are_explained(rt: HostRuntime) -> Result<(), Fail> {
         Asked::OwedExplained("x.conf"),
         Asked::FeedLogged("x.conf", "f"),
     ] {
-        let got = told(rt.alloc(), asked, Ends("T"), &file, b"")?;
+        let got = printed(rt.alloc(), asked, Ends("T"), &file, b"")?;
         assert_eq!(rt; got.as_slice(), line.as_slice());
     }
     Ok(())
@@ -174,7 +174,7 @@ fn faults_are_explained(rt: HostRuntime) -> Result<(), Fail> {
 fn configurations_are_checked(rt: HostRuntime) -> Result<(), Fail> {
     for (text, wanted) in ROWS {
         let file = OneFile("x.conf", Ok(text));
-        let got = told(
+        let got = printed(
             rt.alloc(),
             Asked::Check("x.conf"),
             Ends("T"),

@@ -1,7 +1,7 @@
 // The words of the command line.
 
 use cli::{Order, Source};
-use cli_args::read_words;
+use cli_args::read_args;
 use std::alloc::{AllocError, Global};
 use std::test::Fail;
 
@@ -108,8 +108,8 @@ const ROWS: [(&str, &str); 77] = [
     ("innfeed -v --drill x.drill", DRILL_ALONE),
     ("innfeed --drill x.drill", "drill x.drill"),
     ("innfeed --drill=x.drill", "drill x.drill"),
-    ("innfeed --version", "tell innfeed 0.1.0\n"),
-    ("innfeed -V", "tell innfeed 0.1.0\n"),
+    ("innfeed --version", "print innfeed 0.1.0\n"),
+    ("innfeed -V", "print innfeed 0.1.0\n"),
     ("innfeed -C", NEEDS_FILE),
     ("innfeed -c x.conf", "mistake FUNNEL or '-x' is required"),
     (
@@ -166,7 +166,7 @@ const NEEDS_FILE: &str = "mistake '-c FILE' or '--drill FILE' is required";
 const DRILL_ALONE: &str = "mistake '--drill FILE' takes no other argument";
 
 // The words of a line.
-fn split_words(alloc: Global, line: &str) -> Result<Vec<String>, AllocError> {
+fn split_args(alloc: Global, line: &str) -> Result<Vec<String>, AllocError> {
     let mut words = Vec::new(alloc);
     for word in line.split(' ') {
         words.push(String::from_str(alloc, word)?)?;
@@ -174,7 +174,7 @@ fn split_words(alloc: Global, line: &str) -> Result<Vec<String>, AllocError> {
     Ok(words)
 }
 
-// Two texts, one behind the other.
+// Two texts, one after the other.
 fn joined(alloc: Global, first: &str, second: &str) -> Result<String, AllocError> {
     let mut text = String::from_str(alloc, first)?;
     text.push_str(second)?;
@@ -229,8 +229,8 @@ fn owed_text(verbose: bool) -> &'static str {
 
 // What a line's words ask for.
 fn asked(alloc: Global, line: &str) -> Result<String, AllocError> {
-    let words = split_words(alloc, line)?;
-    match read_words(alloc, &words)? {
+    let words = split_args(alloc, line)?;
+    match read_args(alloc, &words)? {
         Order::DrillFromInput => joined(alloc, "drill ", "input"),
         Order::Drill(path) => joined(alloc, "drill ", path),
         Order::Check { conf, verbose } => joined(alloc, checked_text(verbose), conf),
@@ -240,7 +240,7 @@ fn asked(alloc: Global, line: &str) -> Result<String, AllocError> {
             source,
             verbose,
         } => feed_text(alloc, conf, source, verbose),
-        Order::Tell(text) => joined(alloc, "tell ", text.as_str()),
+        Order::Print(text) => joined(alloc, "print ", text.as_str()),
         Order::Mistake(what) => joined(alloc, "mistake ", what.as_str()),
     }
 }
@@ -251,7 +251,7 @@ fn words_and_orders(rt: HostRuntime) -> Result<(), Fail> {
         let got = asked(rt.alloc(), line)?;
         assert_eq!(rt; got.as_str(), wanted);
     }
-    let order = read_words(rt.alloc(), &[])?;
+    let order = read_args(rt.alloc(), &[])?;
     assert!(rt; matches!(order, Order::DrillFromInput));
     Ok(())
 }

@@ -1,14 +1,14 @@
 // Drills, texts that are printed, mistakes in the words, and files that cannot be read.
 
 use crate::feeds::Ends;
-use crate::streams::{Asked, OneFile, told};
+use crate::streams::{Asked, OneFile, printed};
 use std::alloc::Global;
 use std::io::ErrorKind;
 use std::test::Fail;
 
 const SCRIPT: &[u8] = b"peer p\npeer q\nline a/1 <x@y> p q p\nflush\nstop\nrestart\n";
 
-const TOLD: &[u8] = b"0\n1 p new q new\ntaken 1\nstopped\np mark 1 owes 1\nq mark 1 owes 1\n\
+const PRINTED: &[u8] = b"0\n1 p new q new\ntaken 1\nstopped\np mark 1 owes 1\nq mark 1 owes 1\n\
     p taken 1 answered 0 dropped 0 owed 1 bytes 10\n\
     q taken 1 answered 0 dropped 0 owed 1 bytes 10\nend 4\n--\n";
 
@@ -18,7 +18,7 @@ const ROWS: [(Asked, OneFile, &[u8], &[u8]); 20] = [
         Asked::Input,
         OneFile("x", Err(ErrorKind::NotFound)),
         SCRIPT,
-        TOLD,
+        PRINTED,
     ),
     (Asked::Input, OneFile("x", Ok(b"")), b"", b"0\nend 0\n--\n"),
     (
@@ -33,7 +33,12 @@ const ROWS: [(Asked, OneFile, &[u8], &[u8]); 20] = [
         b"restart\n",
         b"1\nstep 1: Running\n--\nstandard input: line 1: nothing has stopped\n",
     ),
-    (Asked::Drill("x"), OneFile("x", Ok(SCRIPT)), b"what\n", TOLD),
+    (
+        Asked::Drill("x"),
+        OneFile("x", Ok(SCRIPT)),
+        b"what\n",
+        PRINTED,
+    ),
     (
         Asked::Drill("x"),
         OneFile("x", Ok(b"peer p")),
@@ -47,7 +52,7 @@ const ROWS: [(Asked, OneFile, &[u8], &[u8]); 20] = [
         b"1\ntaken 0\nstep 2: NoConnection\n--\n\
             x: line 5: no connection has this number, or a stop ended it\n",
     ),
-    // Of two refused tapes the first by name is told; a broken line goes before any.
+    // Of two refused tapes the first by name is reported; a broken line goes before any.
     (
         Asked::Input,
         OneFile("x", Ok(b"")),
@@ -115,7 +120,7 @@ const ROWS: [(Asked, OneFile, &[u8], &[u8]); 20] = [
         b"5\n--\n",
     ),
     (
-        Asked::Tell("innfeed 1.2.3\n"),
+        Asked::Print("innfeed 1.2.3\n"),
         OneFile("x", Ok(b"")),
         b"",
         b"0\ninnfeed 1.2.3\n--\n",
@@ -133,7 +138,7 @@ const ROWS: [(Asked, OneFile, &[u8], &[u8]); 20] = [
 #[test]
 fn orders_are_done(rt: HostRuntime) -> Result<(), Fail> {
     for (asked, file, input, wanted) in ROWS {
-        let got = told(rt.alloc(), asked, Ends("T"), &file, input)?;
+        let got = printed(rt.alloc(), asked, Ends("T"), &file, input)?;
         assert_eq!(rt; got.as_slice(), wanted);
     }
     Ok(())
@@ -142,19 +147,19 @@ fn orders_are_done(rt: HostRuntime) -> Result<(), Fail> {
 // The tape of one debt, in digits.
 const TAPE: [u8; 50] = *b"a50000001301000000000000000103612f31053c7840793e00";
 
-// What a drill tells to which the octets of these digits are given.
-fn told_of(alloc: Global, digits: &[u8]) -> Result<Vec<u8>, Fail> {
+// What a drill prints that is given the octets of these digits as a tape.
+fn printed_of(alloc: Global, digits: &[u8]) -> Result<Vec<u8>, Fail> {
     let mut script = Vec::from_slice(alloc, b"peer p\ntape p ")?;
     script.extend_from_slice(digits)?;
     script.push(b'\n')?;
-    let told = told(
+    let printed = printed(
         alloc,
         Asked::Input,
         Ends("T"),
         &OneFile("x", Ok(b"")),
         &script,
     )?;
-    Ok(told)
+    Ok(printed)
 }
 
 #[test]
@@ -166,7 +171,7 @@ fn a_tape_that_is_cut_short_is_refused(rt: HostRuntime) -> Result<(), Fail> {
             _ => b"3\n--\ntape p: Damaged\n",
         };
         assert_eq!(rt;
-            told_of(rt.alloc(), &TAPE[..2 * octets])?.as_slice(),
+            printed_of(rt.alloc(), &TAPE[..2 * octets])?.as_slice(),
             wanted
         );
     }

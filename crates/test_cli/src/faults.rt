@@ -15,7 +15,7 @@ const STATUSES: [(Asked, u8); 8] = [
     (Asked::Check("x"), 1),
     (Asked::Check("y"), 4),
     (Asked::Owed("y"), 4),
-    (Asked::Tell("text"), 0),
+    (Asked::Print("text"), 0),
     (Asked::Mistake("what"), 2),
 ];
 
@@ -78,7 +78,7 @@ fn a_stream_that_fails_is_named(rt: HostRuntime) -> Result<(), Fail> {
         Asked::Input,
         Asked::Drill("x"),
         Asked::Check("x"),
-        Asked::Tell("text"),
+        Asked::Print("text"),
     ] {
         let got = line_of(rt.alloc(), asked, b"".as_slice(), worn)?;
         assert_eq!(rt; got.as_slice(), UNWRITTEN);

@@ -1,7 +1,7 @@
-// How feeds end, and what is told of it.
+// How feeds end, and what is printed.
 
-use crate::streams::{Asked, OneFile, told};
-use cli::{FeedEnd, Feeds, FileTrouble, Owing, Source, TapeTrouble};
+use crate::streams::{Asked, OneFile, printed};
+use cli::{FeedEnd, Feeds, FileError, Owing, Source, TapeError};
 use feed_conf::Conf;
 use recovery::TapeFault;
 use std::alloc::{AllocError, Global};
@@ -18,25 +18,25 @@ impl Ends {
         match what {
             't' => end
                 .tapes
-                .push(TapeTrouble::Taken(String::from_str(alloc, "a/b")?))?,
-            'T' => end.tapes.push(TapeTrouble::Failed {
+                .push(TapeError::Taken(String::from_str(alloc, "a/b")?))?,
+            'T' => end.tapes.push(TapeError::Failed {
                 name: Vec::from_slice(alloc, b"p")?,
                 fault: TapeFault::Damaged { segment: 0, at: 7 },
             })?,
             'r' => end
                 .files
-                .push(FileTrouble::Unread(Vec::from_slice(alloc, b"r r")?))?,
+                .push(FileError::Unread(Vec::from_slice(alloc, b"r r")?))?,
             'w' => end
                 .files
-                .push(FileTrouble::Unwritten(Vec::from_slice(alloc, b"w")?))?,
+                .push(FileError::Unwritten(Vec::from_slice(alloc, b"w")?))?,
             'o' => end
                 .files
-                .push(FileTrouble::Output(String::from_str(alloc, "worn out")?))?,
+                .push(FileError::Output(String::from_str(alloc, "worn out")?))?,
             'p' => end.owing.push(Owing {
                 name: Vec::from_slice(alloc, b"p")?,
                 owed: 300,
             })?,
-            _ => end.lacks = true,
+            _ => end.lacks_resources = true,
         }
         Ok(())
     }
@@ -45,7 +45,7 @@ impl Ends {
         let mut end = FeedEnd::well(alloc);
         for what in self.0.chars() {
             if Ends::add(&mut end, alloc, what).is_err() {
-                end.lacks = true;
+                end.lacks_resources = true;
             }
         }
         end
@@ -128,8 +128,8 @@ const FOLLOWED_AND_TIDIED: Source<'static> = Source::Funnel {
     is_tidied: true,
 };
 
-// What is asked for, how the feed ends, the file of the configuration, and what is told: the status, standard output,
-// and standard error.
+// What is asked for, how the feed ends, the file of the configuration, and what is printed: the status, standard
+// output, and standard error.
 const ROWS: [(Asked, &str, OneFile, &[u8]); 19] = [
     (
         Asked::FeedLogged("x", "f"),
@@ -250,7 +250,7 @@ const ROWS: [(Asked, &str, OneFile, &[u8]); 19] = [
 #[test]
 fn feeds_end(rt: HostRuntime) -> Result<(), Fail> {
     for (asked, ends, file, wanted) in ROWS {
-        let got = told(rt.alloc(), asked, Ends(ends), &file, b"")?;
+        let got = printed(rt.alloc(), asked, Ends(ends), &file, b"")?;
         assert_eq!(rt; got.as_slice(), wanted);
     }
     Ok(())

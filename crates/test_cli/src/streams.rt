@@ -1,4 +1,4 @@
-// One file, streams that fail, and what a run with them tells.
+// One file, streams that fail, and what a run with them prints.
 
 use crate::feeds::Ends;
 use cli::{Order, ReadFile, Source, run};
@@ -66,7 +66,7 @@ pub enum Asked {
     OwedExplained(&'static str),
     Feed(&'static str, Source<'static>),
     FeedLogged(&'static str, &'static str),
-    Tell(&'static str),
+    Print(&'static str),
     Mistake(&'static str),
 }
 
@@ -105,14 +105,14 @@ pub fn order_of(alloc: Global, asked: Asked) -> Result<Order<'static>, AllocErro
             },
             verbose: true,
         },
-        Asked::Tell(text) => Order::Tell(String::from_str(alloc, text)?),
+        Asked::Print(text) => Order::Print(String::from_str(alloc, text)?),
         Asked::Mistake(what) => Order::Mistake(String::from_str(alloc, what)?),
     })
 }
 
-/// What a run tells, whose feeds end with these troubles: its status as a digit, standard output, and standard error,
+/// What a run prints whose feeds end with these errors: its status as a digit, standard output, and standard error,
 /// with a line between them.
-pub fn told(
+pub fn printed(
     alloc: Global,
     asked: Asked,
     feeds: Ends,
@@ -127,11 +127,11 @@ pub fn told(
     let ended = run(
         alloc, order, file, &mut feeds, &mut input, &mut out, &mut err,
     );
-    let mut told = Vec::new(alloc);
-    told.push(b'0' + ended.exit.status())?;
-    told.push(b'\n')?;
-    told.extend_from_slice(&out)?;
-    told.extend_from_slice(b"--\n")?;
-    told.extend_from_slice(&err)?;
-    Ok(told)
+    let mut printed = Vec::new(alloc);
+    printed.push(b'0' + ended.exit.status())?;
+    printed.push(b'\n')?;
+    printed.extend_from_slice(&out)?;
+    printed.extend_from_slice(b"--\n")?;
+    printed.extend_from_slice(&err)?;
+    Ok(printed)
 }

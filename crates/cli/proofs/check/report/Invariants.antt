@@ -5,4 +5,4 @@ use Rattle.cli.specs.Check.{report_text}
 use Rattle.cli.proofs.check.report.Given as goal
 
 abbrev pub invariant-loop-report : goal.invariant-loop-report
-invariant-loop-report l = l.told.items ≡ flat_map report_text (map report_view (take l.report-index l.reports))
+invariant-loop-report l = l.text.items ≡ flat_map report_text (map report_view (take l.report-index l.reports))

@@ -1,14 +1,14 @@
 use Rattle.std.proofs.Common.{Global, Vec, inl, ℕ}
 use Rattle.std.specs.Prelude.{option_map}
 use Rattle.cli.specs.Ends.{Checks, PrintsBeside}
-use Rattle.cli.proofs.Telling.{comes_as}
+use Rattle.cli.proofs.Reporting.{comes_as}
 use Rattle.cli.proofs.runner.check_file.Goals as goal
 
 pub returns-in_ok-check-in-Ok : goal.returns-in_ok-check-in-Ok
 returns-in_ok-check-in-Ok g c =
-    let told = c.in_ok-check-in-Ok.ensures in
+    let outcome = c.in_ok-check-in-Ok.ensures in
     let checked = c.in_ok-check-in-Ok.field-0 in
-    let means = rw c.deref.ensures.value at told.1 in
+    let means = rw c.deref.ensures.value at outcome.1 in
     let old = g.W.Write.contents c.args.out.now in
     let new = g.W.Write.contents c.print_checked.new.out in
     let said = option_map (λ (lines : Vec ℕ Global). lines.items) checked.advice in
@@ -17,6 +17,6 @@ returns-in_ok-check-in-Ok g c =
     (λ exit line prints. inl (
       c.in-Ok.text.items,
       c.in-Ok.ensures.read,
-      (told.0, means, rw (told.2, told.3) at prints),
+      (outcome.0, means, rw (outcome.2, outcome.3) at prints),
     ))
     c.print_checked.result c.print_checked.ensures

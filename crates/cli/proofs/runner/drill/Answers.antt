@@ -1,4 +1,4 @@
--- A line that was refused is told, and a tape.
+-- A refused line is reported, and a refused tape.
 use Rattle.std.proofs.Common.{Some, inl, refl, subst}
 use Rattle.drill.specs.Drill.{Drills}
 use Rattle.drill.specs.declared.ending.Ending.{Ending}

@@ -1,10 +1,10 @@
 use Rattle.std.proofs.Common.{◌≡◌, ℕ, Option, None, Some, List, [], ◌++◌, ap, ◌∙◌, inl}
 use Rattle.std.specs.Prelude.{codes, IfSome}
 use Rattle.cli.specs.Ends.{DrillsInput, Runs}
-use Rattle.cli.proofs.Telling.{comes_as}
+use Rattle.cli.proofs.Reporting.{comes_as}
 use Rattle.cli.proofs.runner.drill_input.Goals as goal
 
--- what was read behind nothing is all that there was
+-- what was read after nothing is all that there was
 whole : (holds : Option (List ℕ)) (first read text : List ℕ) → first ≡ [] → text ≡ read
     → IfSome holds (λ octets. read ≡ first ++ octets) → IfSome holds (λ octets. text ≡ octets)
 whole None first read text none same is = tt

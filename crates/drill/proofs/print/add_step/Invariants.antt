@@ -4,5 +4,5 @@ use Rattle.world_core.specs.Told.{said_of}
 use Rattle.drill.proofs.print.add_step.Given as goal
 
 -- the lines so far were added
-abbrev pub invariant-loop-one : goal.invariant-loop-one
-invariant-loop-one l = l.out.items ≡ l.initial.out.items ++ flat_map line_text (map said_of (take l.one-index l.told))
+abbrev pub invariant-loop-told : goal.invariant-loop-told
+invariant-loop-told l = l.out.items ≡ l.initial.out.items ++ flat_map line_text (map said_of (take l.told-index l.step))

@@ -6,7 +6,7 @@ use Rattle.world_core.specs.declared.told.Told.{Told}
 use Rattle.drill.proofs.print.add_steps.Given as goal
 
 -- the steps so far were added
-abbrev pub invariant-loop-told : goal.invariant-loop-told
-invariant-loop-told l =
+abbrev pub invariant-loop-step : goal.invariant-loop-step
+invariant-loop-step l =
     l.out.items ≡ l.initial.out.items
-    ++ flat_map step_text (map (λ (told : Vec Told). map said_of told.items) (take l.told-index l.lines))
+    ++ flat_map step_text (map (λ (step : Vec Told). map said_of step.items) (take l.step-index l.lines))

@@ -3,10 +3,10 @@ use Rattle.std.proofs.lemmas.Grind.{common_steps}
 use Rattle.drill_script.specs.Draft.{Drafts, Gains, IsRefusal}
 use Rattle.drill_script.specs.Line.{Says, SentenceView}
 use Rattle.drill_script.specs.Script.{BreaksAt}
-use Rattle.drill_script.specs.declared.fault.Reason.TheVariants.{Unended}
+use Rattle.drill_script.specs.declared.fault.BrokenRule.TheVariants.{Unended}
 use Rattle.drill_script.specs.declared.fault.ScriptFault.TheVariants.{Broken}
 use Rattle.std.specs.Prelude.{Err, Ok}
-use Rattle.drill_script.proofs.Reading.{fault_good, fault_told, first_both, has_more, keeps_both, placed, read_whole}
+use Rattle.drill_script.proofs.Reading.{fault_good, fault_reported, first_both, has_more, keeps_both, placed, read_whole}
 use Rattle.drill_script.proofs.Reading.{refusal_told}
 use Rattle.drill_script.proofs.Distinct.{names_differ}
 use Rattle.drill_script.proofs.read.read_script.Goals as goal
@@ -21,7 +21,7 @@ returns-in_err-add-clause-broken c =
     refusal_told c.args.text.now c.loop-line.rest.now c.in-Some.line.now c.in-Some.more.now c.loop-line.line_number
     has.sentences has.reads has.at c.in-Some.ensures.line fault
     (subst (λ (l : List ℕ). IsRefusal c.loop-line.line_number l has.sentences fault) c.without_cr.ensures refused) in
-    fault_told c.args.text.now c.from_residual.result fault c.from_residual.ensures.1 told
+    fault_reported c.args.text.now c.from_residual.result fault c.from_residual.ensures.1 told
 
 pub returns-in_err-add-clause-keeps : goal.returns-in_err-add-clause-keeps
 returns-in_err-add-clause-keeps c =
@@ -35,7 +35,7 @@ returns-in_err-add-clause-keeps c =
     (subst (λ (l : List ℕ). IsRefusal c.loop-line.line_number l has.sentences fault) c.without_cr.ensures refused) in
     keeps_both c.args.text.now c.from_residual.result
     (fault_good c.args.text.now c.from_residual.result fault c.from_residual.ensures.1)
-    (fault_told c.args.text.now c.from_residual.result fault c.from_residual.ensures.1 told)
+    (fault_reported c.args.text.now c.from_residual.result fault c.from_residual.ensures.1 told)
 
 pub returns-in_err-add-clause-first : goal.returns-in_err-add-clause-first
 returns-in_err-add-clause-first c =
@@ -49,7 +49,7 @@ returns-in_err-add-clause-first c =
     (subst (λ (l : List ℕ). IsRefusal c.loop-line.line_number l has.sentences fault) c.without_cr.ensures refused) in
     first_both c.args.text.now c.from_residual.result
     (fault_good c.args.text.now c.from_residual.result fault c.from_residual.ensures.1)
-    (fault_told c.args.text.now c.from_residual.result fault c.from_residual.ensures.1 told)
+    (fault_reported c.args.text.now c.from_residual.result fault c.from_residual.ensures.1 told)
 
 pub loop-line-preserved : goal.loop-line-preserved
 loop-line-preserved c =

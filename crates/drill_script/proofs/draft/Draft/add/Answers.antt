@@ -1,7 +1,7 @@
 use Rattle.drill_script.specs.Line.{Blank, Takes}
 use Rattle.drill_script.specs.Step.{step_view}
 use Rattle.drill_script.specs.declared.sentence.Sentence.TheVariants.{Nothing, Step, Tape}
-use Rattle.drill_script.proofs.Growing.{gains_blank, said_of, tape_told}
+use Rattle.drill_script.proofs.Growing.{gains_blank, said_of, tape_reported}
 use Rattle.drill_script.proofs.draft.Draft.add.Goals as goal
 
 pub returns-in-Some-Nothing-clause-ok : goal.returns-in-Some-Nothing-clause-ok
@@ -28,4 +28,4 @@ returns-in-Some-Tape-clause-broken c =
     let says =
     said_of c.args.line.now c.in_ok-read_sentence.field-0 c.in-Some-Tape.field-0 (Tape name octets)
     c.in-Some-Tape.is c.in-Some-Tape.field-0-is (c.in_ok-read_sentence.ensures {u = tt}) in
-    tape_told c.args.self.now c.args.line_number c.args.line.now name octets.items c.give.result says c.give.ensures.broken
+    tape_reported c.args.self.now c.args.line_number c.args.line.now name octets.items c.give.result says c.give.ensures.broken

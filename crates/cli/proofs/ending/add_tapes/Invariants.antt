@@ -1,7 +1,0 @@
-use Rattle.std.proofs.Common.{◌≡◌, ◌++◌, flat_map, take}
-use Rattle.cli.specs.FeedLines.{tape_text}
-use Rattle.cli.proofs.ending.add_tapes.Given as goal
-
--- the lines so far were added
-abbrev pub invariant-loop-trouble : goal.invariant-loop-trouble
-invariant-loop-trouble l = l.lines.items ≡ l.initial.lines.items ++ flat_map tape_text (take l.trouble-index l.tapes)

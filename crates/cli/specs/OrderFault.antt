@@ -1,0 +1,55 @@
+-- Why an order did not end well, or how a feed ended.
+use Rattle.std.specs.Prelude.{◌≡◌, ◌≢◌, ◌⊎◌, ◌++◌, ℕ, List, Option, None, Some, Result, Ok, Err, string_bytes}
+use Rattle.std.specs.IoError.{error_kind}
+use Rattle.std.specs.declared.io.Error.{Error}
+use Rattle.std.specs.declared.io.ErrorKind.TheVariants.{OutOfMemory}
+use Rattle.cli.specs.declared.exit.Exit.{Exit}
+use Rattle.cli.specs.declared.exit.Exit.TheVariants.{Done, Refused, Tape, Usage, Unreadable}
+use Rattle.cli.specs.declared.exit.Exit.TheVariants.{NoMemory as ExitNoMemory}
+use Rattle.cli.specs.declared.fault.OrderFault.{OrderFault}
+use Rattle.cli.specs.declared.fault.OrderFault.TheVariants.{NoMemory, Config, Checked, Refused as ScriptRefused, NoTape}
+use Rattle.cli.specs.declared.fault.OrderFault.TheVariants.{Unread, Input, Output, Mistake, Fed}
+use Rattle.cli.specs.Feed.{exit_of_end}
+use Rattle.cli.specs.FeedLines.{end_text}
+use Rattle.cli.specs.Lines.{config_text, refusal_text, no_tape_text, unread_text, input_text, output_text}
+use Rattle.cli.specs.Lines.{mistake_text}
+
+-- the status of a fault
+abbrev pub exit_of_fault : OrderFault → Exit
+exit_of_fault NoMemory = ExitNoMemory
+exit_of_fault (Config fault more) = Refused
+exit_of_fault (Checked lines) = Done
+exit_of_fault (ScriptRefused source refusal) = Refused
+exit_of_fault (NoTape refusal) = Tape
+exit_of_fault (Unread path) = Unreadable
+exit_of_fault (Input error) = Unreadable
+exit_of_fault (Output error) = Unreadable
+exit_of_fault (Mistake what) = Usage
+exit_of_fault (Fed end) = exit_of_end end
+
+-- the line that reports it, or a feed's lines; none if memory was refused; why a stream failed is the system's text
+abbrev pub IsLineOf : OrderFault → Option (List ℕ) → Type 0
+IsLineOf NoMemory line = line ≡ None
+IsLineOf (Config fault more) line = line ≡ Some (config_text fault ++ more.items)
+IsLineOf (Checked lines) line = line ≡ Some lines.items
+IsLineOf (ScriptRefused source refusal) line = line ≡ Some (refusal_text source.now refusal)
+IsLineOf (NoTape refusal) line = line ≡ Some (no_tape_text refusal)
+IsLineOf (Unread path) line = line ≡ Some (unread_text path.now)
+IsLineOf (Input error) line = (reason : List ℕ) × (line ≡ Some (input_text reason))
+IsLineOf (Output error) line = (reason : List ℕ) × (line ≡ Some (output_text reason))
+IsLineOf (Mistake what) line = line ≡ Some (mistake_text (string_bytes what))
+IsLineOf (Fed end) line = line ≡ Some (end_text end)
+
+-- an error that is reported as this fault, but as NoMemory if memory was refused
+abbrev pub IsFaultOf : Error → OrderFault → OrderFault → Type 0
+IsFaultOf error given fault =
+    ((error_kind error ≡ OutOfMemory) × (fault ≡ NoMemory)) ⊎ ((error_kind error ≢ OutOfMemory) × (fault ≡ given))
+
+-- what an order may come to if it ended with a fault
+abbrev pub ComesBy : (Exit → Option (List ℕ) → Type 0) → OrderFault → Type 0
+ComesBy does fault = (line : Option (List ℕ)) → IsLineOf fault line → does (exit_of_fault fault) line
+
+-- what an order may come to, by its status and its line, if it ended well or with a fault
+abbrev pub Comes : (Exit → Option (List ℕ) → Type 0) → Result Exit OrderFault → Type 0
+Comes does (Ok exit) = does exit None
+Comes does (Err fault) = ComesBy does fault

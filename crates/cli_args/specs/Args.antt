@@ -1,0 +1,97 @@
+-- What the arguments of the command line ask for (docs/MANUAL.md).
+use Rattle.std.specs.Prelude.{◌≡◌, ◌⊎◌, List, ℕ, Bool, true, false, Option, None, Some, IsSome, IsNone, codes}
+use Rattle.std.specs.Prelude.{option_map}
+use Rattle.cli.specs.declared.order.Order.{Order}
+use Rattle.cli.specs.declared.order.Source.{Source}
+use Rattle.cli.specs.declared.order.Source.TheVariants.{Backlogs, Funnel}
+use Rattle.cli.specs.declared.order.Order.TheVariants.{DrillFromInput, Drill, Check, Owed, Feed, Print, Mistake}
+use Rattle.cli_args.specs.declared.args.Given.{Given}
+
+-- A source is given for a feed: `-x` without `--follow` and `--tidy`, or a funnel without `-x`.
+abbrev pub HasSource : Given → Type 0
+HasSource given = ((given.backlog ≡ true) × (given.follow ≡ false) × (given.tidy ≡ false))
+    ⊎ ((given.backlog ≡ false) × IsSome given.funnel)
+
+-- something is asked for on a configuration
+abbrev pub HasOrder : Given → Type 0
+HasOrder given = (given.check ≡ true) ⊎ (given.owed ≡ true) ⊎ HasSource given
+
+-- something is given besides `-c FILE` and `--drill FILE`
+abbrev pub HasMore : Given → Type 0
+HasMore given = (given.verbose ≡ true) ⊎ (given.follow ≡ true) ⊎ (given.tidy ≡ true) ⊎ (given.check ≡ true)
+    ⊎ (given.owed ≡ true) ⊎ (given.backlog ≡ true) ⊎ IsSome given.funnel
+
+-- A drill's file, and nothing else.
+abbrev pub AsksDrill : List ℕ → Given → Type 0
+AsksDrill path given =
+    (option_map (λ file. file.now) given.drill ≡ Some path) × IsNone given.config × (HasMore given → ⊥)
+
+-- `-C` acts alone; with `-v` it is explained.
+abbrev pub AsksCheck : Bool → Given → Type 0
+AsksCheck verbose given = (given.check ≡ true) × (verbose ≡ given.verbose)
+
+-- Otherwise `--owed` does; with `-v` a bad configuration is explained.
+abbrev pub AsksOwed : Bool → Given → Type 0
+AsksOwed verbose given = (given.check ≡ false) × (given.owed ≡ true) × (verbose ≡ given.verbose)
+
+-- from the backlogs only with `-x`, otherwise from the funnel, which is followed with `--follow` and tidied with
+-- `--tidy`
+abbrev pub AsksSource : Source → Given → Type 0
+AsksSource Backlogs given = (given.backlog ≡ true) × (given.follow ≡ false) × (given.tidy ≡ false)
+AsksSource (Funnel path followed tidied) given = (given.backlog ≡ false) × (followed ≡ given.follow)
+    × (tidied ≡ given.tidy) × (option_map (λ file. file.now) given.funnel ≡ Some path.now)
+
+-- Otherwise the peers are fed; with `-v` that is logged.
+abbrev pub AsksFeed : Source → Bool → Given → Type 0
+AsksFeed source verbose given = (given.check ≡ false) × (given.owed ≡ false) × (verbose ≡ given.verbose)
+    × AsksSource source given
+
+-- What is asked for on the configuration of this path.
+abbrev pub AsksOf : List ℕ → Given → Order → Type 0
+AsksOf conf given DrillFromInput = ⊥
+AsksOf conf given (Drill path) = ⊥
+AsksOf conf given (Check path verbose) = (path.now ≡ conf) × AsksCheck verbose given
+AsksOf conf given (Owed path verbose) = (path.now ≡ conf) × AsksOwed verbose given
+AsksOf conf given (Feed path source verbose) = (path.now ≡ conf) × AsksFeed source verbose given
+AsksOf conf given (Print text) = ⊥
+AsksOf conf given (Mistake what) = HasOrder given → ⊥
+
+-- What is asked for: a drill, or something on a configuration. Anything else is a mistake.
+abbrev pub Asks : Given → Order → Type 0
+Asks given DrillFromInput = ⊥
+Asks given (Drill path) = AsksDrill path.now given
+Asks given (Check path verbose) = (option_map (λ file. file.now) given.config ≡ Some path.now) × IsNone given.drill
+    × AsksCheck verbose given
+Asks given (Owed path verbose) = (option_map (λ file. file.now) given.config ≡ Some path.now) × IsNone given.drill
+    × AsksOwed verbose given
+Asks given (Feed path source verbose) = (option_map (λ file. file.now) given.config ≡ Some path.now) × IsNone given.drill
+    × AsksFeed source verbose given
+Asks given (Print text) = ⊥
+Asks given (Mistake what) = (IsSome given.drill × (IsSome given.config ⊎ HasMore given))
+    ⊎ (IsNone given.drill × IsNone given.config)
+    ⊎ (IsNone given.drill × IsSome given.config × (HasOrder given → ⊥))
+
+-- a text is to be printed
+abbrev pub IsPrinted : Order → Type 0
+IsPrinted DrillFromInput = ⊥
+IsPrinted (Drill path) = ⊥
+IsPrinted (Check path verbose) = ⊥
+IsPrinted (Owed path verbose) = ⊥
+IsPrinted (Feed path source verbose) = ⊥
+IsPrinted (Print text) = Unit {0}
+IsPrinted (Mistake what) = ⊥
+
+-- the arguments are wrong
+abbrev pub IsMistaken : Order → Type 0
+IsMistaken DrillFromInput = ⊥
+IsMistaken (Drill path) = ⊥
+IsMistaken (Check path verbose) = ⊥
+IsMistaken (Owed path verbose) = ⊥
+IsMistaken (Feed path source verbose) = ⊥
+IsMistaken (Print text) = ⊥
+IsMistaken (Mistake what) = Unit {0}
+
+-- whether a flag is given, by the text that `clap` gives it
+abbrev pub IsFlag : Option (List ℕ) → Bool → Type 0
+IsFlag None stands = stands ≡ false
+IsFlag (Some text) stands = (text ≡ codes "true" → stands ≡ true) × (text ≡ codes "false" → stands ≡ false)

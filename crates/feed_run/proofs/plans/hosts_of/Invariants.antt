@@ -1,7 +1,0 @@
-use Rattle.std.specs.Prelude.{take}
-use Rattle.feed_run.specs.Plans.{AreHosts}
-use Rattle.feed_run.proofs.plans.hosts_of.Given as goal
-
--- the hosts of the peers so far
-abbrev pub invariant-loop-peer : goal.invariant-loop-peer
-invariant-loop-peer l = AreHosts (take l.peer-index l.peers) l.hosts.items

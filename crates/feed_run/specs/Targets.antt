@@ -1,0 +1,48 @@
+-- Where each peer is and how it is fed, by the settings.
+use Rattle.std.specs.Prelude.{◌≡◌, ◌⊎◌, ◌+◌, ℕ, List, [], ◌∷◌, min, string_bytes}
+use Rattle.std.specs.Str.{IsUtf8}
+use Rattle.conn_core.specs.declared.options.Options.{Options}
+use Rattle.feed_conf.specs.declared.conf.PeerConf.{PeerConf}
+use Rattle.feeder.specs.declared.target.PeerTarget.{PeerTarget}
+use Rattle.resolver.specs.declared.host.Host.{Host}
+
+-- Where the peer with these settings is. A host whose name is no text has none.
+pub record IsHostOf (conf : PeerConf) (host : Host) : Type 0 where
+  pub name : (IsUtf8 conf.ip_name.items × (string_bytes host.name ≡ conf.ip_name.items))
+      ⊎ ((IsUtf8 conf.ip_name.items → ⊥) × (string_bytes host.name ≡ []))
+  pub port : host.port ≡ min conf.port 65535
+
+-- a host for each peer, in order
+abbrev pub AreHosts : List PeerConf → List Host → Type 0
+AreHosts [] [] = Unit {0}
+AreHosts (conf ∷ confs) (host ∷ hosts) = IsHostOf conf host × AreHosts confs hosts
+AreHosts [] (host ∷ hosts) = ⊥
+AreHosts (conf ∷ confs) [] = ⊥
+
+-- how each connection to a peer works
+abbrev pub options_of : PeerConf → Options
+options_of conf = record {
+  streaming = conf.streaming;
+  max_queue = conf.max_queue;
+  check_high = conf.check_high;
+  check_low = conf.check_low;
+  check_filter = conf.check_filter;
+  response_timeout = conf.response_timeout;
+}
+
+-- The target of the peer with these settings, whose station has this index, if a peer may have `most` connections.
+pub record IsTargetOf (most index : ℕ) (conf : PeerConf) (target : PeerTarget) : Type 0 where
+  pub station : target.peer ≡ index
+  pub name : target.name ≡ conf.name
+  pub addresses : target.addresses.items ≡ []
+  pub connections : target.connections ≡ min conf.max_connections most
+  pub waits : (target.first_wait ≡ conf.first_wait) × (target.most_wait ≡ conf.most_wait)
+  pub options : target.options ≡ options_of conf
+
+-- a target for each peer, in order, the first for the station with this index
+abbrev pub AreTargetsFrom : ℕ → ℕ → List PeerConf → List PeerTarget → Type 0
+AreTargetsFrom most index [] [] = Unit {0}
+AreTargetsFrom most index (conf ∷ confs) (target ∷ targets) =
+    IsTargetOf most index conf target × AreTargetsFrom most (index + 1) confs targets
+AreTargetsFrom most index [] (target ∷ targets) = ⊥
+AreTargetsFrom most index (conf ∷ confs) [] = ⊥

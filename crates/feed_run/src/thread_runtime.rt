@@ -1,0 +1,106 @@
+// The runtime of a run's threads.
+use log::kv::Source;
+use log::span::Spans;
+use log::{LevelFilter, Log, Metadata, Record};
+use std::alloc::Global;
+use std::fmt::Display;
+use std::io;
+use std::marker::PhantomData;
+use std::rt::Clock;
+use std::sync::Wait;
+use std::thread::Threads;
+use std::time::Duration;
+
+/// What a run uses of the system besides files, sockets and threads: a clock, and a log.
+pub trait System {
+    /// The time since some fixed point, which never goes back.
+    ///
+    /// # Errors
+    /// The system's.
+    fn time(&self) -> io::Result<Duration>;
+
+    /// Writes a line of the log, if possible.
+    fn write_log<D: Display>(&self, line: &D);
+}
+
+/// The system's clock, and standard error.
+impl System for HostRuntime {
+    fn time(&self) -> io::Result<Duration> {
+        self.monotonic()
+    }
+
+    fn write_log<D: Display>(&self, line: &D) {
+        let _ = self.eprintln(line);
+    }
+}
+
+/// The runtime of a run's threads: it has the capability of `R` to start threads and to wait, the system's memory, and
+/// the clock and the log of `Y`. Each record of the log becomes a line.
+#[derive(Drop)]
+pub struct ThreadRuntime<R, Y> {
+    host: HostRuntime,
+    system: Y,
+    level: LevelFilter,
+    capability: PhantomData<R>,
+}
+
+impl<R, Y> ThreadRuntime<R, Y> {
+    /// Logs everything if `verbose`, and otherwise only warnings.
+    pub fn new(host: HostRuntime, system: Y, verbose: bool) -> Self {
+        let level = if verbose {
+            LevelFilter::Info
+        } else {
+            LevelFilter::Warn
+        };
+        ThreadRuntime {
+            host,
+            system,
+            level,
+            capability: PhantomData,
+        }
+    }
+}
+
+impl<R: Wait, Y> Wait for ThreadRuntime<R, Y> {}
+
+impl<R: Threads, Y> Threads for ThreadRuntime<R, Y> {}
+
+impl<R, Y> Alloc for ThreadRuntime<R, Y> {
+    type A = Global;
+
+    fn alloc(&self) -> Global {
+        self.host.alloc()
+    }
+}
+
+impl<R, Y: System> Clock for ThreadRuntime<R, Y> {
+    fn monotonic(&self) -> io::Result<Duration> {
+        self.system.time()
+    }
+
+    fn since_1970(&self) -> io::Result<Duration> {
+        self.host.since_1970()
+    }
+
+    fn sleep(&self, duration: Duration) {
+        self.host.sleep(duration)
+    }
+}
+
+impl<R, Y: System> Log for ThreadRuntime<R, Y> {
+    fn enabled(&self, metadata: &Metadata<'_>) -> bool {
+        self.level.allows(metadata.level())
+    }
+
+    fn log<D: Display, K: Source, S: Spans>(&self, record: &Record<'_, D, K, S>) {
+        if self.level.allows(record.level()) {
+            self.system.write_log(record.args());
+        }
+    }
+
+    fn flush(&self) {}
+
+    fn target(&self) -> &str {
+        ""
+    }
+}

@@ -1,0 +1,575 @@
+// One connection: its protocol state, its socket, and what it holds.
+use crate::Spool;
+use crate::close_reason::{CloseReason, ObservedEnd, SessionStage};
+use crate::logging::{log_unread, log_unsent};
+use crate::peer_state::PeerState;
+use crate::setbacks::Failure;
+use crate::unread_paths::UnreadPaths;
+use article_store::{Found, SpoolDirectory, StoreFault};
+use conn_core::{Conn, CxnId, Mode, Outcome, Ready, Reason};
+use event_loop::{Moved, SocketLink, put_out, take_in};
+use ledger_core::{Debt, Key};
+use log::Log;
+use mio::event::Event;
+use peer_queue::key_in;
+use std::alloc::Global;
+use std::io::{self, ErrorKind};
+use std::mem;
+use std::net::SocketAddr;
+
+// If so much output waits, it is sent before another article is read.
+const OUTPUT_ENOUGH_OCTETS: usize = 65_536;
+
+// How many calls of a socket are made in a row before other connections have their turn.
+const CALLS_MAX: u64 = 64;
+
+// How long a connection may hold nothing before it is left.
+const IDLE_MAX_SECONDS: u64 = 60;
+
+// How long the peer has to end a connection that was left.
+const GOODBYE_MAX_SECONDS: u64 = 10;
+
+// If a connection has held nothing for so long, its slot need not wait after the peer closed it.
+const RESTED_MIN_SECONDS: u64 = 10;
+
+// How long a host has to accept a connection.
+const CONNECTING_MAX_SECONDS: u64 = 10;
+
+/// Whose connection it is.
+#[derive(Clone, Copy)]
+pub(crate) struct ConnectionOwner {
+    /// The index of its peer at the post.
+    pub peer: usize,
+    /// The index of its slot among the feeder's slots.
+    pub slot: usize,
+    /// How many debts it counts as room for, among the peer's connections.
+    pub room: u64,
+}
+
+// A debt that is to be put off once it comes back.
+#[derive(Clone, Copy)]
+struct Postponed {
+    key: Key,
+    until: u64,
+}
+
+/// A connection of a feeder.
+#[derive(Drop)]
+pub(crate) struct PeerConnection {
+    alloc: Global,
+    conn: Conn,
+    link: SocketLink,
+    address: SocketAddr,
+    owner: ConnectionOwner,
+    // The second in which it was begun.
+    begun: u64,
+    failure: Option<io::Error>,
+    // The socket has not been reported ready yet.
+    is_connecting: bool,
+    // The peer has sent something that did not close it.
+    has_greeted: bool,
+    agreed: Option<Mode>,
+    // The feeder has asked for its end.
+    is_left: bool,
+    ended: ObservedEnd,
+    // The key of the debt whose article could not be read.
+    unread: Option<Key>,
+    // Whether a debt is to be put off was decided.
+    is_judged: bool,
+    postponed: Option<Postponed>,
+    // Something happened on it, or may have: it needs service.
+    is_dirty: bool,
+    // Its station was in use.
+    is_blocked: bool,
+    // How many debts it holds.
+    held: u64,
+    // An outcome that the station could not take yet. It goes before all others.
+    kept: Option<Outcome>,
+    // How many debts its peer deferred since `take_deferred`.
+    deferred: u64,
+    // Since which second it has held nothing, once its peer has agreed to a mode.
+    idle_since: Option<u64>,
+}
+
+impl PeerConnection {
+    /// A connection to this address, begun in this second.
+    pub fn new(
+        alloc: Global,
+        conn: Conn,
+        link: SocketLink,
+        address: SocketAddr,
+        owner: ConnectionOwner,
+        begun: u64,
+    ) -> Self {
+        PeerConnection {
+            alloc,
+            conn,
+            link,
+            address,
+            owner,
+            begun,
+            failure: None,
+            is_connecting: true,
+            has_greeted: false,
+            agreed: None,
+            is_left: false,
+            ended: ObservedEnd::Unseen,
+            unread: None,
+            is_judged: false,
+            postponed: None,
+            is_dirty: false,
+            is_blocked: false,
+            held: 0,
+            kept: None,
+            deferred: 0,
+            idle_since: None,
+        }
+    }
+
+    pub fn id(&self) -> CxnId {
+        self.conn.id()
+    }
+
+    /// The index of its peer at the post.
+    pub fn peer(&self) -> usize {
+        self.owner.peer
+    }
+
+    /// The index of its slot among the feeder's slots.
+    pub fn slot(&self) -> usize {
+        self.owner.slot
+    }
+
+    /// How many debts it counts as room for, among the peer's connections.
+    pub fn room(&self) -> u64 {
+        self.owner.room
+    }
+
+    pub fn address(&self) -> SocketAddr {
+        self.address
+    }
+
+    /// Why it could not be made, if so.
+    pub fn failure(&self) -> Option<&io::Error> {
+        self.failure.as_ref()
+    }
+
+    /// How many debts its peer has deferred since the last call.
+    pub fn take_deferred(&mut self) -> u64 {
+        let deferred = self.deferred;
+        self.deferred = 0;
+        deferred
+    }
+
+    /// Whether its peer's host accepted it.
+    pub fn is_made(&self) -> bool {
+        !self.is_connecting && self.failure.is_none()
+    }
+
+    pub fn closed(&self) -> Option<Reason> {
+        self.conn.closed()
+    }
+
+    /// Whether it is to be serviced now: something happened on it, its station was in use, or an outcome of it was not
+    /// taken.
+    pub fn needs_service(&self) -> bool {
+        self.is_dirty || self.is_blocked || self.kept.is_some()
+    }
+
+    /// Whether something happened on it, so that it can go on at once.
+    pub fn is_dirty(&self) -> bool {
+        self.is_dirty
+    }
+
+    /// Whether its station was in use at its last service.
+    pub fn is_blocked(&self) -> bool {
+        self.is_blocked
+    }
+
+    /// Whether its station could not take an outcome of it.
+    pub fn has_kept_outcome(&self) -> bool {
+        self.kept.is_some()
+    }
+
+    /// Whether an outcome of it waits for a flush, which makes room at the station.
+    pub fn awaits_flush(&self) -> bool {
+        self.kept.is_some() && !self.is_blocked
+    }
+
+    pub fn holds_debts(&self) -> bool {
+        self.kept.is_some() || self.held > 0
+    }
+
+    /// Whether it can be dropped: it closed, and all its outcomes were taken.
+    pub fn is_over(&self) -> bool {
+        self.kept.is_none() && self.conn.closed().is_some()
+    }
+
+    /// Something happened on it.
+    pub fn mark_dirty(&mut self) {
+        self.is_dirty = true;
+    }
+
+    /// Its station is in use.
+    pub fn mark_blocked(&mut self) {
+        self.is_blocked = true;
+    }
+
+    /// It is serviced now.
+    pub fn clear_marks(&mut self) {
+        self.is_dirty = false;
+        self.is_blocked = false;
+    }
+
+    /// Its socket was reported ready. The first report that it can be written ends connecting, with success or not.
+    pub fn on_event(&mut self, event: &Event) {
+        self.is_dirty = true;
+        self.link.note(event);
+        if self.is_connecting && (event.is_writable() || event.is_error()) {
+            match self.link.take_error() {
+                Ok(None) => self.is_connecting = false,
+                Ok(Some(error)) | Err(error) => self.fail(error),
+            }
+        }
+    }
+
+    fn fail(&mut self, error: io::Error) {
+        self.is_connecting = false;
+        self.failure = Some(error);
+        self.conn.broken();
+    }
+
+    /// A second has passed. If the host has not accepted it within 10 seconds, it is given up.
+    pub fn tick(&mut self, now: u64) {
+        self.is_dirty = true;
+        if self.is_connecting && now.saturating_sub(self.begun) >= CONNECTING_MAX_SECONDS {
+            self.fail(io::Error::from(ErrorKind::TimedOut));
+        }
+        self.conn.tick(now);
+        self.idle_since = if self.agreed.is_none() || self.holds_debts() {
+            None
+        } else {
+            self.idle_since.or(Some(now))
+        };
+    }
+
+    // For how many seconds it has held nothing, since its peer agreed to a mode.
+    fn idle(&self, now: u64) -> u64 {
+        match self.idle_since {
+            Some(since) => now.saturating_sub(since),
+            None => 0,
+        }
+    }
+
+    /// If it has held nothing for a minute, asks the peer to end it; if that takes too long, breaks it. Returns the
+    /// room that it no longer counts as.
+    pub fn leave_idle(&mut self, now: u64) -> u64 {
+        let idle = self.idle(now);
+        if idle >= IDLE_MAX_SECONDS && !self.is_left {
+            self.leave();
+            return mem::take(&mut self.owner.room);
+        }
+        if idle >= IDLE_MAX_SECONDS + GOODBYE_MAX_SECONDS {
+            self.give_up();
+        }
+        0
+    }
+
+    /// Whether its end is no failure of its peer: it had held nothing for some seconds, and was left or closed by the
+    /// peer.
+    pub fn is_let_go(&self, now: u64) -> bool {
+        let is_by_peer = matches!(self.ended, ObservedEnd::ByPeer | ObservedEnd::Fault(_))
+            || matches!(self.conn.closed(), Some(Reason::Ended(_)));
+        self.idle(now) >= RESTED_MIN_SECONDS && (self.is_left || is_by_peer)
+    }
+
+    /// Whether its peer has agreed to a mode since the last call.
+    pub fn take_agreed(&mut self) -> bool {
+        if self.agreed.is_some() {
+            return false;
+        }
+        self.agreed = self.conn.mode();
+        self.agreed.is_some()
+    }
+
+    /// The mode that its peer has agreed to, as `take_agreed` found it.
+    pub fn mode(&self) -> Option<Mode> {
+        self.agreed
+    }
+
+    /// If it goes by IHAVE, which takes one debt at a time, it counts as room for one debt from now on. Returns how
+    /// much less that is.
+    pub fn shrink(&mut self) -> u64 {
+        if self.agreed != Some(Mode::Ihave) {
+            return 0;
+        }
+        let less = self.owner.room.saturating_sub(1);
+        self.owner.room -= less;
+        less
+    }
+
+    /// Whether a debt can be offered on it.
+    pub fn is_ready(&self) -> bool {
+        matches!(self.conn.ready(), Ready::Yes)
+    }
+
+    /// Asks the peer to end it in good order. If the peer has not agreed to a mode, breaks it.
+    pub fn leave(&mut self) {
+        self.is_dirty = true;
+        self.is_left = self.conn.closed().is_none();
+        if self.agreed.is_some() {
+            self.conn.quit();
+        } else {
+            self.conn.broken();
+        }
+    }
+
+    /// Whether the feeder ended it itself before its peer had agreed to a mode.
+    pub fn is_left_early(&self) -> bool {
+        self.is_left && self.agreed.is_none()
+    }
+
+    /// Breaks it.
+    pub fn give_up(&mut self) {
+        self.is_left = true;
+        self.end(ObservedEnd::ByUs);
+        self.conn.broken();
+    }
+
+    // Keeps what is seen of its end first.
+    fn end(&mut self, ended: ObservedEnd) {
+        if matches!(self.ended, ObservedEnd::Unseen) {
+            self.ended = ended;
+        }
+    }
+
+    pub fn receive(&mut self, buffer: &mut [u8]) {
+        for _ in 0..CALLS_MAX {
+            if self.conn.closed().is_some() {
+                return;
+            }
+            match take_in(&mut self.conn, &mut self.link, buffer) {
+                Moved::Done(count) => self.on_received(buffer.get(..count).unwrap_or(&[])),
+                Moved::Later => return,
+                Moved::Closed => return self.end(ObservedEnd::ByPeer),
+                Moved::Fault => return self.fail_link(),
+            }
+        }
+        self.is_dirty = true;
+    }
+
+    // These octets were taken in.
+    fn on_received(&mut self, octets: &[u8]) {
+        match self.conn.closed() {
+            None => self.has_greeted = true,
+            Some(Reason::Reader(_)) => self.end(ObservedEnd::invalid_reply(self.alloc, octets)),
+            Some(_) => {}
+        }
+    }
+
+    fn fail_link(&mut self) {
+        match self.link.take_fault() {
+            Some(error) => self.end(ObservedEnd::Fault(error)),
+            None => self.end(ObservedEnd::ByPeer),
+        }
+    }
+
+    /// Sends the output, and returns how many octets were sent.
+    pub fn send(&mut self) -> u64 {
+        let mut sent = 0u64;
+        for _ in 0..CALLS_MAX {
+            match put_out(&mut self.conn, &mut self.link) {
+                Moved::Done(count) => sent = sent.saturating_add(count as u64),
+                Moved::Later => return sent,
+                Moved::Closed | Moved::Fault => {
+                    self.fail_link();
+                    return sent;
+                }
+            }
+        }
+        self.is_dirty = true;
+        sent
+    }
+
+    /// Whether all output was sent, and more can be put out at once.
+    pub fn can_go_on(&self) -> bool {
+        self.conn.output().is_empty() && self.conn.wanted().is_some()
+    }
+
+    /// The next outcome; its debt is no longer held. After a lost debt the connection is to be serviced again, since no
+    /// reply will come that shows that there is room for another debt.
+    pub fn next_outcome(&mut self) -> Option<Outcome> {
+        if let Some(kept) = self.kept.take() {
+            return Some(kept);
+        }
+        let outcome = self.conn.outcome()?;
+        match outcome {
+            Outcome::Deferred(_) => self.deferred = self.deferred.saturating_add(1),
+            Outcome::Lost(_, _) => self.is_dirty = true,
+            Outcome::Final(_) | Outcome::Back(_) => {}
+        }
+        self.held = self.held.saturating_sub(1);
+        Some(outcome)
+    }
+
+    /// Keeps an outcome that the station did not take.
+    pub fn keep(&mut self, outcome: Outcome) {
+        self.kept = Some(outcome);
+    }
+
+    /// Offers a debt to the peer. A debt that is refused is kept, to go back.
+    pub fn offer(&mut self, debt: Debt) {
+        match self.conn.offer(debt) {
+            Ok(()) => {
+                self.held = self.held.saturating_add(1);
+                self.idle_since = None;
+            }
+            Err(back) => self.kept = Some(Outcome::Back(back.debt)),
+        }
+    }
+
+    /// Once it has closed, decides whether and until when the debt at which it failed is to be put off.
+    pub fn judge(&mut self, peer: &mut PeerState, now: u64) {
+        if self.is_judged || self.conn.closed().is_none() {
+            return;
+        }
+        self.is_judged = true;
+        if let Some((key, failure)) = self.suspect()
+            && let Some(wait) = peer.setbacks.wait_after(key, failure)
+        {
+            let until = now.saturating_add(wait);
+            self.postponed = Some(Postponed { key, until });
+        }
+    }
+
+    // The key of the debt at which it failed, and how it failed. None if it failed at no debt, or was left.
+    fn suspect(&self) -> Option<(Key, Failure)> {
+        if self.is_left || self.ended.is_of_system() {
+            return None;
+        }
+        if let Some(key) = self.unread {
+            return Some((key, Failure::AtDebt));
+        }
+        let failure = match self.conn.closed()? {
+            Reason::Unmatched => Failure::AtDebt,
+            Reason::Broken | Reason::Reader(_) | Reason::Timeout => Failure::Broke,
+            Reason::Greeting(_) | Reason::Ended(_) | Reason::Quit => return None,
+        };
+        let key = self.conn.first_unanswered()?;
+        Some((key, failure))
+    }
+
+    /// Until when the debt of this outcome is to be put off, if the connection failed at it.
+    pub fn postponed(&self, outcome: &Outcome) -> Option<u64> {
+        let postponed = self.postponed?;
+        let is_back = matches!(outcome, Outcome::Back(_));
+        if is_back && postponed.key == key_in(outcome) {
+            Some(postponed.until)
+        } else {
+            None
+        }
+    }
+
+    /// Whether it failed at a debt and not because of its host: its peer had answered a command about a debt as it
+    /// should.
+    pub fn is_failed_at_debt(&self) -> bool {
+        let is_at_debt = matches!(self.suspect(), Some((_, Failure::AtDebt)));
+        is_at_debt && self.conn.has_answered()
+    }
+
+    pub fn close_reason(&self) -> CloseReason<'_> {
+        CloseReason {
+            reason: self.conn.closed(),
+            refused: self.conn.refused(),
+            ended: &self.ended,
+        }
+    }
+
+    pub fn stage(&self) -> SessionStage {
+        match self.agreed {
+            Some(Mode::Streaming) => SessionStage::Streaming,
+            Some(Mode::Ihave) => SessionStage::Ihave,
+            None if self.has_greeted => SessionStage::Mode,
+            None => SessionStage::Greeting,
+        }
+    }
+
+    /// Hands in the articles that are wanted, until there is enough output. It closes if one can't be read. Returns
+    /// false if the spool is missing: then none is handed in.
+    pub fn hand_in<R: Log, S: SpoolDirectory>(
+        &mut self,
+        rt: &R,
+        spool: &mut Spool<S>,
+        unread: &mut UnreadPaths,
+    ) -> bool {
+        for _ in 0..u64::MAX {
+            if self.conn.output().len() >= OUTPUT_ENOUGH_OCTETS {
+                return true;
+            }
+            match self.hand(rt, spool, unread) {
+                HandInResult::None => return true,
+                HandInResult::One => {}
+                HandInResult::OutOfReach => return false,
+            }
+        }
+        true
+    }
+
+    // Hands in the article that was wanted first. If memory is refused, the connection breaks and nothing is logged.
+    fn hand<R: Log, S: SpoolDirectory>(
+        &mut self,
+        rt: &R,
+        spool: &mut Spool<S>,
+        unread: &mut UnreadPaths,
+    ) -> HandInResult {
+        let Some(debt) = self.conn.wanted() else {
+            return HandInResult::None;
+        };
+        let key = debt.key();
+        match spool.store.fetch(debt.token()) {
+            Ok(Found::Gone) if !spool.store.is_there() => {
+                unread.add(self.alloc, &spool.path, None);
+                self.end(ObservedEnd::NoSpool);
+                self.conn.broken();
+                return HandInResult::OutOfReach;
+            }
+            Ok(found) => {
+                match &found {
+                    Found::Article(_) => {}
+                    Found::Gone => {
+                        log_unsent(rt, debt.token(), "not found in the spool; dropped")
+                    }
+                    Found::Unsendable => {
+                        log_unsent(
+                            rt,
+                            debt.token(),
+                            "cannot be sent (empty, too long, NUL or bare CR); dropped",
+                        )
+                    }
+                }
+                if self.conn.article(key, found).is_ok() {
+                    return HandInResult::One;
+                }
+            }
+            Err(StoreFault::Disk) => {
+                let reason = spool.store.take_reason();
+                log_unread(rt, &spool.path, debt.token(), reason.as_ref());
+                unread.add(self.alloc, &spool.path, Some(debt.token()));
+                self.unread = Some(key);
+                self.end(ObservedEnd::Unread(reason));
+            }
+            Err(StoreFault::NoMemory) => {}
+        }
+        self.conn.broken();
+        HandInResult::None
+    }
+}
+
+// What became of the article that was to be handed in.
+enum HandInResult {
+    // No article is wanted, or the connection has closed.
+    None,
+    One,
+    // The spool is missing.
+    OutOfReach,
+}

@@ -1,0 +1,47 @@
+// A peer, as one feeder works for it.
+use crate::PeerTarget;
+use crate::setbacks::Setbacks;
+use std::alloc::Global;
+
+// How often in a run a peer's slots are tried again at once, after a connection that failed at a debt.
+const RETRIES_MAX: u64 = 8;
+
+/// A peer, as one feeder works for it.
+#[derive(Drop)]
+pub(crate) struct PeerState {
+    pub target: PeerTarget,
+    pub setbacks: Setbacks,
+    /// How many of the resolver's answers for its host this feeder has seen.
+    pub seen: u64,
+    /// The second in which its host was looked up last.
+    pub asked: Option<u64>,
+    /// Its host is unknown, and its slots that are due are to fail for that.
+    pub is_unknown: bool,
+    /// It gets no more debts in this run: its tape failed, or the spool is missing.
+    pub is_closed: bool,
+    // How often its connections may still be tried again at once.
+    retries: u64,
+}
+
+impl PeerState {
+    pub fn new(alloc: Global, target: PeerTarget) -> Self {
+        // Two feeders share the retries.
+        let retries = RETRIES_MAX / target.feeders().max(1);
+        PeerState {
+            target,
+            setbacks: Setbacks::new(alloc),
+            seen: 0,
+            asked: None,
+            is_unknown: false,
+            is_closed: false,
+            retries,
+        }
+    }
+
+    /// Whether a slot may be tried again at once, after a connection that failed at a debt. Uses up one retry.
+    pub fn take_retry(&mut self) -> bool {
+        let is_left = self.retries > 0;
+        self.retries = self.retries.saturating_sub(1);
+        is_left
+    }
+}

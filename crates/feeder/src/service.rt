@@ -1,0 +1,190 @@
+// Servicing one connection: what came is taken in, what became of debts goes to the station, and more is sent.
+use crate::logging::{log_postponed, text_of};
+use crate::peer_connection::PeerConnection;
+use crate::peer_state::PeerState;
+use crate::post_view::{PostView, is_busy, is_full};
+use crate::unread_paths::UnreadPaths;
+use crate::{FeederFault, Spool};
+use article_store::SpoolDirectory;
+use conn_core::Outcome;
+use disk_model::Disk;
+use flusher::{FeederShare, Naming, Pace};
+use funnel::Token;
+use ledger_core::Debt;
+use log::Log;
+use peer_queue::key_in;
+use std::alloc::AllocError;
+use std::sync::Wait;
+
+// How often one service fills and sends the output, before other connections have their turn.
+const ROUNDS_MAX: u64 = 64;
+
+// How many octets one service sends, before other connections have their turn.
+const SENT_MAX_OCTETS: u64 = 1_048_576;
+
+/// What servicing a connection uses.
+#[derive(Drop)]
+pub(crate) struct ServiceEnv<'a, S, N: Naming> {
+    /// The peer of the connection.
+    pub peer: &'a mut PeerState,
+    pub spool: &'a mut Spool<S>,
+    pub buffer: &'a mut [u8],
+    pub share: &'a mut FeederShare<N>,
+    pub unread: &'a mut UnreadPaths,
+    /// Whether the peer gets no more debts in this run if the spool is missing; otherwise its slot waits.
+    pub gives_up: bool,
+}
+
+/// Does all that can be done on a connection without waiting. What came goes first: it frees the window, so that one
+/// service turns a window of replies into new articles, and one send.
+///
+/// # Errors
+/// The post's fault, if no flush helps.
+pub(crate) fn service<D: Disk, N: Naming, S: SpoolDirectory, R: Wait + Log, P: Pace>(
+    connection: &mut PeerConnection,
+    rt: &R,
+    view: &PostView<'_, D, N, P>,
+    env: &mut ServiceEnv<'_, S, N>,
+) -> Result<(), FeederFault> {
+    connection.clear_marks();
+    connection.receive(env.buffer);
+    settle(connection, rt, view, env.peer, env.share)?;
+    if connection.has_kept_outcome() {
+        let _ = connection.send();
+    } else {
+        fill_and_send(connection, rt, view, env)?;
+        settle(connection, rt, view, env.peer, env.share)?;
+    }
+    Ok(())
+}
+
+/// Takes the outcomes of a connection's debts to the station, oldest first, until the station is in use or needs a
+/// flush first.
+///
+/// # Errors
+/// The post's fault, if no flush helps; the connection keeps the outcome.
+pub(crate) fn settle<D: Disk, N: Naming, R: Wait + Log, P: Pace>(
+    connection: &mut PeerConnection,
+    rt: &R,
+    view: &PostView<'_, D, N, P>,
+    peer: &mut PeerState,
+    share: &mut FeederShare<N>,
+) -> Result<(), FeederFault> {
+    connection.judge(peer, view.now);
+    for _ in 0..u64::MAX {
+        let Some(outcome) = connection.next_outcome() else {
+            return Ok(());
+        };
+        if let Err((outcome, fault)) = settle_one(connection, rt, view, peer, share, outcome) {
+            connection.keep(outcome);
+            return retry_later(connection, fault);
+        }
+    }
+    Ok(())
+}
+
+// Takes an outcome to the station. The debt at which the connection failed is put off.
+fn settle_one<D: Disk, N: Naming, R: Wait + Log, P: Pace>(
+    connection: &PeerConnection,
+    rt: &R,
+    view: &PostView<'_, D, N, P>,
+    peer: &mut PeerState,
+    share: &mut FeederShare<N>,
+    outcome: Outcome,
+) -> Result<(), (Outcome, FeederFault)> {
+    let postponed = connection.postponed(&outcome);
+    match (outcome, postponed) {
+        (Outcome::Back(debt), Some(until)) => put_off(connection, rt, view, peer, debt, until),
+        (outcome, _) => {
+            let key = key_in(&outcome);
+            let is_end = matches!(outcome, Outcome::Final(_) | Outcome::Lost(_, _));
+            view.finish(rt, connection.peer(), connection.id(), outcome, share)?;
+            if is_end {
+                peer.setbacks.forget(key);
+            }
+            Ok(())
+        }
+    }
+}
+
+// Puts off the debt at which the connection failed, and logs that.
+fn put_off<D: Disk, N: Naming, R: Wait + Log, P: Pace>(
+    connection: &PeerConnection,
+    rt: &R,
+    view: &PostView<'_, D, N, P>,
+    peer: &PeerState,
+    debt: Debt,
+    until: u64,
+) -> Result<(), (Outcome, FeederFault)> {
+    let token: Result<Token, AllocError> = debt.token().clone();
+    match view.put_off(rt, connection.peer(), connection.id(), debt, until) {
+        Ok(()) => {
+            if let Ok(token) = token {
+                log_postponed(
+                    rt,
+                    text_of(&peer.target.name),
+                    &token,
+                    connection.close_reason(),
+                );
+            }
+            Ok(())
+        }
+        Err((debt, fault)) => Err((Outcome::Back(debt), fault)),
+    }
+}
+
+// Leaves what a station refused for later, if a flush or the next turn helps; otherwise hands on the fault.
+fn retry_later(connection: &mut PeerConnection, fault: FeederFault) -> Result<(), FeederFault> {
+    if is_busy(fault) {
+        connection.mark_blocked();
+        return Ok(());
+    }
+    if is_full(fault) { Ok(()) } else { Err(fault) }
+}
+
+// Offers debts, hands in articles and sends, in rounds: once there is enough output it is sent before another article
+// is read.
+fn fill_and_send<D: Disk, N: Naming, S: SpoolDirectory, R: Wait + Log, P: Pace>(
+    connection: &mut PeerConnection,
+    rt: &R,
+    view: &PostView<'_, D, N, P>,
+    env: &mut ServiceEnv<'_, S, N>,
+) -> Result<(), FeederFault> {
+    let mut sent = 0u64;
+    for _ in 0..ROUNDS_MAX {
+        if !env.peer.is_closed {
+            offer(connection, rt, view)?;
+        }
+        if !connection.hand_in(rt, env.spool, env.unread) {
+            env.peer.is_closed = env.gives_up;
+        }
+        sent = sent.saturating_add(connection.send());
+        if !connection.can_go_on() {
+            return Ok(());
+        }
+        if sent >= SENT_MAX_OCTETS {
+            break;
+        }
+    }
+    connection.mark_dirty();
+    Ok(())
+}
+
+// Claims debts and offers them, while the connection takes them and none was refused.
+fn offer<D: Disk, N: Naming, R: Wait, P: Pace>(
+    connection: &mut PeerConnection,
+    rt: &R,
+    view: &PostView<'_, D, N, P>,
+) -> Result<(), FeederFault> {
+    for _ in 0..u64::MAX {
+        if !view.claims || connection.has_kept_outcome() || !connection.is_ready() {
+            return Ok(());
+        }
+        match view.claim(rt, connection.peer(), connection.id()) {
+            Ok(Some(debt)) => connection.offer(debt),
+            Ok(None) => return Ok(()),
+            Err(fault) => return retry_later(connection, fault),
+        }
+    }
+    Ok(())
+}

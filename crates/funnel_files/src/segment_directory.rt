@@ -1,0 +1,103 @@
+// The directory of a funnel's segments.
+use crate::fault::FunnelFault;
+use segments::{AddFault, Segments, name_of};
+use std::alloc::AllocError;
+use std::fs::{self, File};
+use std::io::{self, ErrorKind};
+use std::os::unix::fs::MetadataExt;
+use std::rt::Files;
+use std::str;
+
+/// The directory of segments at a path. Names in it that are not 20 digits mean nothing.
+#[derive(Drop)]
+pub(crate) struct SegmentDirectory<'a, F> {
+    pub files: &'a F,
+    pub path: String,
+}
+
+impl<F: AllocGlobal + Files<File = File>> SegmentDirectory<'_, F> {
+    /// The segments that are in it.
+    ///
+    /// # Errors
+    /// The system's; `NoNumber`.
+    pub fn list(&self) -> Result<Segments, FunnelFault> {
+        let mut segments = Segments::new(self.files.alloc());
+        for entry in fs::read_dir(&self.files, self.path.as_str())? {
+            match entry {
+                Ok(entry) => self.add(&mut segments, entry.file_name())?,
+                // A name that is not valid UTF-8.
+                Err(error) if error.kind() == ErrorKind::InvalidFilename => {}
+                Err(error) => return Err(FunnelFault::Failed(error)),
+            }
+        }
+        Ok(segments)
+    }
+
+    // Adds the segment of this name, if the name is that of a segment.
+    fn add(&self, segments: &mut Segments, name: &str) -> Result<(), FunnelFault> {
+        match segments.add(name.as_bytes()) {
+            Ok(_) => Ok(()),
+            Err(AddFault::Name(_)) => Err(FunnelFault::NoNumber {
+                name: String::from_str(self.files.alloc(), name)?,
+            }),
+            Err(AddFault::NoMemory) => Err(AllocError.into()),
+        }
+    }
+
+    /// Opens a segment. It is checked first, since opening a FIFO might never return.
+    ///
+    /// # Errors
+    /// `NoFile`; the system's.
+    pub fn open(&self, segment: u64) -> Result<File, FunnelFault> {
+        let path = self.path_of(segment)?;
+        let opened = match fs::metadata(self.files, path.as_str()) {
+            Ok(there) if there.is_file() => File::open(self.files, path.as_str()),
+            Ok(_) => return Err(FunnelFault::NoFile { segment }),
+            Err(error) => Err(error),
+        };
+        opened.map_err(|reason| FunnelFault::Segment { segment, reason })
+    }
+
+    /// Whether this file is still the one that has a segment's name.
+    ///
+    /// # Errors
+    /// The system's.
+    pub fn has(&self, segment: u64, file: &File) -> io::Result<bool> {
+        let there = fs::metadata(self.files, self.path_of(segment)?.as_str())?;
+        let open = file.metadata()?;
+        Ok(there.dev() == open.dev() && there.ino() == open.ino())
+    }
+
+    /// Makes the names in it durable.
+    ///
+    /// # Errors
+    /// The system's.
+    pub fn sync(&self) -> Result<(), FunnelFault> {
+        File::open(self.files, self.path.as_str())?.sync_all()?;
+        Ok(())
+    }
+
+    /// Removes a segment, if it is there.
+    ///
+    /// # Errors
+    /// `Unremoved`; memory was refused.
+    pub fn remove(&self, segment: u64) -> Result<(), FunnelFault> {
+        let path = self.path_of(segment)?;
+        match fs::remove_file(self.files, path.as_str()) {
+            Err(reason) if reason.kind() != ErrorKind::NotFound => Err(FunnelFault::Unremoved {
+                path,
+                reason,
+            }),
+            _ => Ok(()),
+        }
+    }
+
+    fn path_of(&self, segment: u64) -> Result<String, AllocError> {
+        let name = name_of(segment);
+        let name = str::from_utf8(&name).unwrap_or("");
+        let mut path = String::from_str(self.files.alloc(), self.path.as_str())?;
+        path.push('/')?;
+        path.push_str(name)?;
+        Ok(path)
+    }
+}
