@@ -636,18 +636,4 @@ module _ {D : Type 0} {g : Ghosts D} where
           → RefusedOn (RefusesAct id (FailsToSupply id found)) life fault new new_cs
       supplied_not_at found fault is =
           supplied_not found fault (subst (λ (n : ℕ). SuppliedNot found id n conn peer fault new_c now) (sym is_now) is)
-
-  -- ---- no connection has the number
-
-  pub not_there : (R : Life → ConnPast → PeerPast → Fault → Life
-      → Type 0) (life : Life) (old : Stations D g) (cs : List Connection)
-      (id : ℕ) (fault : Fault) → AreRunning life old cs → fault ≡ NoConnection → conn_at life.conns id ≡ None
-      → RefusedOn (RefusesAct id R) life fault old cs
-  not_there R life old cs id fault running is none = record {
-    later = life;
-    refuses = inl (is, none, refl);
-    stand = running;
-    armed = refl;
-    connected_is = refl;
-    now = refl;
-  }
+      -- ---- no connection has the number

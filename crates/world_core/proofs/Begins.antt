@@ -37,15 +37,6 @@ module _ {A : Type 0} (f : A → A) where
   changed_more xs ys i d within so_far =
       rw (so_far, get_next xs i d, add-one) (set_next xs i d within)
 
-  changed_end : (xs : List A) (i : ℕ) → length xs ≤ i → map f (take i xs) ++ drop i xs ≡ map f xs
-  changed_end [] zero within = refl
-  changed_end [] (suc i) within = refl
-  changed_end (x ∷ xs) zero within = absurd (omega arith)
-  changed_end (x ∷ xs) (suc i) within = ap (λ (l : List A). f x ∷ l) (changed_end xs i (omega arith))
-
-  pub changed_all : (xs ys : List A) (i : ℕ) → length xs ≤ i → ys ≡ map f (take i xs) ++ drop i xs → ys ≡ map f xs
-  changed_all xs ys i within so_far = so_far ∙ changed_end xs i within
-
 both : (a b : Bool) → a ≡ true → b ≡ true → (a && b) ≡ true
 both true b one other = other
 both false b one other = cc

@@ -1,5 +1,5 @@
 -- A step calls disks at its events alone: so it is of what has happened to them when it ends.
-use Rattle.std.proofs.Common.{◌≡◌, ◌≢◌, ◌⊎◌, ◌+◌, ◌++◌, ℕ, zero, suc, Bool, true, false, Option, Some, List, [], ◌∷◌}
+use Rattle.std.proofs.Common.{◌≡◌, ◌⊎◌, ◌+◌, ◌++◌, ℕ, zero, suc, Bool, true, false, Option, Some, List, [], ◌∷◌}
 use Rattle.std.proofs.Common.{length, take, map, refl, sym, ap, ◌∙◌, subst, inl, inr}
 use Rattle.std.specs.Prelude.{if◌then◌else◌}
 use Rattle.std.specs.Global.{Vec}
@@ -7,28 +7,24 @@ use Rattle.std.specs.List.{AllByRecursion, slice_get}
 use Rattle.conn_core.specs.declared.outcome.Outcome.{Outcome}
 use Rattle.disk_model.specs.declared.choice.Choice.{Choice}
 use Rattle.recovery.specs.Image.{Log}
-use Rattle.recovery.specs.Leaving.{left_by}
 use Rattle.peer_queue.specs.Settled.{key_in}
 use Rattle.peer_queue.specs.declared.limits.Owed.{Owed}
 use Rattle.peer_queue.specs.declared.limits.Owed.TheVariants.{New, Already}
 use Rattle.peer_queue.specs.declared.settled.Settled.{Settled}
 use Rattle.peer_queue.specs.declared.settled.Settled.TheVariants.{Answered, Dropped, Later, Ready}
-use Rattle.world_core.specs.Past.{Armed, ConnPast, Life, Past, PeerPast, TapePast, rank_of, with_past, with_peer}
+use Rattle.world_core.specs.Past.{Armed, ConnPast, Life, Past, PeerPast, rank_of, with_past, with_peer}
 use Rattle.world_core.specs.Past.{with_tape}
 use Rattle.world_core.specs.Events.{AllDo, Claims, Does, Event, Fails, Owes, Refuses, Returns, Settles, Sheds}
 use Rattle.world_core.specs.Events.{owed_as, owing_as, settled_as, settling, shed_peer}
 use Rattle.world_core.specs.Events.AllDo.{Start, Next}
 use Rattle.world_core.specs.Exchange.{FailsToBreak, FailsToHand, FailsToRead, FailsToSupply, Follows, FollowsNot}
-use Rattle.world_core.specs.Exchange.{HandsOver, IsConn, RefusesConnect, RefusesTick, TicksEach, at_moment}
-use Rattle.world_core.specs.Exchange.{settle_events}
+use Rattle.world_core.specs.Exchange.{HandsOver, IsConn, TicksEach, at_moment, settle_events}
 use Rattle.world_core.specs.Exchange.HandsOver.{None_there, Taken_over, Has_no_room, Is_shut}
 use Rattle.world_core.specs.Exchange.TicksEach.{Start as NoneTicked, Next as OneTicked}
 use Rattle.world_core.specs.Halts.{AtRest, ByChoice, CallsDisks, FailsToOpen, Manner, Meets, RefusesRestart}
-use Rattle.world_core.specs.Halts.{RefusesStop, Strikes, StrikesUntold, TakesStop, halted, left, left_peer}
-use Rattle.world_core.specs.Halts.{left_tape, restart_events}
+use Rattle.world_core.specs.Halts.{RefusesStop, TakesStop, halted, left, left_peer, restart_events}
 use Rattle.world_core.specs.Moments.{CallsNoOther, Ended, HadLog, HasLog, IsUnderWay, MayMake, WasLeft}
-use Rattle.world_core.specs.Runs.{Does as DoesStep, Refuses as RefusesAny, RefusesConn, RefusesStep, RefusesTapes}
-use Rattle.world_core.specs.Runs.{RefusesWorld, Takes}
+use Rattle.world_core.specs.Runs.{Does as DoesStep, Refuses as RefusesAny, RefusesConn, RefusesTapes, Takes}
 use Rattle.world_core.specs.Steps.{Good, NotGood, Reading, RefusesFlushing, RefusesImport, RefusesLine, RefusesNamed}
 use Rattle.world_core.specs.Steps.{RefusesPart, RefusesRotation, RefusesSeal, RefusesShed, RefusesTelling}
 use Rattle.world_core.specs.Steps.{TakesReading, begun_at, flush_events, is_named, owes_from}
@@ -42,7 +38,7 @@ use Rattle.world_core.specs.declared.step.Step.TheVariants.{Article, Break, Tick
 use Rattle.world_core.specs.declared.told.Handed.{Handed as Handover}
 use Rattle.world_core.proofs.Acknowledged.{all_at}
 use Rattle.world_core.proofs.Keeping.{take_whole}
-use Rattle.world_core.proofs.Moments.{not_none, starts}
+use Rattle.world_core.proofs.Moments.{log_of, not_none, starts}
 use Rattle.world_core.proofs.Pure.{first_all, front_all, last_all, map_set}
 
 -- ---- lists
@@ -90,9 +86,6 @@ IsQuiet (Claims rank id now) = Unit {0}
 IsQuiet (Returns rank id number) = Unit {0}
 IsQuiet (Settles rank id now outcome) = Unit {0}
 IsQuiet event = ⊥
-
-log_of : (one other : TapePast) → one ≡ other → one.log ≡ other.log
-log_of one other same = ap (λ (t : TapePast). t.log) same
 
 owing_log : (owed : Owed) (number : ℕ) (token id : List ℕ) (peer : PeerPast)
     → (owing_as owed number token id peer).tape.log ≡ peer.tape.log

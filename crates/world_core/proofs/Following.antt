@@ -1,7 +1,6 @@
 -- What follows a step on a connection: its outcomes go to the peer one after another, and are told.
 use Rattle.std.proofs.Common.{◌≡◌, ℕ, List, [], ◌∷◌, ◌++◌, map, refl, sym, ap, ◌∙◌, subst, inl, inr, append_assoc}
 use Rattle.std.proofs.Common.{append-nil}
-use Rattle.std.specs.Prelude.{IfErr, IsErrAnd, Result, Ok, Err}
 use Rattle.disk_model.specs.declared.Disk.{Ghosts}
 use Rattle.feed_conf.specs.declared.conf.PeerConf.{PeerConf}
 use Rattle.conn_core.specs.History.{Event as Happening, Taken}
@@ -117,8 +116,3 @@ module _ {D : Type 0} {g : Ghosts D} where
       };
       stand = not.stand;
     }
-
--- what was refused is told on
-pub if_err : {T E : Type 0} (r : Result T E) (P Q : E → Type 0) → IsErrAnd r P → ((e : E) → P e → Q e) → IfErr r Q
-if_err (Ok v) P Q is all = absurd is
-if_err (Err e) P Q is all = all e is

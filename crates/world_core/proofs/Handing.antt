@@ -1,7 +1,7 @@
 -- What a claim, an offer and a return make of a connection and its peer.
 use Rattle.std.proofs.Common.{◌≡◌, ◌≢◌, ◌↔◌, ◌⊎◌, ℕ, Bool, true, false, Option, None, Some, List, [], ◌∷◌, ◌++◌, map}
 use Rattle.std.proofs.Common.{refl, sym, ap, ◌∙◌, subst, inl, inr}
-use Rattle.std.specs.Prelude.{Contains, Err, IfErr, IfNone, IfSome, IsSome, Ok, OnOk, Result, is_none, is_some, not}
+use Rattle.std.specs.Prelude.{Contains, IfNone, IfSome, IsSome, is_none, is_some, not}
 use Rattle.std.specs.Prelude.{option_map, slice_get}
 use Rattle.std.proofs.lemmas.Bool.{cases_eq}
 use Rattle.std.proofs.lemmas.Option.{slice_get_within}
@@ -463,11 +463,3 @@ module _ {D : Type 0} {g : Ghosts D} (id now : ℕ) (conn : ConnPast) (past : Pe
       why = inr (inr (handed, over.transcript, over.later, over.hands, followed.follows));
       stand = followed.stand;
     }
-
-pub on_ok_map : {T E : Type 0} (r : Result T E) (A B : Type 0) → OnOk r A → (A → B) → OnOk r B
-on_ok_map (Ok v) A B is map = map is
-on_ok_map (Err e) A B is map = tt
-
-pub if_err_map : {T E : Type 0} (r : Result T E) (A B : E → Type 0) → IfErr r A → ((e : E) → A e → B e) → IfErr r B
-if_err_map (Ok v) A B is map = tt
-if_err_map (Err e) A B is map = map e is

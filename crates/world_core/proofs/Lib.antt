@@ -67,3 +67,4 @@ pub mod Turning
 pub mod Ticking
 pub mod Connecting
 mod Rows
+mod ConnectionRows

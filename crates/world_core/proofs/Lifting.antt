@@ -240,12 +240,6 @@ pub keeps_returns : (id number : ℕ) (was later : PeerPast) → ReturnsAt id nu
 keeps_returns id number was later is =
     subst (PeerKeeps id was) (sym is.changed) (settled_keeps Back id number was is.held)
 
-pub keeps_back : (id now : ℕ) (debt : Owing) (was later : PeerPast) → GivesBackAt id now debt was later
-    → PeerKeeps id was later
-keeps_back id now debt was later is =
-    keeps_then id was is.mid later (keeps_claims id now debt was is.mid is.claims)
-    (keeps_returns id debt.0 is.mid later is.returns)
-
 -- ---- all peers
 
 module _ (past : Past) (rank id : ℕ) (was now : PeerPast) (here : slice_get past.peers rank ≡ Some was)

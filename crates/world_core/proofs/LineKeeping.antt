@@ -16,7 +16,7 @@ use Rattle.world_core.specs.Events.AllDo.{Start, Next}
 use Rattle.world_core.specs.Laws.{Comes, IsRecovered, OverRuns, StillOwes}
 use Rattle.world_core.specs.Laws.Comes.{No_step, Step_taken, Step_refused}
 use Rattle.world_core.specs.LineLaws.{LinesAreKept, LinesAreKeptWithin, LinesAreReadAgain, MadeDebt, OwesOrEnded}
-use Rattle.world_core.specs.LineLaws.{WasBad, WasRead, is_new_to, new_to, read_at, told_new}
+use Rattle.world_core.specs.LineLaws.{WasBad, WasRead, new_to, read_at, told_new}
 use Rattle.world_core.specs.Moments.{StaysFront}
 use Rattle.world_core.specs.Runs.{Takes}
 use Rattle.world_core.specs.Safe.{IsSafe}
@@ -25,7 +25,6 @@ use Rattle.world_core.specs.Told.{Said}
 use Rattle.world_core.specs.declared.step.Step.{Step}
 use Rattle.world_core.specs.declared.step.Step.TheVariants.{Line}
 use Rattle.world_core.proofs.Acknowledged.{lines_stand}
-use Rattle.world_core.proofs.Chains.{get_right}
 use Rattle.world_core.proofs.Lining.{length_more}
 use Rattle.world_core.proofs.Moments.{moments_recovered, not_none}
 use Rattle.world_core.proofs.Recovering.{recover_all}

@@ -1,25 +1,30 @@
--- At each moment within a step, whatever a stop leaves of a peer's tape is the tape of the first of its notes.
-use Rattle.std.proofs.Common.{◌≡◌, ◌⊎◌, ◌+◌, ◌++◌, ℕ, false, Some, List, [], ◌∷◌, map, refl, sym, ap, subst, inl, inr}
+-- At each moment within a step, whatever a stop leaves of a tape is the tape of the first of its notes.
+use Rattle.std.proofs.Common.{◌≡◌, ◌⊎◌, ◌+◌, ◌++◌, ℕ, Bool, true, false, ◌∙◌, Some, List, [], ◌∷◌, map, refl}
+use Rattle.std.proofs.Common.{sym, ap, subst, inl, inr}
+use Rattle.std.specs.Prelude.{if◌then◌else◌, nat_lt}
 use Rattle.std.specs.List.{AllByRecursion, AllZip, slice_get}
 use Rattle.recovery.specs.Leaving.{EachLedger, IsFront, LedgersLeave}
+use Rattle.recovery.specs.LeavingLaws.{EachLedger-weaker}
 use Rattle.recovery.specs.Pairs.LeavesPair.{at_start}
+use Rattle.ledger_core.specs.declared.note.Note.TheVariants.{Seen}
 use Rattle.peer_queue.specs.Place.{Ready as Free, moved}
 use Rattle.peer_queue.specs.Settled.{key_in}
 use Rattle.peer_queue.specs.declared.limits.Owed.{Owed}
 use Rattle.peer_queue.specs.declared.limits.Owed.TheVariants.{New, Already}
 use Rattle.peer_queue.specs.declared.settled.Settled.{Settled}
 use Rattle.peer_queue.specs.declared.settled.Settled.TheVariants.{Answered, Dropped, Later, Ready}
-use Rattle.world_core.specs.Past.{Life, Past, PeerPast, TapePast, with_peer, with_places, with_tape}
-use Rattle.world_core.specs.Safe.{IsSafe, KeepsNotes}
+use Rattle.world_core.specs.Past.{Life, Past, PeerPast, TapePast, mark_at, with_peer, with_places, with_tape}
+use Rattle.world_core.specs.Safe.{HasAcknowledged, IsSafe, KeepsLines, KeepsNotes}
 use Rattle.world_core.specs.Events.{Acknowledges, AllDo, Claims, Closes, Does, Event, Imports, Opens, OpensIntake, Owes}
 use Rattle.world_core.specs.Events.{Parts, Refuses, Returns, Rotates, Sees, Settles, Sheds, Spills, import_key}
-use Rattle.world_core.specs.Events.{claimed_peer, imported_as, owed_as, owing_as, settled_as, settling, shed_peer}
+use Rattle.world_core.specs.Events.{claimed_peer, imported_as, owed_as, owing_as, seen, settled_as, settling, shed_peer}
 use Rattle.world_core.specs.Events.AllDo.{Start, Next}
 use Rattle.world_core.specs.Keeping.{PeerStays, PeersStay}
 use Rattle.world_core.specs.Laws.{StillOwes}
-use Rattle.world_core.specs.Moments.{AllMomentsAreRecovered, MayMake, StaysFront}
+use Rattle.world_core.specs.Moments.{AllMomentsAreRecovered, MayMake, StaysBelow, StaysFront}
 use Rattle.world_core.specs.Steps.{begun_at}
-use Rattle.world_core.specs.Tapes.{RefusesFlush, RefusesRotate}
+use Rattle.world_core.specs.Tapes.{RefusesFlush, RefusesRotate, noted_at}
+use Rattle.world_core.specs.Tapes.Rotation.{Is_broken, Is_last, Is_long, Fits}
 use Rattle.world_core.specs.declared.fault.Fault.{Fault}
 use Rattle.world_core.specs.declared.step.Step.{Step}
 use Rattle.world_core.specs.declared.step.Step.TheVariants.{Flush, Import, Part, Restart, Rotate, Seal}
@@ -69,8 +74,11 @@ same_log old new same safe =
 leaves_self : (peer : PeerPast) → Leaves peer peer
 leaves_self peer = same_log peer peer refl
 
-log_of : (peer : PeerPast) (one other : TapePast) → one ≡ other → one.log ≡ other.log
-log_of peer one other same = ap (λ (t : TapePast). t.log) same
+pub log_of : (one other : TapePast) → one ≡ other → one.log ≡ other.log
+log_of one other same = ap (λ (t : TapePast). t.log) same
+
+same_disks : (peer : PeerPast) (tape : TapePast) → tape.log ≡ peer.tape.log → Leaves peer (with_tape peer tape)
+same_disks peer tape same = same_log peer (with_tape peer tape) same
 
 owing_leaves : (owed : Owed) (number : ℕ) (token id : List ℕ) (peer : PeerPast)
     → Leaves peer (owing_as owed number token id peer)
@@ -85,20 +93,18 @@ settled_leaves Ready number peer = same_log peer (settled_as Ready number peer) 
 
 flush_leaves : (peer : PeerPast) (fault : Fault) (tape : TapePast)
     → RefusesFlush (KeepsNotes peer) peer.tape fault tape → Leaves peer (with_tape peer tape)
-flush_leaves peer fault tape (inl broken) = same_log peer (with_tape peer tape) (log_of peer _ _ broken.2)
-flush_leaves peer fault tape (inr (inl full)) = same_log peer (with_tape peer tape) (log_of peer _ _ full.3)
-flush_leaves peer fault tape (inr (inr (inl memory))) = same_log peer (with_tape peer tape) (log_of peer _ _ memory.3)
+flush_leaves peer fault tape (inl broken) = same_disks peer tape (log_of _ _ broken.2)
+flush_leaves peer fault tape (inr (inl full)) = same_disks peer tape (log_of _ _ full.3)
+flush_leaves peer fault tape (inr (inr (inl memory))) = same_disks peer tape (log_of _ _ memory.3)
 flush_leaves peer fault tape (inr (inr (inr disk))) = λ safe. disk.2.moments
 
 rotate_leaves : (peer : PeerPast) (fault : Fault) (tape : TapePast)
     → RefusesRotate (KeepsNotes peer) peer.tape fault tape → Leaves peer (with_tape peer tape)
-rotate_leaves peer fault tape (inl broken) = same_log peer (with_tape peer tape) (log_of peer _ _ broken.2.all)
-rotate_leaves peer fault tape (inr (inl greatest)) =
-    same_log peer (with_tape peer tape) (log_of peer _ _ greatest.3.all)
-rotate_leaves peer fault tape (inr (inr (inl full))) = same_log peer (with_tape peer tape) (log_of peer _ _ full.3.all)
-rotate_leaves peer fault tape (inr (inr (inr (inl memory)))) =
-    same_log peer (with_tape peer tape) (log_of peer _ _ memory.3.all)
-rotate_leaves peer fault tape (inr (inr (inr (inr disk)))) = λ safe. disk.2.moments
+rotate_leaves peer fault tape (generation, Is_broken, comes, broken) = same_disks peer tape (log_of _ _ broken.1.all)
+rotate_leaves peer fault tape (generation, Is_last, comes, last) = same_disks peer tape (log_of _ _ last.1.all)
+rotate_leaves peer fault tape (generation, Is_long, comes, long) = same_disks peer tape (log_of _ _ long.1.all)
+rotate_leaves peer fault tape (generation, Fits, comes, inl memory) = same_disks peer tape (log_of _ _ memory.1.all)
+rotate_leaves peer fault tape (generation, Fits, comes, inr disk) = λ safe. disk.1.moments
 
 -- ---- all peers
 
@@ -116,7 +122,7 @@ one_leaves was now rank peer new here changed leaves =
 same_tape : (was now : Past) (rank : ℕ) (peer : PeerPast) (tape : TapePast) → slice_get was.peers rank ≡ Some peer
     → now ≡ with_peer was rank (with_tape peer tape) → tape.log ≡ peer.tape.log → AllLeave was now
 same_tape was now rank peer tape here changed same =
-    one_leaves was now rank peer (with_tape peer tape) here changed (same_log peer (with_tape peer tape) same)
+    one_leaves was now rank peer (with_tape peer tape) here changed (same_disks peer tape same)
 
 peers_of : (was now : Past) → was ≡ now → was.peers ≡ now.peers
 peers_of was now same = ap (λ (p : Past). p.peers) same
@@ -141,7 +147,7 @@ taken_leaves (Sheds rank numbers) was now d =
     (same_log d.peer (shed_peer numbers d.peer) refl)
 taken_leaves (Claims rank id moment) was now d =
     let new = claimed_peer id d.debt.0 d.tape d.peer in
-    one_leaves was now rank d.peer new d.here d.changed (same_log d.peer new (log_of d.peer _ _ d.reads.all))
+    one_leaves was now rank d.peer new d.here d.changed (same_log d.peer new (log_of _ _ d.reads.all))
 taken_leaves (Returns rank id number) was now d =
     let new = with_places d.peer (moved d.peer.places number Free) in
     one_leaves was now rank d.peer new d.here d.changed (same_log d.peer new refl)
@@ -155,11 +161,11 @@ taken_leaves OpensIntake was now d = none_leave was now (peers_of _ _ d.changed)
 
 refused_leaves : (event : Event) (was now : Past) (fault : Fault) → Refuses event was fault now → AllLeave was now
 refused_leaves (Owes rank token id) was now fault r =
-    same_tape was now rank r.peer r.tape r.here r.changed (log_of r.peer _ _ r.refused.2)
+    same_tape was now rank r.peer r.tape r.here r.changed (log_of _ _ r.refused.2)
 refused_leaves (Imports rank number token id) was now fault r =
-    same_tape was now rank r.peer r.tape r.here r.changed (log_of r.peer _ _ r.refused.2)
+    same_tape was now rank r.peer r.tape r.here r.changed (log_of _ _ r.refused.2)
 refused_leaves (Closes rank) was now fault r =
-    same_tape was now rank r.peer r.tape r.here r.changed (log_of r.peer _ _ r.refused.1)
+    same_tape was now rank r.peer r.tape r.here r.changed (log_of _ _ r.refused.1)
 refused_leaves (Spills rank) was now fault r =
     one_leaves was now rank r.peer _ r.here r.changed (flush_leaves r.peer fault r.tape r.refused)
 refused_leaves (Parts rank) was now fault r =
@@ -167,13 +173,13 @@ refused_leaves (Parts rank) was now fault r =
 refused_leaves (Rotates rank generation) was now fault r =
     one_leaves was now rank r.peer _ r.here r.changed (rotate_leaves r.peer fault r.tape r.refused)
 refused_leaves (Sheds rank numbers) was now fault r =
-    same_tape was now rank r.peer r.tape r.here r.changed (log_of r.peer _ _ r.refused.1)
+    same_tape was now rank r.peer r.tape r.here r.changed (log_of _ _ r.refused.1)
 refused_leaves (Claims rank id moment) was now fault r =
-    same_tape was now rank r.peer r.tape r.here r.changed (log_of r.peer _ _ r.refused.1.all)
+    same_tape was now rank r.peer r.tape r.here r.changed (log_of _ _ r.refused.1.all)
 refused_leaves (Returns rank id number) was now fault r =
-    same_tape was now rank r.peer r.tape r.here r.changed (log_of r.peer _ _ r.refused.1)
+    same_tape was now rank r.peer r.tape r.here r.changed (log_of _ _ r.refused.1)
 refused_leaves (Settles rank id moment outcome) was now fault r =
-    same_tape was now rank r.peer r.tape r.here r.changed (log_of r.peer _ _ r.refused.1)
+    same_tape was now rank r.peer r.tape r.here r.changed (log_of _ _ r.refused.1)
 refused_leaves (Sees number) was now fault r = none_leave was now (peers_of _ _ r.changed)
 refused_leaves Acknowledges was now fault r = none_leave was now (peers_of _ _ r.changed)
 refused_leaves (Opens rank) was now fault r =
@@ -184,6 +190,88 @@ event_leaves : (event : Event) (was now : Past)
     → Does event was now ⊎ ((fault : Fault) × Refuses event was fault now) → AllLeave was now
 event_leaves event was now (inl does) = taken_leaves event was now does
 event_leaves event was now (inr (fault, refuses)) = refused_leaves event was now fault refuses
+
+-- ---- the intake's tape
+
+abbrev IsSafeIntake : Past → Type 0
+IsSafeIntake past = EachLedger (KeepsLines past.intake.history past.peers) past.intake.log
+
+abbrev Lasts : Past → Past → Type 0
+Lasts was now = IsSafeIntake was → StaysBelow was now
+
+-- nothing has happened to its disks
+same_intake : (was now : Past) → now.intake.log ≡ was.intake.log → Lasts was now
+same_intake was now same safe =
+    subst (LedgersLeave (KeepsLines was.intake.history was.peers) was.intake.log) (sym same) (at_start safe)
+
+intake_of : (was now : Past) → was ≡ now → was.intake.log ≡ now.intake.log
+intake_of was now same = ap (λ (p : Past). p.intake.log) same
+
+-- one of its events came to this tape of it
+other_intake : (was now : Past) (tape : TapePast) → now.intake ≡ tape
+    → LedgersLeave (KeepsLines was.intake.history was.peers) was.intake.log tape.log → Lasts was now
+other_intake was now tape is leaves safe =
+    subst (λ (t : TapePast). LedgersLeave (KeepsLines was.intake.history was.peers) was.intake.log t.log) (sym is)
+    leaves
+
+tape_of : (was now : Past) → was ≡ now → was.intake ≡ now.intake
+tape_of was now same = ap (λ (p : Past). p.intake) same
+
+seen_log : (number : ℕ) (tape : TapePast) → (seen number tape).log ≡ tape.log
+seen_log number tape = by (nat_lt (mark_at tape) number)
+  where
+    by : (b : Bool) → (if b then noted_at tape (Seen number) else tape).log ≡ tape.log
+    by true = refl
+    by false = refl
+
+taken_lasts : (event : Event) (was now : Past) → Does event was now → Lasts was now
+taken_lasts (Owes rank token id) was now d = same_intake was now (intake_of _ _ d.changed)
+taken_lasts (Imports rank number token id) was now d = same_intake was now (intake_of _ _ d.changed)
+taken_lasts (Closes rank) was now d = same_intake was now (intake_of _ _ d.changed)
+taken_lasts (Spills rank) was now d = same_intake was now (intake_of _ _ d.changed)
+taken_lasts (Parts rank) was now d = same_intake was now (intake_of _ _ d.changed)
+taken_lasts (Rotates rank generation) was now d = same_intake was now (intake_of _ _ d.changed)
+taken_lasts (Sheds rank numbers) was now d = same_intake was now (intake_of _ _ d.changed)
+taken_lasts (Claims rank id moment) was now d = same_intake was now (intake_of _ _ d.changed)
+taken_lasts (Returns rank id number) was now d = same_intake was now (intake_of _ _ d.changed)
+taken_lasts (Settles rank id moment outcome) was now d = same_intake was now (intake_of _ _ d.changed)
+taken_lasts (Sees number) was now d =
+    same_intake was now (intake_of _ _ d.changed ∙ seen_log number was.intake)
+taken_lasts Acknowledges was now d = other_intake was now d.tape (tape_of _ _ d.changed) d.flushes.moments
+taken_lasts (Opens rank) was now d = same_intake was now (intake_of _ _ d.changed)
+taken_lasts OpensIntake was now d = other_intake was now d.tape (tape_of _ _ d.changed) d.opens.moments
+
+-- a flush of it that was refused
+unflushed_lasts : (was now : Past) (fault : Fault) (tape : TapePast) → now.intake ≡ tape
+    → RefusesFlush (KeepsLines was.intake.history was.peers) was.intake fault tape → Lasts was now
+unflushed_lasts was now fault tape is (inl broken) = same_intake was now (log_of _ _ (is ∙ broken.2))
+unflushed_lasts was now fault tape is (inr (inl full)) = same_intake was now (log_of _ _ (is ∙ full.3))
+unflushed_lasts was now fault tape is (inr (inr (inl memory))) = same_intake was now (log_of _ _ (is ∙ memory.3))
+unflushed_lasts was now fault tape is (inr (inr (inr disk))) = other_intake was now tape is disk.2.moments
+
+refused_lasts : (event : Event) (was now : Past) (fault : Fault) → Refuses event was fault now → Lasts was now
+refused_lasts (Owes rank token id) was now fault r = same_intake was now (intake_of _ _ r.changed)
+refused_lasts (Imports rank number token id) was now fault r = same_intake was now (intake_of _ _ r.changed)
+refused_lasts (Closes rank) was now fault r = same_intake was now (intake_of _ _ r.changed)
+refused_lasts (Spills rank) was now fault r = same_intake was now (intake_of _ _ r.changed)
+refused_lasts (Parts rank) was now fault r = same_intake was now (intake_of _ _ r.changed)
+refused_lasts (Rotates rank generation) was now fault r = same_intake was now (intake_of _ _ r.changed)
+refused_lasts (Sheds rank numbers) was now fault r = same_intake was now (intake_of _ _ r.changed)
+refused_lasts (Claims rank id moment) was now fault r = same_intake was now (intake_of _ _ r.changed)
+refused_lasts (Returns rank id number) was now fault r = same_intake was now (intake_of _ _ r.changed)
+refused_lasts (Settles rank id moment outcome) was now fault r = same_intake was now (intake_of _ _ r.changed)
+refused_lasts (Sees number) was now fault r =
+    same_intake was now (log_of _ _ (tape_of _ _ r.changed ∙ r.refused.2))
+refused_lasts Acknowledges was now fault r =
+    unflushed_lasts was now fault r.tape (tape_of _ _ r.changed) r.refused
+refused_lasts (Opens rank) was now fault r = same_intake was now (intake_of _ _ r.changed)
+refused_lasts OpensIntake was now fault r =
+    other_intake was now r.tape (tape_of _ _ r.changed) r.refused.moments
+
+event_lasts : (event : Event) (was now : Past)
+    → Does event was now ⊎ ((fault : Fault) × Refuses event was fault now) → Lasts was now
+event_lasts event was now (inl does) = taken_lasts event was now does
+event_lasts event was now (inr (fault, refuses)) = refused_lasts event was now fault refuses
 
 -- ---- where a step's events begin
 
@@ -199,36 +287,49 @@ starts step life begun events may = absurd may
 
 -- the same tapes, all of them safe
 abbrev IsStart : Past → Past → Type 0
-IsStart was now = PeersStay was now × AllByRecursion IsSafePeer now.peers
+IsStart was now = PeersStay was now × IsSafe now
 
-safe_begun : (peers : List PeerPast) → AllByRecursion IsSafePeer peers
+safe_peers : (peers : List PeerPast) → AllByRecursion IsSafePeer peers
     → AllByRecursion IsSafePeer (map (λ (peer : PeerPast). record peer { parted = false }) peers)
-safe_begun [] safe = tt
-safe_begun (peer ∷ peers) safe = (safe.0, safe_begun peers safe.1)
+safe_peers [] safe = tt
+safe_peers (peer ∷ peers) safe = (safe.0, safe_peers peers safe.1)
+
+safe_lines : (mark : ℕ) (peers : List PeerPast) → AllByRecursion (HasAcknowledged mark) peers
+    → AllByRecursion (HasAcknowledged mark) (map (λ (peer : PeerPast). record peer { parted = false }) peers)
+safe_lines mark [] has = tt
+safe_lines mark (peer ∷ peers) has = (has.0, safe_lines mark peers has.1)
+
+safe_begun : (past : Past) → IsSafe past → IsSafe (begun_at past)
+safe_begun past safe = record {
+  peers = safe_peers past.peers safe.peers;
+  intake = EachLedger-weaker (KeepsLines past.intake.history past.peers)
+      (KeepsLines past.intake.history (begun_at past).peers)
+      (λ state keeps. record { front = keeps.front; lines = safe_lines state.mark past.peers keeps.lines })
+      past.intake.log safe.intake;
+}
 
 started : (past begun : Past) → IsSafe past → (begun ≡ past) ⊎ (begun ≡ begun_at past) → IsStart past begun
-started past begun safe (inl same) =
-    subst (IsStart past) (sym same) (stay_same past past refl, safe.peers)
+started past begun safe (inl same) = subst (IsStart past) (sym same) (stay_same past past refl, safe)
 started past begun safe (inr same) =
     subst (IsStart past) (sym same) (
       zip_made PeerStays (λ (peer : PeerPast). record peer { parted = false }) (λ peer. peer_same peer) past.peers,
-      safe_begun past.peers safe.peers,
+      safe_begun past safe,
     )
 
-safe_behind : (begun later : Past) (events : List Event) → AllDo begun events later
-    → AllByRecursion IsSafePeer begun.peers → AllByRecursion IsSafePeer later.peers
+safe_behind : (begun later : Past) (events : List Event) → AllDo begun events later → IsSafe begun → IsSafe later
 safe_behind begun _ _ Start safe = safe
-safe_behind begun _ _ (Next events event past later does one safe') safe = safe'.peers
+safe_behind begun _ _ (Next events event past later does one safe') safe = safe'
 
 pub moments_recovered : AllMomentsAreRecovered
 moments_recovered = λ begun life steps lines comes step was now way.
     let start = started life.past way.begun (comes_safe begun steps lines life comes)
     (starts step life way.begun way.events way.may) in
+    let safe = safe_behind way.begun was _ way.front start.1 in
     record {
-      fronts = zip_with Leaves IsSafePeer StaysFront (λ old new leaves safe. leaves safe) was.peers now.peers
-          (event_leaves way.event was now way.makes)
-          (safe_behind way.begun was _ way.front start.1);
+      fronts = zip_with Leaves IsSafePeer StaysFront (λ old new leaves is. leaves is) was.peers now.peers
+          (event_leaves way.event was now way.makes) safe.peers;
       owes = zip_weaker PeerStays StillOwes still_owes begun.past.peers was.peers
           (stay_then begun.past life.past was (all_stay begun life steps lines comes).peers
           (stay_then life.past way.begun was start.0 (events_stay way.begun was _ way.front)));
+      lines = event_lasts way.event was now way.makes safe.intake;
     }

@@ -106,12 +106,6 @@ named_told rank number named (peer ∷ peers) = by (is_named named peer) (named_
     by true more = ap (λ l. (peer.conf.name, owed_as number peer) ∷ l) more
     by false more = more
 
--- each stands at its rank, and they rise from this one on
-pub IsListed : ℕ → List PeerPast → List (ℕ × PeerPast) → Type 0
-IsListed from peers [] = Unit {0}
-IsListed from peers (entry ∷ entries) = (from ≤ entry.0) × (slice_get peers entry.0 ≡ Some entry.1)
-    × IsListed (entry.0 + 1) peers entries
-
 -- a name more that no peer has
 none_more : (rank : ℕ) (names : List (List ℕ)) (name : List ℕ) (peers : List PeerPast)
     → AllByRecursion (λ (peer : PeerPast). bytes_eq name peer.conf.name ≡ false) peers

@@ -67,10 +67,6 @@ module _ {D : Type 0} {g : Ghosts D} where
     pub none_there : pending_notes past.history ≡ [] → pending_of tape ≡ 0
     none_there none = omega (arith, pends_by tape past.history stands.stands works, ap length none)
 
-    pub none_here : pending_of tape ≡ 0 → pending_notes past.history ≡ []
-    none_here none = empty (pending_notes past.history)
-        (omega (arith, pends_by tape past.history stands.stands works, none))
-
   module _ (lies : LiesLeft g) (P : State
       → Type 0) (past : TapePast) (old new : Tape D g) (stands : TapeStands past old)
       (moments : LedgersLeave P (log_of old) (log_of new)) where

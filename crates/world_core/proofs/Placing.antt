@@ -109,17 +109,6 @@ armed_world old new life peer call choice rank some stands is stage armed connec
   };
 }
 
-refuses_armed : (name : List ℕ) (call : ℕ) (life : Life) → 0 < call → rank_of life.past name ≡ None
-    → RefusesStop (Some name) call life NoPeer life
-refuses_armed name zero life some is = absurd (omega (arith, some))
-refuses_armed name (suc calls) life some is = ((name, refl, is), refl, refl)
-
-pub unarmed_world : (world : World) (life : Life) (name : List ℕ) (call : ℕ) → 0 < call → WorldStands world life
-    → rank_of life.past name ≡ None
-    → Refused (RefusesStop (Some name) call) life NoPeer world
-unarmed_world world life name call some stands is =
-    record { later = life; refuses = refuses_armed name call life some is; stands = stands }
-
 -- a stop at call 0 is one at rest
 pub rested : (peer : Option (List ℕ)) (call : ℕ) (choice : Choice) (life : Life) (told : List Told) (world : World)
     → call ≡ 0

@@ -113,14 +113,3 @@ module _ {D : Type 0} {g : Ghosts D} where
       refuses = inr (inr (omega (arith, next, fits), (token, id, named, reads, failed.fails)));
       stands = failed.stands;
     }
-
-  pub line_full : (text : List ℕ) (past : Past) (fault : Fault) (stations : Stations D g) → Stands stations past
-      → fault ≡ CountFull
-      → stations.last + 1 ≡ 2 ^ 64 → TookNot (RefusesLine text) past fault stations
-  line_full text past fault stations stands told full =
-      record {
-        later = past;
-        refuses = inl (told, ap (λ (n : ℕ). n + 1) (sym stands.last) ∙ full, refl);
-        stands =
-            stands;
-      }

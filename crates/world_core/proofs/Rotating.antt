@@ -2,7 +2,7 @@
 use Rattle.std.proofs.Common.{◌≡◌, ◌≢◌, ◌↔◌, ℕ, ◌+◌, ◌-◌, ◌^◌, false, List, take, refl, sym, ap, ◌∙◌, subst, inl, inr}
 use Rattle.disk_model.specs.declared.Disk.{Ghosts}
 use Rattle.ledger_core.specs.State.{State}
-use Rattle.recovery.specs.Leaving.{HasSegment, LedgersLeave, LiesLeft, RotatesTooLongBy, broken_of}
+use Rattle.recovery.specs.Leaving.{HasSegment, LedgersLeave, LiesLeft, broken_of}
 use Rattle.recovery.specs.LeavingLaws.{pends_by, rotates_by, same_disks, segment_of}
 use Rattle.recovery.specs.Image.{Log}
 use Rattle.recovery.specs.Notes.{flushed, most_pending, noted_all}
@@ -24,7 +24,8 @@ use Rattle.peer_queue.specs.declared.limits.Shed.{Shed}
 use Rattle.peer_queue.specs.declared.station.Station.{Station}
 use Rattle.peer_queue.specs.ShedLaws.{shed_unheld}
 use Rattle.world_core.specs.Past.{PeerPast, TapePast, ledger_at, limits_of}
-use Rattle.world_core.specs.Tapes.{IsRotated, MayRotate, RefusesRotate}
+use Rattle.world_core.specs.Tapes.{ComesTo, IsReadTape, IsRotated, LivesBy, RefusesAs, RefusesRotate, Rotation}
+use Rattle.world_core.specs.Tapes.Rotation.{Is_broken, Is_last, Is_long, Fits}
 use Rattle.world_core.specs.Fault.{fault_of_station}
 use Rattle.world_core.specs.Stands.{PeerStands, ShedPeer, TapeStands}
 use Rattle.world_core.specs.declared.fault.Fault.{Fault}
@@ -46,20 +47,18 @@ module _ {D : Type 0} {g : Ghosts D} where
   module _ (lies : LiesLeft g) (past : TapePast) (tape : Tape D g) (stands : TapeStands past tape)
       (works : IsBroken tape → ⊥) where
     -- the segment that lives on its disks
-    segment_there : (size : ℕ) × HasSegment past.log (generation_of tape) size
-    segment_there = segment_on (log_of tape) past.log (generation_of tape) _ stands.log
-        (segment_of tape past.history lies stands.stands works)
+    lives_by : LivesBy past (generation_of tape)
+    lives_by =
+        let there = segment_on (log_of tape) past.log (generation_of tape) _ stands.log
+        (segment_of tape past.history lies stands.stands works) in
+        record { works = tape_works past tape stands works; size = there.0; lives = there.1 }
 
-    long_here : RotatesTooLong tape → RotatesTooLongBy (generation_of tape) past.history
-    long_here long = (rotates_by tape past.history stands.stands).0 long
+    is_long : generation_of tape ≢ 2 ^ 64 - 1 → RotatesTooLong tape → ComesTo past (generation_of tape) Is_long
+    is_long greater long = (lives_by, greater, (rotates_by tape past.history stands.stands).0 long)
 
-    may_rotate : generation_of tape ≢ 2 ^ 64 - 1 → (RotatesTooLong tape → ⊥) → MayRotate past (generation_of tape)
-    may_rotate greater fits = record {
-      size = segment_there.0;
-      lives = segment_there.1;
-      greater = greater;
-      fits = λ long. fits ((rotates_by tape past.history stands.stands).1 long);
-    }
+    may_rotate : generation_of tape ≢ 2 ^ 64 - 1 → (RotatesTooLong tape → ⊥) → ComesTo past (generation_of tape) Fits
+    may_rotate greater fits =
+        (lives_by, greater, λ long. fits ((rotates_by tape past.history stands.stands).1 long))
 
   module _ (lies : LiesLeft g) (P : State
       → Type 0) (past : TapePast) (old new : Tape D g) (stands : TapeStands past old)
@@ -79,22 +78,15 @@ module _ {D : Type 0} {g : Ghosts D} where
               false;
         }) new
     rotated_as generation worked works greater fits next now is told =
-        let later : TapeStands (record {
-          history = flushed past.history;
-          log = log_of new;
-          faults =
-              past.faults;
-          broken = false;
-        }) new =
+        let rotated : TapePast =
+        record { history = flushed past.history; log = log_of new; faults = past.faults; broken = false } in
+        let later : TapeStands rotated new =
         record { stands = is; log = refl; faults = told ∙ stands.faults; broken = not_true (broken_of new) works } in (
           record {
-            worked = tape_works past old stands worked;
             before = generation_of old;
-            may = may_rotate lies past old stands worked greater fits;
+            fits = may_rotate lies past old stands worked greater fits;
             next = next;
-            size = (segment_there lies _ new later works).0;
-            lives = subst (λ (n : ℕ). HasSegment (log_of new) n (segment_there lies _ new later works).0) now
-                (segment_there lies _ new later works).1;
+            now = subst (LivesBy rotated) now (lives_by lies rotated new later works);
             moments = subst (λ (log : Log). LedgersLeave P log (log_of new)) stands.log moments;
             all = refl;
           },
@@ -104,6 +96,19 @@ module _ {D : Type 0} {g : Ghosts D} where
   module _ (lies : LiesLeft g) (P : State
       → Type 0) (past : TapePast) (old new : Station D g) (stands : TapeStands past old.tape)
       (moments : LedgersLeave P (log_of old.tape) (log_of new.tape)) (is : StandsFor new.tape past.history) where
+    -- it was refused, and what it writes anew was read
+    read_not : (told : Fault) (rotation : Rotation) → ComesTo past (generation_of old.tape) rotation
+        → IsTapeRead old.tape new.tape
+        → (IsReadTape past (read_now past new.tape) → RefusesAs P rotation past told (read_now past new.tape))
+        → RotatedNot P past told new.tape
+    read_not told rotation comes same refuses =
+        let read = read_tape past old.tape new.tape stands same in
+        record {
+          later = read_now past new.tape;
+          refused = (generation_of old.tape, rotation, comes, refuses read.0);
+          stands = read.1;
+        }
+
     pub unrotated_as : (fault : StationFault) (told : Fault) → told ≡ fault_of_station fault
         → ((fault ≡ Broken) ↔ IsBroken old.tape)
         → ((fault ≡ TapeRefused GenerationFull) ↔ ((IsBroken old.tape → ⊥) × (generation_of old.tape ≡ 2 ^ 64 - 1)))
@@ -114,97 +119,49 @@ module _ {D : Type 0} {g : Ghosts D} where
         → (fault ≡ TapeRefused Disk → OneHasRisen (told_of old.tape) (told_of new.tape))
         → RotatedNot P past told new.tape
     unrotated_as NotHeld told e broken greatest full kind same breaks cause = absurd kind
-    unrotated_as Broken told e broken greatest full kind same breaks cause = record {
-      later = read_now past new.tape;
-      refused = inl (
-        e,
-        tape_broken past old.tape stands (broken.0 refl),
-        (read_tape past old.tape new.tape stands (same (λ is. cc))).0,
-      );
-      stands = (read_tape past old.tape new.tape stands (same (λ is. cc))).1;
-    }
+    unrotated_as Broken told e broken greatest full kind same breaks cause =
+        read_not told Is_broken (tape_broken past old.tape stands (broken.0 refl)) (same (λ is. cc)) (λ read. (e, read))
     unrotated_as (TapeRefused fault) told e broken greatest full kind same breaks cause =
         let works : IsBroken old.tape → ⊥ = λ b. let never : TapeRefused fault ≡ Broken = broken.1 b in cc in
         elim kind [
           | inl last ↦
-              let at_last = greatest.0 (ap TapeRefused last) in
-              let there = segment_there lies past old.tape stands works in
-              let read = read_tape past old.tape new.tape stands
-              (same (λ never. let clash : GenerationFull ≡ Disk = sym last ∙ refused_once never in cc)) in
-              record {
-                later = read_now past new.tape;
-                refused = inr (inl (
-                  e ∙ ap (λ f. fault_of_station (TapeRefused f)) last,
-                  tape_works past old.tape stands works,
-                  (there.0, subst (λ (n : ℕ). HasSegment past.log n there.0) at_last.1 there.1),
-                  read.0,
-                ));
-                stands = read.1;
-              }
+              read_not told Is_last
+              (lives_by lies past old.tape stands works, (greatest.0 (ap TapeRefused last)).1)
+              (same (λ never. let clash : GenerationFull ≡ Disk = sym last ∙ refused_once never in cc))
+              (λ read. (as_told last, read))
           | inr (inl long) ↦
               let at_last = full.0 (ap TapeRefused long) in
-              let there = segment_there lies past old.tape stands works in
-              let read = read_tape past old.tape new.tape stands
-              (same (λ never. let clash : TapeFull ≡ Disk = sym long ∙ refused_once never in cc)) in
-              record {
-                later = read_now past new.tape;
-                refused = inr (inr (inl (
-                  e ∙ ap (λ f. fault_of_station (TapeRefused f)) long,
-                  tape_works past old.tape stands works,
-                  (
-                    generation_of old.tape,
-                    there.0,
-                    there.1,
-                    at_last.1,
-                    long_here lies past old.tape stands works at_last.2,
-                  ),
-                  read.0,
-                )));
-                stands = read.1;
-              }
+              read_not told Is_long (is_long lies past old.tape stands works at_last.1 at_last.2)
+              (same (λ never. let clash : TapeFull ≡ Disk = sym long ∙ refused_once never in cc))
+              (λ read. (as_told long, read))
           | inr (inr disk) ↦
               let told_so : TapeRefused fault ≡ TapeRefused Disk = ap TapeRefused disk in
               let done = broke_as lies P past old.tape new.tape stands moments works (breaks told_so) (cause told_so)
               is in
               let greater : generation_of old.tape ≢ 2 ^ 64 - 1 = λ at_last.
               let clash : Disk ≡ GenerationFull = sym disk ∙ refused_once (greatest.1 (works, at_last)) in cc in
+              let fits = may_rotate lies past old.tape stands works greater
+              (λ long. let clash : Disk ≡ TapeFull =
+              sym disk ∙ refused_once (full.1 (works, greater, long)) in cc) in
               record {
                 later = _;
-                refused = inr (inr (inr (inr (
-                  e ∙ ap (λ f. fault_of_station (TapeRefused f)) disk,
-                  (
-                    generation_of old.tape,
-                    may_rotate lies past old.tape stands works greater
-                        (λ long. let clash : Disk ≡ TapeFull =
-                        sym disk ∙ refused_once (full.1 (works, greater, long)) in cc),
-                  ),
-                  done.0,
-                ))));
+                refused = (generation_of old.tape, Fits, fits, inr (as_told disk, done.0));
                 stands = done.1;
               }
         ]
       where
         refused_once : {one other : TapeFault} → TapeRefused one ≡ TapeRefused other → one ≡ other
         refused_once same = cc
+
+        as_told : {other : TapeFault} → fault ≡ other → told ≡ fault_of_station (TapeRefused other)
+        as_told same = e ∙ ap (λ f. fault_of_station (TapeRefused f)) same
     unrotated_as NoMemory told e broken greatest full kind same breaks cause =
         let works : IsBroken old.tape → ⊥ = λ b. let never : NoMemory ≡ Broken = broken.1 b in cc in
         let greater : generation_of old.tape ≢ 2 ^ 64 - 1 = λ at_last.
         let never : NoMemory ≡ TapeRefused GenerationFull = greatest.1 (works, at_last) in cc in
-        let read = read_tape past old.tape new.tape stands (same (λ is. cc)) in
-        record {
-          later = read_now past new.tape;
-          refused = inr (inr (inr (inl (
-            e,
-            tape_works past old.tape stands works,
-            (
-              generation_of old.tape,
-              may_rotate lies past old.tape stands works greater
-                  (λ long. let never : NoMemory ≡ TapeRefused TapeFull = full.1 (works, greater, long) in cc),
-            ),
-            read.0,
-          ))));
-          stands = read.1;
-        }
+        read_not told Fits (may_rotate lies past old.tape stands works greater
+        (λ long. let never : NoMemory ≡ TapeRefused TapeFull = full.1 (works, greater, long) in cc))
+        (same (λ is. cc)) (λ read. inl (e, read))
 
   -- what a station shed
   pub shed_as : (past : PeerPast) (old new : Peer D g) (shed : Shed) → PeerStands past old

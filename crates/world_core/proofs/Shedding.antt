@@ -8,6 +8,7 @@ use Rattle.recovery.specs.Leaving.{pending_notes}
 use Rattle.world_core.specs.Past.{Past, PeerPast, TapePast, with_peer}
 use Rattle.world_core.specs.Safe.{HasAcknowledged, IsAbove}
 use Rattle.world_core.specs.Tapes.{RefusesRotate}
+use Rattle.world_core.specs.Tapes.Rotation.{Is_broken, Is_last, Is_long, Fits}
 use Rattle.world_core.specs.Events.{shed_peer}
 use Rattle.world_core.specs.Sound.{IsSound}
 use Rattle.world_core.specs.declared.fault.Fault.{Fault}
@@ -34,8 +35,8 @@ sound_shed past rank peer numbers sound here within =
 
 pub same_rotated : (P : State → Type 0) (old : TapePast) (fault : Fault) (new : TapePast)
     → RefusesRotate P old fault new → new.history ≡ old.history
-same_rotated P old fault new (inl broken) = ap (λ (t : TapePast). t.history) broken.2.all
-same_rotated P old fault new (inr (inl greatest)) = ap (λ (t : TapePast). t.history) greatest.3.all
-same_rotated P old fault new (inr (inr (inl full))) = ap (λ (t : TapePast). t.history) full.3.all
-same_rotated P old fault new (inr (inr (inr (inl memory)))) = ap (λ (t : TapePast). t.history) memory.3.all
-same_rotated P old fault new (inr (inr (inr (inr disk)))) = ap (λ (t : TapePast). t.history) disk.2.all
+same_rotated P old fault new (generation, Is_broken, comes, broken) = ap (λ (t : TapePast). t.history) broken.1.all
+same_rotated P old fault new (generation, Is_last, comes, last) = ap (λ (t : TapePast). t.history) last.1.all
+same_rotated P old fault new (generation, Is_long, comes, long) = ap (λ (t : TapePast). t.history) long.1.all
+same_rotated P old fault new (generation, Fits, comes, inl memory) = ap (λ (t : TapePast). t.history) memory.1.all
+same_rotated P old fault new (generation, Fits, comes, inr disk) = ap (λ (t : TapePast). t.history) disk.1.all

@@ -1,8 +1,8 @@
 -- The steps on tapes, from their events.
-use Rattle.std.proofs.Common.{◌≡◌, ℕ, zero, suc, ◌+◌, ◌<◌, true, false, None, Some, Result, Ok, Err, IfErr, OnOk, List}
+use Rattle.std.proofs.Common.{◌≡◌, ℕ, zero, suc, ◌+◌, ◌<◌, true, false, None, Some, List}
 use Rattle.std.proofs.Common.{[], ◌∷◌, ◌++◌, length, take, map, refl, sym, ap, ◌∙◌, subst, inl, inr, arith, add-one}
 use Rattle.std.proofs.Common.{cond, not}
-use Rattle.std.specs.Prelude.{IsErrAnd, nat_lt}
+use Rattle.std.specs.Prelude.{nat_lt}
 use Rattle.std.specs.Global.{Vec}
 use Rattle.std.specs.List.{AllByRecursion, AllZip, position, prefix_len, slice_get}
 use Rattle.std.specs.Str.{bytes_eq}
@@ -32,20 +32,6 @@ use Rattle.world_core.specs.declared.told.Told.TheVariants.{Taken as ToldTaken}
 use Rattle.world_core.proofs.Chains.{did_more, did_none, did_one, did_then, each_more, each_split, failed_before}
 use Rattle.world_core.proofs.Chains.{failed_next, failed_one, failed_then}
 use Rattle.world_core.proofs.Seeing.{mark_is}
-
--- ---- results
-
-pub if_err : {T E : Type 0} (r : Result T E) (P Q : E → Type 0) → IsErrAnd r P → ((e : E) → P e → Q e) → IfErr r Q
-if_err (Ok v) P Q is all = absurd is
-if_err (Err e) P Q is all = all e is
-
-pub on_ok_map : {T E : Type 0} (r : Result T E) (A B : Type 0) → OnOk r A → (A → B) → OnOk r B
-on_ok_map (Ok v) A B is give = give is
-on_ok_map (Err e) A B is give = tt
-
-pub if_err_map : {T E : Type 0} (r : Result T E) (P Q : E → Type 0) → IfErr r P → ((e : E) → P e → Q e) → IfErr r Q
-if_err_map (Ok v) P Q is give = tt
-if_err_map (Err e) P Q is give = give e is
 
 -- the one that was put into an empty list
 pub pushed : {A : Type 0} (old new : List A) (x : A) → new ≡ old ++ x ∷ [] → old ≡ [] → new ≡ x ∷ []

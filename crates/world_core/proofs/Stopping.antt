@@ -132,23 +132,11 @@ halted_here old new life stations conns peers disks stands was stops now_is arme
 
 -- ---- behind a refused step
 
-stage_going : (life : Life) (under_way : Past) (stage : Stage) → life.running ≡ false
-    → StageStands (with_past life (left AtRest under_way)) stage
-    → StageStands (halted AtRest under_way life) stage
-stage_going life under_way (Running stations conns) stopped stands = absurd (let runs = stands.0 in cc)
-stage_going life under_way (Stopped peers intake) stopped stands = (refl, stands.1, stands.2, stands.3)
-
 runs_here : (world : World) (life : Life) (stations : _) (conns : _) → WorldStands world life
     → world.stage ≡ Running stations conns → life.running ≡ true
 runs_here world life stations conns stands is =
     let here : StageStands life (Running stations conns) = subst (λ (s : Stage). StageStands life s) is stands.stage in
     here.0
-
-stopped_by : (life : Life) (stage : Stage) → StageStands life stage
-    → ((stations : _) (conns : _) → stage ≡ Running stations conns → ⊥)
-    → life.running ≡ false
-stopped_by life (Running stations conns) stands never = absurd (never stations conns refl)
-stopped_by life (Stopped peers intake) stands never = stands.0
 
 -- all stations stop, where the world runs on
 pub halted_on : (old new : World) (life now : Life) (under_way : Past) (stations : _) (conns : _)
@@ -167,27 +155,6 @@ halted_on old new life now under_way stations conns peers disks (inr on) stands 
     (subst (λ (l : Life). WorldStands old l) on.1 stands) was in
     let not = on.0 in
     absurd cc
-
--- or where it had stopped
-pub halted_still : (old new : World) (life now : Life) (under_way : Past) → GoesOn life under_way now
-    → WorldStands old now
-    → ((stations : _) (conns : _) → old.stage ≡ Running stations conns → ⊥) → new.stage ≡ old.stage → new.armed ≡ None
-    → new.connected ≡ old.connected → new.now ≡ old.now → WorldStands new (halted AtRest under_way life)
-halted_still old new life now under_way (inl on) stands never same armed connected moment =
-    let not = stopped_by (with_past life under_way) old.stage
-    (subst (λ (l : Life). WorldStands old l) on.1 stands).stage never in
-    let runs = on.0 in
-    absurd cc
-halted_still old new life now under_way (inr on) stands never same armed connected moment =
-    let here = subst (λ (l : Life). WorldStands old l) on.1 stands in
-    record {
-      stage = subst (λ (s : Stage). StageStands (halted AtRest under_way life) s) (sym same)
-          (stage_going life under_way old.stage on.0 here.stage);
-      armed = ap (option_map armed_as) armed;
-      connected = connected ∙ here.connected;
-      now = moment ∙ here.now;
-      sound = record { past = here.sound.past; conns = tied_halted AtRest under_way life };
-    }
 
 -- and then a choice leaves what it does
 pub struck_stands : (world : World) (life : Life) (under_way : Past) (choice : Choice)

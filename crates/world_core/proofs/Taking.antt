@@ -159,18 +159,6 @@ runs_there world life stations conns stands is =
     let here : StageStands life (Running stations conns) = subst (λ (s : Stage). StageStands life s) is stands.stage in
     (here.0, here.1)
 
--- it has stopped
-stopped_stage : (life : Life) (stage : Stage) → StageStands life stage
-    → ((stations : _) (conns : _) → stage ≡ Running stations conns → ⊥)
-    → life.running ≡ false
-stopped_stage life (Running stations conns) stands never = absurd (never stations conns refl)
-stopped_stage life (Stopped peers intake) stands never = stands.0
-
-pub stopped_there : (world : World) (life : Life) → WorldStands world life
-    → ((stations : _) (conns : _) → world.stage ≡ Running stations conns → ⊥)
-    → life.running ≡ false
-stopped_there world life stands never = stopped_stage life world.stage stands.stage never
-
 pub took_does : (step : Step) (life later : Life) (told : List Told) (world : World)
     → Does step life (map said_of told) later → WorldStands world later
     → Took step life told world
@@ -256,15 +244,6 @@ module _ (step : Step) (life : Life) (halt : Halt) (old : World) (was : WasHalte
     stands = memory.1;
   }
 
-pub not_struck : (step : Step) (life : Life) (halt : Halt) (fault : Fault) (old new : World)
-    → WasHalted step life halt old → fault ≡ halt.fault
-    → new ≡ old → WasNotTaken step life fault new
-not_struck step life halt fault old new was is same = record {
-  later = was.now;
-  refuses = inl (subst (λ (f : Fault). Refuses step life f was.now) (sym is) was.refuses);
-  stands = subst (λ (w : World). WorldStands w was.now) (sym same) was.stands;
-}
-
 -- ---- the steps on tapes
 
 -- the world runs, and its tapes are those of the stations
@@ -344,13 +323,6 @@ module _ (old new : World) (life : Life) (stations now : Stations StopDisk _) (c
           fails = t.disk disk;
         }),
       ))
-
-pub stopped_not : (step : Step) (life : Life) (world : World) → WorldStands world life
-    → ((stations : _) (conns : _) → world.stage ≡ Running stations conns → ⊥)
-    → (life.running ≡ false → Refuses step life HasStopped life)
-    → WasNotTaken step life HasStopped world
-stopped_not step life world stands never refuses =
-    not_taken step life life HasStopped world (refuses (stopped_there world life stands never)) stands
 
 -- ---- the event in which a disk failed
 

@@ -9,6 +9,7 @@ use Rattle.world_core.specs.Events.{AllDo, Does, Event, Refuses, Rotates}
 use Rattle.world_core.specs.Halts.{CallsDisks}
 use Rattle.world_core.specs.Laws.{Comes, StillOwes}
 use Rattle.world_core.specs.Runs.{RefusesStep, Takes}
+use Rattle.world_core.specs.Safe.{KeepsLines}
 use Rattle.world_core.specs.Told.{Said}
 use Rattle.world_core.specs.declared.fault.Fault.{Fault}
 use Rattle.world_core.specs.declared.step.Step.{Step}
@@ -38,11 +39,17 @@ pub record IsUnderWay (step : Step) (life : Life) (was now : Past) : Type 0 wher
 abbrev pub StaysFront : PeerPast → PeerPast → Type 0
 StaysFront old new = LedgersLeave (IsFront old.tape.history) old.tape.log new.tape.log
 
--- So it is of every peer while an event makes these tapes of those; and there each debt that was acknowledged in the
+-- so it is of the intake's tape; and each note that a line up to its mark made is acknowledged at its peer
+abbrev pub StaysBelow : Past → Past → Type 0
+StaysBelow was now =
+    LedgersLeave (KeepsLines was.intake.history was.peers) was.intake.log now.intake.log
+
+-- So it is of every tape while an event makes these tapes of those; and there each debt that was acknowledged in the
 -- world that was begun with is owed still, or has ended.
 pub record AreRecoveredWithin (begun was now : Past) : Type 0 where
   pub fronts : AllZip StaysFront was.peers now.peers
   pub owes : AllZip StillOwes begun.peers was.peers
+  pub lines : StaysBelow was now
 
 abbrev pub AllMomentsAreRecovered : Type 0
 AllMomentsAreRecovered = (begun life : Life) (steps : List Step) (lines : List (List Said))

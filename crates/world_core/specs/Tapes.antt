@@ -83,37 +83,49 @@ RefusesFlush P old fault new =
 
 -- ---- a rotation
 
--- what lies on the disks can be written anew behind this generation
-pub record MayRotate (tape : TapePast) (generation : ℕ) : Type 0 where
+-- it works, and on its disks lies a tape whose segment that lives has this generation
+pub record LivesBy (tape : TapePast) (generation : ℕ) : Type 0 where
+  pub works : tape.broken ≡ false
   pub size : ℕ
   pub lives : HasSegment tape.log generation size
-  pub greater : generation ≢ 2 ^ 64 - 1
-  pub fits : RotatesTooLongBy generation tape.history → ⊥
+
+-- What a rotation comes to before it writes: the tape is broken; no generation is greater than the one that lives; what
+-- it would write behind that is too long; or it can be written.
+pub data Rotation : Type 0 where
+  Is_broken : Rotation
+  Is_last : Rotation
+  Is_long : Rotation
+  Fits : Rotation
+
+abbrev pub ComesTo : TapePast → ℕ → Rotation → Type 0
+ComesTo tape generation Is_broken = tape.broken ≡ true
+ComesTo tape generation Is_last = LivesBy tape generation × (generation ≡ 2 ^ 64 - 1)
+ComesTo tape generation Is_long =
+    LivesBy tape generation × (generation ≢ 2 ^ 64 - 1) × RotatesTooLongBy generation tape.history
+ComesTo tape generation Fits =
+    LivesBy tape generation × (generation ≢ 2 ^ 64 - 1) × (RotatesTooLongBy generation tape.history → ⊥)
 
 -- It answered this generation, the one behind that which lay there, and that lies there now: all notes are
 -- acknowledged.
 pub record IsRotated (P : State → Type 0) (generation : ℕ) (old new : TapePast) : Type 0 where
-  pub worked : old.broken ≡ false
   pub before : ℕ
-  pub may : MayRotate old before
+  pub fits : ComesTo old before Fits
   pub next : generation ≡ before + 1
-  pub size : ℕ
-  pub lives : HasSegment new.log generation size
+  pub now : LivesBy new generation
   pub moments : LedgersLeave P old.log new.log
   pub all : new ≡ record { history = flushed old.history; log = new.log; faults = old.faults; broken = false }
 
 -- Where it changes nothing else, what it writes anew was read.
+abbrev pub RefusesAs : (State → Type 0) → Rotation → TapePast → Fault → TapePast → Type 0
+RefusesAs P Is_broken old fault new = (fault ≡ Tape Broken) × IsReadTape old new
+RefusesAs P Is_last old fault new = (fault ≡ Tape GenerationFull) × IsReadTape old new
+RefusesAs P Is_long old fault new = (fault ≡ Tape TapeFull) × IsReadTape old new
+RefusesAs P Fits old fault new =
+    ((fault ≡ NoMemory) × IsReadTape old new) ⊎ ((fault ≡ Tape Disk) × Breaks P old new)
+
 abbrev pub RefusesRotate : (State → Type 0) → TapePast → Fault → TapePast → Type 0
 RefusesRotate P old fault new =
-    ((fault ≡ Tape Broken) × (old.broken ≡ true) × IsReadTape old new)
-    ⊎ ((fault ≡ Tape GenerationFull) × (old.broken ≡ false) × ((size : ℕ) × HasSegment old.log (2 ^ 64 - 1) size)
-    × IsReadTape old new)
-    ⊎ ((fault ≡ Tape TapeFull) × (old.broken ≡ false)
-    × ((generation size : ℕ) × HasSegment old.log generation size × (generation ≢ 2 ^ 64 - 1)
-    × RotatesTooLongBy generation old.history)
-    × IsReadTape old new)
-    ⊎ ((fault ≡ NoMemory) × (old.broken ≡ false) × ((generation : ℕ) × MayRotate old generation) × IsReadTape old new)
-    ⊎ ((fault ≡ Tape Disk) × ((generation : ℕ) × MayRotate old generation) × Breaks P old new)
+    (generation : ℕ) × (rotation : Rotation) × ComesTo old generation rotation × RefusesAs P rotation old fault new
 
 -- ---- an opening
 

@@ -71,7 +71,8 @@ pub fn all_are_recovered()
 /// its calls on a disk, whether the call answers Ok, fails, or is met by a stop, whatever a stop may leave of a peer's
 /// tape is a tape, that of the first of its notes, every acknowledged one among them; and each debt that was
 /// acknowledged before the steps, or that the peer's history began from, is owed there, unless the peer has a final
-/// answer or a noted drop of it.
+/// answer or a noted drop of it. So is whatever a stop may leave of the intake's tape, and each note that a line up to
+/// its mark made is acknowledged at its peer.
 pub fn all_moments_are_recovered()
     ensures { AllMomentsAreRecovered }
 {}

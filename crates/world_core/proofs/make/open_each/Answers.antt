@@ -5,9 +5,9 @@ use Rattle.std.proofs.lemmas.Iterator.Consumers.{YieldsList-end, YieldsList-so_f
 use Rattle.std.proofs.lemmas.List.{map-id}
 use Rattle.std.proofs.lemmas.Option.{slice_get-get_or}
 use Rattle.std.specs.List.{AllZip}
-use Rattle.world_core.specs.Given.{GivenPeer, OpensGiven, RefusesPeer}
+use Rattle.world_core.specs.Given.{GivenPeer, OpensGiven}
 use Rattle.world_core.proofs.Making.{opens_more, stops_for}
-use Rattle.world_core.proofs.Stepping.{if_err}
+use Rattle.world_core.proofs.Results.{if_err_is}
 use Rattle.world_core.proofs.make.open_each.Goals as goal
 
 pub loop-peer-init : goal.loop-peer-init
@@ -30,10 +30,9 @@ returns-in_err-opened-clause-err c =
     let turn = YieldsList-turn road l.yielded l.peer-iterator l.yielded_by c.next.result c.next.new.self
     c.in-Some.peer c.in-Some.is c.next.ensures.steps in
     let here = slice_get-get_or given (length l.yielded) c.in-Some.peer turn.0 ∙ ap Some (sym turn.1) in
-    if_err c.from_residual.result _ _ c.from_residual.ensures.1
-    (λ fault same. stops_for given l.yielded l.peers.items c.in-Some.peer fault l.invariant
-    (sym (map-id l.yielded) ∙ so_far) here
-    (subst (λ f. RefusesPeer c.in-Some.peer f) (sym same) c.in_err-opened.ensures.err))
+    if_err_is c.from_residual.result _ _ c.from_residual.ensures.1
+    (stops_for given l.yielded l.peers.items c.in-Some.peer _ l.invariant (sym (map-id l.yielded) ∙ so_far) here
+    c.in_err-opened.ensures.err)
 
 pub returns-clause-ok : goal.returns-clause-ok
 returns-clause-ok c =

@@ -3,8 +3,8 @@ use Rattle.std.proofs.Common.{◌++◌, ◌∷◌, ◌∙◌, ap, refl, List, []
 use Rattle.world_core.specs.Exchange.{with_transcript}
 use Rattle.world_core.specs.declared.told.Told.{Told}
 use Rattle.world_core.specs.declared.told.Told.TheVariants.{Handed as ToldHanded}
-use Rattle.world_core.proofs.Following.{if_err}
-use Rattle.world_core.proofs.Handing.{hand_memory, hand_not, hand_on, hand_on_not, if_err_map, on_ok_map, open_over}
+use Rattle.world_core.proofs.Results.{if_err, if_err_map, on_ok_map}
+use Rattle.world_core.proofs.Handing.{hand_memory, hand_not, hand_on, hand_on_not, open_over}
 use Rattle.world_core.proofs.connection.Connection.hand.Goals as goal
 
 pub returns-in_err-reserve-clause-err : goal.returns-in_err-reserve-clause-err

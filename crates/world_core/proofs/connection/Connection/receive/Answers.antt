@@ -2,8 +2,7 @@
 use Rattle.std.proofs.Common.{◌∙◌, ap, refl, inl, inr}
 use Rattle.std.specs.Prelude.{is_none}
 use Rattle.world_core.proofs.Breaking.{none_told, reason_told}
-use Rattle.world_core.proofs.Following.{if_err}
-use Rattle.world_core.proofs.Handing.{if_err_map, on_ok_map}
+use Rattle.world_core.proofs.Results.{if_err, if_err_map, on_ok_map}
 use Rattle.world_core.proofs.Receiving.{pair_received, pair_unread}
 use Rattle.world_core.proofs.connection.Connection.receive.Goals as goal
 

@@ -1,8 +1,9 @@
 -- Each outcome in turn, up to the last or one that is refused.
-use Rattle.std.proofs.Common.{subst, sym, []}
+use Rattle.std.proofs.Common.{subst, []}
 use Rattle.world_core.specs.Exchange.{with_taken, with_transcript}
-use Rattle.world_core.specs.Pairs.{FollowedNot, SettledNext}
-use Rattle.world_core.proofs.Following.{if_err, settled_all, settled_more, settled_refused, settled_start}
+use Rattle.world_core.specs.Pairs.{SettledNext}
+use Rattle.world_core.proofs.Results.{if_err_is}
+use Rattle.world_core.proofs.Following.{settled_all, settled_more, settled_refused, settled_start}
 use Rattle.world_core.proofs.connection.Connection.settle_all.Goals as goal
 
 pub loop-init : goal.loop-init
@@ -37,8 +38,7 @@ pub returns-in_err-settle_next-clause-err : goal.returns-in_err-settle_next-clau
 returns-in_err-settle_next-clause-err g c = λ id conn past pair.
     let so = c.loop.invariant id conn past pair in
     let at = with_transcript conn (with_taken so.0 conn.transcript) in
-    if_err c.from_residual.result _ _ c.from_residual.ensures.1 (λ fault is.
-    subst (λ f. FollowedNot id c.args.now conn past f c.settle_next.new.self c.settle_next.new.peer) (sym is)
+    if_err_is c.from_residual.result _ _ c.from_residual.ensures.1
     (settled_refused id c.args.now conn past c.args.told.now.items so.0 so.1 c.loop.self c.settle_next.new.self
     c.loop.peer c.settle_next.new.peer
-    c.loop.told.items _ so.2 (c.in_err-settle_next.ensures.err id at so.1 so.2.stand)))
+    c.loop.told.items _ so.2 (c.in_err-settle_next.ensures.err id at so.1 so.2.stand))

@@ -9,8 +9,7 @@ use Rattle.world_core.specs.Exchange.{with_transcript}
 use Rattle.world_core.specs.Pairs.{PairStands}
 use Rattle.world_core.specs.Past.{options_of}
 use Rattle.world_core.proofs.Breaking.{none_told, reason_told}
-use Rattle.world_core.proofs.Following.{if_err}
-use Rattle.world_core.proofs.Handing.{if_err_map, on_ok_map}
+use Rattle.world_core.proofs.Results.{if_err, if_err_map, on_ok_map}
 use Rattle.world_core.proofs.Receiving.{need_told, no_more, pair_handed, wanted_needed}
 use Rattle.world_core.proofs.connection.Connection.supply.Goals as goal
 

@@ -1,6 +1,6 @@
 -- Behind the outcomes comes what is told of the connection, and its output counts as sent.
 use Rattle.std.proofs.Common.{◌∙◌, ap, length, refl, sym}
-use Rattle.world_core.proofs.Following.{if_err}
+use Rattle.world_core.proofs.Results.{if_err}
 use Rattle.world_core.proofs.Telling.{followed, told_not}
 use Rattle.world_core.proofs.connection.Connection.tell.Goals as goal
 

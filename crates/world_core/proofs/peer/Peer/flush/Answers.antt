@@ -1,14 +1,11 @@
 -- The peer was flushed, and that since a number was kept.
-use Rattle.std.proofs.Common.{refl, subst, sym}
-use Rattle.world_core.specs.Stands.{UnflushedPeer}
-use Rattle.world_core.proofs.Stepping.{if_err}
+use Rattle.std.proofs.Common.{refl}
+use Rattle.world_core.proofs.Results.{if_err_is}
 use Rattle.world_core.proofs.peer.Peer.flush.Goals as goal
 
 pub returns-in_err-spill-clause-err : goal.returns-in_err-spill-clause-err
 returns-in_err-spill-clause-err g c = λ past stands.
-    if_err c.from_residual.result _ _ c.from_residual.ensures.1
-    (λ fault same. subst (λ f. UnflushedPeer past f c.spill.new.self) (sym same)
-    (c.in_err-spill.ensures.err past stands))
+    if_err_is c.from_residual.result _ _ c.from_residual.ensures.1 (c.in_err-spill.ensures.err past stands)
 
 pub returns-clause-ok : goal.returns-clause-ok
 returns-clause-ok g c = λ past stands.

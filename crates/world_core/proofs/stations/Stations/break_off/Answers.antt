@@ -3,7 +3,7 @@ use Rattle.std.proofs.Common.{◌<◌, arith, length, refl, subst, sym, List}
 use Rattle.world_core.specs.Joined.{AreRunning}
 use Rattle.world_core.specs.declared.connection.Connection.{Connection}
 use Rattle.world_core.proofs.Acting.{broke_at, broke_not_at, pair_of, put_from}
-use Rattle.world_core.proofs.Handing.{if_err_map, on_ok_map}
+use Rattle.world_core.proofs.Results.{if_err_map, on_ok_map}
 use Rattle.world_core.proofs.stations.Stations.break_off.Goals as goal
 
 pub returns-clause-ok : goal.returns-clause-ok

@@ -4,7 +4,7 @@ use Rattle.world_core.specs.declared.told.Told.TheVariants.{Connected as ToldCon
 use Rattle.world_core.specs.Told.{Connected, Said, said_of}
 use Rattle.std.specs.Prelude.{map}
 use Rattle.world_core.proofs.Connecting.{connect_absent, connect_full, connect_memory, connected_made}
-use Rattle.world_core.proofs.Following.{if_err}
+use Rattle.world_core.proofs.Results.{if_err}
 use Rattle.world_core.proofs.Outputs.{position_within}
 use Rattle.world_core.proofs.Settling.{tells_push}
 use Rattle.world_core.proofs.Stepping.{rank_same}

@@ -1,9 +1,8 @@
 -- Each peer is flushed, and then the kept number is sealed.
-use Rattle.std.proofs.Common.{◌∙◌, length, sym, subst}
-use Rattle.world_core.specs.Events.{Parts, each_rank}
+use Rattle.std.proofs.Common.{◌∙◌}
 use Rattle.world_core.specs.Steps.{begun_at}
-use Rattle.world_core.specs.Stepped.{FailedAt}
-use Rattle.world_core.proofs.Stepping.{flush_failed_part, flush_failed_seal, flush_memory, flush_took, if_err, pushed}
+use Rattle.world_core.proofs.Results.{if_err, if_err_is}
+use Rattle.world_core.proofs.Stepping.{flush_failed_part, flush_failed_seal, flush_memory, flush_took, pushed}
 use Rattle.world_core.proofs.Stepping.{sealable_begun}
 use Rattle.world_core.proofs.stations.Stations.flush.Goals as goal
 
@@ -14,11 +13,9 @@ returns-in_err-told-clause-err g c = λ past stands.
 
 pub returns-in_err-part_each-clause-err : goal.returns-in_err-part_each-clause-err
 returns-in_err-part_each-clause-err g c = λ past stands.
-    if_err c.from_residual-in_err-part_each.result _ _ c.from_residual-in_err-part_each.ensures.1
-    (λ halt same. flush_failed_part past halt c.part_each.new.self
-    (subst (λ h. FailedAt (begun_at past) (each_rank Parts (length (begun_at past).peers)) h c.part_each.new.self)
-    (sym same)
-    (c.in_err-part_each.ensures.err (begun_at past) (c.begin.ensures past stands))))
+    if_err_is c.from_residual-in_err-part_each.result _ _ c.from_residual-in_err-part_each.ensures.1
+    (flush_failed_part past _ c.part_each.new.self
+    (c.in_err-part_each.ensures.err (begun_at past) (c.begin.ensures past stands)))
 
 pub returns-in-Err-clause-err : goal.returns-in-Err-clause-err
 returns-in-Err-clause-err g c = λ past stands.

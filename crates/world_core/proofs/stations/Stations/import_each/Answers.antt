@@ -1,10 +1,9 @@
 -- One line more at each turn.
 use Rattle.std.proofs.Common.{◌∙◌, ◌+◌, ◌<◌, ℕ, List, drop, length, map, refl, sym, ap, subst, arith}
-use Rattle.world_core.specs.Imports.{Good, good_events}
+use Rattle.world_core.specs.Imports.{Good}
 use Rattle.world_core.specs.Importing.{HasImported, good_of}
-use Rattle.world_core.specs.Stepped.{Failed}
 use Rattle.world_core.proofs.Importing.{drop_end, drop_next, imported_more, imported_none, imported_not}
-use Rattle.world_core.proofs.Stepping.{if_err}
+use Rattle.world_core.proofs.Results.{if_err_is}
 use Rattle.world_core.proofs.stations.Stations.import_each.Goals as goal
 
 pub loop-line-init : goal.loop-line-init
@@ -49,13 +48,11 @@ returns-in_err-owed-clause-err g c = λ past source pending mark stands at.
     HasImported past c.args.rank source pending mark (map good_of lines) rest loop.new loop.self)
     (ap (map good_of) (drop_next lines loop.line-index line within c.line-item.is))
     (loop.invariant.did past source pending mark stands at) in
-    if_err c.from_residual.result _ _ c.from_residual.ensures.1
-    (λ fault same. imported_not past c.args.rank source pending mark (map good_of lines)
-    (map good_of (drop (loop.line-index + 1) lines)) (good_of line) loop.new loop.self c.import_line.new.self has fault
-    (subst (λ f. Failed has.done.did.later (good_events c.args.rank has.now_pending has.now_mark (good_of line)) f
-    c.import_line.new.self) (sym same)
+    if_err_is c.from_residual.result _ _ c.from_residual.ensures.1
+    (imported_not past c.args.rank source pending mark (map good_of lines)
+    (map good_of (drop (loop.line-index + 1) lines)) (good_of line) loop.new loop.self c.import_line.new.self has _
     (c.in_err-owed.ensures.err has.done.did.later source has.now_pending has.now_mark has.done.did.stands
-    has.done.at)))
+    has.done.at))
 
 pub returns-clause-ok : goal.returns-clause-ok
 returns-clause-ok g c = λ past source pending mark stands at.

@@ -1,11 +1,8 @@
 -- What the line says decides.
-use Rattle.std.proofs.Common.{◌≡◌, ◌⊎◌, ◌∙◌, ◌+◌, ◌<◌, ◌^◌, ap, refl, rules, subst, sym}
-use Rattle.world_core.specs.Steps.{line_events}
-use Rattle.world_core.specs.Stands.{Stands}
-use Rattle.world_core.specs.Stepped.{Failed}
-use Rattle.world_core.specs.declared.fault.Fault.TheVariants.{NoMemory}
+use Rattle.std.proofs.Common.{◌≡◌, ◌∙◌, ◌+◌, ◌<◌, ◌^◌, ap, refl, rules}
 use Rattle.world_core.proofs.Reading.{line_bad, line_failed, line_good, reads_bad}
-use Rattle.world_core.proofs.Stepping.{if_err, pushed}
+use Rattle.world_core.proofs.Results.{if_err_is}
+use Rattle.world_core.proofs.Stepping.{pushed}
 use Rattle.world_core.proofs.stations.Stations.line.Goals.{in-Ok+in_ok-peers-in-Ok, in-Err}
 use Rattle.world_core.proofs.stations.Stations.line.Goals as goal
 
@@ -14,13 +11,9 @@ returns-in_err-peers-in-Ok-clause-err g c = λ past stands.
     let numbered : c.in-Some.number ≡ c.args.self.now.last + 1 = search rules in
     let fits : c.in-Some.number < 2 ^ 64 = search rules in
     let line = c.in-Ok.line in
-    if_err c.from_residual-in_err-peers-in-Ok.result _ _ c.from_residual-in_err-peers-in-Ok.ensures.1
-    (λ fault same. line_failed c.args.text.now past c.args.self.now c.in-Some.number stands numbered fits line.token
-    line.id line.peers.items fault c.owe.new.self
-    c.in-Ok.ensures.good
-    (subst (λ f. ((f ≡ NoMemory) × Stands c.owe.new.self past)
-    ⊎ Failed past (line_events line.token line.id line.peers.items past) f c.owe.new.self) (sym same)
-    (c.in_err-peers-in-Ok.ensures.err past stands)))
+    if_err_is c.from_residual-in_err-peers-in-Ok.result _ _ c.from_residual-in_err-peers-in-Ok.ensures.1
+    (line_failed c.args.text.now past c.args.self.now c.in-Some.number stands numbered fits line.token line.id
+    line.peers.items _ c.owe.new.self c.in-Ok.ensures.good (c.in_err-peers-in-Ok.ensures.err past stands))
 
 pub returns-clause-ok : goal.returns-clause-ok
 returns-clause-ok g c = λ past stands.

@@ -2,7 +2,7 @@
 use Rattle.std.proofs.Common.{arith}
 use Rattle.world_core.proofs.Importing.{made_none, made_room, unmade_room}
 use Rattle.world_core.proofs.Stationed.{one_there}
-use Rattle.world_core.proofs.Stepping.{if_err_map, on_ok_map}
+use Rattle.world_core.proofs.Results.{if_err_map, on_ok_map}
 use Rattle.world_core.proofs.stations.Stations.make_room.Goals as goal
 
 pub returns-then-room-gt0-clause-ok : goal.returns-then-room-gt0-clause-ok

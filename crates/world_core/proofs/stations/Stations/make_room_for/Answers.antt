@@ -2,7 +2,7 @@
 use Rattle.std.proofs.Common.{◌<◌, arith}
 use Rattle.world_core.proofs.Importing.{mark_there, no_room_above, no_room_wanted, room_above}
 use Rattle.world_core.proofs.Stationed.{one_there}
-use Rattle.world_core.proofs.Stepping.{if_err_map, on_ok_map}
+use Rattle.world_core.proofs.Results.{if_err_map, on_ok_map}
 use Rattle.world_core.proofs.stations.Stations.make_room_for.Goals as goal
 
 pub returns-then-number-import_mark-clause-ok : goal.returns-then-number-import_mark-clause-ok

@@ -1,11 +1,9 @@
 -- One rank more at each turn.
 use Rattle.std.proofs.Common.{◌≡◌, ◌∙◌, ℕ, length, vec_len, refl, sym, ap, subst, arith}
-use Rattle.world_core.specs.Events.{Owes}
-use Rattle.world_core.specs.Stands.{FailedOne}
 use Rattle.world_core.specs.Stepped.{AreFound, AreWithin}
 use Rattle.world_core.proofs.Lining.{OwedSome, length_more, some_all, some_failed, some_more, some_none, split_end}
 use Rattle.world_core.proofs.Lining.{split_here, split_more}
-use Rattle.world_core.proofs.Stepping.{if_err}
+use Rattle.world_core.proofs.Results.{if_err_is}
 use Rattle.world_core.proofs.stations.Stations.owe_each.Goals as goal
 
 pub loop-rank-init : goal.loop-rank-init
@@ -70,15 +68,13 @@ returns-in_err-owed-clause-err g c = λ past named stands found.
       c.in-Some.rank,
       c.in-Some.name,
     ) loop.invariant.split c.in-Some.ensures.steps) found in
-    if_err c.from_residual.result _ _ c.from_residual.ensures.1
-    (λ fault same. some_failed past c.args.token.now c.args.id.now named loop.yielded (
+    if_err_is c.from_residual.result _ _ c.from_residual.ensures.1
+    (some_failed past c.args.token.now c.args.id.now named loop.yielded (
       c.in-Some.rank,
       c.in-Some.name,
     ) c.next.new.self here
-    loop.told.items fault loop.self c.owe_at.new.self so_far
-    (subst (λ f. FailedOne so_far.did.later (Owes c.in-Some.rank c.args.token.now c.args.id.now) f c.owe_at.new.self)
-    (sym same)
-    (c.in_err-owed.ensures.err so_far.did.later so_far.did.stands)))
+    loop.told.items _ loop.self c.owe_at.new.self so_far
+    (c.in_err-owed.ensures.err so_far.did.later so_far.did.stands))
 
 pub returns-clause-ok : goal.returns-clause-ok
 returns-clause-ok g c = λ past named stands found.

@@ -1,8 +1,7 @@
 -- The rank of the name among the peers.
-use Rattle.std.proofs.Common.{◌∙◌, refl, sym, subst}
-use Rattle.world_core.specs.Events.{Parts}
-use Rattle.world_core.specs.Stands.{FailedOne}
-use Rattle.world_core.proofs.Stepping.{if_err, part_absent, part_failed, part_took, rank_same}
+use Rattle.std.proofs.Common.{◌∙◌, refl, sym}
+use Rattle.world_core.proofs.Results.{if_err_is}
+use Rattle.world_core.proofs.Stepping.{part_absent, part_failed, part_took, rank_same}
 use Rattle.world_core.proofs.stations.Stations.part.Goals as goal
 
 pub returns-in_default-clause-err : goal.returns-in_default-clause-err
@@ -12,12 +11,10 @@ returns-in_default-clause-err g c = λ past stands.
 
 pub returns-in_err-part_at-clause-err : goal.returns-in_err-part_at-clause-err
 returns-in_err-part_at-clause-err g c = λ past stands.
-    if_err c.from_residual.result _ _ c.from_residual.ensures.1
-    (λ fault same. part_failed c.args.name.now past c.in-Some.rank
+    if_err_is c.from_residual.result _ _ c.from_residual.ensures.1
+    (part_failed c.args.name.now past c.in-Some.rank
     (rank_same c.args.name.now past c.args.self.now stands ∙ sym c.rank_of.ensures ∙ c.in-Some.is)
-    c.part_at.new.self fault
-    (subst (λ f. FailedOne past (Parts c.in-Some.rank) f c.part_at.new.self) (sym same)
-    (c.in_err-part_at.ensures.err past stands)))
+    c.part_at.new.self _ (c.in_err-part_at.ensures.err past stands))
 
 pub returns-clause-ok : goal.returns-clause-ok
 returns-clause-ok g c = λ past stands.

@@ -1,8 +1,7 @@
 -- The rank of the name among the peers, and what is told.
-use Rattle.std.proofs.Common.{◌∙◌, refl, sym, subst}
-use Rattle.world_core.specs.Events.{Rotates}
-use Rattle.world_core.specs.Stands.{FailedOne}
-use Rattle.world_core.proofs.Stepping.{if_err, rank_same, pushed, rotate_absent, rotate_failed, rotate_memory}
+use Rattle.std.proofs.Common.{◌∙◌, refl, sym}
+use Rattle.world_core.proofs.Results.{if_err, if_err_is}
+use Rattle.world_core.proofs.Stepping.{rank_same, pushed, rotate_absent, rotate_failed, rotate_memory}
 use Rattle.world_core.proofs.Stepping.{rotate_said, rotate_took}
 use Rattle.world_core.proofs.stations.Stations.rotate.Goals as goal
 
@@ -27,12 +26,10 @@ returns-in_err-name-clause-err g c = λ past stands.
 
 pub returns-in_err-generation-clause-err : goal.returns-in_err-generation-clause-err
 returns-in_err-generation-clause-err g c = λ past stands.
-    if_err c.from_residual-in_err-generation.result _ _ c.from_residual-in_err-generation.ensures.1
-    (λ fault same. rotate_failed c.args.name.now past c.in-Some.rank
+    if_err_is c.from_residual-in_err-generation.result _ _ c.from_residual-in_err-generation.ensures.1
+    (rotate_failed c.args.name.now past c.in-Some.rank
     (rank_same c.args.name.now past c.args.self.now stands ∙ sym c.rank_of.ensures ∙ c.in-Some.is)
-    c.rotate_at.new.self fault
-    (subst (λ f. FailedOne past (Rotates c.in-Some.rank 0) f c.rotate_at.new.self) (sym same)
-    (c.in_err-generation.ensures.err past stands)))
+    c.rotate_at.new.self _ (c.in_err-generation.ensures.err past stands))
 
 pub returns-clause-ok : goal.returns-clause-ok
 returns-clause-ok g c = λ past stands.

@@ -1,8 +1,7 @@
 -- The number, and the flush of the intake's tape.
-use Rattle.std.proofs.Common.{refl, sym, subst}
-use Rattle.world_core.specs.Steps.{seal_events}
-use Rattle.world_core.specs.Stepped.{Failed}
-use Rattle.world_core.proofs.Stepping.{if_err, pushed, seal_failed, seal_memory, seal_took, unready}
+use Rattle.std.proofs.Common.{refl}
+use Rattle.world_core.proofs.Results.{if_err, if_err_is}
+use Rattle.world_core.proofs.Stepping.{pushed, seal_failed, seal_memory, seal_took, unready}
 use Rattle.world_core.proofs.stations.Stations.seal.Goals as goal
 
 pub returns-in_default-clause-err : goal.returns-in_default-clause-err
@@ -18,10 +17,9 @@ returns-in_err-told-clause-err g c = λ past stands.
 pub returns-in_err-seal_number-clause-err : goal.returns-in_err-seal_number-clause-err
 returns-in_err-seal_number-clause-err g c = λ past stands.
     let sealable = c.in-Some.ensures.some past stands in
-    if_err c.from_residual-in_err-seal_number.result _ _ c.from_residual-in_err-seal_number.ensures.1
-    (λ fault same. seal_failed past c.in-Some.number fault c.seal_number.new.self sealable
-    (subst (λ f. Failed past (seal_events c.in-Some.number) f c.seal_number.new.self) (sym same)
-    (c.in_err-seal_number.ensures.err past stands sealable)))
+    if_err_is c.from_residual-in_err-seal_number.result _ _ c.from_residual-in_err-seal_number.ensures.1
+    (seal_failed past c.in-Some.number _ c.seal_number.new.self sealable
+    (c.in_err-seal_number.ensures.err past stands sealable))
 
 pub returns-clause-ok : goal.returns-clause-ok
 returns-clause-ok g c = λ past stands.

@@ -1,16 +1,12 @@
 -- Two events, one after the other.
-use Rattle.std.proofs.Common.{sym, subst}
-use Rattle.world_core.specs.Events.{Sees}
-use Rattle.world_core.specs.Stands.{FailedOne}
-use Rattle.world_core.proofs.Stepping.{if_err, if_err_map, on_ok_map, seal_failed_first, seal_failed_second, sealed}
+use Rattle.world_core.proofs.Results.{if_err_is, if_err_map, on_ok_map}
+use Rattle.world_core.proofs.Stepping.{seal_failed_first, seal_failed_second, sealed}
 use Rattle.world_core.proofs.stations.Stations.seal_number.Goals as goal
 
 pub returns-in_err-see-clause-err : goal.returns-in_err-see-clause-err
 returns-in_err-see-clause-err g c = λ past stands sealable.
-    if_err c.from_residual.result _ _ c.from_residual.ensures.1
-    (λ fault same. seal_failed_first past c.args.number fault c.see.new.self
-    (subst (λ f. FailedOne past (Sees c.args.number) f c.see.new.self) (sym same)
-    (c.in_err-see.ensures.err past stands)))
+    if_err_is c.from_residual.result _ _ c.from_residual.ensures.1
+    (seal_failed_first past c.args.number _ c.see.new.self (c.in_err-see.ensures.err past stands))
 
 pub returns-clause-ok : goal.returns-clause-ok
 returns-clause-ok g c = λ past stands sealable.

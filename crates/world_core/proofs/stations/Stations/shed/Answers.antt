@@ -1,8 +1,7 @@
 -- The rank of the name among the peers, and what is told.
-use Rattle.std.proofs.Common.{◌∙◌, [], refl, sym, subst}
-use Rattle.world_core.specs.Events.{Sheds}
-use Rattle.world_core.specs.Stands.{FailedOne}
-use Rattle.world_core.proofs.Stepping.{if_err, rank_same, pushed, shed_absent, shed_failed, shed_memory, shed_said}
+use Rattle.std.proofs.Common.{◌∙◌, refl, sym}
+use Rattle.world_core.proofs.Results.{if_err, if_err_is}
+use Rattle.world_core.proofs.Stepping.{rank_same, pushed, shed_absent, shed_failed, shed_memory, shed_said}
 use Rattle.world_core.proofs.Stepping.{shed_took}
 use Rattle.world_core.proofs.stations.Stations.shed.Goals as goal
 
@@ -27,12 +26,10 @@ returns-in_err-name-clause-err g c = λ past stands.
 
 pub returns-in_err-keys-clause-err : goal.returns-in_err-keys-clause-err
 returns-in_err-keys-clause-err g c = λ past stands.
-    if_err c.from_residual-in_err-keys.result _ _ c.from_residual-in_err-keys.ensures.1
-    (λ fault same. shed_failed c.args.name.now past c.in-Some.rank
+    if_err_is c.from_residual-in_err-keys.result _ _ c.from_residual-in_err-keys.ensures.1
+    (shed_failed c.args.name.now past c.in-Some.rank
     (rank_same c.args.name.now past c.args.self.now stands ∙ sym c.rank_of.ensures ∙ c.in-Some.is)
-    c.shed_at.new.self fault
-    (subst (λ f. FailedOne past (Sheds c.in-Some.rank []) f c.shed_at.new.self) (sym same)
-    (c.in_err-keys.ensures.err past stands)))
+    c.shed_at.new.self _ (c.in_err-keys.ensures.err past stands))
 
 pub returns-clause-ok : goal.returns-clause-ok
 returns-clause-ok g c = λ past stands.

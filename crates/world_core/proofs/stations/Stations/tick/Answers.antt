@@ -1,7 +1,7 @@
 -- One connection more at each turn.
-use Rattle.std.proofs.Common.{◌≡◌, ◌∙◌, ℕ, length, arith, refl, sym, subst}
-use Rattle.world_core.specs.Joined.{MadeOn, RefusedOn, TicksOneNot, TicksSome}
-use Rattle.world_core.proofs.Following.{if_err}
+use Rattle.std.proofs.Common.{◌≡◌, ◌∙◌, ℕ, length, arith, refl, subst}
+use Rattle.world_core.specs.Joined.{MadeOn, TicksSome}
+use Rattle.world_core.proofs.Results.{if_err_is}
 use Rattle.world_core.proofs.Ticking.{count_conns, ticks_more, ticks_none, ticks_not}
 use Rattle.world_core.proofs.stations.Stations.tick.Goals as goal
 
@@ -24,12 +24,10 @@ pub returns-in_err-tick_at-clause-err : goal.returns-in_err-tick_at-clause-err
 returns-in_err-tick_at-clause-err g c = λ life running now_is.
     let loop = c.loop-index in
     let front = loop.invariant.ticks life running now_is in
-    if_err c.from_residual.result _ _ c.from_residual.ensures.1
-    (λ fault same. ticks_not life c.args.told.now.items loop.told.items loop.self loop.connections.items loop.index
-    front fault c.tick_at.new.self c.tick_at.new.connections.items
-    (subst (λ f. RefusedOn (TicksOneNot loop.index) front.later f c.tick_at.new.self c.tick_at.new.connections.items)
-    (sym same)
-    (c.in_err-tick_at.ensures.err front.later front.stand (front.now ∙ now_is))))
+    if_err_is c.from_residual.result _ _ c.from_residual.ensures.1
+    (ticks_not life c.args.told.now.items loop.told.items loop.self loop.connections.items loop.index front _
+    c.tick_at.new.self c.tick_at.new.connections.items
+    (c.in_err-tick_at.ensures.err front.later front.stand (front.now ∙ now_is)))
 
 pub returns-clause-ok : goal.returns-clause-ok
 returns-clause-ok g c = λ life running now_is.

@@ -3,7 +3,7 @@ use Rattle.std.proofs.Common.{◌∙◌, ap, arith, refl, sym, Some}
 use Rattle.std.proofs.lemmas.Option.{slice_get-get_or}
 use Rattle.world_core.proofs.Acting.{pair_of, put_from, ticked_at_moment, ticked_not_at}
 use Rattle.world_core.proofs.Finding.{found_conn, own_id, rank_within}
-use Rattle.world_core.proofs.Handing.{if_err_map, on_ok_map}
+use Rattle.world_core.proofs.Results.{if_err_map, on_ok_map}
 use Rattle.world_core.proofs.stations.Stations.tick_at.Goals as goal
 
 pub returns-then-rank-len-clause-err : goal.returns-then-rank-len-clause-err

@@ -1,7 +1,7 @@
 -- The connection that the stations make is the world's, and its number the last.
 use Rattle.std.proofs.Common.{refl, sym}
 use Rattle.world_core.specs.Exchange.{RefusesConnect, TakesConnect}
-use Rattle.world_core.proofs.Following.{if_err}
+use Rattle.world_core.proofs.Results.{if_err}
 use Rattle.world_core.proofs.Turning.{made_world, refused_as, running_of}
 use Rattle.world_core.proofs.world.World.connect.Goals as goal
 

@@ -1,10 +1,10 @@
 -- The stations take the line.
-use Rattle.std.proofs.Common.{List, ℕ, refl, sym, subst}
+use Rattle.std.proofs.Common.{List, ℕ, refl, subst}
 use Rattle.world_core.specs.Steps.{RefusesLine, TakesLine}
 use Rattle.world_core.specs.Stepped.{Took as TookTapes, TookNot}
 use Rattle.world_core.specs.declared.step.Step.TheVariants.{Line}
 use Rattle.world_core.proofs.Steady.{steady}
-use Rattle.world_core.proofs.Stepping.{if_err}
+use Rattle.world_core.proofs.Results.{if_err_is}
 use Rattle.world_core.proofs.Taking.{took_not, took_tapes}
 use Rattle.world_core.proofs.Walking.{line_keeps, line_refused}
 use Rattle.world_core.proofs.world.World.line.Goals as goal
@@ -12,13 +12,12 @@ use Rattle.world_core.proofs.world.World.line.Goals as goal
 pub returns-in_err-out-clause-err : goal.returns-in_err-out-clause-err
 returns-in_err-out-clause-err c = λ life stands.
     let text = c.args.text.now in
-    if_err c.from_residual.result _ _ c.from_residual.ensures.1
-    (λ fault same. took_not c.args.self.now _ life c.in-Running.stations c.line.new.self c.in-Running.field-1 stands
+    if_err_is c.from_residual.result _ _ c.from_residual.ensures.1
+    (took_not c.args.self.now _ life c.in-Running.stations c.line.new.self c.in-Running.field-1 stands
     c.in-Running.is refl refl refl refl
-    (Line text) (RefusesLine text.items) fault (λ later r. r) (line_refused steady text.items)
-    (λ on. subst (λ f. TookNot (RefusesLine text.items) life.past f c.line.new.self) (sym same)
-    (subst (λ (t : List ℕ). TookNot (RefusesLine t) life.past c.in_err-out.field-0.0 c.line.new.self)
-    c.deref.ensures.value (c.in_err-out.ensures.err life.past on))))
+    (Line text) (RefusesLine text.items) _ (λ later r. r) (line_refused steady text.items)
+    (λ on. subst (λ (t : List ℕ). TookNot (RefusesLine t) life.past c.in_err-out.field-0.0 c.line.new.self)
+    c.deref.ensures.value (c.in_err-out.ensures.err life.past on)))
 
 pub returns-clause-ok : goal.returns-clause-ok
 returns-clause-ok c = λ life stands.

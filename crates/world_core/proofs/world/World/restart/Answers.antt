@@ -2,7 +2,7 @@
 use Rattle.std.proofs.Common.{refl, sym, ◌∙◌}
 use Rattle.world_core.specs.declared.step.Step.TheVariants.{Restart}
 use Rattle.world_core.proofs.Reopening.{awaits, closed_again, no_room, still_runs, stop_there}
-use Rattle.world_core.proofs.Stepping.{if_err}
+use Rattle.world_core.proofs.Results.{if_err}
 use Rattle.world_core.proofs.world.World.restart.Goals as goal
 
 pub returns-in_default-clause-err : goal.returns-in_default-clause-err

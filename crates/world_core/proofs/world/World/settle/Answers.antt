@@ -1,5 +1,5 @@
 -- A stop is met where a disk failed at the tape that it names.
-use Rattle.world_core.proofs.Stepping.{if_err_map, on_ok_map}
+use Rattle.world_core.proofs.Results.{if_err_map, on_ok_map}
 use Rattle.world_core.proofs.Taking.{struck, struck_untold}
 use Rattle.world_core.proofs.world.World.settle.Goals as goal
 

@@ -1,10 +1,9 @@
 -- The stations shed.
-use Rattle.std.proofs.Common.{refl, sym, subst}
+use Rattle.std.proofs.Common.{refl}
 use Rattle.world_core.specs.Steps.{RefusesShed, TakesShed}
-use Rattle.world_core.specs.Stepped.{TookNot}
 use Rattle.world_core.specs.declared.step.Step.TheVariants.{Shed}
 use Rattle.world_core.proofs.Steady.{steady}
-use Rattle.world_core.proofs.Stepping.{if_err}
+use Rattle.world_core.proofs.Results.{if_err_is}
 use Rattle.world_core.proofs.Taking.{took_not, took_tapes}
 use Rattle.world_core.proofs.Walking.{shed_keeps, shed_refused}
 use Rattle.world_core.proofs.world.World.shed.Goals as goal
@@ -12,12 +11,11 @@ use Rattle.world_core.proofs.world.World.shed.Goals as goal
 pub returns-in_err-out-clause-err : goal.returns-in_err-out-clause-err
 returns-in_err-out-clause-err c = λ life stands.
     let name = c.args.name.now in
-    if_err c.from_residual.result _ _ c.from_residual.ensures.1
-    (λ fault same. took_not c.args.self.now _ life c.in-Running.stations c.shed.new.self c.in-Running.field-1 stands
+    if_err_is c.from_residual.result _ _ c.from_residual.ensures.1
+    (took_not c.args.self.now _ life c.in-Running.stations c.shed.new.self c.in-Running.field-1 stands
     c.in-Running.is refl refl refl refl
-    (Shed name) (RefusesShed name) fault (λ later r. r) (shed_refused steady name)
-    (λ on. subst (λ f. TookNot (RefusesShed name) life.past f c.shed.new.self) (sym same)
-    (c.in_err-out.ensures.err life.past on)))
+    (Shed name) (RefusesShed name) _ (λ later r. r) (shed_refused steady name)
+    (λ on. c.in_err-out.ensures.err life.past on))
 
 pub returns-clause-ok : goal.returns-clause-ok
 returns-clause-ok c = λ life stands.

@@ -4,7 +4,7 @@ use Rattle.world_core.specs.Halts.{TakesStop}
 use Rattle.world_core.specs.Turn.{Made}
 use Rattle.world_core.specs.declared.told.Told.{Told}
 use Rattle.world_core.proofs.Placing.{rested, rested_not}
-use Rattle.world_core.proofs.Stepping.{if_err_map, on_ok_map}
+use Rattle.world_core.proofs.Results.{if_err_map, on_ok_map}
 use Rattle.world_core.proofs.world.World.stop.Goals as goal
 
 pub returns-then-call-eq0-clause-ok : goal.returns-then-call-eq0-clause-ok

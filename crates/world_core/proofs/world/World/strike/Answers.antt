@@ -2,7 +2,8 @@
 use Rattle.std.proofs.Common.{map, refl, ap, ◌∙◌, inr}
 use Rattle.world_core.specs.Halts.{AtRest, halted}
 use Rattle.world_core.specs.Told.{said_of}
-use Rattle.world_core.proofs.Stepping.{if_err, pushed}
+use Rattle.world_core.proofs.Results.{if_err}
+use Rattle.world_core.proofs.Stepping.{pushed}
 use Rattle.world_core.proofs.Stopping.{struck_stands}
 use Rattle.world_core.proofs.world.World.strike.Goals as goal
 

@@ -1,10 +1,10 @@
 -- The tapes of the peers in order are opened, or the first that is refused is told.
-use Rattle.std.proofs.Common.{refl, sym, subst, rules}
+use Rattle.std.proofs.Common.{refl, rules}
 use Rattle.std.proofs.lemmas.Cmp.{nat_list_cmp_total}
 use Rattle.std.proofs.lemmas.List.Sorted.{answers_always, ranks_by}
-use Rattle.world_core.specs.Given.{GivenPeer, StopsFor}
+use Rattle.world_core.specs.Given.{GivenPeer}
 use Rattle.world_core.proofs.Making.{begins_from, refuses_tapes, sorted_rise}
-use Rattle.world_core.proofs.Stepping.{if_err}
+use Rattle.world_core.proofs.Results.{if_err_is}
 use Rattle.world_core.proofs.world.World.with_tapes.Goals as goal
 
 pub returns-in_err-peers-clause-refuses : goal.returns-in_err-peers-clause-refuses
@@ -15,9 +15,8 @@ returns-in_err-peers-clause-refuses c =
     let rises = sorted_rise given ordered permuted
     (c.in_ok-sort_by.ensures.sorted _ (ranks_by nat_list_cmp_total (λ (peer : GivenPeer). peer.0.name))
     (answers_always _ _ _ (λ f a r q k. search rules))) c.requires.distinct in
-    if_err c.from_residual-in_err-peers.result _ _ c.from_residual-in_err-peers.ensures.1
-    (λ fault same. refuses_tapes given ordered fault permuted rises
-    (subst (StopsFor ordered) (sym same) c.in_err-peers.ensures.err))
+    if_err_is c.from_residual-in_err-peers.result _ _ c.from_residual-in_err-peers.ensures.1
+    (refuses_tapes given ordered _ permuted rises c.in_err-peers.ensures.err)
 
 pub returns-clause-begins : goal.returns-clause-begins
 returns-clause-begins c =

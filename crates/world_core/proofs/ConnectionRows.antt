@@ -1,0 +1,211 @@
+-- Worked steps on connections, computed: what goes out, what becomes of debts, and what each step tells. And a run.
+use Rattle.std.proofs.Common.{◌≡◌, ℕ, true, false, None, Some, List, [], ◌∷◌, ◌++◌, refl, inl, inr, arith}
+use Rattle.std.specs.Prelude.{codes}
+use Rattle.disk_model.specs.declared.choice.Choice.{Choice}
+use Rattle.feed_conf.specs.declared.conf.PeerConf.{PeerConf}
+use Rattle.ledger_core.specs.State.{Owing}
+use Rattle.ledger_core.specs.declared.note.Cause.TheVariants.{Deferred as PutOff, Missing}
+use Rattle.ledger_core.specs.declared.note.FinalCode.TheVariants.{TakethisReceived}
+use Rattle.conn_core.specs.Commands.{Gone, Sendable}
+use Rattle.conn_core.specs.History.{Broke, Came, Event as Happening, Handed as HandedIn, Offered, Tick, after, output}
+use Rattle.conn_core.specs.History.{outside, story}
+use Rattle.conn_core.specs.declared.options.Options.{Options}
+use Rattle.conn_core.specs.declared.outcome.Outcome.TheVariants.{Back, Final}
+use Rattle.conn_core.specs.declared.reason.Reason.TheVariants.{Broken, Ended, Timeout}
+use Rattle.peer_queue.specs.declared.limits.Limits.{Limits}
+use Rattle.peer_queue.specs.declared.settled.Settled.TheVariants.{Answered, Dropped, Later, Ready}
+use Rattle.recovery.specs.Notes.{begun as begun_history}
+use Rattle.world_core.specs.Past.{Life, Past, PeerPast, TapePast}
+use Rattle.world_core.specs.Events.{Settles}
+use Rattle.world_core.specs.Exchange.{TakesConnect, exchange_said, sent_out, settle_events, told_out, untold}
+use Rattle.world_core.specs.Exchange.{with_taken}
+use Rattle.world_core.specs.Halts.{armed_with}
+use Rattle.world_core.specs.Runs.{RefusesStep, Runs}
+use Rattle.world_core.specs.Runs.Runs.{Next, Start}
+use Rattle.world_core.specs.Safe.{IsSafe}
+use Rattle.world_core.specs.Sound.{IsSoundLife}
+use Rattle.world_core.specs.Steps.{begun_at}
+use Rattle.world_core.specs.Told.{Closed, Connected, Need, Output, Said, Settled}
+use Rattle.world_core.specs.declared.fault.Fault.TheVariants.{NoConnection, NoPeer}
+use Rattle.world_core.specs.declared.step.Step.TheVariants.{Begin, Connect, Hand, Stop}
+
+-- ---- what follows a step on connection 1, at the moment 60
+
+abbrev options : Options
+options = record {
+  streaming = true;
+  max_queue = 20;
+  check_high = 9500;
+  check_low = 9000;
+  check_filter = 20;
+  response_timeout = 300;
+}
+
+abbrev limits : Limits
+limits = record { backlog_limit = 0; backlog_high = 0; drop_deferred = false }
+
+-- what is told of a connection whose transcript was the first before the step, and is the second
+abbrev told : List Happening → List Happening → List Said
+told was h = exchange_said limits options 1 60 was h
+
+abbrev debt : Owing
+debt = (7, (codes "a/1", codes "<x@y>"))
+
+abbrev line : ℕ → Happening
+line code = Came (record { code = code; id = None; text = [] })
+
+abbrev about : ℕ → Happening
+about code = Came (record { code = code; id = Some (codes "<x@y>"); text = codes "<x@y>" })
+
+-- the greeting came, and what goes out of it counts as sent; then streaming was granted
+abbrev greeted : List Happening
+greeted = outside options [] (line 200)
+
+abbrev streaming : List Happening
+streaming = sent_out options (outside options (sent_out options greeted) (line 203))
+
+greeting_tells : told [] greeted ≡ Output 1 (codes "MODE STREAM") ∷ []
+unfolding after story
+greeting_tells = refl
+
+nothing_left : output options (sent_out options greeted) ≡ []
+unfolding after story
+nothing_left = refl
+
+-- a debt was handed over: a CHECK goes out
+abbrev offered : List Happening
+offered = after options streaming (Offered debt)
+
+offer_tells : told streaming offered ≡ Output 1 (codes "CHECK <x@y>") ∷ []
+unfolding after story
+offer_tells = refl
+
+-- the peer wants the article, which is given: the command and its lines go out
+abbrev checked : List Happening
+checked = sent_out options offered
+
+abbrev wanted : List Happening
+wanted = outside options checked (about 238)
+
+wanted_tells : told checked wanted ≡ Need 1 7 ∷ []
+unfolding after story
+wanted_tells = refl
+
+abbrev crlf : List ℕ
+crlf = 13 ∷ 10 ∷ []
+
+abbrev given : List Happening
+given = after options wanted
+    (HandedIn 7 (Sendable (codes "S: t" ++ crlf ++ crlf ++ codes "..b" ++ crlf ++ codes "." ++ crlf)))
+
+article_tells : told wanted given ≡ Output 1 (codes "TAKETHIS <x@y>") ∷ Output 1 (codes "S: t") ∷ Output 1 []
+    ∷ Output 1 (codes "..b") ∷ Output 1 (codes ".") ∷ []
+unfolding after story
+article_tells = refl
+
+-- or there is none, and the debt is lost
+lost_tells : told wanted (after options wanted (HandedIn 7 Gone)) ≡ Settled 1 7 (Dropped Missing) ∷ []
+unfolding after story
+lost_tells = refl
+
+-- it was taken: the verdict goes to the peer at rank 2, and is told
+abbrev answered : List Happening
+answered = outside options (sent_out options given) (about 239)
+
+answer_has : settle_events 2 1 60 (untold options answered)
+    ≡ Settles 2 1 60 (Final (record { debt = debt; code = TakethisReceived })) ∷ []
+unfolding after story
+answer_has = refl
+
+answer_tells : told (sent_out options given) answered ≡ Settled 1 7 (Answered TakethisReceived) ∷ []
+unfolding after story
+answer_tells = refl
+
+-- If it is refused, no outcome is taken, and it is the first to be taken still, after a tick, too; once it is taken
+-- there is none.
+waits_on : told answered (outside options (with_taken [] answered) (Tick 61))
+    ≡ Settled 1 7 (Answered TakethisReceived) ∷ []
+unfolding after story
+waits_on = refl
+
+none_waits : untold options (told_out options answered) ≡ []
+unfolding after story
+none_waits = refl
+
+-- the peer defers it: it waits, or is dropped where deferred debts are
+defer_tells : told checked (outside options checked (about 431)) ≡ Settled 1 7 (Later 120) ∷ []
+unfolding after story
+defer_tells = refl
+
+drop_tells : exchange_said (record limits { drop_deferred = true }) options 1 60 checked
+    (outside options checked (about 431)) ≡ Settled 1 7 (Dropped PutOff) ∷ []
+unfolding after story
+drop_tells = refl
+
+-- the server ends the connection, or it breaks, or no answer comes: the debt comes back, and why it closed is told
+end_tells : told checked (outside options checked (line 400)) ≡ Settled 1 7 Ready ∷ Closed 1 (Ended 400) ∷ []
+unfolding after story
+end_tells = refl
+
+break_tells : told checked (outside options checked Broke) ≡ Settled 1 7 Ready ∷ Closed 1 Broken ∷ []
+unfolding after story
+break_tells = refl
+
+timeout_tells : told checked (outside options (outside options checked (Tick 60)) (Tick 360))
+    ≡ Settled 1 7 Ready ∷ Closed 1 Timeout ∷ []
+unfolding after story
+timeout_tells = refl
+
+-- closed, it is told no more
+closed_tells : told (told_out options (outside options checked Broke))
+    (outside options (told_out options (outside options checked Broke)) (about 238)) ≡ []
+unfolding after story
+closed_tells = refl
+
+-- ---- steps of a world
+
+module _ (conf : PeerConf) (choice : Choice) where
+  abbrev tape : TapePast
+  tape = record { history = begun_history; log = ([], []); faults = (0, 0); broken = false }
+
+  abbrev past : Past
+  past = record {
+    peers = record { conf = record conf { name = codes "p" }; tape = tape; places = []; parted = true } ∷ [];
+    intake = tape;
+    last = 4;
+    begun = None;
+  }
+
+  abbrev life : Life
+  life = record { past = past; conns = []; connected = 3; now = 60; armed = None; running = true }
+
+  -- a connection has the number behind the last one that was made, and an empty transcript
+  connect_takes : TakesConnect (codes "p") life (Connected 4 (codes "p") ∷ []) (record life {
+    conns = (4, record { rank = 0; unread = []; transcript = [] }) ∷ [];
+    connected = 4;
+  })
+  connect_takes = record { rank = 0; here = refl; fits = omega arith; told_is = refl; changed = refl }
+
+  connect_refused : RefusesStep (Connect (codes "q")) life NoPeer life
+  connect_refused = inl (inr (refl, (inl (refl, refl), refl)))
+
+  hand_refused : RefusesStep (Hand 4) life NoConnection life
+  hand_refused = inl (inr (refl, inl (refl, refl, refl)))
+
+  -- a run: the last line's number is kept, and a stop is armed at the third call on the disks of `p`
+  abbrev kept : Life
+  kept = record life { past = begun_at past }
+
+  abbrev armed : Life
+  armed = armed_with (record { rank = Some 0; call = 3; choice = choice }) kept
+
+  run_takes : IsSafe past → IsSoundLife life → IsSafe kept.past → IsSoundLife kept → IsSoundLife armed
+      → Runs life (Begin ∷ Stop (Some (codes "p")) 3 choice ∷ []) ([] ∷ [] ∷ []) armed
+  run_takes safe sound kept_safe kept_sound armed_sound =
+      Next (Begin ∷ []) (Stop (Some (codes "p")) 3 choice) ([] ∷ []) [] kept armed
+      (Next [] Begin [] [] life kept (Start safe sound) (inl (refl, (begun_at past, (refl, refl), refl)))
+      kept_safe kept_sound)
+      (inl (Some 0, refl, refl, refl)) kept_safe armed_sound
+
+  kept_number : kept.past.begun ≡ Some 4
+  kept_number = refl
