@@ -46,9 +46,9 @@ struct Tally {
 
 impl Tally {
     // Counts one more row.
-    fn add(&mut self, result: &Result<u64, RowFault>) {
+    fn add(&mut self, checked: &Result<u64, RowFault>) {
         self.rows = self.rows.saturating_add(1);
-        match result {
+        match checked {
             Ok(scripts) => self.scripts = self.scripts.saturating_add(*scripts),
             Err(_) => self.differ = self.differ.saturating_add(1),
         }
@@ -66,9 +66,9 @@ fn check_rows<R: AllocGlobal + Files + Print>(rt: &R, index: &str) -> io::Result
         if line.is_empty() || line.starts_with('#') {
             continue;
         }
-        let result = check_line(rt, line);
-        tally.add(&result);
-        print_result(rt, line, &result)?;
+        let checked = check_line(rt, line);
+        tally.add(&checked);
+        print_result(rt, line, &checked)?;
     }
     Ok(tally)
 }
@@ -81,13 +81,13 @@ fn check_line<R: AllocGlobal + Files>(rt: &R, line: &str) -> Result<u64, RowFaul
     }
 }
 
-// What is result of a row: `NAME ok, N scripts`, or what differs.
-fn print_result<R: Print>(rt: &R, line: &str, result: &Result<u64, RowFault>) -> io::Result<()> {
+// Prints the result of a row: `NAME ok, N scripts`, or what differs.
+fn print_result<R: Print>(rt: &R, line: &str, checked: &Result<u64, RowFault>) -> io::Result<()> {
     let name = match line.split_once('.') {
         Some((name, _)) => name,
         None => line,
     };
-    match result {
+    match checked {
         Ok(1) => println!(rt; "{name} ok, 1 script"),
         Ok(scripts) => println!(rt; "{name} ok, {scripts} scripts"),
         Err(fault) => println!(rt; "{name} DIFFERS: {fault}"),

@@ -1,11 +1,15 @@
 // Importing the peers' backlog files before the work.
+ghost use Rattle.std.specs.Prelude.{IfOk};
+ghost use Rattle.std.specs.List.{All};
+ghost use Rattle.flusher.specs.Sealed.{IsFlushed};
+
 use crate::run_error::RunError;
-use backlog_files::{BacklogFiles, Imported};
+use backlog_files::{BacklogFault, BacklogFiles, Imported};
 use cli::Source;
 use disk_model::{FileDisk, TapeDirectory, TapeFile};
 use flusher::Peer;
 use log::{Log, info, warn};
-use std::alloc::AllocError;
+use std::alloc::{AllocError, Global};
 use std::fs::File;
 use std::rt::Files;
 
@@ -43,6 +47,30 @@ pub(crate) fn take_backlogs<R: Log, F: AllocGlobal + Files<File = File>>(
         }
     }
     Ok(())
+}
+
+/// These peers, with what pends at their stations put on the disks, so that each can be split. An import ends with a
+/// flush, so nothing pends, and no disk is called.
+///
+/// # Errors
+/// The first tape that fails.
+pub(crate) fn flush_stations<R: Log>(
+    rt: &R,
+    alloc: Global,
+    peers: Vec<Peer<FileDisk<TapeFile>>>,
+) -> Result<Vec<Peer<FileDisk<TapeFile>>>, RunError>
+    ensures { IfOk result (λ flushed. All (λ p. IsFlushed p.station) flushed.items) }
+{
+    let mut flushed = Vec::new(alloc);
+    for peer in peers {
+        let mut peer = peer;
+        if let Err(fault) = peer.flush_or_rotate() {
+            let name = peer.name.bytes();
+            return Err(RunError::backlog(rt, alloc, name, BacklogFault::Station(fault)));
+        }
+        flushed.push(peer)?;
+    }
+    Ok(flushed)
 }
 
 // The backlog files of this directory, without the other files.

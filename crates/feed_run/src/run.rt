@@ -1,8 +1,10 @@
 // A whole run: what is opened first, what the threads do, and what is written at the end.
 ghost use Rattle.std.specs.Prelude.{◌≡◌, length};
-ghost use Rattle.flusher.specs.Post.{names_of};
+ghost use Rattle.std.specs.List.{All};
+ghost use Rattle.flusher.specs.Post.{IsFor, names_of};
+ghost use Rattle.flusher.specs.Sealed.{IsFlushed};
 
-use crate::backlogs::{OtherFiles, take_backlogs};
+use crate::backlogs::{OtherFiles, flush_stations, take_backlogs};
 use crate::countdown::{Countdown, CountedWorker};
 use crate::intake_worker::IntakeWorker;
 use crate::nowhere::Nowhere;
@@ -115,7 +117,8 @@ pub(crate) fn feed<
     .inspect_err(|_| log_fault(env.rt, &directory, &tapes))?;
     let funnel = open_funnel(env, source, intake.mark())?;
     let prepared = prepare(env, &peers, &spool, funnel, stop, status)?;
-    let blanks = Blanks::new(stations.len() as u64);
+    let stations = flush_stations(env.rt, alloc, stations)?;
+    let blanks = Blanks::new(alloc, stations.len())?;
     work::<Brand, R, F, S, H, C, L, W>(env, prepared, stations, intake, blanks, out, end)?;
     log_fault(env.rt, &directory, &tapes);
     Ok(())
@@ -185,14 +188,16 @@ fn open_spool<R, F: AllocGlobal, S: Drop, H: Spools<Store = S>, C, L>(
 
 // Runs the threads, writes the status file, and adds to `end` what went wrong and what is still owed.
 //
-// The `requires` are those of `Post::new`. They tie the blanks, of which the counting ledgers are made, to these peers:
+// The `requires` are those of `Post::new`. They tie the blanks, of which the counting ledgers and the queues are made,
+// to these peers:
 //
-// - `names`: the ledgers `N` are named after these blanks and these peers. `feed` picks such an `N`
+// - `names`: the ledgers and queues `N` are named after these blanks and these peers. `feed` picks such an `N`
 //   (`proofs/run/feed`).
-// - The others say into how many parts each ledger is cut. Who counts in a ledger holds one of its parts. The intake
-//   alone counts what is taken (`workers.parts ≡ 1`); two feeders and the flusher count what is answered and what is
-//   dropped (3). On the other side each station counts, one for each peer. So nobody else can count, and the workers'
-//   totals are those of the stations.
+// - `blanks`: there is a queue for each peer, and each ledger is cut into as many parts as hold it. Who counts in a
+//   ledger holds one of its parts. The intake alone counts what is taken (`workers.parts ≡ 1`); two feeders and the
+//   flusher count what is answered and what is dropped (3). On the other side each station counts, one for each peer.
+//   So nobody else can count, and the workers' totals are those of the stations.
+// - `flushed`: nothing pends at a station, and it works, so that it can be split.
 fn work<
     N: Naming + Send + Sync,
     R: AllocGlobal + Threads + Wait + Clock + Log + Send + Sync + 'static,
@@ -212,12 +217,8 @@ fn work<
     end: &mut FeedEnd,
 ) -> Result<(), RunError>
     requires names { N.names ≡ names_of blanks stations.items }
-    requires taken { (blanks.taken.workers.parts ≡ 1)
-        × (blanks.taken.stations.parts ≡ length stations.items) }
-    requires answered { (blanks.answered.workers.parts ≡ 3)
-        × (blanks.answered.stations.parts ≡ length stations.items) }
-    requires dropped { (blanks.dropped.workers.parts ≡ 3)
-        × (blanks.dropped.stations.parts ≡ length stations.items) }
+    requires blanks { IsFor (length stations.items) blanks }
+    requires flushed { All (λ p. IsFlushed p.station) stations.items }
 {
     let alloc = env.files.alloc();
     let acknowledged = intake.mark();

@@ -42,7 +42,7 @@ impl<D: Disk, N: Naming, P: Pace> PostView<'_, D, N, P> {
         let claimed = if self.waits {
             self.post.claim(rt, peer, connection, self.due)
         } else {
-            self.post.try_claim(peer, connection, self.due)
+            self.post.try_claim(rt, peer, connection, self.due)
         };
         Ok(claimed?)
     }

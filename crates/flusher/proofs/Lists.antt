@@ -1,6 +1,7 @@
 -- Lists that are made of others, one item after another.
-use Rattle.std.proofs.Common.{◌≡◌, ℕ, ◌+◌, ◌≤◌, List, [], ◌∷◌, ◌++◌, length, refl, ap, ◌∙◌, arith}
-use Rattle.std.specs.Prelude.{map, sum_by}
+use Rattle.std.proofs.Common.{◌≡◌, ℕ, zero, suc, ◌+◌, List, [], ◌∷◌, ◌++◌, length, refl, ap, sym, ◌∙◌}
+use Rattle.std.proofs.Common.{add-one, arith}
+use Rattle.std.specs.Prelude.{drop, map, sum_by, slice_get, Some}
 use Rattle.std.proofs.lemmas.List.Sums.{sum_by-append}
 use Rattle.std.proofs.lemmas.List.{map-append}
 
@@ -33,7 +34,25 @@ pub nothing : {A : Type 0} (xs : List A) → length xs ≡ 0 → xs ≡ []
 nothing [] none = refl
 nothing (x ∷ xs) none = absurd (omega arith)
 
--- there is room for one of each, where there is room for so many more
-pub has_room : (len more count peers capacity : ℕ) → len + more ≤ capacity → more ≡ count → count ≡ peers
-    → peers ≤ capacity
-has_room len more count peers capacity room same all = omega (arith, room, same, all)
+-- what comes next is found at the length of what was made
+pub at_moved : {A B C : Type 0} (f : A → C) (h : B → C) (before : List B) (left : List A) (x : A) (all : List C)
+    → map h before ++ map f (x ∷ left) ≡ all → slice_get all (length before) ≡ Some (f x)
+at_moved f h [] left x all is = ap (λ cs. slice_get cs 0) (sym is)
+at_moved f h (y ∷ ys) left x all is =
+    ap (λ cs. slice_get cs (length (y ∷ ys))) (sym is) ∙ at_moved f h ys left x (map h ys ++ map f (x ∷ left)) refl
+
+-- what is left behind so many items begins with the next one
+pub at_drop : {A : Type 0} (xs ys : List A) (k : ℕ) (x : A) → drop k xs ≡ x ∷ ys → slice_get xs k ≡ Some x
+at_drop xs ys zero x is = ap (λ l. slice_get l 0) is
+at_drop [] ys (suc k) x is = absurd (omega (arith, ap length is))
+at_drop (z ∷ zs) ys (suc k) x is = at_drop zs ys k x is
+
+drop_suc : {A : Type 0} (xs ys : List A) (k : ℕ) (x : A) → drop k xs ≡ x ∷ ys → drop (suc k) xs ≡ ys
+drop_suc [] ys zero x is = absurd (omega (arith, ap length is))
+drop_suc (z ∷ zs) ys zero x is = cc
+drop_suc [] ys (suc k) x is = absurd (omega (arith, ap length is))
+drop_suc (z ∷ zs) ys (suc k) x is = drop_suc zs ys k x is
+
+-- and behind that one the rest is left
+pub drop_next : {A : Type 0} (xs ys : List A) (k : ℕ) (x : A) → drop k xs ≡ x ∷ ys → drop (k + 1) xs ≡ ys
+drop_next xs ys k x is = ap (λ n. drop n xs) (add-one k) ∙ drop_suc xs ys k x is

@@ -1,13 +1,13 @@
 -- Why a post refuses its calls.
 use Rattle.std.specs.Prelude.{◌≡◌, ◌≢◌, ◌⊎◌, ◌<◌, ℕ, List, [], slice_index_or, length, Contains}
 use Rattle.funnel.specs.Line.{IsFunnelLine}
-use Rattle.peer_queue.specs.Faults.{IsFlushFault, IsOweFault}
+use Rattle.peer_queue.specs.Faults.{IsFlushTapeFault, IsOweFault}
 use Rattle.peer_queue.specs.declared.fault.StationFault.{StationFault}
 use Rattle.peer_queue.specs.declared.fault.StationFault.TheVariants.{Broken as BrokenStation, NotHeld, Tape}
 use Rattle.peer_queue.specs.declared.fault.StationFault.TheVariants.{NoMemory as NoStationMemory}
 use Rattle.recovery.specs.declared.fault.TapeFault.{TapeFault}
 use Rattle.recovery.specs.declared.fault.TapeFault.TheVariants.{Disk, Broken, TapeFull}
-use Rattle.recovery.specs.declared.fault.TapeFault.TheVariants.{PendingFull}
+use Rattle.recovery.specs.declared.fault.TapeFault.TheVariants.{PendingFull, Note as RefusedNote}
 use Rattle.recovery.specs.declared.fault.TapeFault.TheVariants.{NoMemory as NoTapeMemory}
 use Rattle.flusher.specs.declared.fault.PostFault.{PostFault}
 use Rattle.flusher.specs.declared.fault.PostFault.TheVariants.{Station, Intake, CountFull, Stranger, NoMemory}
@@ -18,6 +18,12 @@ use Rattle.flusher.specs.declared.fault.TakeFault.TheVariants.{Stranger as Other
 abbrev pub IsOfStation : ℕ → (StationFault → Type 0) → PostFault → Type 0
 IsOfStation peer Kind (Station at fault) = (at ≡ peer) × Kind fault
 IsOfStation peer Kind fault = ⊥
+
+-- so, or what lay behind a lock of this peer was another's
+abbrev pub IsOfPeer : ℕ → (StationFault → Type 0) → PostFault → Type 0
+IsOfPeer peer Kind (Station at fault) = (at ≡ peer) × Kind fault
+IsOfPeer peer Kind (Stranger at) = at ≡ peer
+IsOfPeer peer Kind fault = ⊥
 
 -- the faults that a station's `shed` tells
 abbrev pub IsShedFault : StationFault → Type 0
@@ -54,19 +60,42 @@ IsSealFault PendingFull = Unit {0}
 IsSealFault NoTapeMemory = Unit {0}
 IsSealFault fault = ⊥
 
+-- the faults of a tape that takes what its peer's front has noted, and is flushed: no run meets a note that it refuses
+abbrev pub IsRoundTapeFault : TapeFault → Type 0
+IsRoundTapeFault (RefusedNote fault) = Unit {0}
+IsRoundTapeFault fault = IsFlushTapeFault fault
+
+-- the faults of a station that a round of flushing tells
+abbrev pub IsRoundFault : StationFault → Type 0
+IsRoundFault BrokenStation = Unit {0}
+IsRoundFault (Tape fault) = IsRoundTapeFault fault
+IsRoundFault NoStationMemory = Unit {0}
+IsRoundFault fault = ⊥
+
+-- the faults that the flush of one peer tells, where a station tells these
+abbrev pub IsPartFault : ℕ → (StationFault → Type 0) → PostFault → Type 0
+IsPartFault peer Kind (Station at fault) = (at ≡ peer) × Kind fault
+IsPartFault peer Kind (Stranger at) = at ≡ peer
+IsPartFault peer Kind NoMemory = Unit {0}
+IsPartFault peer Kind fault = ⊥
+
 -- the faults that `flush_all` tells of so many peers
 abbrev pub IsFlushAllFault : ℕ → PostFault → Type 0
-IsFlushAllFault peers (Station at fault) = (at < peers) × IsFlushFault fault
+IsFlushAllFault peers (Station at fault) = (at < peers) × IsRoundFault fault
+IsFlushAllFault peers (Stranger at) = at < peers
+IsFlushAllFault peers NoMemory = Unit {0}
 IsFlushAllFault peers (Intake fault) = IsSealFault fault
 IsFlushAllFault peers fault = ⊥
 
--- the faults that a flush tells of a station that is not broken
+-- the faults that a round of flushing tells of a station that is not broken
 abbrev pub IsWorkingFlushFault : StationFault → Type 0
-IsWorkingFlushFault fault = IsFlushFault fault × (fault ≢ BrokenStation)
+IsWorkingFlushFault fault = IsRoundFault fault × (fault ≢ BrokenStation)
 
 -- the faults that `flush_working` tells of so many peers
 abbrev pub IsFlushWorkingFault : ℕ → PostFault → Type 0
 IsFlushWorkingFault peers (Station at fault) = (at < peers) × IsWorkingFlushFault fault
+IsFlushWorkingFault peers (Stranger at) = at < peers
+IsFlushWorkingFault peers NoMemory = Unit {0}
 IsFlushWorkingFault peers fault = ⊥
 
 -- the faults that a station's `put_off` tells
@@ -80,6 +109,7 @@ IsDiskFault fault = (fault ≡ Tape Disk) ⊎ (fault ≡ BrokenStation)
 -- the faults that `rotate_all` tells of so many peers
 abbrev pub IsRotateAllFault : ℕ → PostFault → Type 0
 IsRotateAllFault peers (Station at fault) = (at < peers) × IsDiskFault fault
+IsRotateAllFault peers (Stranger at) = at < peers
 IsRotateAllFault peers (Intake fault) = (fault ≡ Disk) ⊎ (fault ≡ Broken)
 IsRotateAllFault peers fault = ⊥
 
@@ -89,3 +119,9 @@ IsOfTape (Station at BrokenStation) = Unit {0}
 IsOfTape (Station at (Tape fault)) = Unit {0}
 IsOfTape (Intake fault) = fault ≢ NoTapeMemory
 IsOfTape fault = ⊥
+
+-- a disk of a peer's tape failed, now or before
+abbrev pub HasBroken : PostFault → Type 0
+HasBroken (Station at BrokenStation) = Unit {0}
+HasBroken (Station at (Tape fault)) = fault ≡ Disk
+HasBroken fault = ⊥

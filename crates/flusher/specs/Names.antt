@@ -1,5 +1,6 @@
--- The names of the six counting ledgers.
-use Rattle.std.specs.Prelude.{ℕ}
+-- The names of the six counting ledgers, and of the queues.
+use Rattle.std.specs.Prelude.{◌≡◌, ℕ, List, [], Some, slice_get}
+use Rattle.atomic_table.specs.Seated.{TableId}
 use Rattle.ledger_core.specs.State.{State}
 
 -- how many debts were taken, answered and dropped
@@ -17,13 +18,15 @@ pub record Pair : Type 0 where
   pub workers : ℕ
   pub stations : ℕ
 
--- The names of the ledgers, how many stations there are, and what all of them had counted when the ledgers were opened.
+-- The names of the ledgers, how many stations there are, what all of them had counted when the ledgers were opened, and
+-- the queue of each peer, by places.
 pub record Names : Type 0 where
   pub taken : Pair
   pub answered : Pair
   pub dropped : Pair
   pub peers : ℕ
   pub opened : Counts
+  pub tables : List TableId
 
 abbrev pub no_pair : Pair
 no_pair = record { workers = 0; stations = 0 }
@@ -36,4 +39,9 @@ no_names = record {
   dropped = no_pair;
   peers = 0;
   opened = record { taken = 0; answered = 0; dropped = 0 };
+  tables = [];
 }
+
+-- the queue at this place is this one
+abbrev pub IsTableAt : List TableId → ℕ → TableId → Type 0
+IsTableAt tables place table = slice_get tables place ≡ Some table

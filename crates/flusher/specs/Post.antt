@@ -1,14 +1,17 @@
 -- What is seen of a post.
-use Rattle.std.specs.Prelude.{ℕ, List, map, sum_by, length}
+use Rattle.std.specs.Prelude.{◌≡◌, ℕ, List, map, sum_by, length}
 use Rattle.disk_model.specs.declared.Disk.{Ghosts}
+use Rattle.ledger_core.specs.Shape.{Shape}
 use Rattle.ledger_core.specs.State.{State}
+use Rattle.peer_queue.specs.Front.{front_shape}
 use Rattle.peer_queue.specs.Words.{ledger_of}
 use Rattle.flusher.specs.Names.{Counts, Names, Pair}
 use Rattle.flusher.specs.declared.naming.BlankPair.{BlankPair}
+use Rattle.flusher.specs.declared.naming.BlankQueue.{BlankQueue}
 use Rattle.flusher.specs.declared.naming.Blanks.{Blanks}
 use Rattle.flusher.specs.declared.peer.Peer.{Peer}
 use Rattle.flusher.specs.declared.peer.Sums.{Sums}
-use Rattle.flusher.specs.declared.post.ClosedPeer.{ClosedPeer}
+use Rattle.flusher.specs.declared.closing.ClosedPeer.{ClosedPeer}
 
 -- the names of the peers, and what their stations had counted when it was made
 pub record View : Type 0 where
@@ -18,6 +21,10 @@ pub record View : Type 0 where
 -- what a ledger counts
 abbrev pub sums_of : State → Sums
 sums_of state = record { taken = state.taken; answered = state.answered; dropped = state.dropped }
+
+-- what a ledger of this shape counts
+abbrev pub sums_of_shape : Shape → Sums
+sums_of_shape shape = record { taken = shape.taken; answered = shape.answered; dropped = shape.dropped }
 
 -- all of these added up
 abbrev pub total : List Sums → Counts
@@ -30,12 +37,19 @@ total sums = record {
 abbrev pub pair_of : BlankPair → Pair
 pair_of pair = record { workers = pair.workers.name; stations = pair.stations.name }
 
+-- Unused ledgers, and queues, for so many peers.
+pub record IsFor (peers : ℕ) (blanks : Blanks) : Type 0 where
+  pub taken : (blanks.taken.workers.parts ≡ 1) × (blanks.taken.stations.parts ≡ peers)
+  pub answered : (blanks.answered.workers.parts ≡ 3) × (blanks.answered.stations.parts ≡ peers)
+  pub dropped : (blanks.dropped.workers.parts ≡ 3) × (blanks.dropped.stations.parts ≡ peers)
+  pub queues : length blanks.queues.items ≡ peers
+
 module _ {D : Type 0} {g : Ghosts D} where
   -- what the station of a peer counts
   abbrev pub sums_at : Peer D g → Sums
   sums_at peer = sums_of (ledger_of peer.station)
 
-  -- the names of these ledgers, for these peers
+  -- the names of these ledgers and queues, for these peers
   abbrev pub names_of : Blanks → List (Peer D g) → Names
   names_of blanks peers =
       record {
@@ -44,8 +58,9 @@ module _ {D : Type 0} {g : Ghosts D} where
         dropped = pair_of blanks.dropped;
         peers = length peers;
         opened = total (map sums_at peers);
+        tables = map (λ (q : BlankQueue). q.queue.table.shared.table_id) blanks.queues.items;
       }
 
-  -- what the station counts of a peer that was taken from a post
+  -- what the front counts of a peer that was taken from a post
   abbrev pub sums_in : ClosedPeer D g → Sums
-  sums_in peer = sums_of (ledger_of peer.station)
+  sums_in peer = sums_of_shape (front_shape peer.ends.front)

@@ -1,7 +1,8 @@
 -- When there is no room for more.
 use Rattle.std.specs.Prelude.{◌≡◌, ◌⊎◌, ◌+◌, ◌-◌, ◌^◌, ◌≤◌, ℕ}
 use Rattle.disk_model.specs.declared.Disk.{Ghosts}
-use Rattle.recovery.specs.Words.{IsFull, RotatesTooLong}
+use Rattle.recovery.specs.Words.{IsFull, RotatesTooLong, generation_of as tape_generation}
+use Rattle.recovery.specs.declared.tape.Tape.{Tape}
 use Rattle.peer_queue.specs.Words.{IsSame, generation_of, tape_of}
 use Rattle.peer_queue.specs.declared.station.Station.{Station}
 
@@ -17,3 +18,8 @@ module _ {D : Type 0} {g : Ghosts D} where
     pub left : Station D g
     pub same : IsSame station left
     pub anew : (generation_of left ≡ 2 ^ 64 - 1) ⊎ RotatesTooLong (tape_of left)
+
+  -- So of a tape, which a refused flush leaves as it is.
+  pub record TapeHasNoRoom (tape : Tape D g) : Type 0 where
+    pub full : IsFull tape
+    pub anew : (tape_generation tape ≡ 2 ^ 64 - 1) ⊎ RotatesTooLong tape

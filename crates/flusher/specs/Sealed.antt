@@ -1,10 +1,20 @@
 -- What a receipt is made of.
-use Rattle.std.specs.Prelude.{◌≡◌, ◌≤◌, ℕ}
+use Rattle.std.specs.Prelude.{◌≡◌, ◌≤◌, ◌+◌, ◌-◌, ◌^◌, ℕ, min}
 use Rattle.disk_model.specs.declared.Disk.{Ghosts}
+use Rattle.peer_queue.specs.Front.{pending_of as front_pending, settled_of}
 use Rattle.peer_queue.specs.Words.{IsBroken, pending_of}
+use Rattle.peer_queue.specs.declared.front.Front.{Front}
 use Rattle.peer_queue.specs.declared.station.Station.{Station}
 use Rattle.recovery.specs.Words.{ledger_of as tape_ledger, pending_of as tape_pending}
 use Rattle.recovery.specs.declared.tape.Tape.{Tape}
+
+-- how many notes its tape counts once all that are noted at a front are on it, or the greatest u64 if that is less
+abbrev pub noted_at : Front → ℕ
+noted_at front = min (settled_of front + front_pending front) (2 ^ 64 - 1)
+
+-- so many of the front's notes are settled, as its tape counts them
+abbrev pub HasSettled : ℕ → Front → Type 0
+HasSettled count front = count ≤ settled_of front
 
 module _ {D : Type 0} {g : Ghosts D} where
   -- the station works, and all its notes are acknowledged

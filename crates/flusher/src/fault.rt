@@ -1,6 +1,7 @@
 // Why a call of a post was refused.
-ghost use Rattle.std.specs.Prelude.{◌↔◌, IsTrue};
-ghost use Rattle.flusher.specs.Faults.{IsOfTape};
+ghost use Rattle.std.specs.Prelude.{◌≡◌, ◌↔◌, IsTrue};
+ghost use Rattle.flusher.specs.Faults.{HasBroken, IsOfTape};
+ghost use Rattle.peer_queue.specs.Faults.{station_fault};
 
 use peer_queue::StationFault;
 use recovery::TapeFault;
@@ -18,10 +19,11 @@ pub enum PostFault {
     /// The line's number, or a tally, would pass its greatest value.
     #[error("CountFull")]
     CountFull,
-    /// The mark of this peer's station is not the share's.
+    /// The mark of this peer's front is not the share's; or what its front, its tape or a lock of its tells is another
+    /// peer's. No run meets it.
     #[error("Stranger")]
     Stranger { peer: usize },
-    /// This peer's station is in use, and the call waits for nobody.
+    /// This peer's front is in use, or its tape, which alone has the texts of a debt, and the call waits for nobody.
     #[error("Busy")]
     Busy { peer: usize },
     /// Memory was refused.
@@ -42,6 +44,33 @@ impl PostFault {
             PostFault::Intake(fault) => !matches!(fault, TapeFault::NoMemory),
             _ => false,
         }
+    }
+}
+
+impl PostFault {
+    // A fault of a peer's tape.
+    pub(crate) fn of_tape(peer: usize, fault: TapeFault) -> PostFault
+        ensures { result ≡ PostFault.Station peer (station_fault fault) }
+    {
+        let fault = match fault {
+            TapeFault::Broken => StationFault::Broken,
+            TapeFault::NoMemory => StationFault::NoMemory,
+            fault => StationFault::Tape(fault),
+        };
+        PostFault::Station { peer, fault }
+    }
+
+    // Whether a disk of a peer's tape failed, now or before.
+    pub(crate) fn has_broken(&self) -> bool
+        ensures { IsTrue result ↔ HasBroken self.now }
+    {
+        matches!(
+            self,
+            PostFault::Station {
+                fault: StationFault::Broken | StationFault::Tape(TapeFault::Disk),
+                ..
+            }
+        )
     }
 }
 

@@ -1,14 +1,14 @@
 // What the flusher asks of a post.
-ghost use Rattle.std.specs.Prelude.{◌≡◌, ◌+◌, ◌<◌, ◌^◌, length, IfErr, OnOk};
-ghost use Rattle.flusher.specs.Faults.{IsDiskFault, IsFlushAllFault, IsFlushWorkingFault, IsWorkingFlushFault};
-ghost use Rattle.flusher.specs.Faults.{IsOfStation, IsRotateAllFault, IsSealFault};
+ghost use Rattle.std.specs.Prelude.{◌≡◌, ◌+◌, ◌<◌, ◌^◌, length, IfErr, IfOk, OnOk};
+ghost use Rattle.flusher.specs.Faults.{IsDiskFault, IsFlushAllFault, IsFlushWorkingFault, IsOfPeer, IsPartFault};
+ghost use Rattle.flusher.specs.Faults.{IsRotateAllFault, IsRoundFault, IsSealFault, IsWorkingFlushFault};
 ghost use Rattle.flusher.specs.Sealed.{IsSealed};
-ghost use Rattle.peer_queue.specs.Faults.{IsFlushFault};
+ghost use Rattle.recovery.specs.Words.{IsRotateFault};
 
-use crate::desk::Desk;
 use crate::pace::{Pace, Point, Who};
 use crate::post::Intake;
-use crate::sealing::Sealing;
+use crate::sealing::{Due, Sealing};
+use crate::tape_desk::Flush;
 use crate::{Naming, Post, PostFault, Receipt};
 use disk_model::Disk;
 use ledger_core::Note;
@@ -17,13 +17,14 @@ use recovery::TapeFault;
 use std::sync::Wait;
 
 impl<D: Disk, N: Naming> Post<D, N> {
-    /// Puts all that pends on the disks: the stations' notes by name, and then, with the number that the last line had
-    /// before, the intake's. Where a station's tape has no room for what pends behind what lies there, it is written
-    /// anew, with what pends.
+    /// Puts all that pends on the disks: the notes of the stations by name, each in rounds until all is settled that
+    /// pended when its part began, and then, with the number that the last line had before, the intake's. If a tape has
+    /// no room for what pends behind what lies there, it is written anew, with what pends.
     ///
     /// # Errors
-    /// A station's: `Tape(TapeFull)` where what it owes is too long to be written anew too, or where its tape has the
-    /// greatest generation. Then the intake tape's.
+    /// A station's: `Tape(TapeFull)` if what it owes is too long to be written anew too, or if its tape has the
+    /// greatest generation; `Tape(Note)`, which no run meets; `NoMemory`. `NoMemory` if the copy of a note found none.
+    /// `Stranger`, which no run meets. Then the intake tape's.
     pub fn flush_all<P: Pace, R: Wait>(&self, rt: &R, pace: &P) -> Result<Receipt, PostFault>
         ensures kinds { IfErr result (IsFlushAllFault (length self.now.names)) }
     {
@@ -35,7 +36,7 @@ impl<D: Disk, N: Naming> Post<D, N> {
         self.seal(rt, sealing)
     }
 
-    // Flushes the station that comes next, or writes its tape anew, and counts it.
+    // Flushes the station that comes next, and counts it.
     fn flush_next<P: Pace, R: Wait>(
         &self,
         rt: &R,
@@ -46,13 +47,27 @@ impl<D: Disk, N: Naming> Post<D, N> {
         requires peer { peer < length self.now.names }
         requires next { peer ≡ sealing.old.flushed }
         ensures flushed { OnOk result (sealing.new.flushed ≡ sealing.old.flushed + 1) }
-        ensures kinds { IfErr result (IsOfStation peer IsFlushFault) }
+        ensures kinds { IfErr result (IsPartFault peer IsRoundFault) }
     {
         // The number behind this peer's is one that there is.
         let _peers = self.peers();
-        let mut desk = self.peers[peer].desk.lock(rt);
-        pace.turn(Who::Flusher, Point::InFlush);
-        flush_in(peer, &mut desk, sealing)
+        let due = self.due(rt, peer, sealing)?;
+        let settlement = self.settle_peer(rt, pace, peer, due.count())?;
+        sealing.add(due, settlement);
+        Ok(())
+    }
+
+    // What is due at a peer for this receipt.
+    fn due<R: Wait>(&self, rt: &R, peer: usize, sealing: &Sealing) -> Result<Due, PostFault>
+        requires { peer < length self.now.names }
+        ensures due { IfOk result (λ due. due.place ≡ peer) }
+        ensures kinds { IfErr result (λ e. e ≡ PostFault.Stranger peer) }
+    {
+        let desk = self.peers[peer].front.lock(rt);
+        if desk.seat.place != peer {
+            return Err(PostFault::Stranger { peer });
+        }
+        Ok(sealing.due(&desk))
     }
 
     // Notes on the intake tape that all lines are acknowledged up to the number that was read before the flushes.
@@ -72,7 +87,7 @@ impl<D: Disk, N: Naming> Post<D, N> {
     ///
     /// # Errors
     /// The first that a station tells, once all were flushed: `Tape(Disk)`, after which that station is broken;
-    /// `Tape(TapeFull)`; `NoMemory`.
+    /// `Tape(TapeFull)`; `NoMemory`; and, which no run meets, `Tape(Note)`, `Stranger`.
     pub fn flush_working<P: Pace, R: Wait>(&self, rt: &R, pace: &P) -> Result<(), PostFault>
         ensures kinds { IfErr result (IsFlushWorkingFault (length self.now.names)) }
     {
@@ -85,7 +100,7 @@ impl<D: Disk, N: Naming> Post<D, N> {
         first
     }
 
-    // Flushes a station, or writes its tape anew, unless it is broken.
+    // Flushes a station, unless it is broken.
     fn flush_if_working<P: Pace, R: Wait>(
         &self,
         rt: &R,
@@ -93,13 +108,18 @@ impl<D: Disk, N: Naming> Post<D, N> {
         peer: usize,
     ) -> Result<(), PostFault>
         requires { peer < length self.now.names }
-        ensures kinds { IfErr result (IsOfStation peer IsWorkingFlushFault) }
+        ensures kinds { IfErr result (IsPartFault peer IsWorkingFlushFault) }
     {
-        let mut desk = self.peers[peer].desk.lock(rt);
-        pace.turn(Who::Flusher, Point::InFlush);
-        match desk.flush_or_rotate() {
-            Ok(()) | Err(StationFault::Broken) => Ok(()),
-            Err(fault) => Err(PostFault::Station { peer, fault }),
+        let count = self.peers[peer].front.lock(rt).noted();
+        match self.settle_peer(rt, pace, peer, count) {
+            Ok(_)
+            | Err(
+                PostFault::Station {
+                    fault: StationFault::Broken,
+                    ..
+                },
+            ) => Ok(()),
+            Err(fault) => Err(fault),
         }
     }
 
@@ -107,7 +127,8 @@ impl<D: Disk, N: Naming> Post<D, N> {
     /// without a fault of its disks stays as it is.
     ///
     /// # Errors
-    /// A station's or the intake's `Disk`, after which that tape is broken, or its `Broken`.
+    /// A station's or the intake's `Disk`, after which that tape is broken, or its `Broken`. `Stranger`, which no run
+    /// meets.
     pub fn rotate_all<R: Wait>(&self, rt: &R) -> Result<(), PostFault>
         ensures kinds { IfErr result (IsRotateAllFault (length self.now.names)) }
     {
@@ -120,40 +141,40 @@ impl<D: Disk, N: Naming> Post<D, N> {
         }
     }
 
-    // Writes one station's tape anew, where that is due.
+    // Writes one peer's tape anew, where that is due, and tells its front.
     fn rotate_one<R: Wait>(&self, rt: &R, peer: usize) -> Result<(), PostFault>
         requires { peer < length self.now.names }
-        ensures kinds { IfErr result (IsOfStation peer IsDiskFault) }
+        ensures kinds { IfErr result (IsOfPeer peer IsDiskFault) }
     {
-        let mut desk = self.peers[peer].desk.lock(rt);
-        if !desk.rotate_due() {
-            return Ok(());
-        }
-        match desk.rotate() {
-            Err(fault @ (StationFault::Tape(TapeFault::Disk) | StationFault::Broken)) => {
-                Err(PostFault::Station { peer, fault })
+        match self.rotate_due(rt, peer) {
+            Ok(Some(flush)) => {
+                self.settle(rt, peer, &flush)?;
+                Ok(())
             }
-            _ => Ok(()),
+            Ok(None) => Ok(()),
+            Err(fault) => {
+                let fault = PostFault::of_tape(peer, fault);
+                self.tell_front(rt, peer, fault);
+                if fault.has_broken() {
+                    Err(fault)
+                } else {
+                    Ok(())
+                }
+            }
         }
     }
-}
 
-// Flushes the station that comes next, or writes its tape anew, and counts it.
-fn flush_in<D: Disk, N: Naming>(
-    peer: usize,
-    desk: &mut Desk<D, N>,
-    sealing: &mut Sealing,
-) -> Result<(), PostFault>
-    requires next { peer ≡ sealing.old.flushed }
-    requires room { peer + 1 < 2 ^ 64 }
-    ensures flushed { OnOk result (sealing.new.flushed ≡ sealing.old.flushed + 1) }
-    ensures kinds { IfErr result (IsOfStation peer IsFlushFault) }
-{
-    if let Err(fault) = desk.flush_or_rotate() {
-        return Err(PostFault::Station { peer, fault });
+    // Writes one peer's tape anew, where that is due, under the tape's lock alone.
+    fn rotate_due<R: Wait>(&self, rt: &R, peer: usize) -> Result<Option<Flush>, TapeFault>
+        requires { peer < length self.now.names }
+        ensures kinds { IfErr result IsRotateFault }
+    {
+        let mut desk = self.peers[peer].tape.lock(rt);
+        if !desk.rotate_due() {
+            return Ok(None);
+        }
+        Ok(Some(desk.rotate()?))
     }
-    sealing.add(peer, desk);
-    Ok(())
 }
 
 impl<D: Disk> Intake<D> {

@@ -1,14 +1,17 @@
-//! The stations of all peers behind their locks, what is counted of them, and the flusher.
+//! The fronts and the tapes of all peers behind their locks, what is counted of them, and the flusher.
 //!
-//! May touch the disks of the stations and of the intake tape, and wait for locks.
-//! The crates above use `Post`: each call locks one station; what is counted across threads is kept by six ledgers.
+//! May touch the disks of the tapes, and wait for locks.
+//! The crates above use `Post`: each call locks one front, or one tape; what is counted across threads is kept by six
+//! ledgers.
 #![tactic(auto)]
 
 mod calls;
-mod desk;
+mod claiming;
+mod closing;
 mod fault;
 mod flushes;
 mod flushing;
+mod front_desk;
 mod naming;
 mod pace;
 mod peer;
@@ -16,18 +19,22 @@ mod post;
 mod reported;
 mod room;
 mod rooms;
+mod rounds;
 mod sealing;
 mod share;
 mod signals;
+mod taking;
 mod tally;
+mod tape_desk;
 mod threads;
 
+pub use closing::{CloseFault, Closed, ClosedPeer, Unclosed};
 pub use fault::PostFault;
 pub use flushes::Flusher;
 pub use naming::{Blanks, Naming};
 pub use pace::{Free, Pace, Point, Who};
 pub use peer::{Peer, Sums};
-pub use post::{Closed, ClosedPeer, Post, Unclosed};
+pub use post::Post;
 pub use reported::Reported;
 pub use sealing::Receipt;
 pub use share::{FeederShare, IntakeShare};

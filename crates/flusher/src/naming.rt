@@ -1,11 +1,16 @@
-// The six counting ledgers, two for each of taken, answered and dropped.
-ghost use Rattle.std.specs.Prelude.{◌≡◌, ℕ};
+// The six counting ledgers, two for each of taken, answered and dropped, and the queues of the peers.
+ghost use Rattle.std.specs.Prelude.{◌≡◌, ◌+◌, ◌≤◌, ℕ, IfOk, length};
+ghost use Rattle.std.specs.Vec.{vec_capacity};
+ghost use Rattle.crossbeam_queue.specs.Passes.{IsPassOf, ruled_capacity, view};
 ghost use Rattle.flusher.specs.Names.{Names};
+ghost use Rattle.note_queue.specs.Relay.{begun};
 
+use note_queue::{NotePass, NoteQueue};
+use std::alloc::{AllocError, Global};
 use std::marker::{Brand, PhantomData};
 use std::sync::ledger::{Blank, Ledger};
 
-/// Names the ledgers of one `Post`.
+/// Names the ledgers and the queues of one `Post`.
 pub trait Naming {
     ghost use Rattle.flusher.specs.Names.{Names};
 
@@ -97,12 +102,23 @@ pub struct BlankPair {
     pub stations: Blank,
 }
 
-/// The six ledgers, unused.
+/// The queue of a peer to which nothing was sent yet, and its pass, which may push and pop.
+#[derive(Drop)]
+pub struct BlankQueue {
+    pub queue: NoteQueue,
+    pub pass: NotePass,
+    ghost room: { ruled_capacity queue ≡ 1024 },
+    ghost tied: { IsPassOf queue pass },
+    ghost whole: { view pass ≡ begun },
+}
+
+/// The six ledgers, unused, and a queue for each peer.
 #[derive(Drop)]
 pub struct Blanks {
     pub taken: BlankPair,
     pub answered: BlankPair,
     pub dropped: BlankPair,
+    pub queues: Vec<BlankQueue>,
 }
 
 impl BlankPair {
@@ -117,18 +133,34 @@ impl BlankPair {
 }
 
 impl Blanks {
-    /// Ledgers for so many stations.
-    pub fn new(peers: u64) -> Blanks
-        ensures taken { (result.taken.workers.parts ≡ 1) × (result.taken.stations.parts ≡ peers) }
-        ensures answered { (result.answered.workers.parts ≡ 3)
-            × (result.answered.stations.parts ≡ peers) }
-        ensures dropped { (result.dropped.workers.parts ≡ 3)
-            × (result.dropped.stations.parts ≡ peers) }
+    ghost use Rattle.flusher.specs.Post.{IsFor};
+
+    /// Ledgers and queues for so many peers.
+    ///
+    /// # Errors
+    /// `NoMemory` if memory was refused.
+    pub fn new(alloc: Global, peers: usize) -> Result<Blanks, AllocError>
+        ensures { IfOk result (IsFor peers) }
     {
-        Blanks {
-            taken: BlankPair::new(1, peers),
-            answered: BlankPair::new(3, peers),
-            dropped: BlankPair::new(3, peers),
-        }
+        let queues = queues(alloc, peers)?;
+        let stations = peers as u64;
+        Ok(Blanks {
+            taken: BlankPair::new(1, stations),
+            answered: BlankPair::new(3, stations),
+            dropped: BlankPair::new(3, stations),
+            queues,
+        })
     }
+}
+
+// So many queues.
+fn queues(alloc: Global, count: usize) -> Result<Vec<BlankQueue>, AllocError>
+    ensures { IfOk result (λ queues. length queues.items ≡ count) }
+{
+    let mut queues = Vec::new(alloc);
+    for _ in 0..count {
+        let (queue, pass) = note_queue::queue(alloc)?;
+        queues.push(BlankQueue { queue, pass })?;
+    }
+    Ok(queues)
 }

@@ -151,10 +151,3 @@ pub(crate) fn counted_at<D: Disk>(station: &Station<D>) -> Sums
         dropped: totals.dropped,
     }
 }
-
-// How many notes make up these counts.
-pub(crate) fn noted_in(sums: Sums) -> u64 {
-    sums.taken
-        .saturating_add(sums.answered)
-        .saturating_add(sums.dropped)
-}

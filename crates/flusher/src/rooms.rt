@@ -8,13 +8,13 @@ use std::sync::atomic::Ordering;
 impl<D: Disk, N: Naming> Post<D, N> {
     /// Counts room for so many debts more, of a connection that is to be opened, if the peer is owed more debts than
     /// its counted connections have room for, or if its connections are failing. Answers whether it was counted; None
-    /// if the peer's station is in use. It is decided under the station's lock, so that two feeders do not both take
+    /// if the peer's front is in use. It is decided under the front's lock, so that two feeders do not both take
     /// the last room.
     pub fn try_take_room(&self, peer: usize, room: u64) -> Option<bool>
         requires { peer < length self.now.names }
     {
-        let desk = self.free_desk(peer)?;
-        let owed = desk.station.totals().owed;
+        let desk = self.free_front(peer)?;
+        let owed = desk.totals().owed;
         let at = &self.peers[peer];
         let is_wanted = at.room.load(Ordering::SeqCst) < owed;
         if !is_wanted && !at.is_failing.load(Ordering::SeqCst) {

@@ -1,8 +1,9 @@
 // How a receipt is made.
-ghost use Rattle.std.specs.Prelude.{◌≡◌, ◌+◌, ◌<◌, ◌^◌, length};
-ghost use Rattle.flusher.specs.Sealed.{IsFlushed, IsSealed};
+ghost use Rattle.std.specs.Prelude.{◌≡◌, ◌+◌, ◌<◌, ◌≤◌, ◌^◌, length};
+ghost use Rattle.flusher.specs.Sealed.{HasSettled, IsSealed, noted_at};
+ghost use Rattle.note_queue.specs.Words.{front_of};
 
-use crate::desk::Desk;
+use crate::front_desk::FrontDesk;
 use crate::post::Intake;
 use crate::{Naming, Post};
 use disk_model::Disk;
@@ -31,6 +32,49 @@ pub(crate) struct Sealing {
     flushed: usize,
 }
 
+// What is to be settled at a place for a receipt: all that had been noted there when its part began.
+#[derive(Clone, Copy)]
+pub(crate) struct Due {
+    place: usize,
+    count: u64,
+}
+
+impl Due {
+    // So many notes, as their tape counts them.
+    pub(crate) fn count(&self) -> u64
+        ensures { result ≡ self.now.count }
+    {
+        self.count
+    }
+}
+
+// So many notes are settled at a place, as their tape counts them. Only a front that has settled them makes one.
+#[derive(Clone, Copy)]
+pub(crate) struct Settlement {
+    place: usize,
+    count: u64,
+}
+
+impl Settlement {
+    // That of a front that is locked.
+    pub(crate) fn of<N: Naming>(desk: &FrontDesk<N>, count: u64) -> Settlement
+        requires { HasSettled count (front_of desk.now.seat.sender) }
+        ensures { (result.place ≡ desk.now.seat.place) × (result.count ≡ count) }
+    {
+        Settlement {
+            place: desk.seat.place,
+            count,
+        }
+    }
+
+    // How many notes are settled.
+    pub(crate) fn count(&self) -> u64
+        ensures { result ≡ self.now.count }
+    {
+        self.count
+    }
+}
+
 impl Sealing {
     // Reads the number of the last line that was taken. No station has been flushed since.
     pub(crate) fn begin(last: &AtomicU64) -> Sealing
@@ -49,19 +93,30 @@ impl Sealing {
         self.number
     }
 
-    // Counts the station of the peer that comes next, which has been flushed and is locked.
-    pub(crate) fn add<D: Disk, N: Naming>(&mut self, peer: usize, desk: &Desk<D, N>)
-        requires next { peer ≡ self.old.flushed }
-        requires flushed { IsFlushed desk.now.station }
-        requires room { peer + 1 < 2 ^ 64 }
+    // What has been noted at a front that is locked, after the number was read.
+    pub(crate) fn due<N: Naming>(&self, desk: &FrontDesk<N>) -> Due
+        ensures { (result.place ≡ desk.now.seat.place)
+            × (result.count ≡ noted_at (front_of desk.now.seat.sender)) }
+    {
+        Due {
+            place: desk.seat.place,
+            count: desk.noted(),
+        }
+    }
+
+    // Counts the peer that comes next, at which all is settled that was due.
+    pub(crate) fn add(&mut self, due: Due, settlement: Settlement)
+        requires next { due.place ≡ self.old.flushed }
+        requires settled { (settlement.place ≡ due.place) × (due.count ≤ settlement.count) }
+        requires room { due.place + 1 < 2 ^ 64 }
         ensures flushed { self.new.flushed ≡ self.old.flushed + 1 }
         ensures number { self.new.number ≡ self.old.number }
     {
-        let _ = desk;
-        self.flushed = peer + 1;
+        let _ = settlement;
+        self.flushed = due.place + 1;
     }
 
-    // The receipt, once each station has been flushed, and the number is on the intake tape's disks.
+    // The receipt, once all is settled at each place, and the number is on the intake tape's disks.
     pub(crate) fn receipt<D: Disk, N: Naming>(
         self,
         post: &Post<D, N>,

@@ -1,6 +1,8 @@
 // A post in one thread, one of whose three peers has a disk that fails.
 ghost use Rattle.std.specs.Prelude.{◌≡◌, ◌<◌, length};
-ghost use Rattle.flusher.specs.Post.{names_of};
+ghost use Rattle.std.specs.List.{All};
+ghost use Rattle.flusher.specs.Post.{IsFor, names_of};
+ghost use Rattle.flusher.specs.Sealed.{IsFlushed};
 
 use crate::shared::{Ending, counted_on_disks, fused_intake, fused_peer, outcome};
 use conn_core::CxnId;
@@ -21,10 +23,8 @@ const UNLIMITED: Limits = Limits {
     drop_deferred: false,
 };
 
-// So many calls of the first disk a flush makes, and then the claim of a debt, which is read back.
+// So many calls of the first disk a flush makes. The claim of a debt behind it makes none: its front has the texts.
 const FLUSH_CALLS: u64 = 5;
-
-const CLAIM_CALLS: u64 = 2;
 
 // What is counted of a peer: what is owed and what was answered, and whether a flush has failed.
 #[derive(Clone, Copy, Debug, PartialEq, Eq)]
@@ -88,12 +88,8 @@ fn run_steps<N: Naming, R: Wait>(
     blanks: Blanks,
 ) -> Result<Told, Fail>
     requires names { N.names ≡ names_of blanks peers.items }
-    requires taken { (blanks.taken.workers.parts ≡ 1)
-        × (blanks.taken.stations.parts ≡ length peers.items) }
-    requires answered { (blanks.answered.workers.parts ≡ 3)
-        × (blanks.answered.stations.parts ≡ length peers.items) }
-    requires dropped { (blanks.dropped.workers.parts ≡ 3)
-        × (blanks.dropped.stations.parts ≡ length peers.items) }
+    requires blanks { IsFor (length peers.items) blanks }
+    requires flushed { All (λ p. IsFlushed p.station) peers.items }
 {
     let (post, mut lines, mut share, second, third) = Post::<FuseDisk<MemDisk>, N>::new(
         alloc, peers, intake, blanks,
@@ -120,7 +116,7 @@ fn run_steps<N: Naming, R: Wait>(
         ],
         ..told
     };
-    let Ok(closed) = post.close(lines, share, second, third) else {
+    let Ok(closed) = post.close(rt, lines, share, second, third) else {
         return Err(Fail::from("memory"));
     };
     Ok(Told {
@@ -148,7 +144,7 @@ const NOTHING: Told = Told {
 fn counts(alloc: Global, closed: Closed<FuseDisk<MemDisk>>) -> Result<[(u64, u64); 3], Fail> {
     let mut counts = [(0, 0); 3];
     for (at, peer) in closed.peers.into_iter().enumerate() {
-        let totals = counted_on_disks(alloc, peer.station)?;
+        let totals = counted_on_disks(alloc, peer)?;
         if at < 3 {
             counts[at] = (totals.owed, totals.answered);
         }
@@ -163,9 +159,12 @@ fn on_disks<R: Wait>(
     second: Peer<FuseDisk<MemDisk>>,
     third: Peer<FuseDisk<MemDisk>>,
     intake: Tape<FuseDisk<MemDisk>>,
-) -> Result<Told, Fail> {
+) -> Result<Told, Fail>
+    requires { IsFlushed first.station × IsFlushed second.station × IsFlushed third.station }
+{
     let peers = vec![in alloc; first, second, third]?;
-    run_steps::<Brand, R>(rt, alloc, peers, intake, Blanks::new(3))
+    let blanks = Blanks::new(alloc, 3)?;
+    run_steps::<Brand, R>(rt, alloc, peers, intake, blanks)
 }
 
 const BROKEN: PostFault = PostFault::Station {
@@ -207,7 +206,7 @@ const WANT: Told = Told {
 fn answers_of_other_peers_reach_their_disks(rt: HostRuntime) -> Result<(), Fail> {
     let alloc = rt.alloc();
     let first = fused_peer(alloc, b"p", UNLIMITED, u64::MAX)?;
-    let second = fused_peer(alloc, b"q", UNLIMITED, FLUSH_CALLS + CLAIM_CALLS)?;
+    let second = fused_peer(alloc, b"q", UNLIMITED, FLUSH_CALLS)?;
     let third = fused_peer(alloc, b"r", UNLIMITED, u64::MAX)?;
     let told = on_disks(&rt, alloc, first, second, third, fused_intake(alloc)?)?;
     assert_eq!(rt; told, WANT);

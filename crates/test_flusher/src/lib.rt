@@ -7,7 +7,13 @@
 #![tactic(auto)]
 
 #[cfg(test)]
+mod claims;
+#[cfg(test)]
 mod faults;
+#[cfg(test)]
+mod kept;
+#[cfg(test)]
+mod many;
 #[cfg(test)]
 mod pace;
 #[cfg(test)]

@@ -1,6 +1,8 @@
 // A post in one thread: what is shed, claimed, given back, released and deferred.
 ghost use Rattle.std.specs.Prelude.{◌≡◌, ◌<◌, length};
-ghost use Rattle.flusher.specs.Post.{names_of};
+ghost use Rattle.std.specs.List.{All};
+ghost use Rattle.flusher.specs.Post.{IsFor, names_of};
+ghost use Rattle.flusher.specs.Sealed.{IsFlushed};
 
 use crate::shared::{Ending, closed_sums, intake, outcome, peer};
 use conn_core::CxnId;
@@ -149,18 +151,14 @@ fn run_steps<D: Disk + Drop, N: Naming, R: Wait>(
     blanks: Blanks,
 ) -> Result<Told, Fail>
     requires names { N.names ≡ names_of blanks peers.items }
-    requires taken { (blanks.taken.workers.parts ≡ 1)
-        × (blanks.taken.stations.parts ≡ length peers.items) }
-    requires answered { (blanks.answered.workers.parts ≡ 3)
-        × (blanks.answered.stations.parts ≡ length peers.items) }
-    requires dropped { (blanks.dropped.workers.parts ≡ 3)
-        × (blanks.dropped.stations.parts ≡ length peers.items) }
+    requires blanks { IsFor (length peers.items) blanks }
+    requires flushed { All (λ p. IsFlushed p.station) peers.items }
 {
     let (post, mut lines, mut share, second, third) = Post::<D, N>::new(
         alloc, peers, intake, blanks,
     )?;
     let told = steps_told(rt, alloc, &post, &mut lines, &mut share)?;
-    let sums = closed_sums(post, lines, share, second, third)?;
+    let sums = closed_sums(rt, post, lines, share, second, third)?;
     Ok(Told {
         dropped: sums.dropped,
         ..told
@@ -172,9 +170,12 @@ fn on_disks<R: Wait>(
     alloc: Global,
     peer: Peer<MemDisk>,
     intake: Tape<MemDisk>,
-) -> Result<Told, Fail> {
+) -> Result<Told, Fail>
+    requires { IsFlushed peer.station }
+{
     let peers = vec![in alloc; peer]?;
-    run_steps::<MemDisk, Brand, R>(rt, alloc, peers, intake, Blanks::new(1))
+    let blanks = Blanks::new(alloc, 1)?;
+    run_steps::<MemDisk, Brand, R>(rt, alloc, peers, intake, blanks)
 }
 
 #[test]
@@ -240,12 +241,8 @@ fn fill<D: Disk + Drop, N: Naming, R: Wait>(
     blanks: Blanks,
 ) -> Result<Filled, Fail>
     requires names { N.names ≡ names_of blanks peers.items }
-    requires taken { (blanks.taken.workers.parts ≡ 1)
-        × (blanks.taken.stations.parts ≡ length peers.items) }
-    requires answered { (blanks.answered.workers.parts ≡ 3)
-        × (blanks.answered.stations.parts ≡ length peers.items) }
-    requires dropped { (blanks.dropped.workers.parts ≡ 3)
-        × (blanks.dropped.stations.parts ≡ length peers.items) }
+    requires blanks { IsFor (length peers.items) blanks }
+    requires flushed { All (λ p. IsFlushed p.station) peers.items }
 {
     let (post, mut lines, first, second, third) = Post::<D, N>::new(alloc, peers, intake, blanks)?;
     if post.peers() < 2 {
@@ -267,7 +264,7 @@ fn fill<D: Disk + Drop, N: Naming, R: Wait>(
     };
     post.flush_all(rt, &Free)?;
     let number = take(rt, &post, b"a/1 <x@y> p q", &mut lines)?;
-    let sums = closed_sums(post, lines, first, second, third)?;
+    let sums = closed_sums(rt, post, lines, first, second, third)?;
     Ok(Filled {
         half,
         refused,
@@ -282,9 +279,12 @@ fn fill_disks<R: Wait>(
     first: Peer<MemDisk>,
     second: Peer<MemDisk>,
     intake: Tape<MemDisk>,
-) -> Result<Filled, Fail> {
+) -> Result<Filled, Fail>
+    requires { IsFlushed first.station × IsFlushed second.station }
+{
     let peers = vec![in alloc; first, second]?;
-    fill::<MemDisk, Brand, R>(rt, alloc, peers, intake, Blanks::new(2))
+    let blanks = Blanks::new(alloc, 2)?;
+    fill::<MemDisk, Brand, R>(rt, alloc, peers, intake, blanks)
 }
 
 #[test]

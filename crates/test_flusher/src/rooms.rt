@@ -1,6 +1,8 @@
 // The room that is counted of a peer's connections, and debts that are put off, in one thread.
 ghost use Rattle.std.specs.Prelude.{◌≡◌, ◌<◌, length};
-ghost use Rattle.flusher.specs.Post.{names_of};
+ghost use Rattle.std.specs.List.{All};
+ghost use Rattle.flusher.specs.Post.{IsFor, names_of};
+ghost use Rattle.flusher.specs.Sealed.{IsFlushed};
 
 use crate::shared::{closed_sums, intake, peer};
 use conn_core::CxnId;
@@ -117,12 +119,8 @@ fn run_steps<D: Disk + Drop, N: Naming, R: Abort + Wait>(
     blanks: Blanks,
 ) -> Result<Told, Fail>
     requires names { N.names ≡ names_of blanks peers.items }
-    requires taken { (blanks.taken.workers.parts ≡ 1)
-        × (blanks.taken.stations.parts ≡ length peers.items) }
-    requires answered { (blanks.answered.workers.parts ≡ 3)
-        × (blanks.answered.stations.parts ≡ length peers.items) }
-    requires dropped { (blanks.dropped.workers.parts ≡ 3)
-        × (blanks.dropped.stations.parts ≡ length peers.items) }
+    requires blanks { IsFor (length peers.items) blanks }
+    requires flushed { All (λ p. IsFlushed p.station) peers.items }
 {
     let (post, mut lines, first, second, third) = Post::<D, N>::new(alloc, peers, intake, blanks)?;
     if post.peers() == 0 {
@@ -138,7 +136,7 @@ fn run_steps<D: Disk + Drop, N: Naming, R: Abort + Wait>(
         before,
         then,
         refused,
-        sums: closed_sums(post, lines, first, second, third)?,
+        sums: closed_sums(rt, post, lines, first, second, third)?,
     })
 }
 
@@ -147,9 +145,12 @@ fn on_disks<R: Abort + Wait>(
     alloc: Global,
     peer: Peer<MemDisk>,
     intake: Tape<MemDisk>,
-) -> Result<Told, Fail> {
+) -> Result<Told, Fail>
+    requires { IsFlushed peer.station }
+{
     let peers = vec![in alloc; peer]?;
-    run_steps::<MemDisk, Brand, R>(rt, alloc, peers, intake, Blanks::new(1))
+    let blanks = Blanks::new(alloc, 1)?;
+    run_steps::<MemDisk, Brand, R>(rt, alloc, peers, intake, blanks)
 }
 
 #[test]

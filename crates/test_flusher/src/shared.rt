@@ -1,12 +1,17 @@
 // Peers of a post, and debts that their peers answer.
+ghost use Rattle.std.specs.Prelude.{IfOk};
+ghost use Rattle.flusher.specs.Sealed.{IsFlushed};
+
 use conn_core::{Conn, CxnId, Options, Outcome};
 use disk_model::{Disk, FuseDisk, MemDisk};
-use flusher::{FeederShare, IntakeShare, Naming, Peer, Post, Sums};
-use funnel::PeerName;
+use flusher::{ClosedPeer, FeederShare, IntakeShare, Naming, Peer, Post, Sums};
+use funnel::{PeerName, read_backlog_line};
 use ledger_core::{Debt, Totals};
+use note_queue::Joined;
 use peer_queue::{Limits, Station};
 use recovery::Tape;
 use std::alloc::Global;
+use std::sync::Wait;
 use std::test::Fail;
 
 const STREAMING: Options = Options {
@@ -16,6 +21,12 @@ const STREAMING: Options = Options {
     check_low: 9000,
     check_filter: 20,
     response_timeout: 300,
+};
+
+const UNLIMITED: Limits = Limits {
+    backlog_limit: 0,
+    backlog_high: 0,
+    drop_deferred: false,
 };
 
 // How many calls of its first disk the opening of a station makes whose disks are empty.
@@ -73,7 +84,9 @@ fn hear(conn: &mut Conn, octets: &[u8]) -> Result<(), Fail> {
 }
 
 // A peer that is owed nothing.
-pub(crate) fn peer(alloc: Global, name: &[u8], limits: Limits) -> Result<Peer<MemDisk>, Fail> {
+pub(crate) fn peer(alloc: Global, name: &[u8], limits: Limits) -> Result<Peer<MemDisk>, Fail>
+    ensures { IfOk result (λ p. IsFlushed p.station) }
+{
     peer_on(
         alloc,
         name,
@@ -82,13 +95,30 @@ pub(crate) fn peer(alloc: Global, name: &[u8], limits: Limits) -> Result<Peer<Me
     )
 }
 
+// A peer that is owed a debt of this number, from a backlog file, which is on its tape.
+pub(crate) fn peer_with_backlog(
+    alloc: Global,
+    name: &[u8],
+    number: u64,
+) -> Result<Peer<MemDisk>, Fail>
+    ensures { IfOk result (λ p. IsFlushed p.station) }
+{
+    let mut made = peer(alloc, name, UNLIMITED)?;
+    let (token, id) = read_backlog_line(alloc, b"a/7 <w@v>")?;
+    made.import(number, &token, &id)?;
+    made.flush_or_rotate()?;
+    Ok(made)
+}
+
 // A peer that is owed nothing, whose first disk passes so many calls once its station is opened.
 pub(crate) fn fused_peer(
     alloc: Global,
     name: &[u8],
     limits: Limits,
     calls: u64,
-) -> Result<Peer<FuseDisk<MemDisk>>, Fail> {
+) -> Result<Peer<FuseDisk<MemDisk>>, Fail>
+    ensures { IfOk result (λ p. IsFlushed p.station) }
+{
     let first = fused(alloc, calls.saturating_add(OPENING_CALLS));
     peer_on(alloc, name, (first, fused(alloc, u64::MAX)), limits)
 }
@@ -101,9 +131,12 @@ fn fused(alloc: Global, calls: u64) -> FuseDisk<MemDisk> {
 fn peer_on<D: Disk + Drop>(
     alloc: Global,
     name: &[u8],
-    (a, b): (D, D),
+    disks: (D, D),
     limits: Limits,
-) -> Result<Peer<D>, Fail> {
+) -> Result<Peer<D>, Fail>
+    ensures { IfOk result (λ p. IsFlushed p.station) }
+{
+    let (a, b) = disks;
     let name = PeerName::read(alloc, name)?.ok_or("a name")?;
     match Peer::open(alloc, name, a, b, limits) {
         Ok(peer) => Ok(peer),
@@ -128,13 +161,15 @@ fn intake_on<D: Disk + Drop>(alloc: Global, (a, b): (D, D)) -> Result<Tape<D>, F
     }
 }
 
-// What a station counts once it is opened again from its disks.
+// What a peer's station counts once it is opened again from its tape's disks.
 pub(crate) fn counted_on_disks(
     alloc: Global,
-    station: Station<FuseDisk<MemDisk>>,
+    peer: ClosedPeer<FuseDisk<MemDisk>>,
 ) -> Result<Totals, Fail> {
-    let limits = station.limits();
-    let (a, b) = station.into_disks();
+    let ClosedPeer { ends, .. } = peer;
+    let Joined { front, tape, .. } = ends;
+    let limits = front.limits();
+    let (a, b) = tape.into_disks();
     match Station::open(alloc, a.into_inner(), b.into_inner(), limits) {
         Ok(station) => Ok(station.totals()),
         Err(refused) => Err(Fail::from(refused.fault)),
@@ -142,14 +177,15 @@ pub(crate) fn counted_on_disks(
 }
 
 // What all workers of a post counted, which is closed.
-pub(crate) fn closed_sums<D: Disk + Drop, N: Naming>(
+pub(crate) fn closed_sums<D: Disk + Drop, N: Naming, R: Wait>(
+    rt: &R,
     post: Post<D, N>,
     lines: IntakeShare<N>,
     first: FeederShare<N>,
     second: FeederShare<N>,
     third: FeederShare<N>,
 ) -> Result<Sums, Fail> {
-    match post.close(lines, first, second, third) {
+    match post.close(rt, lines, first, second, third) {
         Ok(closed) => Ok(closed.sums),
         Err(_) => Err(Fail::from("memory")),
     }

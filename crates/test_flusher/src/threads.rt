@@ -1,6 +1,8 @@
 // Workers in threads of their own that meet, as rows.
 ghost use Rattle.std.specs.Prelude.{◌≡◌, ◌<◌, length};
-ghost use Rattle.flusher.specs.Post.{names_of};
+ghost use Rattle.std.specs.List.{All};
+ghost use Rattle.flusher.specs.Post.{IsFor, names_of};
+ghost use Rattle.flusher.specs.Sealed.{IsFlushed};
 
 use crate::pace::{At, Meeting};
 use crate::shared::{Ending, counted_on_disks, fused_intake, fused_peer, outcome};
@@ -40,8 +42,7 @@ enum Job {
     Nothing,
     // Finishes the debt that it was given.
     Finish,
-    // Asks for a debt of the first peer without waiting, where it is not that peer's; then claims one of the peer of
-    // its number.
+    // Claims a debt of the peer of its number.
     Claim,
     // Calls `flush_all` once.
     Flush,
@@ -61,8 +62,6 @@ struct Hand<N: Naming> {
     number: u64,
     // For how many debts it took room.
     room: u64,
-    // The first peer's station was in use.
-    is_refused: bool,
     settled: Option<Settled>,
 }
 
@@ -93,16 +92,8 @@ impl<N: Naming> Hand<N> {
                 self.settled = Some(settled);
             }
             Job::Claim => {
-                if self.peer > 0 {
-                    let asked = post.try_claim(0, self.connection, 0);
-                    self.is_refused = matches!(asked, Err(PostFault::Busy { .. }));
-                }
                 let debt = post.claim(rt, self.peer, self.connection, 0).ok()??;
                 self.number = debt.key().number();
-                if self.peer > 0 {
-                    let asked = post.try_put_off(0, self.connection, debt, 30);
-                    self.is_refused &= matches!(asked, Err((_, PostFault::Busy { .. })));
-                }
             }
             Job::Flush => self.number = post.flush_all(rt, pace).ok()?.number(),
             Job::TakeRoom => self.room = room_taken(post),
@@ -228,9 +219,8 @@ impl<D: Disk, N: Naming> Work<D, N> for Third<N> {
 struct Told {
     first: Option<Settled>,
     second: Option<Settled>,
-    // The number of the debt that the second claimed, and whether it was refused one of the first peer's.
-    claimed: u64,
-    refused: bool,
+    // The numbers of the debts that the two claimed.
+    claimed: (u64, u64),
     // For how many debts the two took room.
     room: u64,
     // The receipt of the third, where it is no flusher.
@@ -288,7 +278,6 @@ fn hire<D: Disk, N: Naming, R: Wait>(
         share,
         number: 0,
         room: 0,
-        is_refused: false,
         settled: None,
     })
 }
@@ -319,8 +308,8 @@ fn answered_on_disks(
     let first = peers.next().ok_or("a peer")?;
     let second = peers.next().ok_or("a second peer")?;
     Ok((
-        counted_on_disks(alloc, first.station)?.answered,
-        counted_on_disks(alloc, second.station)?.answered,
+        counted_on_disks(alloc, first)?.answered,
+        counted_on_disks(alloc, second)?.answered,
     ))
 }
 
@@ -333,12 +322,8 @@ fn meet<N: Naming + Send + Sync, R: AllocGlobal + Clock + Log + Threads + Wait +
     blanks: Blanks,
 ) -> Result<Told, Fail>
     requires names { N.names ≡ names_of blanks peers.items }
-    requires taken { (blanks.taken.workers.parts ≡ 1)
-        × (blanks.taken.stations.parts ≡ length peers.items) }
-    requires answered { (blanks.answered.workers.parts ≡ 3)
-        × (blanks.answered.stations.parts ≡ length peers.items) }
-    requires dropped { (blanks.dropped.workers.parts ≡ 3)
-        × (blanks.dropped.stations.parts ≡ length peers.items) }
+    requires blanks { IsFor (length peers.items) blanks }
+    requires flushed { All (λ p. IsFlushed p.station) peers.items }
 {
     let (post, mut share, first, second, third) = Post::<FuseDisk<MemDisk>, N>::new(
         alloc, peers, intake, blanks,
@@ -369,20 +354,20 @@ fn meet<N: Naming + Send + Sync, R: AllocGlobal + Clock + Log + Threads + Wait +
     let Hand {
         share: one,
         settled: first,
+        number: first_claimed,
         room: first_room,
         ..
     } = first;
     let Hand {
         share: two,
         settled: second,
-        number: claimed,
+        number: second_claimed,
         room: second_room,
-        is_refused: refused,
         ..
     } = second;
     let (three, receipt, fault) = third.parts();
     let Taker { share, number, .. } = taker;
-    match post.close(share, one, two, three) {
+    match post.close(rt, share, one, two, three) {
         Ok(
             Closed {
                 peers,
@@ -392,8 +377,7 @@ fn meet<N: Naming + Send + Sync, R: AllocGlobal + Clock + Log + Threads + Wait +
         ) => Ok(Told {
             first,
             second,
-            claimed,
-            refused,
+            claimed: (first_claimed, second_claimed),
             room: first_room.saturating_add(second_room),
             receipt,
             intake: number,
@@ -415,10 +399,11 @@ fn on_disks<R: AllocGlobal + Clock + Log + Threads + Wait + Sync>(
     let first = fused_peer(alloc, b"p", UNLIMITED, u64::MAX)?;
     let second = fused_peer(alloc, b"q", UNLIMITED, row.calls)?;
     let peers = vec![in alloc; first, second]?;
-    meet::<Brand, R>(rt, alloc, row, peers, fused_intake(alloc)?, Blanks::new(2))
+    let blanks = Blanks::new(alloc, 2)?;
+    meet::<Brand, R>(rt, alloc, row, peers, fused_intake(alloc)?, blanks)
 }
 
-const ROWS: [Row; 5] = [
+const ROWS: [Row; 7] = [
     Row {
         name: "both feeders settle at once",
         calls: u64::MAX,
@@ -440,8 +425,7 @@ const ROWS: [Row; 5] = [
         told: Told {
             first: Some(NOT_WANTED),
             second: Some(NOT_WANTED),
-            claimed: 0,
-            refused: false,
+            claimed: (0, 0),
             room: 0,
             receipt: 0,
             intake: 1,
@@ -457,9 +441,9 @@ const ROWS: [Row; 5] = [
         },
     },
     Row {
-        name: "in p's flush a claim at q is answered, and one at p is refused where it does not wait",
+        name: "in p's flush a claim at q is answered",
         calls: u64::MAX,
-        feeders: (Job::Claim, Job::Claim),
+        feeders: (Job::Nothing, Job::Claim),
         flushes: true,
         turn: Turn::Nothing,
         first: At {
@@ -477,8 +461,79 @@ const ROWS: [Row; 5] = [
         told: Told {
             first: None,
             second: None,
-            claimed: 1,
-            refused: true,
+            claimed: (0, 1),
+            room: 0,
+            receipt: 1,
+            intake: 0,
+            gave_up: false,
+            mark: 1,
+            sums: Sums {
+                taken: 2,
+                answered: 0,
+                dropped: 0,
+            },
+            fault: None,
+            on_disks: (0, 0),
+        },
+    },
+    Row {
+        name: "in p's flush what a debt came to at p is answered",
+        calls: u64::MAX,
+        feeders: (Job::Finish, Job::Nothing),
+        flushes: true,
+        turn: Turn::Nothing,
+        first: At {
+            who: Who::Flusher,
+            point: Point::InFlush,
+        },
+        second: At {
+            who: Who::Feeder(0),
+            point: Point::BeforeSettle,
+        },
+        last: At {
+            who: Who::Feeder(0),
+            point: Point::AfterSettle,
+        },
+        told: Told {
+            first: Some(NOT_WANTED),
+            second: None,
+            claimed: (0, 0),
+            room: 0,
+            receipt: 1,
+            intake: 0,
+            gave_up: false,
+            mark: 1,
+            sums: Sums {
+                taken: 2,
+                answered: 1,
+                dropped: 0,
+            },
+            fault: None,
+            on_disks: (0, 0),
+        },
+    },
+    Row {
+        name: "in p's flush a claim at p is answered",
+        calls: u64::MAX,
+        feeders: (Job::Claim, Job::Nothing),
+        flushes: true,
+        turn: Turn::Nothing,
+        first: At {
+            who: Who::Flusher,
+            point: Point::InFlush,
+        },
+        second: At {
+            who: Who::Feeder(0),
+            point: Point::BeforeSettle,
+        },
+        last: At {
+            who: Who::Feeder(0),
+            point: Point::AfterSettle,
+        },
+        told: Told {
+            first: None,
+            second: None,
+            claimed: (1, 0),
             room: 0,
             receipt: 1,
             intake: 0,
@@ -514,8 +569,7 @@ const ROWS: [Row; 5] = [
         told: Told {
             first: None,
             second: None,
-            claimed: 0,
-            refused: false,
+            claimed: (0, 0),
             room: 0,
             receipt: 1,
             intake: 2,
@@ -551,8 +605,7 @@ const ROWS: [Row; 5] = [
         told: Told {
             first: Some(NOT_WANTED),
             second: None,
-            claimed: 0,
-            refused: false,
+            claimed: (0, 0),
             room: 0,
             receipt: 0,
             intake: 0,
@@ -591,8 +644,7 @@ const ROWS: [Row; 5] = [
         told: Told {
             first: None,
             second: None,
-            claimed: 0,
-            refused: false,
+            claimed: (0, 0),
             room: 1,
             receipt: 1,
             intake: 0,

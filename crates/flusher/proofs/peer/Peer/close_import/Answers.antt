@@ -1,4 +1,3 @@
-use Rattle.std.proofs.Common.{Result, Ok, Err}
 use Rattle.flusher.proofs.Keeps.{keeps_closed}
 use Rattle.flusher.proofs.peer.Peer.close_import.Goals as goal
 

@@ -1,7 +1,10 @@
-use Rattle.std.proofs.Common.{◌≡◌, ◌+◌, ◌++◌, [], map, length, ap, sym, ◌∙◌, arith, rules}
+use Rattle.std.proofs.Common.{◌≡◌, ◌+◌, ◌++◌, [], map, length, refl, ap, sym, ◌∙◌, arith, rules}
+use Rattle.std.proofs.lemmas.List.Elements.{All-nil, All-push, All-same}
+use Rattle.note_queue.specs.Folds.{Folds}
+use Rattle.peer_queue.specs.Front.{front_shape}
 use Rattle.flusher.specs.Post.{sums_in, total}
 use Rattle.flusher.specs.Shares.{IntakeCount}
-use Rattle.flusher.proofs.Lists.{all_moved, has_room, nothing}
+use Rattle.flusher.proofs.Lists.{all_moved, at_drop, drop_next, length_snoc, moved, nothing, sum_snoc}
 use Rattle.flusher.proofs.post.Post.close.Goals as goal
 
 pub loop-peer-init : goal.loop-peer-init
@@ -9,8 +12,8 @@ loop-peer-init g c =
     let peers = c.self.inside.peers.items in
     let gives = c.into_iter-peer-iterator.ensures.into_iter_gives.0 in
     let left = c.into_iter-peer-iterator.result.rest.items in
-    let none : c.reserve.new.self.items ≡ [] = c.reserve.ensures.items ∙ c.new-closed.ensures.items in
-    let zero : length c.reserve.new.self.items ≡ 0 = ap length none in
+    let none : c.in-Ok.closed.items ≡ [] = c.in-Ok.ensures.peers.0 in
+    let zero : length c.in-Ok.closed.items ≡ 0 = ap length none in
     let some : length left ≡ length peers = ap length gives in
     let t = c.parts-taken.ensures.rest in
     let a = c.parts-answered.ensures.rest in
@@ -20,13 +23,70 @@ loop-peer-init g c =
       (λ i. map (λ p. p.name) (none i) ++ map (λ q. q.name) (gives i)) ∙ ap (λ v. v.names) c.self.view_is,
       (λ i. map (λ p. p.opened) (none i) ++ map (λ q. q.opened) (gives i)) ∙ ap (λ v. v.opened) c.self.view_is,
       omega (arith, zero, some, c.self.invariant.0),
-      has_room _ _ _ _ _ c.in-Ok.ensures.ok (c.len.ensures ∙ c.self.inside.peers.ok.0) c.self.invariant.0,
+      omega (arith, c.in-Ok.ensures.peers.1, c.len.ensures, c.self.inside.peers.ok.0, c.self.invariant.0),
       t.0 ∙ sym zero,
       a.0 ∙ sym zero,
       d.0 ∙ sym zero,
       t.1 ∙ sym (ap (λ m. (total (map sums_in m)).taken) none),
       a.1 ∙ sym (ap (λ m. (total (map sums_in m)).answered) none),
       d.1 ∙ sym (ap (λ m. (total (map sums_in m)).dropped) none),
+      sym zero,
+      sym c.self.invariant.2 ∙ sym (ap (λ m. map (λ q. q.queue.table.shared.table_id) m) gives),
+      omega (arith, c.in-Ok.ensures.rooms, c.len.ensures, c.self.inside.peers.ok.0, some),
+      All-same (λ p. Folds p.ends) c.in-Ok.closed.items [] none (All-nil (λ p. Folds p.ends)),
+    )
+
+pub peer-requires : goal.peer-requires
+peer-requires g c =
+    record {
+      tied = at_drop g.N.Naming.names.tables (map (λ q. q.queue.table.shared.table_id) c.next.new.self.rest.items)
+          c.loop-peer.place c.in-Some.peer.queue.table.shared.table_id
+          (c.loop-peer.invariant.13 ∙ ap (λ m. map (λ q. q.queue.table.shared.table_id) m) c.in-Some.ensures.steps.0);
+    }
+
+pub loop-peer-preserved : goal.loop-peer-preserved
+loop-peer-preserved g c =
+    let l = c.loop-peer in
+    let was = l.invariant in
+    let step = c.in-Some.ensures.steps.0 in
+    let left = c.next.new.self.rest.items in
+    let peer = c.in-Some.peer in
+    let one = c.in-Some-peer.ended in
+    let e = c.in-Some-peer.ensures in
+    let parts = e.parts refl in
+    let made = c.push_reserved.ensures.items in
+    let fewer : length l.peer-iterator.rest.items ≡ length left + 1 = ap length step ∙ omega arith in
+    let more : length c.push_reserved.new.self.items ≡ length l.closed.items + 1 = ap length made
+    ∙ length_snoc _ _ in
+    let fewer_rooms : length l.rooms.items ≡ length c.pop.new.self.items + 1 = ap length c.in-Some-pop.ensures.items
+    ∙ length_snoc _ _ in (
+      tt,
+      tt,
+      ap (λ m. map (λ p. p.name) m ++ map (λ q. q.name) left) made
+          ∙ (moved (λ q. q.name) (λ p. p.name) l.closed.items one peer left e.name.0
+          ∙ (sym (ap (λ r. map (λ p. p.name) l.closed.items ++ map (λ q. q.name) r) step) ∙ was.2)),
+      ap (λ m. map (λ p. p.opened) m ++ map (λ q. q.opened) left) made
+          ∙ (moved (λ q. q.opened) (λ p. p.opened) l.closed.items one peer left e.name.1
+          ∙ (sym (ap (λ r. map (λ p. p.opened) l.closed.items ++ map (λ q. q.opened) r) step) ∙ was.3)),
+      omega (arith, more, fewer, was.4),
+      search rules,
+      omega (arith, parts.0, more, was.6),
+      omega (arith, parts.1, more, was.7),
+      omega (arith, parts.2, more, was.8),
+      e.amounts.0 ∙ (ap (λ n. n + (front_shape one.ends.front).taken) was.9
+          ∙ sym (ap (λ m. (total (map sums_in m)).taken) made ∙ sum_snoc (λ s. s.taken) sums_in l.closed.items one)),
+      e.amounts.1 ∙ (ap (λ n. n + (front_shape one.ends.front).answered) was.10
+          ∙ sym (ap (λ m. (total (map sums_in m)).answered) made
+          ∙ sum_snoc (λ s. s.answered) sums_in l.closed.items one)),
+      e.amounts.2 ∙ (ap (λ n. n + (front_shape one.ends.front).dropped) was.11
+          ∙ sym (ap (λ m. (total (map sums_in m)).dropped) made
+          ∙ sum_snoc (λ s. s.dropped) sums_in l.closed.items one)),
+      omega (arith, more, was.12),
+      drop_next g.N.Naming.names.tables (map (λ q. q.queue.table.shared.table_id) left) l.place
+          peer.queue.table.shared.table_id (was.13 ∙ ap (λ m. map (λ q. q.queue.table.shared.table_id) m) step),
+      omega (arith, fewer, was.14, fewer_rooms),
+      All-same (λ p. Folds p.ends) c.push_reserved.new.self.items _ made
+          (All-push (λ p. Folds p.ends) l.closed.items one was.15 e.folds),
     )
 
 pub returns-clause-names : goal.returns-clause-names

@@ -1,7 +1,11 @@
-use Rattle.std.proofs.Common.{◌≡◌, ◌+◌, ◌++◌, [], map, length, ap, sym, ◌∙◌, arith, rules}
+use Rattle.std.proofs.Common.{◌≡◌, ◌+◌, ◌++◌, ℕ, List, [], map, length, ap, sym, ◌∙◌, subst, arith, rules}
+use Rattle.std.specs.Prelude.{Some, slice_get}
+use Rattle.std.specs.List.{All}
+use Rattle.std.proofs.lemmas.List.Elements.{All-head, All-rest, All-same}
 use Rattle.peer_queue.specs.Words.{ledger_of}
 use Rattle.flusher.specs.Post.{sums_at, total}
-use Rattle.flusher.proofs.Lists.{nothing, moved, moved_plain, sum_snoc, length_snoc, all_moved}
+use Rattle.flusher.specs.Sealed.{IsFlushed}
+use Rattle.flusher.proofs.Lists.{nothing, moved, moved_plain, sum_snoc, length_snoc, all_moved, at_moved}
 use Rattle.flusher.proofs.post.Post.new.Goals as goal
 
 pub loop-peer-init : goal.loop-peer-init
@@ -9,6 +13,7 @@ loop-peer-init g c =
     let peers = c.args.peers.items in
     let gives = c.into_iter-peer-iterator.ensures.into_iter_gives.0 in
     let left = c.into_iter-peer-iterator.result.rest.items in
+    let queues = c.into_iter-queues.ensures.rest in
     let none : c.reserve.new.self.items ≡ [] = c.in_ok-reserve.ensures.items ∙ c.new-made.ensures.items in
     let none_marks : c.reserve-2.new.self.items ≡ [] = c.in_ok-reserve-2.ensures.items ∙ c.new-marks.ensures.items in
     let some : length left ≡ length peers = ap length gives in
@@ -33,6 +38,11 @@ loop-peer-init g c =
       c.new.ensures.0 ∙ sym (ap (λ m. (total (map (λ q. q.opened) m)).taken) none),
       c.new-2.ensures.0 ∙ sym (ap (λ m. (total (map (λ q. q.opened) m)).answered) none),
       c.new-3.ensures.0 ∙ sym (ap (λ m. (total (map (λ q. q.opened) m)).dropped) none),
+      (λ i. map (λ q. q.queue.table.shared.table_id) (none i) ++ map (λ q. q.queue.table.shared.table_id) (queues i))
+          ∙ sym (ap (λ n. n.tables) c.requires.names),
+      ap length queues ∙ (c.requires.blanks.queues ∙ sym some),
+      sym zero,
+      All-same (λ p. IsFlushed p.station) left peers gives c.requires.flushed,
     )
 
 pub loop-peer-preserved : goal.loop-peer-preserved
@@ -42,15 +52,19 @@ loop-peer-preserved g c =
     let step = c.in-Some.ensures.steps.0 in
     let left = c.next.new.self.rest.items in
     let peer = c.in-Some.peer in
-    let one = c.desk.result in
-    let d = c.desk.ensures in
+    let blank = c.in-Some-next.blank in
+    let step_queues = c.in-Some-next.ensures.items in
+    let left_queues = c.next-in-loop-peer.new.self.rest.items in
+    let one = c.in_ok-desk.field-0 in
+    let d = c.in_ok-desk.ensures in
     let made = c.push_reserved-in-loop-peer.ensures.items in
     let marks = c.push_reserved.ensures.items in
     let fewer : length l.peer-iterator.rest.items ≡ length left + 1 = ap length step ∙ omega arith in
     let more : length c.push_reserved-in-loop-peer.new.self.items ≡ length l.made.items + 1 = ap length made
     ∙ length_snoc _ _ in
     let more_marks : length c.push_reserved.new.self.items ≡ length l.marks.items + 1 = ap length marks
-    ∙ length_snoc _ _ in (
+    ∙ length_snoc _ _ in
+    let fewer_queues : length l.queues.rest.items ≡ length left_queues + 1 = ap length step_queues ∙ omega arith in (
       tt,
       tt,
       ap (λ m. map (λ q. q.name) m ++ map (λ p. p.name) left) made
@@ -81,7 +95,37 @@ loop-peer-preserved g c =
       d.totals.2 ∙ (ap (λ n. n + one.opened.dropped) was.17
           ∙ sym (ap (λ m. (total (map (λ q. q.opened) m)).dropped) made
           ∙ sum_snoc (λ s. s.dropped) (λ q. q.opened) l.made.items one)),
+      ap (λ m. map (λ q. q.queue.table.shared.table_id) m ++ map (λ q. q.queue.table.shared.table_id) left_queues) made
+          ∙ (moved (λ q. q.queue.table.shared.table_id) (λ q. q.queue.table.shared.table_id) l.made.items one blank
+          left_queues d.queue ∙ (sym (ap (λ r. map (λ q. q.queue.table.shared.table_id) l.made.items
+          ++ map (λ q. q.queue.table.shared.table_id) r) step_queues) ∙ was.18)),
+      omega (arith, fewer, fewer_queues, was.19),
+      omega (arith, more, was.20),
+      All-rest (λ p. IsFlushed p.station) peer left l.peer-iterator.rest.items step was.21,
     )
+
+pub desk-requires-clause-parts : goal.desk-requires-clause-parts
+desk-requires-clause-parts g c =
+    let was = c.loop-peer.invariant in
+    let fewer : length c.loop-peer.peer-iterator.rest.items ≡ length c.next.new.self.rest.items + 1 =
+    ap length c.in-Some.ensures.steps.0 ∙ omega arith in
+    (omega (arith, fewer, was.9), omega (arith, fewer, was.10), omega (arith, fewer, was.11))
+
+pub desk-requires-clause-flushed : goal.desk-requires-clause-flushed
+desk-requires-clause-flushed g c =
+    All-head (λ p. IsFlushed p.station) c.in-Some.peer c.next.new.self.rest.items
+    (subst (λ (ps : List _). All (λ p. IsFlushed p.station) ps) c.in-Some.ensures.steps.0 c.loop-peer.invariant.21)
+
+pub desk-requires-clause-tied : goal.desk-requires-clause-tied
+desk-requires-clause-tied g c =
+    let l = c.loop-peer in
+    let blank = c.in-Some-next.blank in
+    let tables = g.N.Naming.names.tables in
+    subst (λ (n : ℕ). slice_get tables n ≡ Some blank.queue.table.shared.table_id) (sym l.invariant.20)
+    (at_moved (λ q. q.queue.table.shared.table_id) (λ q. q.queue.table.shared.table_id) l.made.items
+    c.next-in-loop-peer.new.self.rest.items blank tables
+    (sym (ap (λ r. map (λ q. q.queue.table.shared.table_id) l.made.items
+    ++ map (λ q. q.queue.table.shared.table_id) r) c.in-Some-next.ensures.items) ∙ l.invariant.18))
 
 pub invariant_of-post : goal.invariant_of-post
 invariant_of-post g c =
@@ -91,7 +135,12 @@ invariant_of-post g c =
     let all : length l.made.items ≡ length c.args.peers.items = omega (arith, zero, l.invariant.5) in
     let opened : map (λ q. q.opened) l.made.items ≡ map sums_at c.args.peers.items = sym (all_moved _)
     ∙ (sym (ap (λ r. map (λ q. q.opened) l.made.items ++ map sums_at r) none) ∙ l.invariant.3) in
-    (all ∙ sym (ap (λ n. n.peers) c.requires.names), ap total opened ∙ sym (ap (λ n. n.opened) c.requires.names))
+    let none_queues : l.queues.rest.items ≡ [] = nothing _ (omega (arith, zero, l.invariant.19)) in (
+      all ∙ sym (ap (λ n. n.peers) c.requires.names),
+      ap total opened ∙ sym (ap (λ n. n.opened) c.requires.names),
+      sym (all_moved _) ∙ (sym (ap (λ r. map (λ q. q.queue.table.shared.table_id) l.made.items
+          ++ map (λ q. q.queue.table.shared.table_id) r) none_queues) ∙ l.invariant.18),
+    )
 
 pub close-requires-clause-total : goal.close-requires-clause-total
 close-requires-clause-total g c =

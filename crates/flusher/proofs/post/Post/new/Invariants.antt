@@ -1,7 +1,9 @@
 use Rattle.std.specs.Prelude.{◌≡◌, ◌+◌, ◌≤◌, ◌++◌, map, length}
+use Rattle.std.specs.List.{All}
 use Rattle.std.specs.Vec.{vec_capacity}
 use Rattle.peer_queue.specs.Words.{ledger_of}
 use Rattle.flusher.specs.Post.{sums_at, total}
+use Rattle.flusher.specs.Sealed.{IsFlushed}
 use Rattle.flusher.proofs.post.Post.new.Given as goal
 
 abbrev pub invariant-loop-peer : goal.invariant-loop-peer
@@ -27,3 +29,8 @@ invariant-loop-peer g l =
     × (l.openings.taken.book.total ≡ sums.taken)
     × (l.openings.answered.book.total ≡ sums.answered)
     × (l.openings.dropped.book.total ≡ sums.dropped)
+    × (map (λ q. q.queue.table.shared.table_id) l.made.items
+    ++ map (λ q. q.queue.table.shared.table_id) l.queues.rest.items ≡ g.N.Naming.names.tables)
+    × (length l.queues.rest.items ≡ length left)
+    × (l.place ≡ length l.made.items)
+    × All (λ p. IsFlushed p.station) left

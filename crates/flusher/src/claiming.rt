@@ -1,0 +1,136 @@
+// Debts, claimed by connections.
+ghost use Rattle.std.specs.Prelude.{◌≡◌, ◌<◌, ◌⊎◌, Err, IfErr, IfOk, Ok, OnErr, length};
+ghost use Rattle.std.specs.Prelude.{MatchOption, MatchResult};
+ghost use Rattle.flusher.specs.Claims.{Claims, GivesBack};
+ghost use Rattle.flusher.specs.Faults.{IsOfPeer, IsOfStation};
+ghost use Rattle.note_queue.specs.Words.{front_of};
+ghost use Rattle.peer_queue.specs.Faults.{IsClaimFault};
+
+use crate::front_desk::{Claimed, FrontDesk};
+use crate::tape_desk::TapeDesk;
+use crate::{Naming, Post, PostFault};
+use conn_core::CxnId;
+use disk_model::Disk;
+use ledger_core::{Debt, Key};
+use std::sync::Wait;
+
+impl<D: Disk, N: Naming> Post<D, N> {
+    /// Claims the least candidate of a peer: its key under the front's lock; its texts there, too, as long as the front
+    /// has them, and else from the tape, under its lock alone, which may have to be waited for as long as a flush
+    /// lasts. A key whose texts can't be had is given back: it is ready.
+    ///
+    /// # Errors
+    /// The station's, in this order: `Broken`; `NoMemory`; `Tape(Disk)`, of a read that failed. `Stranger`, which no
+    /// run meets: the tape doesn't owe what the front does.
+    pub fn claim<R: Wait>(
+        &self,
+        rt: &R,
+        peer: usize,
+        connection: CxnId,
+        now: u64,
+    ) -> Result<Option<Debt>, PostFault>
+        requires { peer < length self.now.names }
+        ensures kinds { IfErr result (IsOfPeer peer IsClaimFault) }
+    {
+        let at = &self.peers[peer];
+        let claimed = claim_at(peer, &mut at.front.lock(rt), connection, now)?;
+        match claimed {
+            Claimed::Nothing => Ok(None),
+            Claimed::Debt(debt) => Ok(Some(debt)),
+            Claimed::OnTape(key) => {
+                let read = read_at(peer, &mut at.tape.lock(rt), key);
+                self.handed(rt, peer, connection, key, read)
+            }
+        }
+    }
+
+    /// Does what [`Post::claim`] does, and waits for no tape.
+    ///
+    /// # Errors
+    /// Those of `claim`; `Busy` if the peer's front is in use: nothing has changed; or if its tape is, which alone has
+    /// the texts: the key is given back.
+    pub fn try_claim<R: Wait>(
+        &self,
+        rt: &R,
+        peer: usize,
+        connection: CxnId,
+        now: u64,
+    ) -> Result<Option<Debt>, PostFault>
+        requires { peer < length self.now.names }
+        ensures kinds { IfErr result
+            (λ e. (e ≡ PostFault.Busy peer) ⊎ IsOfPeer peer IsClaimFault e) }
+    {
+        let claimed = match self.free_front(peer) {
+            Some(mut front) => claim_at(peer, &mut front, connection, now)?,
+            None => return Err(PostFault::Busy { peer }),
+        };
+        match claimed {
+            Claimed::Nothing => Ok(None),
+            Claimed::Debt(debt) => Ok(Some(debt)),
+            Claimed::OnTape(key) => {
+                let read = match self.free_tape(peer) {
+                    Some(mut tape) => read_at(peer, &mut tape, key),
+                    None => Err(PostFault::Busy { peer }),
+                };
+                self.handed(rt, peer, connection, key, read)
+            }
+        }
+    }
+
+    // The debt of a key that was claimed; a key whose texts were not read is given back.
+    fn handed<R: Wait>(
+        &self,
+        rt: &R,
+        peer: usize,
+        connection: CxnId,
+        key: Key,
+        read: Result<Debt, PostFault>,
+    ) -> Result<Option<Debt>, PostFault>
+        requires { peer < length self.now.names }
+        ensures { MatchResult result (λ debt. MatchOption debt ⊥ (λ given. read ≡ Ok given))
+            (λ fault. read ≡ Err fault) }
+    {
+        match read {
+            Ok(debt) => Ok(Some(debt)),
+            Err(fault) => {
+                self.peers[peer].front.lock(rt).unclaim(connection, key);
+                Err(fault)
+            }
+        }
+    }
+}
+
+// Claims the least candidate at a peer's front.
+fn claim_at<N: Naming>(
+    peer: usize,
+    desk: &mut FrontDesk<N>,
+    connection: CxnId,
+    now: u64,
+) -> Result<Claimed, PostFault>
+    ensures ok { IfOk result
+        (Claims connection.0 now (front_of desk.old.seat.sender) (front_of desk.new.seat.sender)) }
+    ensures given_back { OnErr result
+        (GivesBack connection.0 now (front_of desk.old.seat.sender)
+        (front_of desk.new.seat.sender)) }
+    ensures kinds { IfErr result (IsOfStation peer IsClaimFault) }
+{
+    match desk.claim(connection, now) {
+        Ok(claimed) => Ok(claimed),
+        Err(fault) => Err(PostFault::Station { peer, fault }),
+    }
+}
+
+// The debt of this key, read from a peer's tape.
+fn read_at<D: Disk, N: Naming>(
+    peer: usize,
+    desk: &mut TapeDesk<D, N>,
+    key: Key,
+) -> Result<Debt, PostFault>
+    ensures kinds { IfErr result (IsOfPeer peer IsClaimFault) }
+{
+    match desk.debt(key) {
+        Ok(Some(debt)) => Ok(debt),
+        Ok(None) => Err(PostFault::Stranger { peer }),
+        Err(fault) => Err(PostFault::of_tape(peer, fault)),
+    }
+}

@@ -1,0 +1,302 @@
+// Closing a post.
+ghost use Rattle.std.specs.Prelude.{◌≡◌, ℕ, ◌+◌, ◌≤◌, [], List, map, length};
+ghost use Rattle.std.specs.Prelude.{IfErr, IfOk, IfSome, IsSome};
+ghost use Rattle.std.specs.List.{All};
+ghost use Rattle.std.specs.Vec.{vec_capacity};
+ghost use Rattle.flusher.specs.Closed.{HandsBack};
+ghost use Rattle.flusher.specs.Names.{IsTableAt};
+ghost use Rattle.flusher.specs.Post.{View, sums_in, total};
+ghost use Rattle.note_queue.specs.Folds.{Folds};
+ghost use Rattle.peer_queue.specs.Front.{front_shape};
+
+use crate::front_desk::{FrontDesk, FrontSeat};
+use crate::naming::{
+    AnsweredAtStations, AnsweredByFeeders, DroppedAtStations, DroppedByFeeders, TakenAtStations,
+};
+use crate::peer::Sums;
+use crate::post::{Intake, PeerDesk};
+use crate::share::{FeederShare, IntakeShare};
+use crate::tally::Tally;
+use crate::tape_desk::TapeDesk;
+use crate::{Naming, Post};
+use disk_model::Disk;
+use funnel::PeerName;
+use ledger_core::Note;
+use note_queue::{Joined, QUEUE_ROOM, join};
+use recovery::Tape;
+use std::alloc::{AllocError, Global};
+use std::sync::Wait;
+use std::sync::ledger::Share;
+
+/// What was left of a peer when its post was closed, and what its station had counted when the post was made.
+#[derive(Drop)]
+pub struct ClosedPeer<D: Disk> {
+    /// Its name.
+    pub name: PeerName,
+    /// Its front and its tape, a note that was kept beside the tape, and those that its queue held.
+    pub ends: Joined<D>,
+    /// What its station had counted when the post was made.
+    pub opened: Sums,
+}
+
+/// What a post was made of, and what its workers counted.
+#[derive(Drop)]
+pub struct Closed<D: Disk> {
+    /// The peers, in the post's order.
+    pub peers: Vec<ClosedPeer<D>>,
+    /// The intake tape.
+    pub intake: Tape<D>,
+    /// What all workers counted.
+    pub sums: Sums,
+}
+
+/// Why a post was not closed.
+#[derive(Drop)]
+pub enum CloseFault<D: Disk, N: Naming> {
+    /// Memory was refused: everything is handed back.
+    NoMemory(Unclosed<D, N>),
+    /// What lay behind a lock of this peer was another peer's. No run meets it; all that was taken apart is let go.
+    Stranger { peer: usize },
+}
+
+/// A post that was not closed, and the shares.
+#[derive(Drop)]
+pub struct Unclosed<D: Disk, N: Naming> {
+    /// The post.
+    pub post: Post<D, N>,
+    /// The intake's share.
+    pub intake: IntakeShare<N>,
+    /// The first feeder's share.
+    pub first: FeederShare<N>,
+    /// The second feeder's share.
+    pub second: FeederShare<N>,
+    /// The flusher's share.
+    pub third: FeederShare<N>,
+}
+
+// The three ledgers beside the stations, as they are put together again.
+#[derive(Drop)]
+struct Closing<N: Naming> {
+    taken: Share<TakenAtStations<N>>,
+    answered: Share<AnsweredAtStations<N>>,
+    dropped: Share<DroppedAtStations<N>>,
+}
+
+impl<N: Naming> Closing<N> {
+    // One peer more, the one at this place. None if what lay behind a lock of it was another peer's.
+    fn peer<D: Disk + Drop, R: Wait>(
+        &mut self,
+        rt: &R,
+        place: usize,
+        peer: PeerDesk<D, N>,
+        room: Room,
+    ) -> Option<ClosedPeer<D>>
+        requires tied { IsTableAt N.names.tables place peer.queue.table.shared.table_id }
+        ensures name { IfSome result
+            (λ closed. (closed.name ≡ peer.name) × (closed.opened ≡ peer.opened)) }
+        ensures folds { IfSome result (λ closed. Folds closed.ends) }
+        ensures parts { IsSome result → (self.new.taken.parts ≡ self.old.taken.parts + 1)
+            × (self.new.answered.parts ≡ self.old.answered.parts + 1)
+            × (self.new.dropped.parts ≡ self.old.dropped.parts + 1) }
+        ensures amounts { IfSome result (λ closed. (self.new.taken.amount
+            ≡ self.old.taken.amount + (front_shape closed.ends.front).taken)
+            × (self.new.answered.amount
+            ≡ self.old.answered.amount + (front_shape closed.ends.front).answered)
+            × (self.new.dropped.amount
+            ≡ self.old.dropped.amount + (front_shape closed.ends.front).dropped)) }
+    {
+        let PeerDesk {
+            name,
+            opened,
+            queue,
+            front,
+            tape,
+            ..
+        } = peer;
+        let FrontDesk {
+            seat,
+            taken,
+            answered,
+            dropped,
+            ..
+        } = front.into_inner();
+        let FrontSeat {
+            place: front_place,
+            sender,
+            ..
+        } = seat;
+        let TapeDesk {
+            place: tape_place,
+            side,
+            ..
+        } = tape.into_inner();
+        if front_place != place || tape_place != place {
+            return None;
+        }
+        self.taken.merge(taken);
+        self.answered.merge(answered);
+        self.dropped.merge(dropped);
+        let Room { notes, .. } = room;
+        Some(ClosedPeer {
+            name,
+            ends: join(rt, &queue, sender, side, notes),
+            opened,
+        })
+    }
+}
+
+impl<D: Disk + Drop, N: Naming> Post<D, N> {
+    /// Closes a post whose workers have ended: gives of each peer its front and its tape, with the notes that were on
+    /// their way between them, its intake tape, and what its workers counted, which is by how much the counts of the
+    /// stations have risen since it was made. Of each peer the tape's ledger, then a note kept beside it, the queue's
+    /// notes and those that were not sent, has the shape of the front's.
+    ///
+    /// # Errors
+    /// `NoMemory`: all is handed back. `Stranger`, which no run meets: all is let go.
+    pub fn close<R: Wait>(
+        self,
+        rt: &R,
+        intake: IntakeShare<N>,
+        first: FeederShare<N>,
+        second: FeederShare<N>,
+        third: FeederShare<N>,
+    ) -> Result<Closed<D>, CloseFault<D, N>>
+        ensures taken { IfOk result
+            (λ r. (total (map sums_in r.peers.items)).taken ≡ (total self.opened).taken
+            + intake.taken) }
+        ensures answered { IfOk result
+            (λ r. (total (map sums_in r.peers.items)).answered ≡ (total self.opened).answered
+            + (first.answered + second.answered + third.answered)) }
+        ensures dropped { IfOk result
+            (λ r. (total (map sums_in r.peers.items)).dropped ≡ (total self.opened).dropped
+            + (first.dropped + second.dropped + third.dropped)) }
+        ensures sums { IfOk result
+            (λ r. (r.sums.taken ≡ intake.taken)
+            × (r.sums.answered ≡ first.answered + second.answered + third.answered)
+            × (r.sums.dropped ≡ first.dropped + second.dropped + third.dropped)) }
+        ensures names { IfOk result
+            (λ r. (map (λ p. p.name) r.peers.items ≡ self.names)
+            × (map (λ p. p.opened) r.peers.items ≡ self.opened)) }
+        ensures folds { IfOk result (λ r. All (λ p. Folds p.ends) r.peers.items) }
+        ensures returned { IfErr result (HandsBack self intake first second third) }
+    {
+        let Ok((mut closed, mut rooms)) = rooms(self.alloc, self.peers.len()) else {
+            return Err(CloseFault::NoMemory(Unclosed {
+                post: self,
+                intake,
+                first,
+                second,
+                third,
+            }));
+        };
+        let Post {
+            peers,
+            intake: behind,
+            tally,
+            ..
+        } = self;
+        let Tally {
+            taken,
+            answered,
+            dropped,
+        } = tally.into_inner();
+        let (taken, mut takers, mut taken_at, rest_taken) = taken.parts();
+        let (answered, mut answerers, mut answered_at, rest_answered) = answered.parts();
+        let (dropped, mut droppers, mut dropped_at, rest_dropped) = dropped.parts();
+        let mut all = Closing {
+            taken: rest_taken,
+            answered: rest_answered,
+            dropped: rest_dropped,
+        };
+        let mut place = 0;
+        for peer in peers {
+            let Some(room) = rooms.pop() else {
+                return Err(CloseFault::Stranger { peer: place });
+            };
+            let Some(ended) = all.peer(rt, place, peer, room) else {
+                return Err(CloseFault::Stranger { peer: place });
+            };
+            closed.push_reserved(ended);
+            place += 1;
+        }
+        taken_at.audit(&mut all.taken);
+        answered_at.audit(&mut all.answered);
+        dropped_at.audit(&mut all.dropped);
+        let IntakeShare {
+            taken: mut told,
+            ..
+        } = intake;
+        takers.audit(&mut told);
+        let (mut told_answered, mut told_dropped) = joined(first, second, third);
+        answerers.audit(&mut told_answered);
+        droppers.audit(&mut told_dropped);
+        let Intake { tape } = behind.into_inner();
+        Ok(Closed {
+            peers: closed,
+            intake: tape,
+            sums: Sums {
+                taken,
+                answered,
+                dropped,
+            },
+        })
+    }
+}
+
+// Room for the notes that a queue may hold.
+#[derive(Drop)]
+struct Room {
+    notes: Vec<Note>,
+    ghost none: { notes.items ≡ [] },
+    ghost room: { 1024 ≤ vec_capacity notes },
+}
+
+// Room for so many peers, and for the notes of their queues.
+fn rooms<D: Disk + Drop>(
+    alloc: Global,
+    count: usize,
+) -> Result<(Vec<ClosedPeer<D>>, Vec<Room>), AllocError>
+    ensures peers { IfOk result
+        (λ made. (made.0.items ≡ []) × (count ≤ vec_capacity made.0)) }
+    ensures rooms { IfOk result (λ made. length made.1.items ≡ count) }
+{
+    let mut closed = Vec::new(alloc);
+    closed.reserve(count)?;
+    let mut rooms = Vec::new(alloc);
+    for _ in 0..count {
+        let mut notes = Vec::new(alloc);
+        notes.reserve(QUEUE_ROOM)?;
+        rooms.push(Room { notes })?;
+    }
+    Ok((closed, rooms))
+}
+
+// The shares of three feeders in one.
+fn joined<N: Naming>(
+    first: FeederShare<N>,
+    second: FeederShare<N>,
+    third: FeederShare<N>,
+) -> (Share<AnsweredByFeeders<N>>, Share<DroppedByFeeders<N>>)
+    ensures answered { (result.0.parts ≡ 3)
+        × (result.0.amount ≡ first.answered + second.answered + third.answered) }
+    ensures dropped { (result.1.parts ≡ 3)
+        × (result.1.amount ≡ first.dropped + second.dropped + third.dropped) }
+{
+    let FeederShare {
+        mut answered,
+        mut dropped,
+    } = first;
+    let FeederShare {
+        answered: one,
+        dropped: other,
+    } = second;
+    answered.merge(one);
+    dropped.merge(other);
+    let FeederShare {
+        answered: one,
+        dropped: other,
+    } = third;
+    answered.merge(one);
+    dropped.merge(other);
+    (answered, dropped)
+}

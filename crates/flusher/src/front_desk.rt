@@ -1,0 +1,342 @@
+// What a front's lock keeps.
+ghost use Rattle.std.specs.Prelude.{◌≡◌, ◌+◌};
+ghost use Rattle.flusher.specs.Names.{IsTableAt};
+ghost use Rattle.note_queue.specs.Words.{front_of, sending};
+ghost use Rattle.peer_queue.specs.Front.{front_shape};
+
+use crate::fault::TakeFault;
+use crate::naming::{
+    AnsweredAtStations, DroppedAtStations, DroppedByFeeders, TakenAtStations, TakenByIntake,
+};
+use crate::sealing::Settlement;
+use crate::share::FeederShare;
+use crate::tally::{Books, Tally};
+use crate::tape_desk::Flush;
+use crate::{Naming, Reported};
+use conn_core::{CxnId, Outcome};
+use funnel::FunnelLine;
+use ledger_core::{Debt, Key, Totals};
+use note_queue::Sender;
+use peer_queue::{Owed, Settled, Shed, StationFault};
+use recovery::MOST_PENDING;
+use std::marker::PhantomData;
+use std::sync::ledger::Share;
+
+/// A front with the pass by which it sends.
+#[derive(Drop)]
+pub struct FrontSeat<N: Naming> {
+    // Its place among the peers.
+    pub(crate) place: usize,
+    pub(crate) sender: Sender,
+    pub(crate) of: PhantomData<N>,
+    ghost tied: { IsTableAt N.names.tables place (sending sender).table_id },
+}
+
+/// A front, and its shares of what the stations have counted.
+#[derive(Drop)]
+pub struct FrontDesk<N: Naming> {
+    pub(crate) seat: FrontSeat<N>,
+    pub(crate) taken: Share<TakenAtStations<N>>,
+    pub(crate) answered: Share<AnsweredAtStations<N>>,
+    pub(crate) dropped: Share<DroppedAtStations<N>>,
+    // What its tape counted when it was last flushed well, written anew, or opened.
+    pub(crate) acknowledged: Totals,
+    // A flush or a rotation has failed since.
+    pub(crate) has_failed: bool,
+    ghost one_part: { (taken.parts ≡ 1) × (answered.parts ≡ 1) × (dropped.parts ≡ 1) },
+    ghost counted: { (taken.amount ≡ (front_shape (front_of seat.sender)).taken)
+        × (answered.amount ≡ (front_shape (front_of seat.sender)).answered)
+        × (dropped.amount ≡ (front_shape (front_of seat.sender)).dropped) },
+    ghost sum: { acknowledged.taken ≡ acknowledged.owed + acknowledged.answered + acknowledged.dropped },
+}
+
+/// What a claim found.
+#[derive(Drop)]
+pub(crate) enum Claimed {
+    /// There is no candidate.
+    Nothing,
+    /// The debt, whose texts the front has.
+    Debt(Debt),
+    /// The tape alone has the texts of this key.
+    OnTape(Key),
+}
+
+impl<N: Naming> FrontDesk<N> {
+    ghost use Rattle.std.specs.Prelude.{◌≢◌, ◌-◌, ◌<◌, ◌≤◌, ◌^◌, ◌↔◌};
+    ghost use Rattle.std.specs.Prelude.{true, false, if◌then◌else◌, max, min};
+    ghost use Rattle.std.specs.Prelude.{IfErr, IfOk, IfSome, IsErrOf, IsNone, IsSome, IsTrue, OnErr, OnOk};
+    ghost use Rattle.std.specs.Prelude.{length, nat_lt};
+    ghost use Rattle.std.specs.List.{All};
+    ghost use Rattle.flusher.specs.Claims.{Claims, GivesBack, Unclaims};
+    ghost use Rattle.flusher.specs.Counted.{IsCounted};
+    ghost use Rattle.flusher.specs.Faults.{IsPutOffFault, IsShedFault, IsTakeFault};
+    ghost use Rattle.flusher.specs.Sealed.{HasSettled};
+    ghost use Rattle.ledger_core.specs.Shape.{shape_totals};
+    ghost use Rattle.peer_queue.specs.Faults.{IsClaimFault, IsEndFault};
+    ghost use Rattle.peer_queue.specs.Front.{IsSame, KeepsNotes, pending_of, places_of, sent_of, settled_of};
+    ghost use Rattle.peer_queue.specs.FrontCalls.{Finishes, IsAnswered, OnlyOutbox};
+    ghost use Rattle.peer_queue.specs.Outbox.{Breaks, Learns};
+    ghost use Rattle.peer_queue.specs.Place.{IsLater, held_count, moved, place_until, released};
+
+    /// Takes a good line, where its number is above the mark, and counts it.
+    pub fn take(
+        &mut self,
+        books: &mut Books<TakenByIntake<N>, TakenAtStations<N>>,
+        mine: &mut Share<TakenByIntake<N>>,
+        mark: &mut u64,
+        number: u64,
+        line: &FunnelLine,
+    ) -> Result<(), TakeFault>
+        requires part { mine.old.parts ≡ 1 }
+        requires room { books.old + 1 < 2 ^ 64 }
+        ensures marked { OnOk result (mark.new ≡ max mark.old number) }
+        ensures counted { OnOk result
+            (mine.new.amount ≡ mine.old.amount + (if nat_lt mark.old number then 1 else 0)) }
+        ensures unchanged { OnErr result
+            ((mark.new ≡ mark.old) × (mine.new.amount ≡ mine.old.amount)) }
+        ensures stranger { IsErrOf result TakeFault.Stranger
+            ↔ (front_shape (front_of self.old.seat.sender)).mark ≢ mark.old }
+        ensures kinds { IfErr result IsTakeFault }
+        ensures part { mine.new.parts ≡ 1 }
+    {
+        let FrontDesk { seat, taken, .. } = self;
+        if seat.sender.front().mark() != *mark {
+            return Err(TakeFault::Stranger);
+        }
+        match seat.sender.owe(number, &line.token, &line.id) {
+            Ok(Owed::New) => {
+                books.count(mine, taken, 1);
+                *mark = number;
+                Ok(())
+            }
+            Ok(Owed::Already) => Ok(()),
+            Err(fault) => Err(TakeFault::Station(fault)),
+        }
+    }
+
+    /// Takes what a connection tells of a debt, and counts what became of it.
+    pub fn finish(
+        &mut self,
+        tally: &mut Tally<N>,
+        mine: &mut FeederShare<N>,
+        connection: CxnId,
+        outcome: Outcome,
+        now: u64,
+    ) -> Result<Settled, (Outcome, StationFault)>
+        requires room { (tally.old.answered + 1 < 2 ^ 64) × (tally.old.dropped + 1 < 2 ^ 64) }
+        ensures ok { OnOk result (Finishes connection.0 now outcome (front_of self.old.seat.sender)
+            (front_of self.new.seat.sender)) }
+        ensures counted { IfOk result
+            (λ settled. IsCounted outcome now settled mine.old mine.new) }
+        ensures returned { IfErr result (λ e. e.0 ≡ outcome) }
+        ensures kinds { IfErr result (λ e. IsEndFault e.1) }
+        ensures unchanged { OnErr result
+            (IsSame (front_of self.old.seat.sender) (front_of self.new.seat.sender)
+            × (mine.new ≡ mine.old)) }
+    {
+        let FrontDesk {
+            seat,
+            answered,
+            dropped,
+            ..
+        } = self;
+        let settled = seat.sender.finish(connection, outcome, now)?;
+        tally.count(mine, answered, dropped, settled);
+        Ok(settled)
+    }
+
+    /// Claims the least candidate, whose texts it has, or else the tape. A key whose texts find no memory is given
+    /// back: it is ready.
+    pub fn claim(&mut self, connection: CxnId, now: u64) -> Result<Claimed, StationFault>
+        ensures ok { IfOk result
+            (Claims connection.0 now (front_of self.old.seat.sender)
+            (front_of self.new.seat.sender)) }
+        ensures given_back { OnErr result
+            (GivesBack connection.0 now (front_of self.old.seat.sender)
+            (front_of self.new.seat.sender)) }
+        ensures keeps { KeepsNotes (front_of self.old.seat.sender) (front_of self.new.seat.sender) }
+        ensures kinds { IfErr result IsClaimFault }
+    {
+        let FrontDesk { seat, .. } = self;
+        let Some(key) = seat.sender.claim_key(connection, now)? else {
+            return Ok(Claimed::Nothing);
+        };
+        match seat.sender.front().unsettled(key) {
+            Ok(Some(debt)) => Ok(Claimed::Debt(debt)),
+            Ok(None) => Ok(Claimed::OnTape(key)),
+            Err(_) => {
+                let _ = seat.sender.unclaim(connection, key);
+                Err(StationFault::NoMemory)
+            }
+        }
+    }
+
+    /// Gives back a key that this connection claimed, and whose texts could not be had: it is ready. A broken front
+    /// stays as it is.
+    pub fn unclaim(&mut self, connection: CxnId, key: Key)
+        ensures { Unclaims connection.0 key (front_of self.old.seat.sender)
+            (front_of self.new.seat.sender) }
+    {
+        let FrontDesk { seat, .. } = self;
+        let _ = seat.sender.unclaim(connection, key);
+    }
+
+    /// Makes all ready that this connection held.
+    pub fn release(&mut self, connection: CxnId) -> u64
+        ensures count { result
+            ≡ held_count connection.0 (places_of (front_of self.old.seat.sender)) }
+        ensures places { places_of (front_of self.new.seat.sender)
+            ≡ released connection.0 (places_of (front_of self.old.seat.sender)) }
+        ensures keeps { KeepsNotes (front_of self.old.seat.sender) (front_of self.new.seat.sender) }
+    {
+        let FrontDesk { seat, .. } = self;
+        seat.sender.release(connection)
+    }
+
+    /// Takes a debt back, and has it wait until this moment.
+    pub fn put_off(
+        &mut self,
+        connection: CxnId,
+        debt: Debt,
+        until: u64,
+    ) -> Result<(), (Debt, StationFault)>
+        ensures ok { OnOk result
+            (KeepsNotes (front_of self.old.seat.sender) (front_of self.new.seat.sender)
+            × (places_of (front_of self.new.seat.sender)
+            ≡ moved (places_of (front_of self.old.seat.sender)) debt.0 (place_until until))) }
+        ensures returned { IfErr result (λ e. e.0 ≡ debt) }
+        ensures kinds { IfErr result (λ e. IsPutOffFault e.1) }
+        ensures unchanged { OnErr result
+            (IsSame (front_of self.old.seat.sender) (front_of self.new.seat.sender)) }
+    {
+        let FrontDesk { seat, .. } = self;
+        seat.sender.put_off(connection, debt, until)?;
+        Ok(())
+    }
+
+    /// Drops what exceeds the limit, and counts it.
+    pub fn shed(
+        &mut self,
+        books: &mut Books<DroppedByFeeders<N>, DroppedAtStations<N>>,
+        mine: &mut Share<DroppedByFeeders<N>>,
+    ) -> Result<Shed, StationFault>
+        requires part { mine.old.parts ≡ 1 }
+        requires room { books.old + 65536 < 2 ^ 64 }
+        ensures counted { IfOk result
+            (λ shed. mine.new.amount ≡ mine.old.amount + length shed.keys.items) }
+        ensures unchanged { OnErr result
+            (IsSame (front_of self.old.seat.sender) (front_of self.new.seat.sender)
+            × (mine.new.amount ≡ mine.old.amount)) }
+        ensures kinds { IfErr result IsShedFault }
+        ensures part { mine.new.parts ≡ 1 }
+    {
+        let FrontDesk { seat, dropped, .. } = self;
+        let shed = seat.sender.shed()?;
+        books.count(mine, dropped, shed.keys.len() as u64);
+        Ok(shed)
+    }
+
+    /// What a flush put on the disks is settled, if it is of this front's tape. None if it is not: nothing has changed.
+    pub fn learn(&mut self, flush: &Flush) -> Option<Settlement>
+        ensures answer { IsSome result
+            ↔ IsAnswered flush.now.flushed (front_of self.old.seat.sender) }
+        ensures settled { IfSome result (λ settlement. (settlement.place ≡ self.old.seat.place)
+            × (settlement.count ≡ flush.now.flushed.count)) }
+        ensures learns { IsSome result → OnlyOutbox
+            (Learns (flush.now.flushed.count - settled_of (front_of self.old.seat.sender)))
+            (front_of self.old.seat.sender) (front_of self.new.seat.sender) }
+        ensures reports { IsSome result → (self.new.has_failed ≡ false)
+            × (self.new.acknowledged ≡ flush.now.totals) }
+        ensures unchanged { IsNone result → self.new ≡ self.old }
+    {
+        let FrontDesk {
+            seat,
+            acknowledged,
+            has_failed,
+            ..
+        } = self;
+        if !seat.sender.settled(&flush.flushed()) {
+            return None;
+        }
+        *acknowledged = flush.totals();
+        *has_failed = false;
+        Some(Settlement::of(self, flush.flushed().count()))
+    }
+
+    /// A flush or a rotation failed. If the tape broke by it, or before, the front is cut off.
+    pub fn fail(&mut self, has_broken: bool)
+        ensures failed { (self.new.has_failed ≡ true)
+            × (self.new.acknowledged ≡ self.old.acknowledged) }
+        ensures breaks { has_broken ≡ true → OnlyOutbox Breaks (front_of self.old.seat.sender)
+            (front_of self.new.seat.sender) }
+        ensures keeps { has_broken ≡ false
+            → front_of self.new.seat.sender ≡ front_of self.old.seat.sender }
+    {
+        let FrontDesk {
+            seat,
+            has_failed,
+            ..
+        } = self;
+        *has_failed = true;
+        if has_broken {
+            seat.sender.broke();
+        }
+    }
+
+    /// What is told of it.
+    pub fn reported(&self) -> Reported
+        ensures working { self.now.has_failed ≡ false → (result.has_failed ≡ false)
+            × (result.totals ≡ shape_totals (front_shape (front_of self.now.seat.sender))) }
+        ensures failed { self.now.has_failed ≡ true → (result.has_failed ≡ true)
+            × (result.totals ≡ self.now.acknowledged) }
+        ensures sum { result.totals.taken ≡ result.totals.owed + result.totals.answered
+            + result.totals.dropped }
+    {
+        let has_failed = self.has_failed;
+        let totals = if has_failed {
+            self.acknowledged
+        } else {
+            self.totals()
+        };
+        Reported { totals, has_failed }
+    }
+
+    /// What it counts.
+    pub fn totals(&self) -> Totals
+        ensures counts { result ≡ shape_totals (front_shape (front_of self.now.seat.sender)) }
+        ensures sum { result.taken ≡ result.owed + result.answered + result.dropped }
+    {
+        self.seat.sender.front().totals()
+    }
+
+    /// Whether no debt is ready, and no connection holds one.
+    pub fn all_later(&self) -> bool
+        ensures { IsTrue result ↔ All (λ entry. IsLater entry.1)
+            (places_of (front_of self.now.seat.sender)) }
+    {
+        self.seat.sender.front().all_later()
+    }
+
+    /// How many of its notes pend.
+    pub fn pending(&self) -> usize
+        ensures { result ≡ pending_of (front_of self.now.seat.sender) }
+    {
+        MOST_PENDING - self.seat.sender.front().room()
+    }
+
+    /// How many notes its tape counts once all of them are on it.
+    pub fn noted(&self) -> u64
+        ensures { result ≡ min (settled_of (front_of self.now.seat.sender)
+            + pending_of (front_of self.now.seat.sender)) (2 ^ 64 - 1) }
+    {
+        self.seat.sender.front().noted()
+    }
+
+    /// Whether so many notes were sent, as its tape counts them.
+    pub fn has_sent(&self, count: u64) -> bool
+        ensures { IsTrue result ↔ count ≤ min (settled_of (front_of self.now.seat.sender)
+            + sent_of (front_of self.now.seat.sender)) (2 ^ 64 - 1) }
+    {
+        self.seat.sender.sent() >= count
+    }
+}

@@ -1,0 +1,155 @@
+// What a tape's lock keeps.
+ghost use Rattle.std.specs.Prelude.{◌≡◌, ◌+◌};
+ghost use Rattle.flusher.specs.Names.{IsTableAt};
+ghost use Rattle.note_queue.specs.Words.{taking};
+
+use crate::Naming;
+use disk_model::Disk;
+use ledger_core::{Debt, Key, Totals};
+use note_queue::{NoteQueue, Side};
+use recovery::{Flushed, TapeFault};
+use std::marker::PhantomData;
+use std::sync::Wait;
+
+/// A tape, with the pass by which it takes what its peer's front has sent.
+#[derive(Drop)]
+pub struct TapeDesk<D: Disk, N: Naming> {
+    // Its place among the peers.
+    pub(crate) place: usize,
+    pub(crate) side: Side<D>,
+    pub(crate) of: PhantomData<N>,
+    ghost tied: { IsTableAt N.names.tables place (taking side).table_id },
+}
+
+/// What a flush has put on a tape: what the tape answered, and what it counts. Only a flush that went well makes one.
+#[derive(Clone, Copy)]
+pub(crate) struct Flush {
+    flushed: Flushed,
+    totals: Totals,
+    ghost sum: { totals.taken ≡ totals.owed + totals.answered + totals.dropped },
+}
+
+impl Flush {
+    /// What the tape answered.
+    pub fn flushed(&self) -> Flushed
+        ensures { result ≡ self.now.flushed }
+    {
+        self.flushed
+    }
+
+    /// What the tape counts.
+    pub fn totals(&self) -> Totals
+        ensures totals { result ≡ self.now.totals }
+        ensures sum { result.taken ≡ result.owed + result.answered + result.dropped }
+    {
+        self.totals
+    }
+}
+
+impl<D: Disk, N: Naming> TapeDesk<D, N> {
+    ghost use Rattle.std.specs.Prelude.{◌-◌, ◌^◌, ◌↔◌, ◌⊎◌, None};
+    ghost use Rattle.std.specs.Prelude.{IfErr, IfOk, IsErrOf, IsSome, IsTrue, OnOk};
+    ghost use Rattle.flusher.specs.Flushes.{TellsOf};
+    ghost use Rattle.flusher.specs.Room.{TapeHasNoRoom};
+    ghost use Rattle.ledger_core.specs.State.{IsOwed};
+    ghost use Rattle.note_queue.specs.Calls.{TakesMore};
+    ghost use Rattle.note_queue.specs.Ends.{IsSameEnd, KeepsFor};
+    ghost use Rattle.note_queue.specs.Relay.{IsAt};
+    ghost use Rattle.note_queue.specs.Words.{kept_of, tape_of};
+    ghost use Rattle.recovery.specs.Words.{IsDebtFault, IsDue, IsFlushFault, IsFull, IsRotateFault, RotatesTooLong};
+    ghost use Rattle.recovery.specs.Words.{generation_of, ledger_of};
+
+    /// Puts on the tape what was sent, as [`Side::pull`] does. It calls no disk.
+    pub fn pull<R: Wait>(&mut self, rt: &R, queue: &NoteQueue) -> Result<(), TapeFault>
+        requires { IsAt queue.now (taking self.old.side) }
+        ensures takes { TakesMore (taking self.old.side) (taking self.new.side) }
+        ensures ok { OnOk result (kept_of self.new.side ≡ None) }
+        ensures err { IfErr result (KeepsFor self.new.side) }
+    {
+        let TapeDesk { side, .. } = self;
+        side.pull(rt, queue)
+    }
+
+    /// Puts the notes that pend on the disks. If there is no room for them behind what lies there, as behind the notes
+    /// of debts that have long ended, the tape is written anew, with what pends.
+    pub fn flush(&mut self) -> Result<Flush, TapeFault>
+        ensures told { IfOk result (TellsOf (tape_of self.new.side)) }
+        ensures full { IsErrOf result TapeFault.TapeFull
+            → TapeHasNoRoom (tape_of self.old.side) }
+        ensures keeps { IsSameEnd self.old.side self.new.side }
+        ensures kinds { IfErr result IsFlushFault }
+    {
+        match self.flush_once() {
+            Err(TapeFault::TapeFull) => self.rotate_full(),
+            flushed => flushed,
+        }
+    }
+
+    // Flushes the tape, where there is room for what pends.
+    fn flush_once(&mut self) -> Result<Flush, TapeFault>
+        ensures told { IfOk result (TellsOf (tape_of self.new.side)) }
+        ensures full { IsErrOf result TapeFault.TapeFull → IsFull (tape_of self.old.side)
+            × (tape_of self.new.side ≡ tape_of self.old.side) }
+        ensures keeps { IsSameEnd self.old.side self.new.side }
+        ensures kinds { IfErr result IsFlushFault }
+    {
+        let TapeDesk { side, .. } = self;
+        let flushed = side.flush()?;
+        Ok(Flush {
+            flushed,
+            totals: side.totals(),
+        })
+    }
+
+    // Writes the tape anew, in place of a flush for which there is no room. The faults are those of a flush.
+    fn rotate_full(&mut self) -> Result<Flush, TapeFault>
+        ensures told { IfOk result (TellsOf (tape_of self.new.side)) }
+        ensures full { IsErrOf result TapeFault.TapeFull
+            → (generation_of (tape_of self.old.side) ≡ 2 ^ 64 - 1)
+            ⊎ RotatesTooLong (tape_of self.old.side) }
+        ensures keeps { IsSameEnd self.old.side self.new.side }
+        ensures kinds { IfErr result IsFlushFault }
+    {
+        match self.rotate() {
+            Err(TapeFault::GenerationFull) => Err(TapeFault::TapeFull),
+            rotated => rotated,
+        }
+    }
+
+    /// Whether a rotation is due.
+    pub fn rotate_due(&self) -> bool
+        ensures { IsTrue result ↔ IsDue (tape_of self.now.side) }
+    {
+        self.side.rotate_due()
+    }
+
+    /// Writes the tape anew, the notes that pend among what is written. A flush behind it, which calls no disk, tells
+    /// what is on the tape.
+    pub fn rotate(&mut self) -> Result<Flush, TapeFault>
+        ensures told { IfOk result (TellsOf (tape_of self.new.side)) }
+        ensures generation_full { IsErrOf result TapeFault.GenerationFull
+            → generation_of (tape_of self.old.side) ≡ 2 ^ 64 - 1 }
+        ensures full { IsErrOf result TapeFault.TapeFull → RotatesTooLong (tape_of self.old.side) }
+        ensures keeps { IsSameEnd self.old.side self.new.side }
+        ensures kinds { IfErr result IsRotateFault }
+    {
+        let TapeDesk { side, .. } = self;
+        side.rotate()?;
+        // Nothing pends now, so that only a broken tape would refuse this.
+        match self.flush_once() {
+            Ok(flush) => Ok(flush),
+            Err(_) => Err(TapeFault::Broken),
+        }
+    }
+
+    /// The debt of this key, read back; None if the tape does not owe it.
+    pub fn debt(&mut self, key: Key) -> Result<Option<Debt>, TapeFault>
+        ensures owed { IfOk result
+            (λ debt. IsSome debt ↔ IsOwed (ledger_of (tape_of self.old.side)) key) }
+        ensures keeps { IsSameEnd self.old.side self.new.side }
+        ensures kinds { IfErr result IsDebtFault }
+    {
+        let TapeDesk { side, .. } = self;
+        side.debt(key)
+    }
+}

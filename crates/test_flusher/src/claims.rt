@@ -1,0 +1,143 @@
+// Claims of a peer while its tape is in use, in one thread.
+ghost use Rattle.std.specs.Prelude.{◌≡◌, ◌<◌, length};
+ghost use Rattle.std.specs.List.{All};
+ghost use Rattle.flusher.specs.Post.{IsFor, names_of};
+ghost use Rattle.flusher.specs.Sealed.{IsFlushed};
+
+use crate::shared::{closed_sums, intake, peer_with_backlog};
+use conn_core::CxnId;
+use disk_model::{Disk, MemDisk};
+use flusher::{Blanks, Naming, Pace, Peer, Point, Post, PostFault, Who};
+use recovery::Tape;
+use std::alloc::Global;
+use std::marker::Brand;
+use std::sync::Wait;
+use std::sync::atomic::{AtomicU64, Ordering};
+use std::test::*;
+
+// What is told of a claim, in place of a number.
+const NONE: u64 = 1_000;
+
+const BUSY: u64 = 1_001;
+
+const REFUSED: u64 = 1_002;
+
+// A pace that claims two debts of the first peer while its tape is flushed.
+#[derive(Drop)]
+struct Asking<'a, D: Disk, N: Naming, R: Wait> {
+    rt: &'a R,
+    post: &'a Post<D, N>,
+    first: AtomicU64,
+    second: AtomicU64,
+}
+
+impl<D: Disk, N: Naming, R: Wait> Pace for Asking<'_, D, N, R> {
+    fn turn(&self, _who: Who, point: Point) {
+        if point == Point::InFlush {
+            self.first
+                .store(claimed(self.rt, self.post), Ordering::SeqCst);
+            self.second
+                .store(claimed(self.rt, self.post), Ordering::SeqCst);
+        }
+    }
+}
+
+// What a claim that waits for nobody is told: the number of a debt, or why there is none.
+fn claimed<D: Disk, N: Naming, R: Wait>(rt: &R, post: &Post<D, N>) -> u64 {
+    if post.peers() == 0 {
+        return REFUSED;
+    }
+    match post.try_claim(rt, 0, CxnId(1), 0) {
+        Ok(Some(debt)) => debt.key().number(),
+        Ok(None) => NONE,
+        Err(PostFault::Busy { .. }) => BUSY,
+        Err(_) => REFUSED,
+    }
+}
+
+// What is told in the flush, and behind it.
+#[derive(Clone, Copy, Debug, PartialEq, Eq)]
+struct Told {
+    first: u64,
+    second: u64,
+    then: u64,
+    receipt: u64,
+    taken: u64,
+}
+
+// Flushes a post, and claims in the flush and behind it.
+fn flushed<'a, D: Disk, N: Naming, R: Wait>(
+    rt: &'a R,
+    post: &'a Post<D, N>,
+) -> Result<Told, PostFault> {
+    let pace = Asking {
+        rt,
+        post,
+        first: AtomicU64::new(NONE),
+        second: AtomicU64::new(NONE),
+    };
+    let receipt = post.flush_all(rt, &pace)?.number();
+    Ok(Told {
+        first: pace.first.load(Ordering::SeqCst),
+        second: pace.second.load(Ordering::SeqCst),
+        then: claimed(rt, post),
+        receipt,
+        taken: 0,
+    })
+}
+
+fn run_steps<D: Disk + Drop, N: Naming, R: Wait>(
+    rt: &R,
+    alloc: Global,
+    peers: Vec<Peer<D>>,
+    intake: Tape<D>,
+    blanks: Blanks,
+) -> Result<Told, Fail>
+    requires names { N.names ≡ names_of blanks peers.items }
+    requires blanks { IsFor (length peers.items) blanks }
+    requires flushed { All (λ p. IsFlushed p.station) peers.items }
+{
+    let (post, mut lines, first, second, third) = Post::<D, N>::new(alloc, peers, intake, blanks)?;
+    post.take_line(rt, b"a/1 <x@y> p", &mut lines)?;
+    let told = flushed(rt, &post)?;
+    let sums = closed_sums(rt, post, lines, first, second, third)?;
+    Ok(Told {
+        taken: sums.taken,
+        ..told
+    })
+}
+
+fn on_disks<R: Wait>(
+    rt: &R,
+    alloc: Global,
+    peer: Peer<MemDisk>,
+    intake: Tape<MemDisk>,
+) -> Result<Told, Fail>
+    requires { IsFlushed peer.station }
+{
+    let peers = vec![in alloc; peer]?;
+    let blanks = Blanks::new(alloc, 1)?;
+    run_steps::<MemDisk, Brand, R>(rt, alloc, peers, intake, blanks)
+}
+
+// The line's debt is claimed in the flush, since its front has the texts. The texts of the imported one are on the tape
+// alone: it is ready again behind the flush.
+#[test]
+fn what_only_the_tape_has_is_refused_in_its_flush(rt: HostRuntime) -> Result<(), Fail> {
+    let alloc = rt.alloc();
+    let told = on_disks(
+        &rt,
+        alloc,
+        peer_with_backlog(alloc, b"p", 7)?,
+        intake(alloc)?,
+    )?;
+    let want = Told {
+        first: 1,
+        second: BUSY,
+        then: 7,
+        receipt: 1,
+        taken: 1,
+    };
+    assert_eq!(rt; told, want);
+    Ok(())
+}

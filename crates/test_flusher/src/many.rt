@@ -1,0 +1,288 @@
+// Many notes at one peer: as many as may pend, and lines that are taken while others are flushed.
+ghost use Rattle.std.specs.Prelude.{◌≡◌, length};
+ghost use Rattle.std.specs.List.{All};
+ghost use Rattle.flusher.specs.Post.{IsFor, names_of};
+ghost use Rattle.flusher.specs.Sealed.{IsFlushed};
+
+use crate::shared::{counted_on_disks, fused_intake, fused_peer};
+use disk_model::{Disk, FuseDisk, MemDisk};
+use flusher::{
+    Blanks, Closed, FeederShare, Flusher, Free, IntakeShare, Naming, Pace, Peer, Post, PostFault,
+    Receipt, Signals, Work, run_threads,
+};
+use log::Log;
+use peer_queue::{Limits, StationFault};
+use recovery::{Tape, TapeFault};
+use std::alloc::Global;
+use std::marker::Brand;
+use std::rt::Clock;
+use std::sync::Wait;
+use std::test::*;
+use std::thread::Threads;
+
+const UNLIMITED: Limits = Limits {
+    backlog_limit: 0,
+    backlog_high: 0,
+    drop_deferred: false,
+};
+
+// A note of this line has 19 octets, so a batch of at most 65,536 octets, 5 of which are its tag and count, has 3,449
+// of them.
+const LINE: &[u8] = b"a/1 <x@y> p";
+
+// How many lines are given: 4,464 more than may pend.
+const LINES: u64 = 70_000;
+
+// The calls of two flushes, of 20 batches and then of two: a write, a sync, a gate for each batch, and a sync.
+const CALLS: u64 = 23 + 5;
+
+// What is told of the lines and of three flushes.
+#[derive(Clone, Copy, Debug, PartialEq, Eq)]
+struct Told {
+    taken: u64,
+    refused: u64,
+    full: Result<u64, PostFault>,
+    rest: Result<u64, PostFault>,
+    // That of one line more, for which the disk has no call left.
+    last: Result<u64, PostFault>,
+    // What the station has taken, once it is opened again.
+    on_disk: u64,
+}
+
+fn number(told: Result<Receipt, PostFault>) -> Result<u64, PostFault> {
+    match told {
+        Ok(receipt) => Ok(receipt.number()),
+        Err(fault) => Err(fault),
+    }
+}
+
+// How many of so many lines are taken, and how many refused.
+fn take<N: Naming, R: Wait>(
+    rt: &R,
+    post: &Post<FuseDisk<MemDisk>, N>,
+    lines: &mut IntakeShare<N>,
+    count: u64,
+) -> (u64, u64) {
+    let mut taken: u64 = 0;
+    for _ in 0..count {
+        if post.take_line(rt, LINE, lines).is_ok() {
+            taken = taken.saturating_add(1);
+        }
+    }
+    (taken, count.saturating_sub(taken))
+}
+
+fn filled<N: Naming, R: Wait>(
+    rt: &R,
+    alloc: Global,
+    peers: Vec<Peer<FuseDisk<MemDisk>>>,
+    intake: Tape<FuseDisk<MemDisk>>,
+    blanks: Blanks,
+) -> Result<Told, Fail>
+    requires names { N.names ≡ names_of blanks peers.items }
+    requires blanks { IsFor (length peers.items) blanks }
+    requires flushed { All (λ p. IsFlushed p.station) peers.items }
+{
+    let (post, mut lines, first, second, third) = Post::<FuseDisk<MemDisk>, N>::new(
+        alloc, peers, intake, blanks,
+    )?;
+    let (taken, refused) = take(rt, &post, &mut lines, LINES);
+    let full = number(post.flush_all(rt, &Free));
+    take(rt, &post, &mut lines, refused);
+    let rest = number(post.flush_all(rt, &Free));
+    take(rt, &post, &mut lines, 1);
+    let last = number(post.flush_all(rt, &Free));
+    Ok(Told {
+        taken,
+        refused,
+        full,
+        rest,
+        last,
+        on_disk: on_disk(rt, alloc, post, lines, (first, second, third))?,
+    })
+}
+
+// What the one station of a post has taken, once it is opened again from its disks.
+fn on_disk<N: Naming, R: Wait>(
+    rt: &R,
+    alloc: Global,
+    post: Post<FuseDisk<MemDisk>, N>,
+    lines: IntakeShare<N>,
+    shares: (FeederShare<N>, FeederShare<N>, FeederShare<N>),
+) -> Result<u64, Fail> {
+    let (first, second, third) = shares;
+    let Ok(Closed { peers, .. }) = post.close(rt, lines, first, second, third) else {
+        return Err(Fail::from("memory"));
+    };
+    let peer = peers.into_iter().next().ok_or("a peer")?;
+    Ok(counted_on_disks(alloc, peer)?.taken)
+}
+
+fn filled_on_disks<R: Wait>(
+    rt: &R,
+    alloc: Global,
+    peer: Peer<FuseDisk<MemDisk>>,
+    intake: Tape<FuseDisk<MemDisk>>,
+) -> Result<Told, Fail>
+    requires { IsFlushed peer.station }
+{
+    let peers = vec![in alloc; peer]?;
+    let blanks = Blanks::new(alloc, 1)?;
+    filled::<Brand, R>(rt, alloc, peers, intake, blanks)
+}
+
+// As many notes as may pend are one flush, though the queue has room for 1,024.
+#[test]
+fn a_full_front_is_flushed_at_once(rt: HostRuntime) -> Result<(), Fail> {
+    let alloc = rt.alloc();
+    let peer = fused_peer(alloc, b"p", UNLIMITED, CALLS)?;
+    let told = filled_on_disks(&rt, alloc, peer, fused_intake(alloc)?)?;
+    let want = Told {
+        taken: 65_536,
+        refused: 4_464,
+        full: Ok(65_536),
+        rest: Ok(70_000),
+        last: Err(PostFault::Station {
+            peer: 0,
+            fault: StationFault::Tape(TapeFault::Disk),
+        }),
+        on_disk: 70_000,
+    };
+    assert_eq!(rt; told, want);
+    Ok(())
+}
+
+// How many lines are taken beside the flushes, and after how many a flush is ordered.
+const BESIDE: u64 = 5_000;
+
+const BATCH: u64 = 50;
+
+// The intake. It takes its lines, waits for no flush but the last one that it orders, and is told that one's receipt.
+#[derive(Drop)]
+struct Taker<N: Naming> {
+    share: IntakeShare<N>,
+    taken: u64,
+    receipt: u64,
+}
+
+impl<D: Disk, N: Naming> Work<D, N> for Taker<N> {
+    fn run<R: AllocGlobal + Wait + Clock + Log, P: Pace>(
+        &mut self,
+        rt: &R,
+        post: &Post<D, N>,
+        signals: &Signals,
+        _pace: &P,
+    ) {
+        for line in 0..BESIDE {
+            if post.take_line(rt, LINE, &mut self.share).is_ok() {
+                self.taken = line + 1;
+            }
+            if line % BATCH == 0 {
+                signals.order();
+            }
+        }
+        let order = signals.order();
+        if let Some(receipt) = signals.receipt(rt, order) {
+            self.receipt = receipt.number();
+        }
+        signals.begin_last_phase();
+    }
+}
+
+// A feeder that has nothing to do.
+#[derive(Drop)]
+struct Idle<N: Naming> {
+    share: FeederShare<N>,
+}
+
+impl<D: Disk, N: Naming> Work<D, N> for Idle<N> {
+    fn run<R: AllocGlobal + Wait + Clock + Log, P: Pace>(
+        &mut self,
+        _rt: &R,
+        _post: &Post<D, N>,
+        _signals: &Signals,
+        _pace: &P,
+    ) {}
+}
+
+// What the intake was told, and what the station has taken, once it is opened again.
+#[derive(Clone, Copy, Debug, PartialEq, Eq)]
+struct Beside {
+    taken: u64,
+    receipt: u64,
+    fault: Option<PostFault>,
+    on_disk: u64,
+}
+
+fn flushed_beside<N: Naming + Send + Sync, R: AllocGlobal + Clock + Log + Threads + Wait + Sync>(
+    rt: &R,
+    alloc: Global,
+    peers: Vec<Peer<FuseDisk<MemDisk>>>,
+    intake: Tape<FuseDisk<MemDisk>>,
+    blanks: Blanks,
+) -> Result<Beside, Fail>
+    requires names { N.names ≡ names_of blanks peers.items }
+    requires blanks { IsFor (length peers.items) blanks }
+    requires flushed { All (λ p. IsFlushed p.station) peers.items }
+{
+    let (post, share, first, second, third) = Post::<FuseDisk<MemDisk>, N>::new(
+        alloc, peers, intake, blanks,
+    )?;
+    let mut taker = Taker {
+        share,
+        taken: 0,
+        receipt: 0,
+    };
+    let signals = Signals::new();
+    let feeders = (Idle { share: first }, Idle { share: second });
+    let Ok((first, second, flusher)) = run_threads(
+        rt,
+        &post,
+        &signals,
+        feeders,
+        Flusher::new(third),
+        &mut taker,
+        &Free,
+    ) else {
+        return Err(Fail::from("a thread"));
+    };
+    let Flusher {
+        share: third,
+        fault,
+    } = flusher;
+    let Taker {
+        share,
+        taken,
+        receipt,
+    } = taker;
+    Ok(Beside {
+        taken,
+        receipt,
+        fault,
+        on_disk: on_disk(rt, alloc, post, share, (first.share, second.share, third))?,
+    })
+}
+
+fn beside_on_disks<R: AllocGlobal + Clock + Log + Threads + Wait + Sync>(
+    rt: &R,
+    alloc: Global,
+) -> Result<Beside, Fail> {
+    let peers = vec![in alloc; fused_peer(alloc, b"p", UNLIMITED, u64::MAX)?]?;
+    let blanks = Blanks::new(alloc, 1)?;
+    flushed_beside::<Brand, R>(rt, alloc, peers, fused_intake(alloc)?, blanks)
+}
+
+// Each line is taken once while others are flushed, and what the last receipt says is on the disk.
+#[test]
+fn lines_are_taken_beside_flushes(rt: HostRuntime) -> Result<(), Fail> {
+    let alloc = rt.alloc();
+    let beside = beside_on_disks(&rt, alloc)?;
+    let want = Beside {
+        taken: 5_000,
+        receipt: 5_000,
+        fault: None,
+        on_disk: 5_000,
+    };
+    assert_eq!(rt; beside, want);
+    Ok(())
+}
