@@ -14,8 +14,8 @@ use Rattle.conn_core.specs.Commands.{is_at}
 use Rattle.conn_core.specs.History.{End, Event, Offered, Put, Came, Faulted, Handed, Sent, Tick, Broke, Leave, Taken}
 use Rattle.conn_core.specs.History.{accepted, after, answered, answered_now, asks, backs, closes, closes_in}
 use Rattle.conn_core.specs.History.{ended_tickets, ends, ends_at_close, ends_by_answer, ends_by_loss, ends_by_meaning}
-use Rattle.conn_core.specs.History.{first_want, held, held_from, is_quit_due, outcomes, outside, phase, puts, reason}
-use Rattle.conn_core.specs.History.{story, taken, with_puts}
+use Rattle.conn_core.specs.History.{first_want, held, held_from, is_quit_due, noted, outcomes, outside, phase, puts}
+use Rattle.conn_core.specs.History.{reason, story, taken, with_puts}
 use Rattle.conn_core.specs.Used.{times}
 use Rattle.conn_core.specs.declared.codes.Meaning.{Meaning}
 use Rattle.conn_core.specs.declared.codes.Meaning.TheVariants.{Wanted, SendBlock, Later, Final}
@@ -27,7 +27,8 @@ use Rattle.conn_core.specs.declared.phase.Phase.{Phase}
 use Rattle.conn_core.specs.declared.phase.Phase.TheVariants.{Greeting, Asking, Streaming, OneByOne, Leaving}
 use Rattle.conn_core.specs.declared.reason.Reason.{Reason}
 use Rattle.peer_queue.specs.Settled.{key_in}
-use Rattle.world_core.specs.Exchange.{untold}
+use Rattle.world_core.specs.Past.{ConnPast}
+use Rattle.world_core.specs.Exchange.{unsettled, with_transcript}
 use Rattle.world_core.specs.Sound.{numbers_at}
 
 -- the numbers of debts that are held, and of debts that came out
@@ -302,6 +303,11 @@ module _ (options : Options) where
   pub goes_outside : (h : List Event) (e : Event) → Keeps e → GoesOn h (outside options h e)
   goes_outside h e keeps = outside_step (is_some (reason options h)) h (after options h e) (goes_after h e keeps)
 
+  -- octets count as sent
+  pub goes_noted : (h : List Event) (count : ℕ) → GoesOn h (noted options h (Sent count))
+  goes_noted h count =
+      outside_step (is_some (reason options h)) h (Sent count ∷ h) (goes_cons h (Sent count) tt)
+
   -- ---- the numbers that the connection has
 
   drop_both : {A : Type 0} (n : ℕ) (xs ys : List A) → n ≤ length xs → drop n (xs ++ ys) ≡ drop n xs ++ ys
@@ -327,37 +333,39 @@ module _ (options : Options) where
   numbers_ends [] = refl
   numbers_ends (x ∷ xs) = ap (λ l. key_in x.outcome ∷ l) (numbers_ends xs)
 
-  pub untold_are : (h later : List Event) → (goes : GoesOn h later) → taken h ≤ length (outcomes options h)
-      → untold options later ≡ untold options h ++ map (λ (x : End). x.outcome) goes.more
-  untold_are h later goes few =
-      ap (λ n. drop n (outcomes options later)) goes.taken_is
-      ∙ (ap (drop (taken h)) (outcomes_are h later goes) ∙ drop_both (taken h) (outcomes options h) _ few)
-
-  pub same_numbers : (h later : List Event) → GoesOn h later → taken h ≤ length (outcomes options h) → (m : ℕ)
-      → times (numbers_at options later) m ≡ times (numbers_at options h) m
-  same_numbers h later goes few m =
-      let now = ap (λ os. times (map key_in os) m) (untold_are h later goes few)
-      ∙ ap (λ l. times l m) (numbers_both (untold options h) _
-      ∙ ap (λ l. map key_in (untold options h) ++ l) (numbers_ends goes.more)) in
-      let apart = times_both (map key_in (untold options h)) (end_numbers goes.more) m in
-      let new = times_both (map key_in (untold options later)) (held_numbers (held options later)) m in
-      let old = times_both (map key_in (untold options h)) (held_numbers (held options h)) m in
+  pub same_numbers : (conn later : ConnPast) → later.settled ≡ conn.settled
+      → GoesOn conn.transcript later.transcript → conn.settled ≤ length (outcomes options conn.transcript) → (m : ℕ)
+      → times (numbers_at options later) m ≡ times (numbers_at options conn) m
+  same_numbers conn later still goes few m =
+      let left = ap (λ n. drop n (outcomes options later.transcript)) still
+      ∙ (ap (drop conn.settled) (outcomes_are conn.transcript later.transcript goes)
+      ∙ drop_both conn.settled (outcomes options conn.transcript) _ few) in
+      let now = ap (λ os. times (map key_in os) m) left
+      ∙ ap (λ l. times l m) (numbers_both (unsettled options conn) _
+      ∙ ap (λ l. map key_in (unsettled options conn) ++ l) (numbers_ends goes.more)) in
+      let apart = times_both (map key_in (unsettled options conn)) (end_numbers goes.more) m in
+      let new = times_both (map key_in (unsettled options later)) (held_numbers (held options later.transcript)) m in
+      let old = times_both (map key_in (unsettled options conn)) (held_numbers (held options conn.transcript)) m in
       omega (arith, now, apart, new, old, goes.balance m)
 
   -- one number more
-  pub more_numbers : (h : List Event) (debt : Owing) → taken h ≤ length (outcomes options h) → (m : ℕ)
-      → times (numbers_at options (after options h (Offered debt))) m ≡ times (debt.0 ∷ numbers_at options h) m
-  more_numbers h debt few m =
+  pub more_numbers : (conn : ConnPast) (debt : Owing) → conn.settled ≤ length (outcomes options conn.transcript)
+      → (m : ℕ)
+      → times (numbers_at options (with_transcript conn (after options conn.transcript (Offered debt)))) m
+      ≡ times (debt.0 ∷ numbers_at options conn) m
+  more_numbers conn debt few m =
+      let h = conn.transcript in
       let outs = outcomes_offered h debt in
-      let on = same_numbers (Offered debt ∷ h) (after options h (Offered debt)) (goes_offered h debt)
+      let on = same_numbers (with_transcript conn (Offered debt ∷ h))
+      (with_transcript conn (after options h (Offered debt))) refl (goes_offered h debt)
       (omega (arith, few, ap length outs)) m in
       let front = ap (λ (os : List Outcome).
-      times (map key_in (drop (taken h) os) ++ held_numbers (held options (Offered debt ∷ h))) m) outs in
-      let back = ap (λ (hs : List Held). times (map key_in (untold options h) ++ held_numbers hs) m)
+      times (map key_in (drop conn.settled os) ++ held_numbers (held options (Offered debt ∷ h))) m) outs in
+      let back = ap (λ (hs : List Held). times (map key_in (unsettled options conn) ++ held_numbers hs) m)
       (held_offered h debt) in
       let last : List Held = record { ticket = length (accepted h); debt = debt } ∷ [] in
-      let apart = times_both (map key_in (untold options h)) (held_numbers (held options h ++ last)) m in
+      let apart = times_both (map key_in (unsettled options conn)) (held_numbers (held options h ++ last)) m in
       let both = ap (λ (l : List ℕ). times l m) (held_numbers_both (held options h) last) in
       let two = times_both (held_numbers (held options h)) (debt.0 ∷ []) m in
-      let old = times_both (map key_in (untold options h)) (held_numbers (held options h)) m in
+      let old = times_both (map key_in (unsettled options conn)) (held_numbers (held options h)) m in
       omega (arith, on, front, back, apart, both, two, old)

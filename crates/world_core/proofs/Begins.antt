@@ -1,5 +1,5 @@
 -- A number is kept, and a seal is possible.
-use Rattle.std.proofs.Common.{◌≡◌, ℕ, zero, suc, ◌+◌, ◌<◌, ◌≤◌, Bool, true, false, ◌&&◌, Option, None, Some, IfSome}
+use Rattle.std.proofs.Common.{◌≡◌, ℕ, zero, suc, ◌+◌, ◌<◌, Bool, true, false, ◌&&◌, Option, None, Some, IfSome}
 use Rattle.std.proofs.Common.{List, [], ◌∷◌, ◌++◌, length, get_or, take, drop, map, refl, sym, ap, ◌∙◌, subst, arith}
 use Rattle.std.proofs.Common.{add-one}
 use Rattle.std.proofs.Math.ListN.{set}
@@ -12,6 +12,7 @@ use Rattle.world_core.specs.Stands.{PeerStands, Stands, TapeStands, unparted}
 use Rattle.world_core.specs.declared.peer.Peer.{Peer}
 use Rattle.world_core.specs.declared.stations.Stations.{Stations}
 use Rattle.world_core.proofs.Sound.{sound_begun}
+use Rattle.world_core.proofs.Zips.{zip_both}
 
 pub if_some : {A : Type 0} (o : Option A) (P : A → Type 0) → ((x : A) → o ≡ Some x → P x) → IfSome o P
 if_some None P all = tt
@@ -70,13 +71,9 @@ module _ {D : Type 0} {g : Ghosts D} where
 
   unparted_stand : (pasts : List PeerPast) (peers : List (Peer D g)) → AllZip PeerStands pasts peers
       → AllZip PeerStands (map (λ (peer : PeerPast). record peer { parted = false }) pasts) (map unparted peers)
-  unparted_stand [] [] all = tt
-  unparted_stand [] (peer ∷ peers) all = absurd all
-  unparted_stand (past ∷ pasts) [] all = absurd all
-  unparted_stand (past ∷ pasts) (peer ∷ peers) all = (
-    record { conf = all.0.conf; limits = all.0.limits; tape = all.0.tape; places = all.0.places; parted = refl },
-    unparted_stand pasts peers all.1,
-  )
+  unparted_stand pasts peers all =
+      zip_both PeerStands PeerStands (λ (peer : PeerPast). record peer { parted = false }) unparted (λ past peer is.
+      record { conf = is.conf; limits = is.limits; tape = is.tape; places = is.places; parted = refl }) pasts peers all
 
   pub stands_begun : (world new : Stations D g) (past : Past) → Stands world past
       → new.peers.items ≡ map unparted world.peers.items → new.intake ≡ world.intake → new.last ≡ world.last

@@ -4,6 +4,7 @@ use Rattle.std.proofs.Common.{length, take, map, refl, sym, ap, ◌∙◌, subst
 use Rattle.std.specs.Prelude.{if◌then◌else◌}
 use Rattle.std.specs.Global.{Vec}
 use Rattle.std.specs.List.{AllByRecursion, slice_get}
+use Rattle.std.proofs.Math.Seq.{take-length}
 use Rattle.conn_core.specs.declared.outcome.Outcome.{Outcome}
 use Rattle.disk_model.specs.declared.choice.Choice.{Choice}
 use Rattle.recovery.specs.Image.{Log}
@@ -37,7 +38,6 @@ use Rattle.world_core.specs.declared.step.Step.TheVariants.{Line, Flush, Begin, 
 use Rattle.world_core.specs.declared.step.Step.TheVariants.{Article, Break, Tick, Shed, Import, Rotate, Stop, Restart}
 use Rattle.world_core.specs.declared.told.Handed.{Handed as Handover}
 use Rattle.world_core.proofs.Acknowledged.{all_at}
-use Rattle.world_core.proofs.Keeping.{take_whole}
 use Rattle.world_core.proofs.Moments.{log_of, not_none, starts}
 use Rattle.world_core.proofs.Pure.{first_all, front_all, last_all, map_set}
 
@@ -170,7 +170,7 @@ not_followed_quiet : (id : ℕ) (conn : ConnPast) (life : Life) (fault : Fault) 
     → FollowsNot id conn life fault later → logs later.past ≡ logs life.past
 not_followed_quiet id conn life fault later f =
     past_of later _ f.changed
-    ∙ all_quiet life.past f.past _ f.settles (first_all IsQuiet f.count _ (settles_quiet conn.rank id life.now _))
+    ∙ all_quiet life.past f.past _ f.settles (settles_quiet conn.rank id life.now f.done)
 
 handed_quiet : (id now : ℕ) (conn : ConnPast) (peer : PeerPast) (past : Past) (handed : Handover) (h : _) (later : Past)
     → slice_get past.peers conn.rank ≡ Some peer → HandsOver id now conn peer past handed h later
@@ -258,7 +258,7 @@ module _ (step : Step) (life : Life) where
     })
 
     at_all : (later : Past) → AllDo begun events later → AtEvents later
-    at_all later does = at_done (length events) events later does (sym (take_whole events))
+    at_all later does = at_done (length events) events later does (sym (take-length events))
 
   -- ---- a stop
 

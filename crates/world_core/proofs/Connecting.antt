@@ -1,6 +1,7 @@
 -- A connection that is made is one of the world's, and holds nothing.
 use Rattle.std.proofs.Common.{◌≡◌, ◌↔◌, ◌⊎◌, ℕ, ◌+◌, ◌^◌, ◌<◌, ◌≤◌, Bool, true, false, cond, Option, None, Some, List}
 use Rattle.std.proofs.Common.{[], ◌∷◌, ◌++◌, length, get_or, map, refl, sym, ap, ◌∙◌, subst, inl, inr, arith}
+use Rattle.std.proofs.lemmas.List.{map_push}
 use Rattle.std.specs.Prelude.{◌==◌, Contains, slice_get}
 use Rattle.std.specs.Cmp.{nat_cmp_is}
 use Rattle.std.specs.List.{AllByRecursion, AllZip, IsDistinct}
@@ -15,11 +16,11 @@ use Rattle.conn_core.specs.Stands.{StandsFor as ConnStands, Starts}
 use Rattle.conn_core.specs.declared.options.Options.{Options}
 use Rattle.peer_queue.specs.Place.{IsHeldBy}
 use Rattle.world_core.specs.Past.{ConnPast, Life, PeerPast, conn_at, options_of, rank_of}
-use Rattle.world_core.specs.Exchange.{RefusesConnect, TakesConnect}
+use Rattle.world_core.specs.Exchange.{RefusesConnect, TakesConnect, fresh_conn}
 use Rattle.world_core.specs.Joined.{AreRunning, MadeOn, RefusedOn}
 use Rattle.world_core.specs.Pairs.{Tells}
 use Rattle.world_core.specs.Sound.{HasNumber, IsSoundConn, numbers_at}
-use Rattle.world_core.specs.Stands.{ConnectionStands, HoldsTranscript, PeerStands}
+use Rattle.world_core.specs.Stands.{ConnectionStands, PeerStands, WaitsWith}
 use Rattle.world_core.specs.Told.{Connected}
 use Rattle.world_core.specs.declared.connection.Connection.{Connection}
 use Rattle.world_core.specs.declared.fault.Fault.{Fault}
@@ -28,22 +29,12 @@ use Rattle.world_core.specs.declared.peer.Peer.{Peer}
 use Rattle.world_core.specs.declared.stations.Stations.{Stations}
 use Rattle.world_core.specs.declared.told.Told.{Told}
 use Rattle.world_core.proofs.Pure.{all_push, all_weaker, zip_at}
+use Rattle.world_core.proofs.Zips.{zip_push}
 
 abbrev Entry : Type 0
 Entry = ℕ × ConnPast
 
 -- ---- lists
-
-zip_push : {A B : Type 0} (R : A → B → Type 0) (xs : List A) (ys : List B) (x : A) (y : B) → AllZip R xs ys → R x y
-    → AllZip R (xs ++ x ∷ []) (ys ++ y ∷ [])
-zip_push R [] [] x y all one = (one, tt)
-zip_push R [] (b ∷ ys) x y all one = absurd all
-zip_push R (a ∷ xs) [] x y all one = absurd all
-zip_push R (a ∷ xs) (b ∷ ys) x y all one = (all.0, zip_push R xs ys x y all.1 one)
-
-pub map_push : {A B : Type 0} (f : A → B) (xs : List A) (x : A) → map f (xs ++ x ∷ []) ≡ map f xs ++ f x ∷ []
-map_push f [] x = refl
-map_push f (y ∷ xs) x = ap (λ l. f y ∷ l) (map_push f xs x)
 
 sorted_push : (xs : List ℕ) (n : ℕ) → AllByRecursion (λ (x : ℕ). x < n) xs → IsStrictlySortedBy nat_cmp xs
     → IsStrictlySortedBy nat_cmp (xs ++ n ∷ [])
@@ -95,9 +86,9 @@ at_last (e ∷ conns) new id k is =
     last_step (e.0 == id) e (conn_at conns id) (conn_at (conns ++ new ∷ []) id) new.1 k (at_last conns new id k) is
 
 -- a connection at its start has no number
-numbers_none : (options : Options) → numbers_at options [] ≡ []
+numbers_none : (options : Options) (rank : ℕ) → numbers_at options (fresh_conn rank) ≡ []
 unfolding story
-numbers_none options = refl
+numbers_none options rank = refl
 
 none_twice : (numbers : List ℕ) → numbers ≡ [] → IsDistinct (λ one other. one == other) numbers
 unfolding IsDistinct
@@ -116,7 +107,7 @@ module _ {D : Type 0} {g : Ghosts D} (name : List ℕ) (life : Life) (old : Stat
       (its : c.rank ≡ rank)
       (waits : c.waiting ≡ None) where
     abbrev fresh : ConnPast
-    fresh = record { rank = rank; unread = []; transcript = [] }
+    fresh = fresh_conn rank
 
     abbrev later_life : Life
     later_life = record life { conns = life.conns ++ (life.connected + 1, fresh) ∷ []; connected = life.connected + 1 }
@@ -140,8 +131,9 @@ module _ {D : Type 0} {g : Ghosts D} (name : List ℕ) (life : Life) (old : Stat
               },
           λ has. elim (at_last life.conns (life.connected + 1, fresh) id has.conn has.here) [
             | inl before ↦ was.1 (record { conn = has.conn; here = before; its = has.its; has = has.has })
-            | inr new ↦ absurd (none_has (numbers_at (options_of q.conf) []) number (numbers_none (options_of q.conf))
-                (subst (λ (k : ConnPast). Contains (numbers_at (options_of q.conf) k.transcript) number) new has.has))
+            | inr new ↦ absurd (none_has (numbers_at (options_of q.conf) fresh) number
+                (numbers_none (options_of q.conf) rank)
+                (subst (λ (k : ConnPast). Contains (numbers_at (options_of q.conf) k) number) new has.has))
           ],
         )
 
@@ -165,8 +157,8 @@ module _ {D : Type 0} {g : Ghosts D} (name : List ℕ) (life : Life) (old : Stat
               rank = its;
               peer = found.0;
               here = found.1;
-              holds = subst (HoldsTranscript found.0.conf fresh c) (sym waits)
-                  (subst (λ (conf : PeerConf). ConnStands (options_of conf) c.conn [] []) found.2.conf stands);
+              holds = subst (λ (conf : PeerConf). ConnStands (options_of conf) c.conn [] []) found.2.conf stands;
+              waits = subst (WaitsWith found.0.conf fresh) (sym waits) refl;
             }));
         tied = record {
           rising = subst IsStrictlyIncreasing
@@ -184,7 +176,8 @@ module _ {D : Type 0} {g : Ghosts D} (name : List ℕ) (life : Life) (old : Stat
             peer = found.0;
             here = found.1;
             arises = Starts;
-            once = none_twice (numbers_at (options_of found.0.conf) []) (numbers_none (options_of found.0.conf));
+            once = none_twice (numbers_at (options_of found.0.conf) fresh)
+                (numbers_none (options_of found.0.conf) rank);
           });
           held = tie;
           none = λ stopped. let never : true ≡ false = sym running.running ∙ stopped in cc;

@@ -10,15 +10,15 @@ use Rattle.conn_core.specs.Commands.{Gone, Sendable}
 use Rattle.conn_core.specs.History.{Broke, Came, Event as Happening, Handed as HandedIn, Offered, Tick, after, output}
 use Rattle.conn_core.specs.History.{outside, story}
 use Rattle.conn_core.specs.declared.options.Options.{Options}
-use Rattle.conn_core.specs.declared.outcome.Outcome.TheVariants.{Back, Final}
+use Rattle.conn_core.specs.declared.outcome.Outcome.TheVariants.{Final}
 use Rattle.conn_core.specs.declared.reason.Reason.TheVariants.{Broken, Ended, Timeout}
 use Rattle.peer_queue.specs.declared.limits.Limits.{Limits}
 use Rattle.peer_queue.specs.declared.settled.Settled.TheVariants.{Answered, Dropped, Later, Ready}
 use Rattle.recovery.specs.Notes.{begun as begun_history}
-use Rattle.world_core.specs.Past.{Life, Past, PeerPast, TapePast}
+use Rattle.world_core.specs.Past.{ConnPast, Life, Past, TapePast}
 use Rattle.world_core.specs.Events.{Settles}
-use Rattle.world_core.specs.Exchange.{TakesConnect, exchange_said, sent_out, settle_events, told_out, untold}
-use Rattle.world_core.specs.Exchange.{with_taken}
+use Rattle.world_core.specs.Exchange.{TakesConnect, exchange_said, followed_up, fresh_conn, settle_events, told_out}
+use Rattle.world_core.specs.Exchange.{unsettled, waiting, with_transcript}
 use Rattle.world_core.specs.Halts.{armed_with}
 use Rattle.world_core.specs.Runs.{RefusesStep, Runs}
 use Rattle.world_core.specs.Runs.Runs.{Next, Start}
@@ -44,9 +44,17 @@ options = record {
 abbrev limits : Limits
 limits = record { backlog_limit = 0; backlog_high = 0; drop_deferred = false }
 
--- what is told of a connection whose transcript was the first before the step, and is the second
+-- a connection of which none of the outcomes has gone to its peer
+abbrev cxn : List Happening → ConnPast
+cxn h = record { rank = 2; unread = []; transcript = h; settled = 0 }
+
+-- what is told of it, if its transcript was the first before the step, and is the second
 abbrev told : List Happening → List Happening → List Said
-told was h = exchange_said limits options 1 60 was h
+told was h = exchange_said limits options 1 60 was (cxn h)
+
+-- its transcript once its outcomes have gone to the peer and its output counts as sent
+abbrev sent : List Happening → List Happening
+sent h = (followed_up options (cxn h)).transcript
 
 abbrev debt : Owing
 debt = (7, (codes "a/1", codes "<x@y>"))
@@ -62,13 +70,13 @@ abbrev greeted : List Happening
 greeted = outside options [] (line 200)
 
 abbrev streaming : List Happening
-streaming = sent_out options (outside options (sent_out options greeted) (line 203))
+streaming = sent (outside options (sent greeted) (line 203))
 
 greeting_tells : told [] greeted ≡ Output 1 (codes "MODE STREAM") ∷ []
 unfolding after story
 greeting_tells = refl
 
-nothing_left : output options (sent_out options greeted) ≡ []
+nothing_left : output options (sent greeted) ≡ []
 unfolding after story
 nothing_left = refl
 
@@ -82,7 +90,7 @@ offer_tells = refl
 
 -- the peer wants the article, which is given: the command and its lines go out
 abbrev checked : List Happening
-checked = sent_out options offered
+checked = sent offered
 
 abbrev wanted : List Happening
 wanted = outside options checked (about 238)
@@ -110,25 +118,24 @@ lost_tells = refl
 
 -- it was taken: the verdict goes to the peer at rank 2, and is told
 abbrev answered : List Happening
-answered = outside options (sent_out options given) (about 239)
+answered = outside options (sent given) (about 239)
 
-answer_has : settle_events 2 1 60 (untold options answered)
+answer_has : settle_events 2 1 60 (unsettled options (cxn answered))
     ≡ Settles 2 1 60 (Final (record { debt = debt; code = TakethisReceived })) ∷ []
 unfolding after story
 answer_has = refl
 
-answer_tells : told (sent_out options given) answered ≡ Settled 1 7 (Answered TakethisReceived) ∷ []
+answer_tells : told (sent given) answered ≡ Settled 1 7 (Answered TakethisReceived) ∷ []
 unfolding after story
 answer_tells = refl
 
--- If it is refused, no outcome is taken, and it is the first to be taken still, after a tick, too; once it is taken
--- there is none.
-waits_on : told answered (outside options (with_taken [] answered) (Tick 61))
+-- If it is refused, it waits, as the first to be settled still, after a tick, too; once it is settled there is none.
+waits_on : told answered (outside options (waiting (cxn answered)).transcript (Tick 61))
     ≡ Settled 1 7 (Answered TakethisReceived) ∷ []
 unfolding after story
 waits_on = refl
 
-none_waits : untold options (told_out options answered) ≡ []
+none_waits : unsettled options (told_out options (cxn answered)) ≡ []
 unfolding after story
 none_waits = refl
 
@@ -138,7 +145,7 @@ unfolding after story
 defer_tells = refl
 
 drop_tells : exchange_said (record limits { drop_deferred = true }) options 1 60 checked
-    (outside options checked (about 431)) ≡ Settled 1 7 (Dropped PutOff) ∷ []
+    (cxn (outside options checked (about 431))) ≡ Settled 1 7 (Dropped PutOff) ∷ []
 unfolding after story
 drop_tells = refl
 
@@ -156,9 +163,12 @@ timeout_tells : told checked (outside options (outside options checked (Tick 60)
 unfolding after story
 timeout_tells = refl
 
--- closed, it is told no more
-closed_tells : told (told_out options (outside options checked Broke))
-    (outside options (told_out options (outside options checked Broke)) (about 238)) ≡ []
+-- once closed, it tells no more
+abbrev closed : ConnPast
+closed = followed_up options (cxn (outside options checked Broke))
+
+closed_tells : exchange_said limits options 1 60 closed.transcript
+    (with_transcript closed (outside options closed.transcript (about 238))) ≡ []
 unfolding after story
 closed_tells = refl
 
@@ -181,7 +191,7 @@ module _ (conf : PeerConf) (choice : Choice) where
 
   -- a connection has the number behind the last one that was made, and an empty transcript
   connect_takes : TakesConnect (codes "p") life (Connected 4 (codes "p") ∷ []) (record life {
-    conns = (4, record { rank = 0; unread = []; transcript = [] }) ∷ [];
+    conns = (4, fresh_conn 0) ∷ [];
     connected = 4;
   })
   connect_takes = record { rank = 0; here = refl; fits = omega arith; told_is = refl; changed = refl }

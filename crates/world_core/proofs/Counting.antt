@@ -4,7 +4,8 @@ use Rattle.std.proofs.Common.{take, drop, map, refl, sym, ap, ◌∙◌, subst, 
 use Rattle.std.specs.List.{AllZip}
 use Rattle.std.proofs.lemmas.Bool.{lt-ltb, ltb-true}
 use Rattle.std.proofs.Math.ListN.{set}
-use Rattle.std.proofs.lemmas.List.{length-map, take_more, take_more_set, take_all}
+use Rattle.std.proofs.lemmas.List.{length-map, take_more, take_more_set, take_all, map_push}
+use Rattle.std.proofs.Math.Seq.{drop-length}
 use Rattle.disk_model.specs.declared.Disk.{Ghosts}
 use Rattle.ledger_core.specs.Ledger.{totals_of}
 use Rattle.ledger_core.specs.declared.ledger.Totals.{Totals}
@@ -17,7 +18,7 @@ use Rattle.world_core.specs.declared.world.Stage.TheVariants.{Running}
 use Rattle.world_core.specs.declared.world.World.{World}
 use Rattle.world_core.specs.declared.peer.Peer.{Peer}
 use Rattle.world_core.specs.declared.report.PeerTotals.{PeerTotals}
-use Rattle.world_core.proofs.Trying.{map_push}
+use Rattle.world_core.proofs.Zips.{zip_equal}
 
 -- one more
 pub name_more : {A B C : Type 0} (f : A → B) (g : C → B) (xs : List A) (i : ℕ) (x : A) (done now : List C) (y : C)
@@ -117,15 +118,11 @@ below n m is = ltb-true n m (sym is)
 pub not_below : (n m : ℕ) → false ≡ ltb n m → n < m → ⊥
 not_below n m is less = let yes = lt-ltb n m less in cc
 
-drop_whole : {A : Type 0} (xs : List A) → drop (length xs) xs ≡ []
-drop_whole [] = refl
-drop_whole (x ∷ xs) = drop_whole xs
-
 -- what is written back in the place of all
 pub written_back : {A : Type 0} (n : ℕ) (new old : List A) → length new ≡ length old → n ≡ length old
     → take n (new ++ drop (length new) old) ≡ new
 written_back n new old same long =
-    ap (λ (k : ℕ). take n (new ++ drop k old)) same ∙ ap (λ l. take n (new ++ l)) (drop_whole old)
+    ap (λ (k : ℕ). take n (new ++ drop k old)) same ∙ ap (λ l. take n (new ++ l)) (drop-length old)
     ∙ ap (take n) (append-nil new)
     ∙ take_all n new (omega (arith, same, long))
 
@@ -133,13 +130,10 @@ module _ {D : Type 0} {g : Ghosts D} where
   -- what stands for peers has their counts
   pub counts_same : (pasts : List PeerPast) (peers : List (Peer D g)) → AllZip PeerStands pasts peers
       → map counted peers ≡ map (λ (peer : PeerPast). (peer.conf.name, totals_of (ledger_at peer.tape))) pasts
-  counts_same [] [] all = refl
-  counts_same [] (peer ∷ peers) all = absurd all
-  counts_same (past ∷ pasts) [] all = absurd all
-  counts_same (past ∷ pasts) (peer ∷ peers) all =
-      ap (λ conf. (conf.name, totals_of (ledger_of peer.station)) ∷ map counted peers) all.0.conf
-      ∙ ap (λ (state : State). (past.conf.name, totals_of state) ∷ map counted peers) all.0.tape.stands.ledger
-      ∙ ap (λ l. (past.conf.name, totals_of (ledger_at past.tape)) ∷ l) (counts_same pasts peers all.1)
+  counts_same pasts peers all =
+      zip_equal PeerStands (λ (past : PeerPast). (past.conf.name, totals_of (ledger_at past.tape))) counted
+      (λ past peer is. ap (λ conf. (conf.name, totals_of (ledger_of peer.station))) is.conf
+      ∙ ap (λ (state : State). (past.conf.name, totals_of state)) is.tape.stands.ledger) pasts peers all
 
 runs_counts : (b : Bool) (peers : List PeerPast) → b ≡ true
     → counts_when b peers ≡ map (λ (peer : PeerPast). (peer.conf.name, totals_of (ledger_at peer.tape))) peers

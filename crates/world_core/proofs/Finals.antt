@@ -13,7 +13,7 @@ use Rattle.ledger_core.specs.declared.note.FinalCode.{FinalCode}
 use Rattle.ledger_core.specs.declared.note.Note.{Note}
 use Rattle.ledger_core.specs.declared.note.Note.TheVariants.{Drop, Final, Owe}
 use Rattle.conn_core.specs.Commands.{debt_in}
-use Rattle.conn_core.specs.History.{End, Event as Happening, Tick as Ticked, accepted, ends, outcomes, taken}
+use Rattle.conn_core.specs.History.{End, Event as Happening, Tick as Ticked, accepted, ends, outcomes}
 use Rattle.conn_core.specs.Stands.{Arises}
 use Rattle.conn_core.specs.declared.options.Options.{Options}
 use Rattle.conn_core.specs.declared.outcome.Outcome.{Outcome}
@@ -36,8 +36,8 @@ use Rattle.world_core.specs.Events.{OpensIntake, Owes, Parts, Returns, Rotates, 
 use Rattle.world_core.specs.Events.{claimed_peer, closing, import_key, imported_as, opened_peer, owed_as, owing_as}
 use Rattle.world_core.specs.Events.{parted, settled, settled_as, shed_peer}
 use Rattle.world_core.specs.Tapes.{noted_at}
-use Rattle.world_core.specs.Exchange.{HandsOver, IsConn, TicksEach, at_moment, settle_events, ticked, untold}
-use Rattle.world_core.specs.Exchange.{with_transcript}
+use Rattle.world_core.specs.Exchange.{HandsOver, IsConn, TicksEach, at_moment, fresh_conn, settle_events, ticked}
+use Rattle.world_core.specs.Exchange.{unsettled, with_transcript}
 use Rattle.world_core.specs.Exchange.HandsOver.{None_there, Taken_over, Has_no_room, Is_shut}
 use Rattle.world_core.specs.Exchange.TicksEach.{Start as NoneTicked, Next as OneTicked}
 use Rattle.world_core.specs.Halts.{AtRest, ByChoice, Manner, left, left_peer}
@@ -56,9 +56,9 @@ use Rattle.world_core.proofs.Growing.{Grew, accepted_offered, ends_grew, grew_ou
 use Rattle.world_core.proofs.Holding.{contains_first, contains_more}
 use Rattle.world_core.proofs.Joining.{conn_there, put_other}
 use Rattle.world_core.proofs.Lifting.{get_apart, get_set}
-use Rattle.world_core.proofs.Pure.{first_all}
+use Rattle.world_core.proofs.Pure.{front_all}
 use Rattle.world_core.proofs.Recovering.{comes_safe, comes_sound, contains_taken}
-use Rattle.world_core.proofs.Traversal.{Passage, WentOn, events_all, fresh, refuses_make, takes_make}
+use Rattle.world_core.proofs.Traversal.{Passage, WentOn, events_all, refuses_make, takes_make}
 use Rattle.world_core.proofs.Walking.{Keeper, OnTape, events_keep}
 
 once : {A : Type 0} (x y : A) → Some x ≡ Some y → x ≡ y
@@ -504,9 +504,9 @@ put_owned O conns id conn all one at found here = elim (cases_eq at id) [
 
 -- a connection more has accepted none
 push_owned : (O : Owned) (conns : List Entry) (number rank : ℕ) → AllOwned O conns
-    → AllOwned O (conns ++ (number, fresh rank) ∷ [])
+    → AllOwned O (conns ++ (number, fresh_conn rank) ∷ [])
 push_owned O conns number rank all id found here =
-    elim (at_last conns (number, fresh rank) id found here) [
+    elim (at_last conns (number, fresh_conn rank) id found here) [
       | inl there ↦ all id found there
       | inr is ↦
           subst (HasOwned O id) (sym is) (λ ticket debt none. absurd (let never : None ≡ Some debt = none in cc))
@@ -533,11 +533,13 @@ all_mapped P (x ∷ xs) all among each = (
   all_mapped P xs all (λ y has. among y (contains_more xs x y has)) each,
 )
 
--- each outcome that is still to be taken has what each that came out has
-untold_all : (P : Outcome → Type 0) (options : Options) (h : List Happening)
-    → ((x : End) → Contains (ends options h) x → P x.outcome) → AllByRecursion P (untold options h)
-untold_all P options h each =
-    all_dropped P (taken h) (outcomes options h) (all_mapped P (ends options h) (ends options h) (λ x has. has) each)
+-- each outcome that is still to go to the peer has what each that came out has
+unsettled_all : (P : Outcome → Type 0) (options : Options) (conn : ConnPast)
+    → ((x : End) → Contains (ends options conn.transcript) x → P x.outcome)
+    → AllByRecursion P (unsettled options conn)
+unsettled_all P options conn each =
+    let all = ends options conn.transcript in
+    all_dropped P conn.settled (outcomes options conn.transcript) (all_mapped P all all (λ x has. has) each)
 
 -- ---- verdicts in a world
 
@@ -596,56 +598,53 @@ module _ (O : Owned) (id : ℕ) (conn : ConnPast) (life later : Life) (f : WentO
   abbrev its_options : Options
   its_options = options_of f.peer.conf
 
-  abbrev next : ConnPast
-  next = record { rank = conn.rank; unread = f.unread; transcript = f.transcript }
-
   abbrev behind : Life
-  behind = with_conn (with_past life f.past) id next
+  behind = with_conn (with_past life f.past) id f.next
 
-  next_there : conn_at behind.conns id ≡ Some next
-  next_there = put_here life.conns id next there is_there
+  next_there : conn_at behind.conns id ≡ Some f.next
+  next_there = put_here life.conns id f.next there is_there
 
   follows_right : HasOwned O id conn → AllOwned O life.conns → Rights O life later
   follows_right one owned =
       let h = conn.transcript in
       let kept = (none_lost life.past f.past _ f.settles).fore conn.rank f.peer f.here in
-      let outcome : (x : End) → Contains (ends its_options h) x → IsRight (HasCome behind) conn.rank x.outcome =
+      let right : (x : End) → Contains (ends its_options h) x → IsRight (HasCome behind) conn.rank x.outcome =
       λ x among verdict final. record {
         id = id;
-        conn = next;
+        conn = f.next;
         peer = kept.0;
-        is = record { conn_is = next_there; peer_is = kept.1 };
-        its = refl;
+        is = record { conn_is = next_there; peer_is = ap (slice_get f.past.peers) f.grew.0 ∙ kept.1 };
+        its = f.grew.0;
         end = x;
-        among = subst (λ (conf : PeerConf). Contains (ends (options_of conf) next.transcript) x) (sym kept.2)
-            (ends_grew its_options h next.transcript f.grew x among);
+        among = subst (λ (conf : PeerConf). Contains (ends (options_of conf) f.next.transcript) x) (sym kept.2)
+            (ends_grew its_options h f.next.transcript f.grew.1 x among);
         verdict = verdict;
         is_final = final;
         of_number = refl;
         of_code = refl;
       } in
-      let events = settle_events conn.rank id life.now (untold its_options h) in
       subst (Rights O life) (sym f.changed) (record {
         right = events_keep (rightly (HasCome behind)) life.past f.past _ f.settles
-            (first_all (EventRight (HasCome behind)) f.count events
-            (right_settles (HasCome behind) conn.rank id life.now (untold its_options h)
-            (untold_all (IsRight (HasCome behind) conn.rank) its_options h outcome)));
-        owned = put_owned O life.conns id next owned (λ ticket debt is.
-            one ticket debt (sym (ap (λ (l : List Owing). slice_get l ticket) f.grew.same) ∙ is));
+            (right_settles (HasCome behind) conn.rank id life.now f.done
+            (front_all (IsRight (HasCome behind) conn.rank) f.done f.left
+            (subst (AllByRecursion (IsRight (HasCome behind) conn.rank)) f.split
+            (unsettled_all (IsRight (HasCome behind) conn.rank) its_options conn right))));
+        owned = put_owned O life.conns id f.next owned (λ ticket debt is.
+            subst (λ (n : ℕ). O n id debt) (sym f.grew.0)
+            (one ticket debt (sym (ap (λ (l : List Owing). slice_get l ticket) f.grew.1.same) ∙ is)));
       })
 
   follows_carries : conn.rank ≡ there.rank → Grew there.transcript conn.transcript → Carries life later
   follows_carries rank grew = subst (Carries life) (sym f.changed) (λ at found here. elim (cases_eq at id) [
     | inl same ↦
         let own = once found there (sym here ∙ (ap (conn_at life.conns) same ∙ is_there)) in (
-          next,
+          f.next,
           ap (conn_at behind.conns) same ∙ next_there,
-          rank ∙ ap (λ (c : ConnPast). c.rank) (sym own),
-          subst (λ (c : ConnPast). Grew c.transcript next.transcript) (sym own)
-              (grew_then there.transcript conn.transcript next.transcript grew
-              f.grew),
+          f.grew.0 ∙ (rank ∙ ap (λ (c : ConnPast). c.rank) (sym own)),
+          subst (λ (c : ConnPast). Grew c.transcript f.next.transcript) (sym own)
+              (grew_then there.transcript conn.transcript f.next.transcript grew f.grew.1),
         )
-    | inr apart ↦ (found, put_other life.conns id at next apart ∙ here, refl, grew_same found.transcript)
+    | inr apart ↦ (found, put_other life.conns id at f.next apart ∙ here, refl, grew_same found.transcript)
   ])
 
 -- a connection whose transcript has grown has accepted no more
@@ -714,7 +713,7 @@ module _ (O : Owned) where
   }
 
   connects_right : (step : Step) (life later : Life) (number rank : ℕ) → later.past ≡ life.past
-      → later.conns ≡ life.conns ++ (number, fresh rank) ∷ [] → MakesRight step life later
+      → later.conns ≡ life.conns ++ (number, fresh_conn rank) ∷ [] → MakesRight step life later
   connects_right step life later number rank same conns owes rising owned = record {
     right = none_put (HasCome later) life.past later.past (ap (λ (p : Past). p.peers) same);
     owned = subst (AllOwned O) (sym conns) (push_owned O life.conns number rank owned);
@@ -754,13 +753,13 @@ module _ (O : Owned) where
       (peer : PeerPast)
       → TicksEach begun count told mid → MakesRight (Tick now) begun mid
       → slice_get mid.conns count ≡ Some (id, conn)
-      → WentOn id (ticked (options_of peer.conf) mid.now conn) mid later → MakesRight (Tick now) begun later
+      → WentOn id (ticked mid.now peer conn) mid later → MakesRight (Tick now) begun later
   ticks_right now begun mid later count told id conn peer before makes here went owes rising owned =
       let rights = makes owes rising owned in
       let numbers = ticks_numbers begun count told mid before in
       let is = conn_there mid.conns (subst IsStrictlyIncreasing (sym numbers) rising) count id conn here in
       let options = options_of peer.conf in
-      let new = ticked options mid.now conn in
+      let new = ticked mid.now peer conn in
       let grew = grew_outside options conn.transcript (Ticked mid.now) refl in
       let went_right = follows_right O id new mid later went conn is
       (grown_owned O id conn new refl grew (rights.owned id conn is)) rights.owned in

@@ -21,7 +21,7 @@ use Rattle.world_core.specs.Stands.{ConnectionStands, PeerStands}
 use Rattle.world_core.specs.declared.connection.Connection.{Connection}
 use Rattle.world_core.specs.declared.stations.Stations.{Stations}
 use Rattle.world_core.proofs.Naming.{zip_get}
-use Rattle.world_core.proofs.Stepping.{zip_long}
+use Rattle.world_core.proofs.Zips.{zip_equal, zip_length}
 
 -- ---- numbers in order
 
@@ -161,11 +161,8 @@ own_id cs index c there x here =
 numbers_are : (peers : List PeerPast) (conns : List (ℕ × ConnPast)) (cs : List Connection)
     → AllZip (ConnectionStands peers) conns cs
     → map number cs ≡ map (λ (entry : ℕ × ConnPast). entry.0) conns
-numbers_are peers [] [] all = refl
-numbers_are peers [] (c ∷ cs) all = absurd all
-numbers_are peers (e ∷ conns) [] all = absurd all
-numbers_are peers (e ∷ conns) (c ∷ cs) all =
-    ap (λ n. n ∷ map number cs) all.0.id ∙ ap (λ l. e.0 ∷ l) (numbers_are peers conns cs all.1)
+numbers_are peers conns cs all =
+    zip_equal (ConnectionStands peers) (λ (entry : ℕ × ConnPast). entry.0) number (λ entry c is. is.id) conns cs all
 
 none_at : (peers : List PeerPast) (id : ℕ) (conns : List (ℕ × ConnPast)) (cs : List Connection)
     → AllZip (ConnectionStands peers) conns cs
@@ -214,5 +211,5 @@ module _ {D : Type 0} {g : Ghosts D} where
           arith,
           inside,
           beside.2.rank,
-          zip_long PeerStands life.past.peers stations.peers.items running.stands.peers,
+          zip_length PeerStands life.past.peers stations.peers.items running.stands.peers,
         )

@@ -1,14 +1,14 @@
 -- What follows a step on a connection: its outcomes go to the peer one after another, and are told.
-use Rattle.std.proofs.Common.{◌≡◌, ℕ, List, [], ◌∷◌, ◌++◌, map, refl, sym, ap, ◌∙◌, subst, inl, inr, append_assoc}
+use Rattle.std.proofs.Common.{◌≡◌, ℕ, List, [], ◌∷◌, ◌++◌, map, refl, sym, ap, ◌∙◌, subst, append_assoc}
 use Rattle.std.proofs.Common.{append-nil}
+use Rattle.std.proofs.lemmas.List.{map_push}
 use Rattle.disk_model.specs.declared.Disk.{Ghosts}
 use Rattle.feed_conf.specs.declared.conf.PeerConf.{PeerConf}
-use Rattle.conn_core.specs.History.{Event as Happening, Taken}
 use Rattle.conn_core.specs.declared.outcome.Outcome.{Outcome}
 use Rattle.world_core.specs.Past.{ConnPast, PeerPast, options_of}
-use Rattle.world_core.specs.Exchange.{untold, with_taken, with_transcript}
+use Rattle.world_core.specs.Exchange.{all_out, one_out, unsettled}
 use Rattle.world_core.specs.Pairs.{FollowedNot, Next, PairStands, SettledAll, SettledNone, SettledNot, SettledOne}
-use Rattle.world_core.specs.Pairs.{SettledSome, Start, settled_said}
+use Rattle.world_core.specs.Pairs.{SettledSome, Start, StopsHere, settled_said}
 use Rattle.world_core.specs.Told.{Said, said_of}
 use Rattle.world_core.specs.declared.connection.Connection.{Connection}
 use Rattle.world_core.specs.declared.fault.Fault.{Fault}
@@ -16,14 +16,10 @@ use Rattle.world_core.specs.declared.peer.Peer.{Peer}
 use Rattle.world_core.specs.declared.told.Told.{Told}
 use Rattle.world_core.proofs.Settling.{conf_settled}
 
-pub taken_more : (done : List Outcome) (outcome : Outcome) (h : List Happening)
-    → with_taken (done ++ outcome ∷ []) h ≡ Taken ∷ with_taken done h
-taken_more [] outcome h = refl
-taken_more (o ∷ done) outcome h = taken_more done outcome (Taken ∷ h)
-
-map_more : {A B : Type 0} (f : A → B) (xs : List A) (x : A) → map f (xs ++ x ∷ []) ≡ map f xs ++ f x ∷ []
-map_more f [] x = refl
-map_more f (y ∷ xs) x = ap (λ l. f y ∷ l) (map_more f xs x)
+out_more : (done : List Outcome) (outcome : Outcome) (conn : ConnPast)
+    → all_out (done ++ outcome ∷ []) conn ≡ one_out (all_out done conn)
+out_more [] outcome conn = refl
+out_more (o ∷ done) outcome conn = out_more done outcome (one_out conn)
 
 -- what is told of an outcome rests on its peer's settings alone
 said_same : (id now : ℕ) (one other : PeerPast) (outcome : Outcome) → one.conf ≡ other.conf
@@ -49,38 +45,37 @@ module _ {D : Type 0} {g : Ghosts D} where
       (mid : PeerPast) where
     pub settled_more : (old_c new_c : Connection) (old new : Peer D g) (told more : List Told)
         → SettledSome id now conn past was done mid old_c old told
-        → SettledOne id now (with_transcript conn (with_taken done conn.transcript)) mid told new_c new more
+        → SettledOne id now (all_out done conn) mid told new_c new more
         → (done' : List Outcome) × (later : PeerPast) × SettledSome id now conn past was done' later new_c new more
     settled_more old_c new_c old new told more some one =
         let o = one.outcome in
-        let one_more = taken_more done o conn.transcript in
-        let next = subst (λ (c : PeerConf). untold (options_of c) (with_taken done conn.transcript)
-        ≡ o ∷ untold (options_of c) (Taken ∷ with_taken done conn.transcript)) some.same_conf one.next in (
+        let one_more = out_more done o conn in
+        let next = subst (λ (c : PeerConf). unsettled (options_of c) (all_out done conn)
+        ≡ o ∷ unsettled (options_of c) (one_out (all_out done conn))) some.same_conf one.next in (
           done ++ o ∷ [],
           one.later,
           record {
             split = some.split ∙ (ap (λ l. done ++ l) next ∙ (sym (append_assoc done (o ∷ []) _)
-                ∙ ap (λ (k : List Happening). (done ++ o ∷ []) ++ untold (options_of past.conf) k) (sym one_more)));
+                ∙ ap (λ (k : ConnPast). (done ++ o ∷ []) ++ unsettled (options_of past.conf) k) (sym one_more)));
             settles = Next done o mid one.later some.settles one.settles;
             same_conf = ap (λ (p : PeerPast). p.conf) one.settles.changed ∙ (conf_settled now o mid ∙ some.same_conf);
             told_is = one.told_is ∙ (ap (λ l. l ++ settled_said id now mid o ∷ []) some.told_is
                 ∙ (append_assoc (map said_of was) _ _ ∙ ap (λ l. map said_of was ++ l)
                 (ap (λ said. map (settled_said id now past) done ++ said ∷ [])
                 (said_same id now mid past o some.same_conf)
-                ∙ sym (map_more (settled_said id now past) done o))));
-            stand = subst (λ (k : List Happening). PairStands id (with_transcript conn k) one.later new_c new)
-                (sym one_more) one.stand;
+                ∙ sym (map_push (settled_said id now past) done o))));
+            stand = subst (λ (k : ConnPast). PairStands id k one.later new_c new) (sym one_more) one.stand;
           },
         )
 
     pub settled_all : (old_c new_c : Connection) (old new : Peer D g) (told more : List Told)
         → SettledSome id now conn past was done mid old_c old told
-        → SettledNone id (with_transcript conn (with_taken done conn.transcript)) mid told new_c new more
+        → SettledNone id (all_out done conn) mid told new_c new more
         → SettledAll id now conn past was new_c new more
     settled_all old_c new_c old new told more some none =
-        let left = subst (λ (c : PeerConf). untold (options_of c) (with_taken done conn.transcript) ≡ [])
+        let left = subst (λ (c : PeerConf). unsettled (options_of c) (all_out done conn) ≡ [])
         some.same_conf none.none in
-        let all : untold (options_of past.conf) conn.transcript ≡ done =
+        let all : unsettled (options_of past.conf) conn ≡ done =
         some.split ∙ (ap (λ l. done ++ l) left ∙ append-nil done) in
         record {
           later = mid;
@@ -92,27 +87,23 @@ module _ {D : Type 0} {g : Ghosts D} where
                 told_is = none.told_is ∙ (append-nil (map said_of told) ∙ some.told_is);
                 stand = none.stand;
               });
-          waits = none.waits;
         }
 
     pub settled_refused : (old_c new_c : Connection) (old new : Peer D g) (told : List Told) (fault : Fault)
         → SettledSome id now conn past was done mid old_c old told
-        → SettledNot id now (with_transcript conn (with_taken done conn.transcript)) mid fault new_c new
+        → SettledNot id now (all_out done conn) mid fault new_c new
         → FollowedNot id now conn past fault new_c new
     settled_refused old_c new_c old new told fault some not = record {
-      later_conn = with_transcript conn (with_taken done conn.transcript);
+      later_conn = not.later_conn;
       later = mid;
       follows = record {
         done = done;
-        left = untold (options_of mid.conf) (with_taken done conn.transcript);
-        split = subst (λ (c : PeerConf). untold (options_of past.conf) conn.transcript
-            ≡ done ++ untold (options_of c) (with_taken done conn.transcript)) (sym some.same_conf) some.split;
+        left = unsettled (options_of past.conf) (all_out done conn);
+        split = some.split;
         settles = some.settles;
-        why = elim not.why [
-          | inl memory ↦ inl memory
-          | inr end ↦ inr (end.0, untold (options_of mid.conf) (Taken ∷ with_taken done conn.transcript), end.1, end.2)
-        ];
-        changed = refl;
+        why = subst (λ (c : PeerConf).
+            StopsHere now (unsettled (options_of c) (all_out done conn)) mid fault (all_out done conn) not.later_conn)
+            some.same_conf not.why;
       };
       stand = not.stand;
     }

@@ -1,21 +1,23 @@
 -- Transcripts that grow: what came out of one stays, and a debt is accepted only where it is offered.
 use Rattle.std.proofs.Common.{◌≡◌, ◌⊎◌, ℕ, zero, suc, Bool, true, false, None, Some, List, []}
 use Rattle.std.proofs.Common.{◌∷◌, ◌++◌, length, refl, sym, ap, ◌∙◌, subst, inl, inr, append_assoc}
-use Rattle.std.specs.Prelude.{Contains, if◌then◌else◌, is_some}
+use Rattle.std.specs.Prelude.{◌+◌, Contains, if◌then◌else◌, is_some, nat_lt}
 use Rattle.std.specs.List.{slice_get}
 use Rattle.ledger_core.specs.State.{Owing}
 use Rattle.conn_core.specs.Commands.{Command}
 use Rattle.conn_core.specs.History.{accepted, after, answered_ask, closes, ends, ends_at_close, ends_by_answer}
 use Rattle.conn_core.specs.History.{ends_by_loss, held, held_wanting, is_quit_due, output, outside, puts, reason, story}
 use Rattle.conn_core.specs.History.{with_puts, with_quit, Broke, Came, End, Event as Happening, Faulted, Handed, Leave}
-use Rattle.conn_core.specs.History.{Offered, Put, Sent, Taken, Tick}
+use Rattle.conn_core.specs.History.{Offered, Put, Sent, Taken, Tick, taken}
 use Rattle.conn_core.specs.Receipt.Receives.{Is_closed, Waits, Reads, Fails as FailsToRead}
 use Rattle.conn_core.specs.Receipt.{Reads_on, Receives, ReceivesSome, Stops}
 use Rattle.conn_core.specs.StoryLaws.{ends-offered}
 use Rattle.conn_core.specs.declared.options.Options.{Options}
 use Rattle.conn_core.specs.declared.outcome.Outcome.{Outcome}
-use Rattle.world_core.specs.Exchange.{sent_out, told_out, untold, with_taken}
-use Rattle.world_core.proofs.Holding.{contains_left}
+use Rattle.world_core.specs.Past.{ConnPast, Past}
+use Rattle.world_core.specs.Exchange.{StopsAt, all_out, followed_up, one_out, out_to, told_out, unsettled}
+use Rattle.world_core.specs.declared.fault.Fault.{Fault}
+use Rattle.world_core.proofs.Holding.{contains_left, out_rank}
 
 -- ---- lists
 
@@ -58,10 +60,29 @@ grew_puts (command ∷ commands) h =
     grew_then h (Put command ∷ h) (with_puts commands (Put command ∷ h)) (grew_one h (Put command) refl)
     (grew_puts commands (Put command ∷ h))
 
-pub grew_taken : (os : List Outcome) (h : List Happening) → Grew h (with_taken os h)
-grew_taken [] h = grew_same h
-grew_taken (o ∷ os) h = grew_then h (Taken ∷ h) (with_taken os (Taken ∷ h)) (grew_one h Taken refl)
-    (grew_taken os (Taken ∷ h))
+grew_to : (count : ℕ) (h : List Happening) → Grew h (out_to count h)
+grew_to count h = grew_if (nat_lt (taken h) count) h (Taken ∷ h) h (grew_one h Taken refl) (grew_same h)
+
+grew_out : (os : List Outcome) (conn : ConnPast) → Grew conn.transcript (all_out os conn).transcript
+grew_out [] conn = grew_same conn.transcript
+grew_out (o ∷ os) conn =
+    grew_then conn.transcript (one_out conn).transcript _ (grew_to (conn.settled + 1) conn.transcript)
+    (grew_out os (one_out conn))
+
+-- outcomes went to the peer, and then no more
+pub grew_stopped : (rank id now : ℕ) (done left : List Outcome) (past : Past) (fault : Fault) (conn later : ConnPast)
+    → StopsAt rank id now left past fault (all_out done conn) later
+    → (later.rank ≡ conn.rank) × Grew conn.transcript later.transcript
+grew_stopped rank id now done left past fault conn later (inl memory) = (
+  ap (λ (c : ConnPast). c.rank) memory.1 ∙ out_rank done conn,
+  subst (λ (c : ConnPast). Grew conn.transcript c.transcript) (sym memory.1) (grew_out done conn),
+)
+grew_stopped rank id now done left past fault conn later (inr end) = (
+  ap (λ (c : ConnPast). c.rank) end.4 ∙ out_rank done conn,
+  subst (λ (c : ConnPast). Grew conn.transcript c.transcript) (sym end.4)
+      (grew_then conn.transcript (all_out done conn).transcript _ (grew_out done conn)
+      (grew_to ((all_out done conn).settled + 1) (all_out done conn).transcript)),
+)
 
 module _ (options : Options) where
   grew_quit : (h : List Happening) → Grew h (with_quit options h)
@@ -81,10 +102,10 @@ module _ (options : Options) where
   grew_outside h e same =
       grew_if (is_some (reason options h)) h h (after options h e) (grew_same h) (grew_by h e same)
 
-  pub grew_sent : (h : List Happening) → Grew h (sent_out options h)
-  grew_sent h =
-      let out = told_out options h in
-      grew_then h out (sent_out options h) (grew_taken (untold options h) h)
+  pub grew_sent : (conn : ConnPast) → Grew conn.transcript (followed_up options conn).transcript
+  grew_sent conn =
+      let out = (told_out options conn).transcript in
+      grew_then conn.transcript out (followed_up options conn).transcript (grew_out (unsettled options conn) conn)
       (grew_if (is_some (reason options out)) out out (Sent (length (output options out)) ∷ out) (grew_same out)
       (grew_one out (Sent (length (output options out))) refl))
 

@@ -22,7 +22,7 @@ use Rattle.world_core.specs.declared.peer.StoppedPeer.{StoppedPeer}
 use Rattle.world_core.specs.declared.stations.Stations.{Stations}
 use Rattle.world_core.specs.declared.stop.StopDisk.{StopDisk}
 use Rattle.world_core.proofs.Sound.{each_front, safe_of}
-use Rattle.world_core.proofs.Zips.{zip_push, zip_through}
+use Rattle.world_core.proofs.Zips.{zip_push, zip_through, zip_first}
 use Rattle.peer_queue.specs.Words.{tape_of}
 
 -- ---- what a stop leaves is sound
@@ -187,9 +187,9 @@ left_again choice past = ap (λ peers. record {
 
 safe_each : (pasts : List PeerPast) (peers : List StoppedPeer) → AllZip StoppedStands pasts peers
     → AllByRecursion (λ (peer : PeerPast). EachLedger (KeepsNotes peer) peer.tape.log) pasts
-safe_each [] peers all = tt
-safe_each (past ∷ pasts) [] all = absurd all
-safe_each (past ∷ pasts) (peer ∷ peers) all = (all.0.disks.images, safe_each pasts peers all.1)
+safe_each pasts peers all =
+    zip_first StoppedStands (λ (peer : PeerPast). EachLedger (KeepsNotes peer) peer.tape.log)
+    (λ past peer is. is.disks.images) pasts peers all
 
 pub safe_stopped : (past : Past) (peers : List StoppedPeer) (intake : StopDisk × StopDisk)
     → AllZip StoppedStands past.peers peers

@@ -2,20 +2,17 @@
 use Rattle.std.proofs.Common.{◌≡◌, ◌≢◌, ◌↔◌, ◌⊎◌, ℕ, Bool, true, false, Option, None, Some, List, [], ◌∷◌, ◌++◌, map}
 use Rattle.std.proofs.Common.{refl, sym, ap, ◌∙◌, subst, inl, inr}
 use Rattle.std.specs.Prelude.{Contains, IfNone, IfSome, IsSome, is_none, is_some, not}
-use Rattle.std.specs.Prelude.{option_map, slice_get}
+use Rattle.std.specs.Prelude.{option_map}
 use Rattle.std.proofs.lemmas.Bool.{cases_eq}
-use Rattle.std.proofs.lemmas.Option.{slice_get_within}
 use Rattle.disk_model.specs.declared.Disk.{Ghosts}
 use Rattle.feed_conf.specs.declared.conf.PeerConf.{PeerConf}
 use Rattle.ledger_core.specs.State.{Owing, State}
 use Rattle.recovery.specs.Words.{IsBroken, OneHasRisen, told_of}
 use Rattle.recovery.specs.declared.fault.TapeFault.TheVariants.{Broken as BrokenTape, Disk}
-use Rattle.conn_core.specs.History.{Event as Happening, Offered, Taken, after, outcomes, reason, taken}
-use Rattle.conn_core.specs.Stands.{Arises, StandsFor as ConnStands, ready_of, Goes_on}
+use Rattle.conn_core.specs.History.{Event as Happening, Offered, after, reason}
+use Rattle.conn_core.specs.Stands.{StandsFor as ConnStands, ready_of}
 use Rattle.conn_core.specs.declared.options.Options.{Options}
-use Rattle.conn_core.specs.declared.outcome.Outcome.{Outcome}
 use Rattle.conn_core.specs.declared.reason.Reason.{Reason}
-use Rattle.conn_core.specs.declared.ready.Ready.{Ready as Readiness}
 use Rattle.conn_core.specs.declared.ready.Ready.TheVariants.{Busy as NoRoom, Shut, Yes}
 use Rattle.peer_queue.specs.Faults.{IsClaimFault}
 use Rattle.peer_queue.specs.Place.{AreRising, Held, IsHeldBy, IsUnheld, Place, Places, Ready, is_held, least_candidate}
@@ -31,7 +28,7 @@ use Rattle.world_core.specs.Fault.{fault_of_station}
 use Rattle.world_core.specs.Pairs.{ClaimsAt, Followed, FollowedNot, GivesBackAt, HandedNot, HandedOn, HandedOnNot}
 use Rattle.world_core.specs.Pairs.{HandedOver, HandsOverAt, None_at, No_room_at, PairStands, Shut_at, Taken_at}
 use Rattle.world_core.specs.Sound.{numbers_at}
-use Rattle.world_core.specs.Stands.{HoldsTranscript, PeerStands, TapeStands}
+use Rattle.world_core.specs.Stands.{HoldsTranscript, PeerStands, TapeStands, WaitsWith}
 use Rattle.world_core.specs.Told.{Handed as SaidHanded, Said, said_of}
 use Rattle.world_core.specs.declared.connection.Connection.{Connection}
 use Rattle.world_core.specs.declared.fault.Fault.{Fault}
@@ -41,14 +38,13 @@ use Rattle.world_core.specs.declared.told.Handed.{Handed as Handover}
 use Rattle.world_core.specs.declared.told.Told.{Told}
 use Rattle.world_core.specs.declared.told.Told.TheVariants.{Handed as ToldHanded}
 use Rattle.world_core.specs.declared.told.Handed.TheVariants.{Busy, Closed, Debt, Nothing}
-use Rattle.world_core.proofs.Balance.{goes_offered, more_numbers, outcomes_offered}
-use Rattle.world_core.proofs.Breaking.{none_told, reason_told}
+use Rattle.world_core.proofs.Balance.{more_numbers}
+use Rattle.world_core.proofs.Breaking.{open_told}
 use Rattle.world_core.proofs.Holding.{moved_here, moved_other}
 use Rattle.world_core.proofs.Outputs.{tells_both}
-use Rattle.world_core.proofs.Pairing.{few, next_stays, stands_more, tied_more}
+use Rattle.world_core.proofs.Pairing.{settled_few, tied_more, waits_offered}
 use Rattle.world_core.proofs.Peers.{read_now, read_tape, tape_broken, tape_works}
 use Rattle.world_core.proofs.Settling.{tells_push}
-use Rattle.world_core.proofs.Waiting.{IsOneMore, more_after, more_taken}
 
 -- ---- places
 
@@ -62,44 +58,6 @@ unheld_free p n c is held = let never : Some true ≡ Some false = sym (ap (opti
 some_there : {A : Type 0} (o : Option A) → IsSome o → (x : A) × (o ≡ Some x)
 some_there None is = absurd cc
 some_there (Some x) is = (x, refl)
-
--- ---- the connection
-
-same_ready : (o : Options) (one other : List Happening) → IsOneMore o one other → ready_of o one ≡ ready_of o other
-same_ready o one other a = rw (a.reason_is, a.leaving_is, a.accepted_is, a.story_is, a.phase_is) refl
-
--- what is told of the room of a connection is so of the world's transcript, also where an outcome waits
-pub ready_told : (R : Readiness → Type 0) (conf : PeerConf) (conn : ConnPast) (c : Connection) (waits : Option Outcome)
-    → HoldsTranscript conf conn c waits
-    → ((o : Options) (unread : List ℕ) (h : List Happening) → ConnStands o c.conn unread h → R (ready_of o h))
-    → R (ready_of (options_of conf) conn.transcript)
-ready_told R conf conn c None holds says = says (options_of conf) conn.unread conn.transcript holds
-ready_told R conf conn c (Some outcome) holds says =
-    subst R (same_ready (options_of conf) _ conn.transcript (more_taken (options_of conf) conn.transcript))
-    (says (options_of conf) conn.unread _ holds.1)
-
--- a debt was accepted
-pub holds_offered : (conf : PeerConf) (conn : ConnPast) (debt : Owing) (old new : Connection) (waits : Option Outcome)
-    → HoldsTranscript conf conn old waits
-    → Arises (options_of conf) (after (options_of conf) conn.transcript (Offered debt))
-    → ((o : Options) (unread : List ℕ) (h : List Happening) → ConnStands o old.conn unread h
-    → ConnStands o new.conn unread (after o h (Offered debt)))
-    → HoldsTranscript conf (with_transcript conn (after (options_of conf) conn.transcript (Offered debt))) new waits
-holds_offered conf conn debt old new None holds arises stands =
-    stands (options_of conf) conn.unread conn.transcript holds
-holds_offered conf conn debt old new (Some outcome) holds arises stands =
-    let o = options_of conf in
-    let h = conn.transcript in
-    let later = after o h (Offered debt) in
-    let first : slice_get (outcomes o (Offered debt ∷ h)) (taken h) ≡ Some outcome =
-    ap (λ (os : List Outcome). slice_get os (taken h)) (outcomes_offered o h debt) ∙ holds.0 in
-    let next = next_stays o (Offered debt ∷ h) later outcome (goes_offered o h debt) first in (
-      next,
-      stands_more o new.conn conn.unread (after o (Taken ∷ h) (Offered debt)) later
-          (stands o conn.unread (Taken ∷ h) holds.1)
-          (more_after o (Offered debt) (Taken ∷ h) h (more_taken o h))
-          (Goes_on later Taken arises (slice_get_within (outcomes o later) (taken later) outcome next)),
-    )
 
 module _ {D : Type 0} {g : Ghosts D} where
   -- ---- the peer
@@ -146,8 +104,8 @@ module _ {D : Type 0} {g : Ghosts D} where
     pair_read places = record {
       id_is = pair.id_is;
       rank = pair.rank;
-      arises = pair.arises;
       holds = pair.holds;
+      waits = pair.waits;
       stands = read_peer past old new pair.stands reads conf parts places;
       tied = record { held = pair.tied.held; once = pair.tied.once };
     }
@@ -271,7 +229,6 @@ module _ {D : Type 0} {g : Ghosts D} where
           → HandedOver id now conn past (Debt number) new_c new
       took_over number own_number new_c ready stands waits rank same_id =
           let o = options_of past.conf in
-          let arises = Goes_on conn.transcript (Offered debt) pair.arises ready in
           record {
             transcript = after o conn.transcript (Offered debt);
             later = claimed;
@@ -282,14 +239,14 @@ module _ {D : Type 0} {g : Ghosts D} where
             stand = record {
               id_is = ap (λ i. i.0) same_id ∙ pair.id_is;
               rank = rank ∙ pair.rank;
-              arises = arises;
-              holds = subst (HoldsTranscript past.conf (with_transcript conn (after o conn.transcript (Offered debt)))
-                  new_c) (sym waits)
-                  (holds_offered past.conf conn debt connection new_c connection.waiting pair.holds arises stands);
+              holds = stands o conn.unread conn.transcript pair.holds;
+              waits = subst (WaitsWith past.conf (with_transcript conn (after o conn.transcript (Offered debt))))
+                  (sym waits) (waits_offered past.conf conn debt connection.waiting pair.waits);
               stands = peer_claimed;
               tied = tied_more id debt.0 conn (with_transcript conn (after o conn.transcript (Offered debt))) past
                   claimed
-                  (more_numbers o conn.transcript debt (few past.conf conn connection connection.waiting pair.holds))
+                  (more_numbers o conn debt
+                  (settled_few past.conf conn connection connection.waiting pair.holds pair.waits))
                   (unheld_free past.places debt.0 id is_unheld) held_now
                   (λ m apart. moved_other past.places debt.0 m (Held id) apart) pair.tied;
             };
@@ -319,8 +276,8 @@ module _ {D : Type 0} {g : Ghosts D} where
         pair_back = subst (λ (c : Connection). PairStands id conn returned c last) (sym same_c) (record {
           id_is = pair.id_is;
           rank = pair.rank;
-          arises = pair.arises;
           holds = pair.holds;
+          waits = pair.waits;
           stands = record {
             conf = same_conf ∙ peer_claimed.conf;
             limits = same_tape.limits ∙ peer_claimed.limits;
@@ -341,7 +298,7 @@ module _ {D : Type 0} {g : Ghosts D} where
                 ∙ moved_other past.places debt.0 m (Held id) apart
 
             back_held : (m : ℕ) → IsHeldBy returned.places id m
-                ↔ Contains (numbers_at (options_of past.conf) conn.transcript) m
+                ↔ Contains (numbers_at (options_of past.conf) conn) m
             back_held m = elim (cases_eq m debt.0) [
               | inl here ↦ (
                 λ is. absurd (ready_now (subst (IsHeldBy returned.places id) here is)),
@@ -423,14 +380,13 @@ module _ {D : Type 0} {g : Ghosts D} (id now : ℕ) (conn : ConnPast) (past : Pe
   module _ (handed : Handover) (mid_c : Connection) (mid_peer : Peer D g)
       (over : HandedOver id now conn past handed mid_c mid_peer) where
     -- it was open before exactly where it was
-    pub open_over : (c : Connection) (none : Bool) (closed : Option Reason) → HoldsTranscript past.conf conn c c.waiting
+    pub open_over : (c : Connection) (none : Bool) (closed : Option Reason) → HoldsTranscript past.conf conn c
         → ((o : Options) (unread : List ℕ) (h : List Happening) → ConnStands o c.conn unread h → closed ≡ reason o h)
         → is_some closed ≡ not none → none ≡ is_none (reason (options_of over.later.conf) conn.transcript)
     open_over c none closed holds says is =
-        none_told none closed is
-        ∙ ap is_none (reason_told past.conf conn c c.waiting closed holds says
-        ∙ ap (λ (conf : PeerConf). reason (options_of conf) conn.transcript)
-        (sym (hands_conf id now conn past handed over.transcript over.later over.hands)))
+        open_told past.conf conn c none closed holds says is
+        ∙ ap (λ (conf : PeerConf). is_none (reason (options_of conf) conn.transcript))
+        (sym (hands_conf id now conn past handed over.transcript over.later over.hands))
 
     pub hand_on : (before mid told : List Told) (cxn : ℕ) (what : Handover) (c : Connection) (peer : Peer D g)
         → what ≡ handed

@@ -1,18 +1,20 @@
 -- Which numbers a connection holds at its peer, and which it has, as its outcomes are taken.
 use Rattle.std.proofs.Common.{◌≡◌, ◌↔◌, ℕ, zero, suc, ◌+◌, Bool, true, false, cond, Option, None, Some, List, [], ◌∷◌}
 use Rattle.std.proofs.Common.{◌++◌, map, drop, refl, sym, ap, ◌∙◌, subst, inl, inr, arith}
-use Rattle.std.specs.Prelude.{◌==◌, Contains, slice_get, if◌then◌else◌}
+use Rattle.std.specs.Prelude.{◌==◌, Contains, nat_lt, slice_get, if◌then◌else◌}
 use Rattle.std.specs.List.{AllByRecursion, IsDistinct}
 use Rattle.std.proofs.lemmas.Bool.{cases_eq, eq-eqb, eqb-true, ne_eqb}
 use Rattle.std.proofs.lemmas.Map.Entries.{lookup-filter-keys}
+use Rattle.ledger_core.specs.State.{Owing}
 use Rattle.conn_core.specs.Commands.{Held}
-use Rattle.conn_core.specs.History.{Event as Happening, Story, Taken, accepted, ended_tickets, held, held_from, outcomes}
-use Rattle.conn_core.specs.History.{story, taken}
+use Rattle.conn_core.specs.History.{Event as Happening, Story, Taken, accepted, ended_tickets, held, held_from}
+use Rattle.conn_core.specs.History.{outcomes, story, taken}
 use Rattle.conn_core.specs.declared.options.Options.{Options}
 use Rattle.conn_core.specs.declared.outcome.Outcome.{Outcome}
 use Rattle.peer_queue.specs.Place.{IsHeldBy, Place, Places, gone, moved, place_at}
 use Rattle.peer_queue.specs.Settled.{key_in}
-use Rattle.world_core.specs.Exchange.{untold}
+use Rattle.world_core.specs.Past.{ConnPast}
+use Rattle.world_core.specs.Exchange.{all_out, one_out, out_to, unsettled, waiting}
 use Rattle.world_core.specs.Sound.{numbers_at}
 
 -- ---- the elements of a list
@@ -110,42 +112,73 @@ held_less p q id n rest held once others gone m = elim (cases_eq m n) [
   )
 ]
 
--- ---- an outcome is taken
-
-module _ (options : Options) (h : List Happening) where
-  story_taken : story options (Taken ∷ h) ≡ story options h
-  unfolding story
-  story_taken = refl
-
-  pub outcomes_taken : outcomes options (Taken ∷ h) ≡ outcomes options h
-  outcomes_taken = ap (λ (s : Story). map (λ x. x.outcome) s.ends) story_taken
-
-  pub held_taken : held options (Taken ∷ h) ≡ held options h
-  held_taken = ap (λ (s : Story). held_from 0 (accepted h) (ended_tickets s.ends)) story_taken
-
 drop_next : {X : Type 0} (xs : List X) (n : ℕ) (x : X) → slice_get xs n ≡ Some x → drop n xs ≡ x ∷ drop (suc n) xs
 drop_next [] zero x is = let never : None ≡ Some x = is in cc
 drop_next [] (suc n) x is = let never : None ≡ Some x = is in cc
 drop_next (y ∷ xs) zero x is = let same : y ≡ x = cc in ap (λ z. z ∷ xs) same
 drop_next (y ∷ xs) (suc n) x is = drop_next xs n x is
 
--- it was the first of those that were left
-pub untold_taken : (options : Options) (h : List Happening) (outcome : Outcome)
-    → slice_get (outcomes options h) (taken h) ≡ Some outcome
-    → untold options h ≡ outcome ∷ untold options (Taken ∷ h)
-untold_taken options h outcome next =
-    let more : suc (taken h) ≡ taken h + 1 = omega arith in
-    drop_next (outcomes options h) (taken h) outcome next
-    ∙ ap (λ (l : List Outcome). outcome ∷ l)
-    (ap (λ (n : ℕ). drop n (outcomes options h)) more
-    ∙ ap (λ (os : List Outcome). drop (taken h + 1) os) (sym (outcomes_taken options h)))
+-- ---- an outcome is taken, and goes to the peer
 
--- and its number the first of the connection's
-pub numbers_taken : (options : Options) (h : List Happening) (outcome : Outcome)
-    → untold options h ≡ outcome ∷ untold options (Taken ∷ h)
-    → numbers_at options h ≡ key_in outcome ∷ numbers_at options (Taken ∷ h)
-numbers_taken options h outcome next =
-    ap (λ (os : List Outcome). map key_in os ++ map (λ (x : Held). x.debt.0) (held options h)) next
-    ∙ ap (λ (xs : List Held).
-    key_in outcome ∷ (map key_in (untold options (Taken ∷ h)) ++ map (λ (x : Held). x.debt.0) xs))
-    (sym (held_taken options h))
+-- the rank stays
+pub out_rank : (os : List Outcome) (conn : ConnPast) → (all_out os conn).rank ≡ conn.rank
+out_rank [] conn = refl
+out_rank (o ∷ os) conn = out_rank os (one_out conn)
+
+module _ (options : Options) where
+  story_taken : (h : List Happening) → story options (Taken ∷ h) ≡ story options h
+  unfolding story
+  story_taken h = refl
+
+  story_out : (count : ℕ) (h : List Happening) → story options (out_to count h) ≡ story options h
+  story_out count h = by (nat_lt (taken h) count)
+    where
+      by : (b : Bool) → story options (if b then Taken ∷ h else h) ≡ story options h
+      by true = story_taken h
+      by false = refl
+
+  accepted_out : (count : ℕ) (h : List Happening) → accepted (out_to count h) ≡ accepted h
+  accepted_out count h = by (nat_lt (taken h) count)
+    where
+      by : (b : Bool) → accepted (if b then Taken ∷ h else h) ≡ accepted h
+      by true = refl
+      by false = refl
+
+  pub outcomes_out : (count : ℕ) (h : List Happening) → outcomes options (out_to count h) ≡ outcomes options h
+  outcomes_out count h = ap (λ (s : Story). map (λ x. x.outcome) s.ends) (story_out count h)
+
+  held_out : (count : ℕ) (h : List Happening) → held options (out_to count h) ≡ held options h
+  held_out count h =
+      ap (λ (s : Story). held_from 0 (accepted (out_to count h)) (ended_tickets s.ends)) (story_out count h)
+      ∙ ap (λ (debts : List Owing). held_from 0 debts (ended_tickets (story options h).ends)) (accepted_out count h)
+
+  -- it was the first of those that were left
+  pub next_gone : (conn : ConnPast) (outcome : Outcome)
+      → slice_get (outcomes options conn.transcript) conn.settled ≡ Some outcome
+      → unsettled options conn ≡ outcome ∷ unsettled options (one_out conn)
+  next_gone conn outcome next =
+      let more : suc conn.settled ≡ conn.settled + 1 = omega arith in
+      drop_next (outcomes options conn.transcript) conn.settled outcome next
+      ∙ ap (λ (l : List Outcome). outcome ∷ l)
+      (ap (λ (n : ℕ). drop n (outcomes options conn.transcript)) more
+      ∙ ap (λ (os : List Outcome). drop (conn.settled + 1) os)
+      (sym (outcomes_out (conn.settled + 1) conn.transcript)))
+
+  -- and its number the first of the connection's
+  pub numbers_gone : (conn : ConnPast) (outcome : Outcome)
+      → unsettled options conn ≡ outcome ∷ unsettled options (one_out conn)
+      → numbers_at options conn ≡ key_in outcome ∷ numbers_at options (one_out conn)
+  numbers_gone conn outcome next =
+      ap (λ (os : List Outcome). map key_in os ++ map (λ (x : Held). x.debt.0) (held options conn.transcript)) next
+      ∙ ap (λ (xs : List Held).
+      key_in outcome ∷ (map key_in (unsettled options (one_out conn)) ++ map (λ (x : Held). x.debt.0) xs))
+      (sym (held_out (conn.settled + 1) conn.transcript))
+
+  -- where it is taken, but waits, the connection has the numbers that it had
+  pub numbers_wait : (conn : ConnPast) → numbers_at options (waiting conn) ≡ numbers_at options conn
+  numbers_wait conn =
+      ap (λ (os : List Outcome).
+      map key_in (drop conn.settled os) ++ map (λ (x : Held). x.debt.0) (held options (waiting conn).transcript))
+      (outcomes_out (conn.settled + 1) conn.transcript)
+      ∙ ap (λ (xs : List Held). map key_in (unsettled options conn) ++ map (λ (x : Held). x.debt.0) xs)
+      (held_out (conn.settled + 1) conn.transcript)

@@ -7,6 +7,7 @@ use Rattle.std.proofs.lemmas.Bool.{cases_lt, eq-eqb, le-ltb, lt-ltb, ne_eqb}
 use Rattle.std.proofs.lemmas.List.{length_push}
 use Rattle.std.specs.List.{AllZip, prefix_len, slice_get}
 use Rattle.std.specs.Str.{bytes_eq}
+use Rattle.std.proofs.Math.Seq.{drop-length}
 use Rattle.disk_model.specs.declared.Disk.{Ghosts}
 use Rattle.ledger_core.specs.Keys.{number-is, number_of}
 use Rattle.ledger_core.specs.State.{State, step}
@@ -43,7 +44,7 @@ use Rattle.world_core.specs.declared.told.Told.{Told}
 use Rattle.world_core.specs.declared.told.Told.TheVariants.{Imported as ToldImported}
 use Rattle.world_core.proofs.Chains.{did_none, did_one, did_then, failed_before, failed_one, failed_then}
 use Rattle.world_core.proofs.Lifting.{get_set, with_same}
-use Rattle.world_core.proofs.Pure.{drop_all, drop_push}
+use Rattle.world_core.proofs.Pure.{drop_push}
 use Rattle.world_core.proofs.Sound.{safe_of}
 use Rattle.world_core.proofs.Results.{if_err_map, if_ok_map}
 
@@ -109,7 +110,7 @@ at_spilled past later rank source pending mark at d =
       source_is = ap (λ (h : History). (ledger_after h).closed + 1) history
           ∙ ap (λ (p : PeerPast). open_source p) (sym same) ∙ at.source_is;
       pending_is = ap (λ (h : History). length (pending_notes h)) history
-          ∙ ap (λ (l : List Note). length l) (drop_all d.peer.tape.history.notes);
+          ∙ ap (λ (l : List Note). length l) (drop-length d.peer.tape.history.notes);
       mark_is = ap (λ (h : History). (ledger_after h).import_mark) history
           ∙ ap (λ (p : PeerPast). import_mark_at p) (sym same) ∙ at.mark_is;
     }

@@ -16,14 +16,16 @@ use Rattle.world_core.specs.Past.{ConnPast, Life, PeerPast, conn_at, options_of,
 use Rattle.world_core.specs.Joined.{AreRunning}
 use Rattle.world_core.specs.Pairs.{PairStands}
 use Rattle.world_core.specs.Sound.{HasNumber, IsSoundConn, numbers_at}
-use Rattle.world_core.specs.Stands.{ConnectionStands, HoldsTranscript, PeerStands}
+use Rattle.world_core.specs.Stands.{ConnectionStands, HoldsTranscript, PeerStands, WaitsWith}
 use Rattle.world_core.specs.declared.connection.Connection.{Connection}
 use Rattle.world_core.specs.declared.peer.Peer.{Peer}
 use Rattle.world_core.specs.declared.stations.Stations.{Stations}
 use Rattle.world_core.proofs.Acknowledged.{all_at}
 use Rattle.world_core.proofs.Lifting.{PeerKeeps, get_apart, get_set, sound_with}
+use Rattle.world_core.proofs.Pairing.{stands_arise}
 use Rattle.world_core.proofs.Pure.{all_set, all_weaker, map_set, zip_at, zip_set}
 use Rattle.world_core.proofs.Stationed.{WithPeer, stands_with}
+use Rattle.world_core.proofs.Zips.{zip_weaker}
 
 -- ---- connections by their numbers
 
@@ -161,20 +163,17 @@ conns_stay : (peers : List PeerPast) (rank : ℕ) (was now : PeerPast) → slice
     → now.conf ≡ was.conf
     → (entries : List Entry) (cs : List Connection) → AllZip (ConnectionStands peers) entries cs
     → AllZip (ConnectionStands (set peers rank now)) entries cs
-conns_stay peers rank was now here same [] [] all = tt
-conns_stay peers rank was now here same [] (c ∷ cs) all = absurd all
-conns_stay peers rank was now here same (e ∷ entries) [] all = absurd all
-conns_stay peers rank was now here same (e ∷ entries) (c ∷ cs) all =
-    let found = peer_stays peers rank e.1.rank was now all.0.peer here same all.0.here in (
-      record {
-        id = all.0.id;
-        rank = all.0.rank;
-        peer = found.0;
-        here = found.1;
-        holds = subst (λ (conf : PeerConf). HoldsTranscript conf e.1 c c.waiting) (sym found.2) all.0.holds;
-      },
-      conns_stay peers rank was now here same entries cs all.1,
-    )
+conns_stay peers rank was now here same entries cs all =
+    zip_weaker (ConnectionStands peers) (ConnectionStands (set peers rank now)) (λ e c is.
+    let found = peer_stays peers rank e.1.rank was now is.peer here same is.here in
+    record {
+      id = is.id;
+      rank = is.rank;
+      peer = found.0;
+      here = found.1;
+      holds = subst (λ (conf : PeerConf). HoldsTranscript conf e.1 c) (sym found.2) is.holds;
+      waits = subst (λ (conf : PeerConf). WaitsWith conf e.1 c.waiting) (sym found.2) is.waits;
+    }) entries cs all
 
 sound_stays : (peers : List PeerPast) (rank : ℕ) (was now : PeerPast) → slice_get peers rank ≡ Some was
     → now.conf ≡ was.conf
@@ -185,8 +184,7 @@ sound_stays peers rank was now here same entry sound =
       peer = found.0;
       here = found.1;
       arises = subst (λ (conf : PeerConf). Arises (options_of conf) entry.1.transcript) (sym found.2) sound.arises;
-      once = subst (λ (conf : PeerConf). IsDistinctAt (numbers_at (options_of conf) entry.1.transcript)) (sym found.2)
-          sound.once;
+      once = subst (λ (conf : PeerConf). IsDistinctAt (numbers_at (options_of conf) entry.1)) (sym found.2) sound.once;
     }
 
 module _ {D : Type 0} {g : Ghosts D} where
@@ -222,21 +220,21 @@ module _ {D : Type 0} {g : Ghosts D} where
         record {
           id_is = stands.id;
           rank = stands.rank;
-          arises = subst (λ (p : PeerPast). Arises (options_of p.conf) conn.transcript) (its_peer s.peer s.here)
-              s.arises;
-          holds = subst (λ (p : PeerPast). HoldsTranscript p.conf conn c c.waiting) (its_peer stands.peer stands.here)
+          holds = subst (λ (p : PeerPast). HoldsTranscript p.conf conn c) (its_peer stands.peer stands.here)
               stands.holds;
+          waits = subst (λ (p : PeerPast). WaitsWith p.conf conn c.waiting) (its_peer stands.peer stands.here)
+              stands.waits;
           stands = subst (λ (p : PeerPast). PeerStands p was) same_peer
               (subst (λ (q : Peer D g). PeerStands found.0 q) (sym was_at) found.2);
           tied = record {
             held = λ number. (
               λ is. let has = (running.tied.held rank id number peer here).0 is in
-                  subst (λ (k : ConnPast). Contains (numbers_at (options_of peer.conf) k.transcript) number)
+                  subst (λ (k : ConnPast). Contains (numbers_at (options_of peer.conf) k) number)
                   (once has.conn conn (sym has.here ∙ is_there)) has.has,
               λ has. (running.tied.held rank id number peer here).1
                   (record { conn = conn; here = is_there; its = at; has = has }),
             );
-            once = subst (λ (p : PeerPast). IsDistinctAt (numbers_at (options_of p.conf) conn.transcript))
+            once = subst (λ (p : PeerPast). IsDistinctAt (numbers_at (options_of p.conf) conn))
                 (its_peer s.peer s.here) s.once;
           };
         }
@@ -275,7 +273,7 @@ module _ {D : Type 0} {g : Ghosts D} where
       held_here number = (
         λ is. record { conn = later_conn; here = now_there; its = its_rank; has = (pair.tied.held number).0 is },
         λ has. (pair.tied.held number).1
-            (subst (λ (k : ConnPast). Contains (numbers_at (options_of later.conf) k.transcript) number)
+            (subst (λ (k : ConnPast). Contains (numbers_at (options_of later.conf) k) number)
             (once has.conn later_conn (sym has.here ∙ now_there)) has.has),
       )
 
@@ -293,13 +291,13 @@ module _ {D : Type 0} {g : Ghosts D} where
                   here = other_same other apart ∙ has.here;
                   its = has.its;
                   has = subst (λ (conf : PeerConf).
-                      Contains (numbers_at (options_of conf) has.conn.transcript) number) (sym keeps.conf) has.has;
+                      Contains (numbers_at (options_of conf) has.conn) number) (sym keeps.conf) has.has;
                 },
             λ has. (keeps.others other number apart).1 (tie.1 (record {
               conn = has.conn;
               here = sym (other_same other apart) ∙ has.here;
               its = has.its;
-              has = subst (λ (conf : PeerConf). Contains (numbers_at (options_of conf) has.conn.transcript) number)
+              has = subst (λ (conf : PeerConf). Contains (numbers_at (options_of conf) has.conn) number)
                   keeps.conf has.has;
             })),
           )
@@ -371,6 +369,7 @@ module _ {D : Type 0} {g : Ghosts D} where
               peer = later;
               here = ap (slice_get (set life.past.peers rank later)) its_rank ∙ later_here;
               holds = pair.holds;
+              waits = pair.waits;
             })));
         tied = record {
           rising = subst (λ (entries : List Entry). IsStrictlyIncreasing (map (λ (x : Entry). x.0) entries))
@@ -392,7 +391,8 @@ module _ {D : Type 0} {g : Ghosts D} where
               (record {
                 peer = later;
                 here = ap (slice_get (set life.past.peers rank later)) its_rank ∙ later_here;
-                arises = pair.arises;
+                arises = (stands_arise (options_of later.conf) c.conn later_conn.unread later_conn.transcript
+                    pair.holds).0;
                 once = pair.tied.once;
               }));
           held = held_all;

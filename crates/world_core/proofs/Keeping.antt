@@ -3,6 +3,7 @@ use Rattle.std.proofs.Common.{◌≡◌, ℕ, zero, suc, ◌+◌, ◌-◌, ◌�
 use Rattle.std.proofs.Common.{◌++◌, length, take, drop, refl, sym, ap, ◌∙◌, subst, arith, append_assoc}
 use Rattle.std.proofs.Common.{append-nil, take-append-drop}
 use Rattle.std.specs.List.{AllZip, slice_get}
+use Rattle.std.proofs.Math.Seq.{take-length}
 use Rattle.ledger_core.specs.declared.note.Note.{Note}
 use Rattle.ledger_core.specs.declared.note.Note.TheVariants.{Drop, Final, Owe}
 use Rattle.peer_queue.specs.Shed.{dropped}
@@ -37,10 +38,6 @@ take_less (suc k) [] ys = ap (λ (n : ℕ). take n ys) (whole_less (suc k))
 take_less (suc k) (x ∷ xs) ys =
     ap (λ l. x ∷ l) (take_less k xs ys ∙ ap (λ (n : ℕ). take k xs ++ take n ys) (both_less k (length xs)))
 
-pub take_whole : {A : Type 0} (xs : List A) → take (length xs) xs ≡ xs
-take_whole [] = refl
-take_whole (x ∷ xs) = ap (λ l. x ∷ l) (take_whole xs)
-
 take_twice : {A : Type 0} (k : ℕ) (xs : List A) → take k (take k xs) ≡ take k xs
 take_twice zero xs = refl
 take_twice (suc k) [] = refl
@@ -72,7 +69,7 @@ tape_flushed : (was now : TapePast) → now.history ≡ flushed was.history → 
 tape_flushed was now is = record {
   base = ap (λ (h : History). h.base) is;
   more = _;
-  front = ap (λ (h : History). take h.kept h.notes) is ∙ take_whole was.history.notes
+  front = ap (λ (h : History). take h.kept h.notes) is ∙ take-length was.history.notes
       ∙ sym (take-append-drop was.history.kept was.history.notes);
 }
 

@@ -1,5 +1,5 @@
 -- The names of the peers stay, whatever steps are taken.
-use Rattle.std.proofs.Common.{◌≡◌, ℕ, List, [], ◌∷◌, length, map, refl, sym, ap, ◌∙◌}
+use Rattle.std.proofs.Common.{◌≡◌, ℕ, List, length, map, refl, sym, ap, ◌∙◌}
 use Rattle.std.specs.List.{AllZip}
 use Rattle.disk_model.specs.declared.Disk.{Ghosts}
 use Rattle.world_core.specs.Past.{Life, Past, PeerPast, with_tape}
@@ -19,7 +19,7 @@ use Rattle.world_core.proofs.Kept.{names_does, names_put}
 use Rattle.world_core.proofs.Sound.{names_begun}
 use Rattle.world_core.proofs.Traversal.{runs_all}
 use Rattle.world_core.proofs.Walking.{Keeper}
-use Rattle.world_core.proofs.Zips.{zip_length}
+use Rattle.world_core.proofs.Zips.{zip_length, zip_equal}
 
 -- the names of its peers
 abbrev named : Life → List (List ℕ)
@@ -51,21 +51,15 @@ names_runs begun later steps lines runs =
 module _ {D : Type 0} {g : Ghosts D} where
   open_names : (pasts : List PeerPast) (peers : List (Peer D g)) → AllZip PeerStands pasts peers
       → map (λ (peer : Peer D g). peer.conf.name) peers ≡ names_of pasts
-  open_names [] [] all = refl
-  open_names [] (peer ∷ peers) all = absurd all
-  open_names (past ∷ pasts) [] all = absurd all
-  open_names (past ∷ pasts) (peer ∷ peers) all =
-      ap (λ conf. conf.name ∷ map (λ (p : Peer D g). p.conf.name) peers) all.0.conf
-      ∙ ap (λ names. past.conf.name ∷ names) (open_names pasts peers all.1)
+  open_names pasts peers all =
+      zip_equal PeerStands (λ (past : PeerPast). past.conf.name) (λ (peer : Peer D g). peer.conf.name)
+      (λ past peer is. ap (λ conf. conf.name) is.conf) pasts peers all
 
 stopped_names : (pasts : List PeerPast) (peers : List StoppedPeer) → AllZip StoppedStands pasts peers
     → map (λ (peer : StoppedPeer). peer.conf.name) peers ≡ names_of pasts
-stopped_names [] [] all = refl
-stopped_names [] (peer ∷ peers) all = absurd all
-stopped_names (past ∷ pasts) [] all = absurd all
-stopped_names (past ∷ pasts) (peer ∷ peers) all =
-    ap (λ conf. conf.name ∷ map (λ (p : StoppedPeer). p.conf.name) peers) all.0.conf
-    ∙ ap (λ names. past.conf.name ∷ names) (stopped_names pasts peers all.1)
+stopped_names pasts peers all =
+    zip_equal StoppedStands (λ (past : PeerPast). past.conf.name) (λ (peer : StoppedPeer). peer.conf.name)
+    (λ past peer is. ap (λ conf. conf.name) is.conf) pasts peers all
 
 stage_names : (life : Life) (stage : Stage) → StageStands life stage → names_at stage ≡ named life
 stage_names life (Running stations connections) stands = open_names life.past.peers stations.peers.items stands.1.peers

@@ -51,7 +51,6 @@ pub mod Following
 pub mod Growing
 pub mod Outputs
 pub mod Telling
-pub mod Waiting
 pub mod Balance
 pub mod Pairing
 pub mod Breaking

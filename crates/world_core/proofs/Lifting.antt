@@ -1,7 +1,8 @@
 -- What happens to one peer of all, of which one connection's numbers change: the rest stays, and whatever a stop
 -- leaves is safe.
 use Rattle.std.proofs.Common.{◌≡◌, ◌↔◌, ℕ, zero, suc, ◌≤◌, Bool, true, false, None, Some, List, [], ◌∷◌, ◌++◌, length}
-use Rattle.std.proofs.Common.{map, take, refl, sym, ap, ◌∙◌, subst, inl, inr, arith, length-append}
+use Rattle.std.proofs.Common.{take, refl, sym, ap, ◌∙◌, subst, inl, inr, arith, length-append}
+use Rattle.std.proofs.lemmas.List.{map_push}
 use Rattle.std.specs.Prelude.{◌==◌, cond, if◌then◌else◌, slice_get}
 use Rattle.std.proofs.Math.ListN.{set}
 use Rattle.std.specs.List.{AllByRecursion}
@@ -23,7 +24,7 @@ use Rattle.world_core.specs.Safe.{HasAcknowledged, IsAbove, IsSafe, KeepsLines, 
 use Rattle.world_core.specs.Tapes.{IsReadTape}
 use Rattle.world_core.specs.Events.{AllDo, Claims, Does, Event, Next, Returns, Settles, Start, settled_as, settling}
 use Rattle.world_core.specs.Exchange.{settle_events}
-use Rattle.world_core.specs.Pairs.{AllSettleAt, ClaimsAt, GivesBackAt, Next as NextSettled, ReturnsAt, SettlesAt}
+use Rattle.world_core.specs.Pairs.{AllSettleAt, ClaimsAt, Next as NextSettled, ReturnsAt, SettlesAt}
 use Rattle.world_core.specs.Pairs.{Start as NoneSettled}
 use Rattle.world_core.specs.Sound.{HasParted, IsSound}
 use Rattle.world_core.proofs.Acknowledged.{all_at}
@@ -290,10 +291,6 @@ pub with_same : (past : Past) (rank : ℕ) (was : PeerPast) → slice_get past.p
     → with_peer past rank was ≡ past
 with_same past rank was here = ap (λ peers. record past { peers = peers }) (set_same past.peers rank was here)
 
-map_snoc : {A B : Type 0} (f : A → B) (xs : List A) (x : A) → map f (xs ++ x ∷ []) ≡ map f xs ++ f x ∷ []
-map_snoc f [] x = refl
-map_snoc f (y ∷ xs) x = ap (λ l. f y ∷ l) (map_snoc f xs x)
-
 -- ---- events at one peer
 
 -- these events lead there, and keep what others have
@@ -373,6 +370,6 @@ module _ (past : Past) (rank id : ℕ) (was : PeerPast) (here : slice_get past.p
       → Leads past rank id was later (settle_events rank id now outcomes)
   leads_settled now _ _ NoneSettled = leads_nowhere
   leads_settled now _ _ (NextSettled outcomes outcome mid later front one) =
-      subst (Leads past rank id was later) (sym (map_snoc (λ (o : Outcome). Settles rank id now o) outcomes outcome))
+      subst (Leads past rank id was later) (sym (map_push (λ (o : Outcome). Settles rank id now o) outcomes outcome))
       (leads_settle now (settle_events rank id now outcomes) mid later outcome (leads_settled now outcomes mid front)
       one)

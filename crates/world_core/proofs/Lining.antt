@@ -3,7 +3,7 @@ use Rattle.std.proofs.Common.{◌≡◌, ℕ, zero, suc, ◌+◌, ◌<◌, Bool,
 use Rattle.std.proofs.Common.{drop, map, if◌then◌else◌, refl, sym, ap, ◌∙◌, subst, arith, add-one, append-nil}
 use Rattle.std.proofs.Common.{append_assoc}
 use Rattle.std.proofs.Math.ListN.{set}
-use Rattle.std.proofs.lemmas.List.{length-map, take_all}
+use Rattle.std.proofs.lemmas.List.{length-map, take_all, map_push}
 use Rattle.std.specs.List.{AllByRecursion, slice_get}
 use Rattle.disk_model.specs.declared.Disk.{Ghosts}
 use Rattle.peer_queue.specs.declared.limits.Owed.{Owed}
@@ -36,10 +36,6 @@ pub take_next : {A : Type 0} (xs : List A) (k : ℕ) (x : A) → slice_get xs k 
 take_next [] k x here = absurd cc
 take_next (y ∷ xs) zero x here = let same : y ≡ x = cc in ap (λ z. z ∷ []) same
 take_next (y ∷ xs) (suc k) x here = ap (λ l. y ∷ l) (take_next xs k x here)
-
-map_more : {A B : Type 0} (f : A → B) (xs : List A) (x : A) → map f (xs ++ x ∷ []) ≡ map f xs ++ f x ∷ []
-map_more f [] x = refl
-map_more f (y ∷ xs) x = ap (λ l. f y ∷ l) (map_more f xs x)
 
 map_split : {A B : Type 0} (f : A → B) (xs : List A) (k : ℕ) (x : A) → slice_get xs k ≡ Some x
     → map f xs ≡ (map f (take k xs) ++ f x ∷ []) ++ map f (drop (suc k) xs)
@@ -223,18 +219,18 @@ module _ {D : Type 0} {g : Ghosts D} where
               (map (owes_at token id) (take (length front + 1) (named_from 0 named past.peers))) (Owes at.0 token id)
               old new
               (ap (map (owes_at token id)) longer
-              ∙ map_more (owes_at token id) (take (length front) (named_from 0 named past.peers)) entry.0
+              ∙ map_push (owes_at token id) (take (length front) (named_from 0 named past.peers)) entry.0
               ∙ ap (λ (n : ℕ). map (owes_at token id) (take (length front) (named_from 0 named past.peers))
               ++ Owes n token id ∷ []) next_rank)
               so_far.did one.did;
-          told_is = ap (map said_at) tells ∙ map_more said_at told (record { name = name; owed = owed })
+          told_is = ap (map said_at) tells ∙ map_push said_at told (record { name = name; owed = owed })
               ∙ ap (λ l. l ++ (name, owed) ∷ []) so_far.told_is
               ∙ ap (λ (n : List ℕ). map (told_of (past.last + 1))
               (take (length front) (named_from 0 named past.peers)) ++ (n, owed) ∷ []) own
               ∙ ap (λ (o : Owed). map (told_of (past.last + 1)) (take (length front) (named_from 0 named past.peers))
               ++ (entry.0.1.conf.name, o) ∷ []) answer
               ∙ sym (ap (map (told_of (past.last + 1))) longer
-              ∙ map_more (told_of (past.last + 1)) (take (length front) (named_from 0 named past.peers)) entry.0);
+              ∙ map_push (told_of (past.last + 1)) (take (length front) (named_from 0 named past.peers)) entry.0);
           same_last = ap (λ (p : Past). p.last) one.did.does.changed ∙ so_far.same_last;
           behind = λ rank all.
               let parts = all_more (λ (e : ℕ × PeerPast). e.0 < rank)

@@ -54,7 +54,7 @@ use Rattle.world_core.proofs.Peers.{not_true}
 use Rattle.world_core.proofs.Sound.{each_front, safe_of}
 use Rattle.world_core.proofs.Stopping.{tied_none}
 use Rattle.world_core.proofs.Tried.{none_held}
-use Rattle.world_core.proofs.Zips.{zip_push}
+use Rattle.world_core.proofs.Zips.{zip_push, zip_first}
 
 -- ---- names in order
 
@@ -202,10 +202,9 @@ refuses_tape octets (Note fault) kind memory damaged = absurd kind
 module _ {D : Type 0} {g : Ghosts D} where
   are_tapes : (given : List GivenPeer) (peers : List (Peer D g)) → AllZip OpensGiven given peers
       → AllByRecursion (λ (other : GivenPeer). IsSomeTape (given_octets other)) given
-  are_tapes [] [] all = tt
-  are_tapes [] (peer ∷ peers) all = tt
-  are_tapes (one ∷ given) [] all = absurd all
-  are_tapes (one ∷ given) (peer ∷ peers) all = ((all.0.state, all.0.was), are_tapes given peers all.1)
+  are_tapes given peers all =
+      zip_first OpensGiven (λ (other : GivenPeer). IsSomeTape (given_octets other)) (λ one peer is. (is.state, is.was))
+      given peers all
 
   -- one more was opened
   pub opens_more : (front : List GivenPeer) (peers new : List (Peer D g)) (given : GivenPeer) (peer : Peer D g)

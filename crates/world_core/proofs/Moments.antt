@@ -14,7 +14,7 @@ use Rattle.peer_queue.specs.declared.limits.Owed.TheVariants.{New, Already}
 use Rattle.peer_queue.specs.declared.settled.Settled.{Settled}
 use Rattle.peer_queue.specs.declared.settled.Settled.TheVariants.{Answered, Dropped, Later, Ready}
 use Rattle.world_core.specs.Past.{Life, Past, PeerPast, TapePast, mark_at, with_peer, with_places, with_tape}
-use Rattle.world_core.specs.Safe.{HasAcknowledged, IsSafe, KeepsLines, KeepsNotes}
+use Rattle.world_core.specs.Safe.{IsSafe, KeepsLines, KeepsNotes}
 use Rattle.world_core.specs.Events.{Acknowledges, AllDo, Claims, Closes, Does, Event, Imports, Opens, OpensIntake, Owes}
 use Rattle.world_core.specs.Events.{Parts, Refuses, Returns, Rotates, Sees, Settles, Sheds, Spills, import_key}
 use Rattle.world_core.specs.Events.{claimed_peer, imported_as, owed_as, owing_as, seen, settled_as, settling, shed_peer}
@@ -31,7 +31,8 @@ use Rattle.world_core.specs.declared.step.Step.TheVariants.{Flush, Import, Part,
 use Rattle.world_core.proofs.Keeping.{peer_same, stay_same, stay_then}
 use Rattle.world_core.proofs.Recovering.{comes_safe, still_owes}
 use Rattle.world_core.proofs.Running.{all_stay, events_stay}
-use Rattle.world_core.proofs.Zips.{zip_made, zip_put, zip_same}
+use Rattle.world_core.proofs.Sound.{all_begun}
+use Rattle.world_core.proofs.Zips.{zip_made, zip_put, zip_same, zip_weaker}
 
 -- ---- lists
 
@@ -48,13 +49,6 @@ zip_with P S Q each [] (y ∷ ys) zip all = absurd zip
 zip_with P S Q each (x ∷ xs) [] zip all = absurd zip
 zip_with P S Q each (x ∷ xs) (y ∷ ys) zip all =
     (each x y zip.0 all.0, zip_with P S Q each xs ys zip.1 all.1)
-
-zip_weaker : {A B : Type 0} (P Q : A → B → Type 0) → ((x : A) (y : B) → P x y → Q x y)
-    → (xs : List A) (ys : List B) → AllZip P xs ys → AllZip Q xs ys
-zip_weaker P Q each [] [] zip = tt
-zip_weaker P Q each [] (y ∷ ys) zip = absurd zip
-zip_weaker P Q each (x ∷ xs) [] zip = absurd zip
-zip_weaker P Q each (x ∷ xs) (y ∷ ys) zip = (each x y zip.0, zip_weaker P Q each xs ys zip.1)
 
 -- ---- a peer
 
@@ -294,17 +288,12 @@ safe_peers : (peers : List PeerPast) → AllByRecursion IsSafePeer peers
 safe_peers [] safe = tt
 safe_peers (peer ∷ peers) safe = (safe.0, safe_peers peers safe.1)
 
-safe_lines : (mark : ℕ) (peers : List PeerPast) → AllByRecursion (HasAcknowledged mark) peers
-    → AllByRecursion (HasAcknowledged mark) (map (λ (peer : PeerPast). record peer { parted = false }) peers)
-safe_lines mark [] has = tt
-safe_lines mark (peer ∷ peers) has = (has.0, safe_lines mark peers has.1)
-
 safe_begun : (past : Past) → IsSafe past → IsSafe (begun_at past)
 safe_begun past safe = record {
   peers = safe_peers past.peers safe.peers;
   intake = EachLedger-weaker (KeepsLines past.intake.history past.peers)
       (KeepsLines past.intake.history (begun_at past).peers)
-      (λ state keeps. record { front = keeps.front; lines = safe_lines state.mark past.peers keeps.lines })
+      (λ state keeps. record { front = keeps.front; lines = all_begun state.mark past.peers keeps.lines })
       past.intake.log safe.intake;
 }
 

@@ -26,6 +26,7 @@ use Rattle.world_core.specs.Stands.{PeerStands, Stands}
 use Rattle.world_core.specs.Stepped.{AreFound, AreWithin, FoundAt, named_from}
 use Rattle.world_core.specs.declared.peer.Peer.{Peer}
 use Rattle.world_core.specs.declared.stations.Stations.{Stations}
+use Rattle.world_core.proofs.Zips.{zip_equal}
 
 -- ---- names
 
@@ -321,12 +322,9 @@ not_equal r (inr e) same = let clash : Greater ≡ Equal = sym e ∙ same in cc
 module _ {D : Type 0} {g : Ghosts D} where
   same_names : (pasts : List PeerPast) (peers : List (Peer D g)) → AllZip PeerStands pasts peers
       → names_of pasts ≡ map (λ (peer : Peer D g). peer.conf.name) peers
-  same_names [] [] all = refl
-  same_names [] (peer ∷ peers) all = absurd all
-  same_names (past ∷ pasts) [] all = absurd all
-  same_names (past ∷ pasts) (peer ∷ peers) all =
-      ap (λ conf. conf.name ∷ names_of pasts) (sym all.0.conf)
-      ∙ ap (λ l. peer.conf.name ∷ l) (same_names pasts peers all.1)
+  same_names pasts peers all =
+      sym (zip_equal PeerStands (λ (past : PeerPast). past.conf.name) (λ (peer : Peer D g). peer.conf.name)
+      (λ past peer is. ap (λ conf. conf.name) is.conf) pasts peers all)
 
   none_past : (name : List ℕ) (pasts : List PeerPast) (peers : List (Peer D g)) → AllZip PeerStands pasts peers
       → AllByRecursion (λ (peer : Peer D g). bytes_eq name peer.conf.name ≡ false) peers

@@ -1,29 +1,28 @@
--- What happens on a connection keeps it tied to its peer, also where an outcome of it waits.
+-- What happens on a connection keeps it tied to its peer, also if an outcome of it waits.
 use Rattle.std.proofs.Common.{◌≡◌, inl, inr, ℕ, zero, suc, ◌+◌, ◌≤◌, Bool, true, false, Option, None, Some, List, []}
-use Rattle.std.proofs.Common.{◌∷◌, ◌++◌, length, map, drop, take, refl, sym, ap, ◌∙◌, subst, arith}
-use Rattle.std.specs.Prelude.{◌==◌, Contains, if◌then◌else◌, is_some, slice_get}
+use Rattle.std.proofs.Common.{◌∷◌, ◌++◌, length, refl, sym, ap, ◌∙◌, subst, arith}
+use Rattle.std.specs.Prelude.{◌==◌, Contains, if◌then◌else◌, slice_get}
 use Rattle.std.specs.List.{AllByRecursion, IsDistinct}
 use Rattle.std.proofs.lemmas.Bool.{cases_eq, cases_lt, eq-eqb, eqb-true}
-use Rattle.std.proofs.lemmas.Option.{slice_get_within}
 use Rattle.disk_model.specs.declared.Disk.{Ghosts}
 use Rattle.feed_conf.specs.declared.conf.PeerConf.{PeerConf}
 use Rattle.ledger_core.specs.State.{Owing}
-use Rattle.conn_core.specs.History.{Event, Story, Taken, accepted, ended_tickets, held_from, outcomes, story, taken}
-use Rattle.conn_core.specs.Stands.{Arises, HoldsBack, StandsFor as ConnStands, Goes_on}
+use Rattle.conn_core.specs.History.{Event, Offered, after, outcomes, taken}
+use Rattle.conn_core.specs.Stands.{Arises, StandsFor as ConnStands}
 use Rattle.conn_core.specs.State.{Holding}
-use Rattle.conn_core.specs.Used.{left_from, times}
+use Rattle.conn_core.specs.Used.{times}
 use Rattle.conn_core.specs.declared.options.Options.{Options}
 use Rattle.conn_core.specs.declared.outcome.Outcome.{Outcome}
 use Rattle.peer_queue.specs.Place.{IsHeldBy, place_at}
 use Rattle.world_core.specs.Past.{ConnPast, PeerPast, options_of}
+use Rattle.world_core.specs.Exchange.{with_transcript}
 use Rattle.world_core.specs.Pairs.{IsTied, PairStands}
 use Rattle.world_core.specs.Sound.{numbers_at}
-use Rattle.world_core.specs.Stands.{HoldsTranscript}
+use Rattle.world_core.specs.Stands.{HoldsTranscript, WaitsWith}
 use Rattle.world_core.specs.declared.connection.Connection.{Connection}
 use Rattle.world_core.specs.declared.peer.Peer.{Peer}
-use Rattle.world_core.proofs.Balance.{GoesOn, outcomes_are, same_numbers}
+use Rattle.world_core.proofs.Balance.{GoesOn, goes_offered, outcomes_are, outcomes_offered, same_numbers}
 use Rattle.world_core.proofs.Holding.{contains_first, contains_less, contains_more}
-use Rattle.world_core.proofs.Waiting.{IsOneMore, more_taken}
 
 -- ---- numbers by how often they stand
 
@@ -91,8 +90,8 @@ times_distinct (x ∷ xs) distinct m =
 
 -- the same numbers as often
 pub tied_goes : (id : ℕ) (conn later : ConnPast) (peer : PeerPast)
-    → ((m : ℕ) → times (numbers_at (options_of peer.conf) later.transcript) m
-    ≡ times (numbers_at (options_of peer.conf) conn.transcript) m)
+    → ((m : ℕ) → times (numbers_at (options_of peer.conf) later) m
+    ≡ times (numbers_at (options_of peer.conf) conn) m)
     → IsTied id conn peer → IsTied id later peer
 tied_goes id conn later peer same tied = record {
   held = λ m. (
@@ -113,13 +112,13 @@ head_times n m xs has = times_has (n ∷ xs) m (contains_more xs n m has)
 
 -- one number more, which the connection holds now, and which none held
 pub tied_more : (id n : ℕ) (conn later : ConnPast) (peer now : PeerPast)
-    → ((m : ℕ) → times (numbers_at (options_of now.conf) later.transcript) m
-    ≡ times (n ∷ numbers_at (options_of peer.conf) conn.transcript) m)
+    → ((m : ℕ) → times (numbers_at (options_of now.conf) later) m
+    ≡ times (n ∷ numbers_at (options_of peer.conf) conn) m)
     → (IsHeldBy peer.places id n → ⊥) → IsHeldBy now.places id n
     → ((m : ℕ) → (m ≡ n → ⊥) → place_at now.places m ≡ place_at peer.places m) → IsTied id conn peer
     → IsTied id later now
 tied_more id n conn later peer now same free held others tied =
-    let nums = numbers_at (options_of peer.conf) conn.transcript in
+    let nums = numbers_at (options_of peer.conf) conn in
     let absent : Contains nums n → ⊥ = λ has. free ((tied.held n).1 has) in
     record {
       held = λ m. elim (cases_eq m n) [
@@ -148,121 +147,73 @@ tied_more id n conn later peer now same free held others tied =
       ));
     }
 
--- ---- an outcome that waits
+-- ---- the outcomes of a connection
 
-module _ (o : Options) where
-  -- a connection stands for one more taken, wherever that one was taken
-  pub stands_more : (c : Holding) (unread : List ℕ) (one other : List Event) → ConnStands o c unread one
-      → IsOneMore o one other
-      → Arises o (Taken ∷ other) → ConnStands o c unread (Taken ∷ other)
-  unfolding ConnStands
-  stands_more c unread one other stands m arises =
-      let t = more_taken o other in
-      let st = stands.2 in
-      let reasons = m.reason_is ∙ sym t.reason_is in
-      let stories = m.story_is ∙ sym t.story_is in
-      let outs : outcomes o one ≡ outcomes o (Taken ∷ other) =
-      ap (λ (s : Story). map (λ x. x.outcome) s.ends) stories in (
-        arises,
-        subst (λ r. HoldsBack (is_some r) c.reader unread) reasons stands.1,
-        record {
-          options_is = st.options_is;
-          closed_is = st.closed_is ∙ reasons;
-          quitting_is = st.quitting_is ∙ m.leaving_is;
-          accepted_is = st.accepted_is ∙ ap length m.accepted_is;
-          recent_is = st.recent_is ∙ ap (take o.check_filter) m.counted_is;
-          off_is = st.off_is ∙ rw (m.counted_is) refl;
-          unanswered_is = st.unanswered_is ∙ (m.unanswered_is ∙ sym t.unanswered_is);
-          answered_is = st.answered_is ∙ (m.has_answered_is ∙ sym t.has_answered_is);
-          untold_is = st.untold_is ∙ (ap (λ n. drop n (outcomes o one)) m.taken_is ∙ ap (drop (taken other + 1)) outs);
-          taken_few = omega (arith, st.taken_few, m.taken_is, ap length outs);
-          while_open = λ still.
-              let was = st.while_open (reasons ∙ still) in
-              record {
-                phase_is = was.phase_is ∙ m.phase_is;
-                held_is = was.held_is
-                    ∙ (ap (λ (ds : List Owing). held_from 0 ds (ended_tickets (story o one).ends)) m.accepted_is
-                    ∙ ap (λ (s : Story). held_from 0 (accepted other) (ended_tickets s.ends)) stories);
-                window_is = was.window_is ∙ rw (m.asks_is, m.answered_is) refl;
-                blocks_is = was.blocks_is ∙ rw (m.asks_is, m.answered_is) refl;
-                wanted_is = was.wanted_is ∙ ap (λ (s : Story). left_from 0 s.wants s.handed) stories;
-                output_is = was.output_is ∙ rw (m.sent_is, m.put_out_is) refl;
-                sent_few = rw (← m.sent_is, ← m.put_out_is) was.sent_few;
-                stirred_is = was.stirred_is ∙ m.stirred_is;
-                quiet_is = was.quiet_is ∙ m.quiet_is;
-                tied = rw (← m.asks_is, ← m.answered_is) was.tied;
-              };
-        },
-      )
+get_more : {A : Type 0} (xs ys : List A) (n : ℕ) (x : A) → slice_get xs n ≡ Some x → slice_get (xs ++ ys) n ≡ Some x
+get_more [] ys n x is = let never : None ≡ Some x = is in cc
+get_more (y ∷ xs) ys zero x is = is
+get_more (y ∷ xs) ys (suc n) x is = get_more xs ys n x is
 
-  pub get_more : {A : Type 0} (xs ys : List A) (n : ℕ) (x : A) → slice_get xs n ≡ Some x
-      → slice_get (xs ++ ys) n ≡ Some x
-  get_more [] ys n x is = let never : None ≡ Some x = is in cc
-  get_more (y ∷ xs) ys zero x is = is
-  get_more (y ∷ xs) ys (suc n) x is = get_more xs ys n x is
+-- what a connection stands for can have come about, and no more is taken than came out
+pub stands_arise : (o : Options) (c : Holding) (unread : List ℕ) (h : List Event) → ConnStands o c unread h
+    → Arises o h × (taken h ≤ length (outcomes o h))
+unfolding ConnStands
+stands_arise o c unread h stands = (stands.0, stands.2.taken_few)
 
-  -- the next outcome stays the next
-  pub next_stays : (h later : List Event) (outcome : Outcome) → GoesOn o h later
-      → slice_get (outcomes o h) (taken h) ≡ Some outcome
-      → slice_get (outcomes o later) (taken later) ≡ Some outcome
-  next_stays h later outcome goes next =
-      ap (λ n. slice_get (outcomes o later) n) goes.taken_is
-      ∙ (ap (λ os. slice_get os (taken h)) (outcomes_are o h later goes)
-      ∙ get_more (outcomes o h) _ (taken h) outcome next)
+-- nor have more gone to the peer
+pub settled_few : (conf : PeerConf) (conn : ConnPast) (c : Connection) (waits : Option Outcome)
+    → HoldsTranscript conf conn c → WaitsWith conf conn waits
+    → conn.settled ≤ length (outcomes (options_of conf) conn.transcript)
+settled_few conf conn c None holds is =
+    omega (arith, is, (stands_arise (options_of conf) c.conn conn.unread conn.transcript holds).1)
+settled_few conf conn c (Some outcome) holds is =
+    omega (arith, is.0, (stands_arise (options_of conf) c.conn conn.unread conn.transcript holds).1)
 
-  pub taken_few_of : (c : Holding) (unread : List ℕ) (h : List Event) → ConnStands o c unread h
-      → taken h ≤ length (outcomes o h)
-  unfolding ConnStands
-  taken_few_of c unread h stands = stands.2.taken_few
-
--- how many are taken of a connection that stands for a transcript
-pub few : (conf : PeerConf) (conn : ConnPast) (c : Connection) (waits : Option Outcome)
-    → HoldsTranscript conf conn c waits
-    → taken conn.transcript ≤ length (outcomes (options_of conf) conn.transcript)
-few conf conn c None holds = taken_few_of (options_of conf) c.conn conn.unread conn.transcript holds
-few conf conn c (Some outcome) holds = omega (
-  arith,
-  slice_get_within (outcomes (options_of conf) conn.transcript) (taken conn.transcript) outcome holds.0,
+waits_on : (conf : PeerConf) (conn later : ConnPast) (waits : Option Outcome) → later.settled ≡ conn.settled
+    → GoesOn (options_of conf) conn.transcript later.transcript → WaitsWith conf conn waits
+    → WaitsWith conf later waits
+waits_on conf conn later None still goes is = still ∙ (is ∙ sym goes.taken_is)
+waits_on conf conn later (Some outcome) still goes is = (
+  ap (λ n. n + 1) still ∙ (is.0 ∙ sym goes.taken_is),
+  ap (slice_get (outcomes (options_of conf) later.transcript)) still
+      ∙ (ap (λ os. slice_get os conn.settled) (outcomes_are (options_of conf) conn.transcript later.transcript goes)
+      ∙ get_more (outcomes (options_of conf) conn.transcript) _ conn.settled outcome is.1),
 )
 
--- ---- the connection and its peer
-
--- what a call makes of each transcript that the connection stands for, it makes of the world's
-pub holds_on : (conf : PeerConf) (conn later : ConnPast) (old new : Connection) (waits : Option Outcome)
-    → HoldsTranscript conf conn old waits → GoesOn (options_of conf) conn.transcript later.transcript
-    → Arises (options_of conf) later.transcript
-    → (ConnStands (options_of conf) old.conn conn.unread conn.transcript
-    → ConnStands (options_of conf) new.conn later.unread later.transcript)
-    → ((one : List Event) → ConnStands (options_of conf) old.conn conn.unread one
-    → IsOneMore (options_of conf) one conn.transcript
-    → (mid : List Event) × ConnStands (options_of conf) new.conn later.unread mid
-    × IsOneMore (options_of conf) mid later.transcript)
-    → HoldsTranscript conf later new waits
-holds_on conf conn later old new None holds goes arises now waiting = now holds
-holds_on conf conn later old new (Some outcome) holds goes arises now waiting =
+-- a debt was accepted
+pub waits_offered : (conf : PeerConf) (conn : ConnPast) (debt : Owing) (waits : Option Outcome)
+    → WaitsWith conf conn waits
+    → WaitsWith conf (with_transcript conn (after (options_of conf) conn.transcript (Offered debt))) waits
+waits_offered conf conn debt waits is =
     let o = options_of conf in
-    let next = next_stays o conn.transcript later.transcript outcome goes holds.0 in
-    let so = waiting (Taken ∷ conn.transcript) holds.1 (more_taken o conn.transcript) in (
-      next,
-      stands_more o new.conn later.unread so.0 later.transcript so.1 so.2
-          (Goes_on later.transcript Taken arises (slice_get_within (outcomes o later.transcript) (taken later.transcript) outcome next)),
-    )
+    let h = conn.transcript in
+    waits_on conf (with_transcript conn (Offered debt ∷ h)) (with_transcript conn (after o h (Offered debt))) waits
+    refl (goes_offered o h debt) (first waits is)
+  where
+    first : (w : Option Outcome) → WaitsWith conf conn w
+        → WaitsWith conf (with_transcript conn (Offered debt ∷ conn.transcript)) w
+    first None is = is
+    first (Some outcome) is =
+        (is.0, ap (λ os. slice_get os conn.settled) (outcomes_offered (options_of conf) conn.transcript debt) ∙ is.1)
+
+-- ---- the connection and its peer
 
 module _ {D : Type 0} {g : Ghosts D} where
   pub pair_on : (id : ℕ) (conn later : ConnPast) (past : PeerPast) (old new : Connection) (peer : Peer D g)
       → PairStands id conn past old peer
-      → later.rank ≡ conn.rank → GoesOn (options_of past.conf) conn.transcript later.transcript
-      → Arises (options_of past.conf) later.transcript
-      → HoldsTranscript past.conf later new old.waiting → new.waiting ≡ old.waiting → new.rank ≡ old.rank
+      → later.rank ≡ conn.rank → later.settled ≡ conn.settled
+      → GoesOn (options_of past.conf) conn.transcript later.transcript
+      → HoldsTranscript past.conf later new → new.waiting ≡ old.waiting → new.rank ≡ old.rank
       → new.conn.id ≡ old.conn.id
       → PairStands id later past new peer
-  pair_on id conn later past old new peer pair at goes arises holds waits rank same_id = record {
+  pair_on id conn later past old new peer pair at still goes holds waits rank same_id = record {
     id_is = ap (λ i. i.0) same_id ∙ pair.id_is;
     rank = rank ∙ (pair.rank ∙ sym at);
-    arises = arises;
-    holds = subst (HoldsTranscript past.conf later new) (sym waits) holds;
+    holds = holds;
+    waits = subst (WaitsWith past.conf later) (sym waits)
+        (waits_on past.conf conn later old.waiting still goes pair.waits);
     stands = pair.stands;
     tied = tied_goes id conn later past
-        (same_numbers (options_of past.conf) conn.transcript later.transcript goes
-        (few past.conf conn old old.waiting pair.holds)) pair.tied;
+        (same_numbers (options_of past.conf) conn later still goes
+        (settled_few past.conf conn old old.waiting pair.holds pair.waits)) pair.tied;
   }

@@ -13,7 +13,6 @@ use Rattle.world_core.specs.Sound.{AreTied, HasNumber, names_of}
 use Rattle.world_core.specs.Stands.{StageStands, WorldStands, armed_as}
 use Rattle.world_core.specs.Turn.{Made, Refused, RefusesRest, TakesRest}
 use Rattle.world_core.specs.declared.fault.Fault.{Fault}
-use Rattle.world_core.specs.declared.fault.Fault.TheVariants.{NoPeer}
 use Rattle.world_core.specs.declared.peer.Peer.{Peer}
 use Rattle.world_core.specs.declared.peer.StoppedPeer.{StoppedPeer}
 use Rattle.world_core.specs.declared.told.Told.{Told}

@@ -5,6 +5,7 @@ use Rattle.std.specs.Prelude.{if◌then◌else◌}
 use Rattle.std.proofs.lemmas.Bool.{le-ltb, lt-ltb}
 use Rattle.std.proofs.Math.ListN.{set}
 use Rattle.std.specs.List.{AllByRecursion, AllZip, slice_get}
+use Rattle.std.proofs.Math.Seq.{drop-length}
 use Rattle.ledger_core.specs.declared.note.Note.{Note}
 use Rattle.ledger_core.specs.declared.note.Note.TheVariants.{Owe, Final, Drop, Seen, Closed}
 use Rattle.ledger_core.specs.State.{State, AllLegal, IsNext, after, marks_of, step}
@@ -142,13 +143,9 @@ above_noted mark h note within all one =
     subst (AllByRecursion (IsAbove mark)) (sym (drop_push h.kept h.notes note within))
     (all_push (IsAbove mark) (pending_notes h) note all one)
 
-pub drop_all : {A : Type 0} (xs : List A) → drop (length xs) xs ≡ []
-drop_all [] = refl
-drop_all (x ∷ xs) = drop_all xs
-
 -- none pends
 pub above_flushed : (mark : ℕ) (h : History) → AllByRecursion (IsAbove mark) (pending_notes (flushed h))
-above_flushed mark h = subst (AllByRecursion (IsAbove mark)) (sym (drop_all h.notes)) tt
+above_flushed mark h = subst (AllByRecursion (IsAbove mark)) (sym (drop-length h.notes)) tt
 
 -- what survives of the intake's notes keeps the lines, where what all of them mark is acknowledged
 pub keeps_lines : (intake : History) (peers : List PeerPast) (octets : Octets) → AreLegal intake.base intake.notes

@@ -16,7 +16,7 @@ use Rattle.world_core.specs.Told.{Bad as SaidBad, Owed as SaidOwed, said_of}
 use Rattle.world_core.specs.Stands.{PeerStands, Stands, TapeStands}
 use Rattle.world_core.specs.Stepped.{Failed, OwedLine, Took, TookNot}
 use Rattle.world_core.specs.declared.fault.Fault.{Fault}
-use Rattle.world_core.specs.declared.fault.Fault.TheVariants.{CountFull, NoMemory}
+use Rattle.world_core.specs.declared.fault.Fault.TheVariants.{NoMemory}
 use Rattle.world_core.specs.declared.stations.Stations.{Stations}
 use Rattle.world_core.specs.declared.told.OwedAt.{OwedAt}
 use Rattle.world_core.specs.declared.told.Told.{Told}

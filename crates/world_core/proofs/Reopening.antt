@@ -1,8 +1,9 @@
 -- All tapes of a world are opened again, or it has stopped still.
-use Rattle.std.proofs.Common.{◌≡◌, true, false, List, [], ◌∷◌, length, take, map, refl, sym, ap, ◌∙◌, subst, inl, inr}
+use Rattle.std.proofs.Common.{◌≡◌, true, false, List, [], length, map, refl, sym, ap, ◌∙◌, subst, inl, inr}
 use Rattle.std.specs.Prelude.{Vec, option_map}
 use Rattle.std.specs.declared.alloc.Global.{Global}
 use Rattle.std.specs.List.{AllZip}
+use Rattle.std.proofs.Math.Seq.{take-length}
 use Rattle.disk_model.specs.declared.Disk.{Ghosts}
 use Rattle.ledger_core.specs.State.{State, keys}
 use Rattle.recovery.specs.LeavingLaws.{EachLedger-weaker}
@@ -29,8 +30,8 @@ use Rattle.world_core.specs.declared.world.Stage.{Stage}
 use Rattle.world_core.specs.declared.world.Stage.TheVariants.{Running, Stopped}
 use Rattle.world_core.specs.declared.world.World.{World}
 use Rattle.world_core.proofs.Acknowledged.{all_at}
-use Rattle.world_core.proofs.Halting.{left_sound, lines_left}
 use Rattle.world_core.proofs.Stopping.{left_free, tied_none}
+use Rattle.world_core.proofs.Zips.{zip_equal, zip_map}
 
 -- ---- what had stopped, and stops again
 
@@ -47,37 +48,11 @@ disks_again P Q past disks weaker stands = record {
 
 peers_again : (pasts : List PeerPast) (peers : List StoppedPeer) → AllZip StoppedStands pasts peers
     → AllZip StoppedStands (map (left_peer AtRest) pasts) peers
-peers_again [] [] all = tt
-peers_again [] (peer ∷ peers) all = absurd all
-peers_again (past ∷ pasts) [] all = absurd all
-peers_again (past ∷ pasts) (peer ∷ peers) all = (
-  record { conf = all.0.conf; disks = disks_again _ _ past.tape peer.disks (λ state keeps. keeps) all.0.disks },
-  peers_again pasts peers all.1,
-)
-
-stage_again : (life : Life) (stage : Stage) → life.running ≡ false → StageStands life stage
-    → StageStands (with_past life (left AtRest life.past)) stage
-stage_again life (Running stations conns) stopped stands = absurd (let runs = stands.0 in cc)
-stage_again life (Stopped peers intake) stopped stands = (
-  stopped,
-  peers_again life.past.peers peers.items stands.1,
-  disks_again _ _ life.past.intake intake (lines_left AtRest life.past.intake.history life.past.peers) stands.2,
-  refl,
-)
-
-pub stands_again : (world : World) (life : Life) → WorldStands world life → life.running ≡ false
-    → WorldStands world (with_past life (left AtRest life.past))
-stands_again world life stands stopped = record {
-  stage = stage_again life world.stage stopped stands.stage;
-  armed = stands.armed;
-  connected = stands.connected;
-  now = stands.now;
-  sound = record {
-    past = left_sound AtRest life.past stands.sound.past;
-    conns = tied_none (with_past life (left AtRest life.past)) (stands.sound.conns.none stopped)
-        (left_free AtRest life.past.peers);
-  };
-}
+peers_again pasts peers all =
+    zip_map StoppedStands StoppedStands (left_peer AtRest) (λ past peer is. record {
+      conf = is.conf;
+      disks = disks_again _ _ past.tape peer.disks (λ state keeps. keeps) is.disks;
+    }) pasts peers all
 
 -- ---- before any opening
 
@@ -169,22 +144,14 @@ closed_again world life halt peers intake awaits stopped opens is = record {
 
 -- ---- all are open
 
-take_whole : {A : Type 0} (xs : List A) → take (length xs) xs ≡ xs
-take_whole [] = refl
-take_whole (x ∷ xs) = ap (λ l. x ∷ l) (take_whole xs)
-
 module _ {D : Type 0} {g : Ghosts D} where
   pub marks_said : (pasts : List PeerPast) (peers : List (Peer D g)) → AllZip PeerStands pasts peers
       → map opened_said peers ≡ map mark_said pasts
-  marks_said [] [] all = refl
-  marks_said [] (peer ∷ peers) all = absurd all
-  marks_said (past ∷ pasts) [] all = absurd all
-  marks_said (past ∷ pasts) (peer ∷ peers) all =
+  marks_said pasts peers all =
+      zip_equal PeerStands mark_said opened_said (λ past peer is.
       ap (λ conf. Mark conf.name (Rattle.peer_queue.specs.Words.ledger_of peer.station).mark
-      (keys (Rattle.peer_queue.specs.Words.ledger_of peer.station)) ∷ map opened_said peers) all.0.conf
-      ∙ ap (λ (state : State). Mark past.conf.name state.mark (keys state) ∷ map opened_said peers)
-      all.0.tape.stands.ledger
-      ∙ ap (λ l. mark_said past ∷ l) (marks_said pasts peers all.1)
+      (keys (Rattle.peer_queue.specs.Words.ledger_of peer.station))) is.conf
+      ∙ ap (λ (state : State). Mark past.conf.name state.mark (keys state)) is.tape.stands.ledger) pasts peers all
 
 pub runs_again : (old new : World) (life : Life) (stations : _) (conns : _) (told : List Told) → Awaits old life
     → life.running ≡ false
@@ -241,7 +208,7 @@ module _ {D : Type 0} {g : Ghosts D} where
               refl,
               (
                 length events,
-                subst (λ (es : List Event). AllDo life.past es opens.later) (sym (take_whole events)) opens.opens,
+                subst (λ (es : List Event). AllDo life.past es opens.later) (sym (take-length events)) opens.opens,
               ),
             ),
             refl,

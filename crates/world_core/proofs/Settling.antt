@@ -1,16 +1,14 @@
 -- What an outcome that goes to its peer's station makes of the connection and the peer.
 use Rattle.std.proofs.Common.{◌≡◌, ◌≢◌, ◌↔◌, ℕ, None, Some, List, [], ◌∷◌, ◌++◌, map, refl, sym, ap, ◌∙◌, subst, inl}
 use Rattle.std.proofs.Common.{inr}
-use Rattle.std.specs.Prelude.{◌==◌, Contains}
+use Rattle.std.specs.Prelude.{◌+◌, ◌==◌, Contains, slice_get}
 use Rattle.std.specs.List.{IsDistinct}
-use Rattle.std.proofs.lemmas.Option.{slice_get_within}
+use Rattle.std.proofs.lemmas.List.{map_push}
 use Rattle.disk_model.specs.declared.Disk.{Ghosts}
 use Rattle.ledger_core.specs.declared.note.Note.TheVariants.{Drop, Final}
 use Rattle.recovery.specs.Notes.{most_pending}
 use Rattle.recovery.specs.Words.{IsBroken, pending_of}
 use Rattle.recovery.specs.declared.fault.TapeFault.TheVariants.{PendingFull}
-use Rattle.conn_core.specs.History.{Taken}
-use Rattle.conn_core.specs.Stands.{Arises, Takes, Goes_on}
 use Rattle.conn_core.specs.declared.options.Options.{Options}
 use Rattle.conn_core.specs.declared.outcome.Outcome.{Outcome}
 use Rattle.peer_queue.specs.Faults.{IsEndFault}
@@ -26,11 +24,11 @@ use Rattle.peer_queue.specs.declared.settled.Settled.TheVariants.{Answered, Drop
 use Rattle.peer_queue.specs.declared.station.Station.{Station}
 use Rattle.world_core.specs.Past.{ConnPast, PeerPast, options_of}
 use Rattle.world_core.specs.Events.{RefusesEnd, settled, settled_as, settling}
-use Rattle.world_core.specs.Exchange.{with_transcript}
+use Rattle.world_core.specs.Exchange.{one_out, unsettled, waiting}
 use Rattle.world_core.specs.Fault.{fault_of_station}
-use Rattle.world_core.specs.Pairs.{IsTied, PairStands, SettledNot, SettledOne, Tells}
+use Rattle.world_core.specs.Pairs.{IsTied, PairStands, SettledNot, SettledOne, TakesNext, Tells}
 use Rattle.world_core.specs.Sound.{numbers_at}
-use Rattle.world_core.specs.Stands.{HoldsTranscript, PeerStands, TapeStands}
+use Rattle.world_core.specs.Stands.{HoldsTranscript, PeerStands, TapeStands, WaitsWith}
 use Rattle.world_core.specs.Told.{said_of}
 use Rattle.world_core.specs.declared.connection.Connection.{Connection}
 use Rattle.world_core.specs.declared.fault.Fault.{Fault}
@@ -38,20 +36,16 @@ use Rattle.world_core.specs.declared.peer.Peer.{Peer}
 use Rattle.world_core.specs.declared.told.Told.{Told}
 use Rattle.world_core.specs.declared.told.Told.TheVariants.{Settled as ToldSettled}
 use Rattle.world_core.proofs.Holding.{contains_first, first_apart, gone_none, gone_other, held_less, moved_here}
-use Rattle.world_core.proofs.Holding.{moved_other, numbers_taken, others_apart, untold_taken}
+use Rattle.world_core.proofs.Holding.{moved_other, next_gone, numbers_gone, numbers_wait, others_apart, outcomes_out}
 use Rattle.world_core.proofs.Owing.{no_room_here, noted_tape, room_here, same_peer}
 use Rattle.world_core.proofs.Peers.{tape_broken, tape_works}
 
 -- ---- what is told
 
-map_push : (was : List Told) (more : Told) → map said_of (was ++ more ∷ []) ≡ map said_of was ++ said_of more ∷ []
-map_push [] more = refl
-map_push (told ∷ was) more = ap (λ l. said_of told ∷ l) (map_push was more)
-
 pub tells_push : (was mid told : List Told) (more : Told) → mid ≡ was → told ≡ mid ++ more ∷ []
     → Tells was (said_of more ∷ []) told
 tells_push was mid told more same is =
-    ap (map said_of) (is ∙ ap (λ (l : List Told). l ++ more ∷ []) same) ∙ map_push was more
+    ap (map said_of) (is ∙ ap (λ (l : List Told). l ++ more ∷ []) same) ∙ map_push said_of was more
 
 -- ---- the peer
 
@@ -85,12 +79,11 @@ pub conf_settled : (now : ℕ) (outcome : Outcome) (peer : PeerPast) → (settle
 conf_settled now outcome peer = settled_conf (settling peer now outcome) (key_in outcome) peer
 
 pub tied_as : (id : ℕ) (conn : ConnPast) (peer : PeerPast) (options : Options) → options_of peer.conf ≡ options
-    → ((m : ℕ) → IsHeldBy peer.places id m ↔ Contains (numbers_at options conn.transcript) m)
-    → IsDistinct (λ one other. one == other) (numbers_at options conn.transcript) → IsTied id conn peer
+    → ((m : ℕ) → IsHeldBy peer.places id m ↔ Contains (numbers_at options conn) m)
+    → IsDistinct (λ one other. one == other) (numbers_at options conn) → IsTied id conn peer
 tied_as id conn peer options same held once = record {
-  held = λ m. subst (λ (o : Options). IsHeldBy peer.places id m ↔ Contains (numbers_at o conn.transcript) m)
-      (sym same) (held m);
-  once = subst (λ (o : Options). IsDistinct (λ one other. one == other) (numbers_at o conn.transcript)) (sym same) once;
+  held = λ m. subst (λ (o : Options). IsHeldBy peer.places id m ↔ Contains (numbers_at o conn) m) (sym same) (held m);
+  once = subst (λ (o : Options). IsDistinct (λ one other. one == other) (numbers_at o conn)) (sym same) once;
 }
 
 module _ {D : Type 0} {g : Ghosts D} where
@@ -137,7 +130,7 @@ module _ {D : Type 0} {g : Ghosts D} where
   pub settled_one : (id now : ℕ) (conn : ConnPast) (past : PeerPast) (before after : Connection) (old new : Peer D g)
       (was mid told : List Told)
       (outcome : Outcome) (cxn number : ℕ) (told_so : Settled) → PairStands id conn past before old
-      → Takes (options_of past.conf) conn.unread conn.transcript (Some outcome) after.conn
+      → TakesNext (options_of past.conf) conn (Some outcome) after
       → after.waiting ≡ None → after.rank ≡ before.rank → after.conn.id ≡ before.conn.id → cxn ≡ id
       → number ≡ key_in outcome
       → told_so ≡ settled_by (station_limits old.station) now outcome → Finishes cxn now outcome old.station new.station
@@ -151,7 +144,7 @@ module _ {D : Type 0} {g : Ghosts D} where
       same_id own n_is so finishes works room conf parts
       same is =
       let options = options_of past.conf in
-      let next = untold_taken options conn.transcript outcome takes.0 in
+      let next = next_gone options conn outcome takes.0 in
       let by : settled_by (station_limits old.station) now outcome ≡ settling past now outcome =
       ap (λ (limits : Limits). settled_by limits now outcome) pair.stands.limits in
       let s = settling past now outcome in
@@ -162,8 +155,8 @@ module _ {D : Type 0} {g : Ghosts D} where
       let held : IsHeldBy past.places id n =
       subst (λ (p : Places). IsHeldBy p id n) pair.stands.places
       (was_held s id n old.station new.station settles) in
-      let numbers = numbers_taken options conn.transcript outcome next in
-      let rest = numbers_at options (Taken ∷ conn.transcript) in
+      let numbers = numbers_gone options conn outcome next in
+      let rest = numbers_at options (one_out conn) in
       let once = subst (IsDistinct (λ one other. one == other)) numbers pair.tied.once in
       let same_conf = settled_conf s n past in
       record {
@@ -183,14 +176,10 @@ module _ {D : Type 0} {g : Ghosts D} where
         stand = record {
           id_is = ap (λ i. i.0) same_id ∙ pair.id_is;
           rank = rank ∙ pair.rank;
-          arises = subst (λ c. Arises (options_of c) (Taken ∷ conn.transcript)) (sym same_conf)
-              (Goes_on conn.transcript Taken pair.arises (slice_get_within _ _ outcome takes.0));
-          holds = subst (λ c. HoldsTranscript c (with_transcript conn (Taken ∷ conn.transcript)) after after.waiting)
-              (sym same_conf)
-              (subst (HoldsTranscript past.conf (with_transcript conn (Taken ∷ conn.transcript)) after) (sym waits)
-              takes.1);
+          holds = subst (λ c. HoldsTranscript c (one_out conn) after) (sym same_conf) takes.2;
+          waits = subst (WaitsWith (settled now outcome past).conf (one_out conn)) (sym waits) takes.1;
           stands = ended s id n past old new pair.stands settles conf parts;
-          tied = tied_as id (with_transcript conn (Taken ∷ conn.transcript)) (settled now outcome past) options
+          tied = tied_as id (one_out conn) (settled now outcome past) options
               (ap options_of same_conf)
               (held_less past.places (settled now outcome past).places id n rest
               (λ m. subst (λ (l : List ℕ). IsHeldBy past.places id m ↔ Contains l m) numbers (pair.tied.held m))
@@ -236,7 +225,7 @@ module _ {D : Type 0} {g : Ghosts D} where
 
   pub settled_not : (id now : ℕ) (conn : ConnPast) (past : PeerPast) (before after : Connection) (old new : Peer D g)
       (outcome back : Outcome) (cxn : ℕ) (fault : StationFault) (told : Fault) → PairStands id conn past before old
-      → Takes (options_of past.conf) conn.unread conn.transcript (Some outcome) after.conn
+      → TakesNext (options_of past.conf) conn (Some outcome) after
       → after.waiting ≡ Some back → back ≡ outcome → after.rank ≡ before.rank → after.conn.id ≡ before.conn.id
       → cxn ≡ id
       → ((fault ≡ Broken) ↔ IsBroken (tape_of old.station))
@@ -251,33 +240,43 @@ module _ {D : Type 0} {g : Ghosts D} where
       own broken not_held full memory kind e same conf
       parts =
       let options = options_of past.conf in
-      let next = untold_taken options conn.transcript outcome takes.0 in
+      let next = next_gone options conn outcome takes.0 in
       let by : settled_by (station_limits old.station) now outcome ≡ settling past now outcome =
       ap (λ (limits : Limits). settled_by limits now outcome) pair.stands.limits in
-      let numbers = numbers_taken options conn.transcript outcome next in
-      let rest = numbers_at options (Taken ∷ conn.transcript) in
-      let has : Contains (numbers_at options conn.transcript) (key_in outcome) =
+      let numbers = numbers_gone options conn outcome next in
+      let rest = numbers_at options (one_out conn) in
+      let has : Contains (numbers_at options conn) (key_in outcome) =
       subst (λ (l : List ℕ). Contains l (key_in outcome)) (sym numbers) (contains_first rest (key_in outcome)) in
       let held : IsHeldBy (places_of old.station) cxn (key_in outcome) =
       subst (λ (p : Places). IsHeldBy p cxn (key_in outcome)) (sym pair.stands.places)
       (subst (λ (c : ℕ). IsHeldBy past.places c (key_in outcome)) (sym own)
       ((pair.tied.held (key_in outcome)).1 has)) in
       record {
+        later_conn = waiting conn;
         why = inr (
           outcome,
+          unsettled options (one_out conn),
           next,
           refused_end past old (settling past now outcome) fault told pair.stands.tape e broken
               (λ is. (not_held.0 is).1 held)
               (λ is. (subst IsEnded by (full.0 is).0, (full.0 is).1.2))
               (λ works ends most. full.1 (subst IsEnded (sym by) ends, (works, held, most)))
               (λ is. subst IsEnded by (memory is)) kind,
+          refl,
         );
         stand = record {
           id_is = ap (λ i. i.0) same_id ∙ pair.id_is;
           rank = rank ∙ pair.rank;
-          arises = pair.arises;
-          holds = subst (HoldsTranscript past.conf conn after) (sym (waits ∙ ap Some back_is)) takes;
+          holds = takes.2;
+          waits = subst (WaitsWith past.conf (waiting conn)) (sym (waits ∙ ap Some back_is)) (
+            takes.1,
+            ap (λ (os : List Outcome). slice_get os conn.settled)
+                (outcomes_out options (conn.settled + 1) conn.transcript) ∙ takes.0,
+          );
           stands = same_peer past old new pair.stands same conf parts;
-          tied = pair.tied;
+          tied = tied_as id (waiting conn) past options refl
+              (λ m. subst (λ (l : List ℕ). IsHeldBy past.places id m ↔ Contains l m)
+              (sym (numbers_wait options conn)) (pair.tied.held m))
+              (subst (IsDistinct (λ one other. one == other)) (sym (numbers_wait options conn)) pair.tied.once);
         };
       }

@@ -1,7 +1,7 @@
 -- What holds of all tapes of each world that steps have made is kept by each event.
 use Rattle.std.proofs.Common.{◌≡◌, ℕ, ◌^◌, ◌<◌, ◌≤◌, true, false, Some, List, [], ◌∷◌, length, map, refl, sym, ap}
 use Rattle.std.proofs.Common.{◌∙◌, subst, arith}
-use Rattle.std.specs.List.{AllByRecursion, AllZip, slice_get}
+use Rattle.std.specs.List.{AllByRecursion, slice_get}
 use Rattle.disk_model.specs.declared.Disk.{Ghosts}
 use Rattle.ledger_core.specs.State.{State}
 use Rattle.ledger_core.specs.StateLaws.{after-append}
@@ -20,11 +20,11 @@ use Rattle.world_core.specs.Tapes.{noted_at}
 use Rattle.world_core.specs.Steps.{IsSealable, begun_at}
 use Rattle.world_core.specs.Sound.{HasParted, IsSound, NamesRise, names_of}
 use Rattle.world_core.specs.Stands.{PeerStands, Stands, TapeStands}
-use Rattle.world_core.specs.declared.peer.Peer.{Peer}
 use Rattle.world_core.specs.declared.stations.Stations.{Stations}
 use Rattle.world_core.proofs.Acknowledged.{all_at}
 use Rattle.world_core.proofs.Pure.{above_flushed, above_noted, all_set, keeps_lines, map_set}
 use Rattle.peer_queue.specs.Words.{tape_of}
+use Rattle.world_core.proofs.Zips.{zip_first}
 
 -- the names stay where one peer's settings do
 pub names_set : (past : Past) (rank : ℕ) (was now : PeerPast) → NamesRise (names_of past.peers)
@@ -174,7 +174,7 @@ sound_last past number sound above fits = record {
   parted = sound.parted;
 }
 
-all_begun : (mark : ℕ) (peers : List PeerPast) → AllByRecursion (HasAcknowledged mark) peers
+pub all_begun : (mark : ℕ) (peers : List PeerPast) → AllByRecursion (HasAcknowledged mark) peers
     → AllByRecursion (HasAcknowledged mark) (map (λ (peer : PeerPast). record peer { parted = false }) peers)
 all_begun mark [] has = tt
 all_begun mark (peer ∷ peers) has = (has.0, all_begun mark peers has.1)
@@ -211,17 +211,10 @@ module _ {D : Type 0} {g : Ghosts D} where
   each_front past tape stands = λ one other is is'.
       front_of_survives past.tape.history (one, other) (each_survives past.tape tape stands one other is is')
 
-  safe_peers : (pasts : List PeerPast) (peers : List (Peer D g)) → AllZip PeerStands pasts peers
-      → AllByRecursion (λ (peer : PeerPast). EachLedger (KeepsNotes peer) peer.tape.log) pasts
-  safe_peers [] [] all = tt
-  safe_peers [] (peer ∷ peers) all = tt
-  safe_peers (past ∷ pasts) [] all = absurd all
-  safe_peers (past ∷ pasts) (peer ∷ peers) all =
-      (each_front past (tape_of peer.station) all.0.tape, safe_peers pasts peers all.1)
-
   pub safe_of : (stations : Stations D g) (past : Past) → Stands stations past → IsSafe past
   safe_of stations past stands = record {
-    peers = safe_peers past.peers stations.peers.items stands.peers;
+    peers = zip_first PeerStands (λ (peer : PeerPast). EachLedger (KeepsNotes peer) peer.tape.log)
+        (λ past peer is. each_front past (tape_of peer.station) is.tape) past.peers stations.peers.items stands.peers;
     intake = λ one other is is'.
         keeps_lines past.intake.history past.peers (one, other) stands.intake.stands.are_legal stands.sound.acknowledged
         (each_survives past.intake stations.intake stands.intake one other is is');

@@ -32,6 +32,7 @@ use Rattle.world_core.specs.declared.told.Told.TheVariants.{Taken as ToldTaken}
 use Rattle.world_core.proofs.Chains.{did_more, did_none, did_one, did_then, each_more, each_split, failed_before}
 use Rattle.world_core.proofs.Chains.{failed_next, failed_one, failed_then}
 use Rattle.world_core.proofs.Seeing.{mark_is}
+use Rattle.world_core.proofs.Zips.{zip_length}
 
 -- the one that was put into an empty list
 pub pushed : {A : Type 0} (old new : List A) (x : A) → new ≡ old ++ x ∷ [] → old ≡ [] → new ≡ x ∷ []
@@ -57,12 +58,6 @@ all_taken : {A : Type 0} (P : A → Type 0) (xs : List A) (k : ℕ) (x y : A) �
 all_taken P [] k x y all here one = absurd cc
 all_taken P (a ∷ xs) zero x y all here one = (one, tt)
 all_taken P (a ∷ xs) (suc k) x y all here one = (all.0, all_taken P xs k x y all.1 here one)
-
-pub zip_long : {A B : Type 0} (R : A → B → Type 0) (xs : List A) (ys : List B) → AllZip R xs ys → length xs ≡ length ys
-zip_long R [] [] all = refl
-zip_long R [] (y ∷ ys) all = absurd all
-zip_long R (x ∷ xs) [] all = absurd all
-zip_long R (x ∷ xs) (y ∷ ys) all = ap suc (zip_long R xs ys all.1)
 
 flush_is : (past : Past) (number : ℕ) → number ≡ past.last
     → each_rank Parts (length (begun_at past).peers) ++ seal_events number ≡ flush_events past
@@ -285,7 +280,7 @@ module _ {D : Type 0} {g : Ghosts D} where
       → rank_of past name ≡ position (λ (peer : Peer D g). bytes_eq peer.conf.name name) stations.peers.items
   rank_same name past stations stands =
       let before = same_rank name past.peers stations.peers.items stands.peers in
-      let long = zip_long PeerStands past.peers stations.peers.items stands.peers in
+      let long = zip_length PeerStands past.peers stations.peers.items stands.peers in
       ap (λ n. cond (nat_lt n (length past.peers)) (Some n) None) before
       ∙ ap (λ n. cond (nat_lt (prefix_len (λ (peer : Peer D g). not (bytes_eq peer.conf.name name))
       stations.peers.items) n)

@@ -1,5 +1,5 @@
 -- What the steps on tapes, and a stop that is met in one, make of a world.
-use Rattle.std.proofs.Common.{◌≡◌, ℕ, zero, suc, true, false, Option, None, Some, List, [], ◌∷◌, map, refl, sym, ap}
+use Rattle.std.proofs.Common.{◌≡◌, ℕ, zero, suc, true, Option, None, Some, List, [], ◌∷◌, map, refl, sym, ap}
 use Rattle.std.proofs.Common.{◌∙◌, subst, inl, inr}
 use Rattle.std.specs.Prelude.{Contains, IfErr, OnOk, Result, Vec, option_map}
 use Rattle.std.specs.declared.alloc.Global.{Global}
@@ -18,14 +18,15 @@ use Rattle.world_core.specs.Steps.{flush_events, seal_events}
 use Rattle.world_core.specs.Halts.{AtRest, ByChoice, Meets, halted}
 use Rattle.world_core.specs.Runs.{Does, OnTapes, Refuses, RefusesTapes}
 use Rattle.world_core.specs.Sound.{AreTied, HasNumber, IsSoundConn, numbers_at}
-use Rattle.world_core.specs.Stands.{ConnectionStands, HoldsTranscript, StageStands, Stands, WorldStands, armed_as}
+use Rattle.world_core.specs.Stands.{ConnectionStands, HoldsTranscript, StageStands, Stands, WaitsWith, WorldStands}
+use Rattle.world_core.specs.Stands.{armed_as}
 use Rattle.world_core.specs.Stepped.{HaltedAs, Took as TookTapes, TookNot}
 use Rattle.world_core.specs.Told.{Said, said_of}
 use Rattle.world_core.specs.Turn.{DiskFails, GoesOn, Made, Refused, Took, WasHalted, WasNotTaken, WasStruck}
 use Rattle.world_core.specs.Turn.{WasStruckUntold}
 use Rattle.world_core.specs.declared.connection.Connection.{Connection}
 use Rattle.world_core.specs.declared.fault.Fault.{Fault}
-use Rattle.world_core.specs.declared.fault.Fault.TheVariants.{Tape, Stopped as HasStopped}
+use Rattle.world_core.specs.declared.fault.Fault.TheVariants.{Tape}
 use Rattle.world_core.specs.declared.fault.Halt.{Halt}
 use Rattle.world_core.specs.declared.step.Step.{Step}
 use Rattle.world_core.specs.declared.step.Step.TheVariants.{Begin, Flush, Import, Part, Rotate, Seal}
@@ -34,13 +35,14 @@ use Rattle.world_core.specs.declared.stations.Stations.{Stations}
 use Rattle.world_core.specs.declared.told.Told.{Told}
 use Rattle.world_core.specs.declared.world.Arming.{Arming}
 use Rattle.world_core.specs.declared.world.Stage.{Stage}
-use Rattle.world_core.specs.declared.world.Stage.TheVariants.{Running, Stopped}
+use Rattle.world_core.specs.declared.world.Stage.TheVariants.{Running}
 use Rattle.world_core.specs.declared.world.World.{World}
 use Rattle.world_core.proofs.Steady.{AllHold, HoldsSame, holds_begin, steady}
 use Rattle.world_core.proofs.Acknowledged.{all_at}
 use Rattle.world_core.proofs.ImportEvents.{all_import}
 use Rattle.world_core.proofs.Stepping.{note_not, seal_at}
 use Rattle.world_core.proofs.Walking.{flush_refused}
+use Rattle.world_core.proofs.Zips.{zip_weaker}
 
 -- ---- what connections hold stays
 
@@ -85,21 +87,17 @@ sound_conns was now (entry ∷ conns) all each =
 pub conns_kept : (was now : List PeerPast) (conns : List (ℕ × ConnPast)) (connections : List Connection)
     → AllZip HoldsSame was now
     → AllZip (ConnectionStands was) conns connections → AllZip (ConnectionStands now) conns connections
-conns_kept was now [] [] all each = tt
-conns_kept was now [] (c ∷ connections) all each = absurd each
-conns_kept was now (entry ∷ conns) [] all each = absurd each
-conns_kept was now (entry ∷ conns) (c ∷ connections) all each =
-    let is = each.0 in
-    let at = peer_at was now entry.1.rank is.peer all is.here in (
-      record {
-        id = is.id;
-        rank = is.rank;
-        peer = at.0;
-        here = at.1;
-        holds = subst (λ conf. HoldsTranscript conf entry.1 c c.waiting) (sym at.2.0) is.holds;
-      },
-      conns_kept was now conns connections all each.1,
-    )
+conns_kept was now conns connections all each =
+    zip_weaker (ConnectionStands was) (ConnectionStands now) (λ entry c is.
+    let at = peer_at was now entry.1.rank is.peer all is.here in
+    record {
+      id = is.id;
+      rank = is.rank;
+      peer = at.0;
+      here = at.1;
+      holds = subst (λ conf. HoldsTranscript conf entry.1 c) (sym at.2.0) is.holds;
+      waits = subst (λ conf. WaitsWith conf entry.1 c.waiting) (sym at.2.0) is.waits;
+    }) conns connections each
 
 pub tied_kept : (life : Life) (past : Past) → AllHold life.past past → AreTied life → AreTied (with_past life past)
 tied_kept life past all tied = record {
@@ -116,7 +114,7 @@ tied_kept life past all tied = record {
               here = has.here;
               its = has.its;
               has =
-                  subst (λ conf. Contains (numbers_at (options_of conf) has.conn.transcript) number) (sym at.2.0)
+                  subst (λ conf. Contains (numbers_at (options_of conf) has.conn) number) (sym at.2.0)
                   has.has;
             }),
         (λ (has : HasNumber (with_past life past) rank peer id number).
@@ -126,7 +124,7 @@ tied_kept life past all tied = record {
               here = has.here;
               its = has.its;
               has =
-                  subst (λ conf. Contains (numbers_at (options_of conf) has.conn.transcript) number) at.2.0 has.has;
+                  subst (λ conf. Contains (numbers_at (options_of conf) has.conn) number) at.2.0 has.has;
             }))),
       );
   none = tied.none;

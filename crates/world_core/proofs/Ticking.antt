@@ -10,13 +10,13 @@ use Rattle.world_core.specs.declared.fault.Fault.{Fault}
 use Rattle.world_core.specs.declared.stations.Stations.{Stations}
 use Rattle.world_core.specs.declared.told.Told.{Told}
 use Rattle.world_core.proofs.Outputs.{tells_both, tells_none}
-use Rattle.world_core.proofs.Stepping.{zip_long}
+use Rattle.world_core.proofs.Zips.{zip_length}
 
 module _ {D : Type 0} {g : Ghosts D} where
   -- there is a connection for each of the world's
   pub count_conns : (life : Life) (stations : Stations D g) (cs : List Connection) → AreRunning life stations cs
       → length life.conns ≡ length cs
-  count_conns life stations cs running = zip_long (ConnectionStands life.past.peers) life.conns cs running.conns
+  count_conns life stations cs running = zip_length (ConnectionStands life.past.peers) life.conns cs running.conns
 
   -- none was told it
   pub ticks_none : (life : Life) (stations : Stations D g) (cs : List Connection) (told : List Told)

@@ -1,11 +1,11 @@
 -- One walk over all steps, which stands on the walk over those on tapes: what each step makes of a world, taken or
 -- refused, is some events on its tapes, or a connection that is made or goes on.
-use Rattle.std.proofs.Common.{◌≡◌, ℕ, zero, suc, ◌+◌, Option, Some, List, [], ◌∷◌, ◌++◌, length}
-use Rattle.std.proofs.Common.{take, refl, sym, ap, subst, inl, inr}
+use Rattle.std.proofs.Common.{◌≡◌, ℕ, zero, suc, ◌+◌, Option, Some, List, [], ◌∷◌, ◌++◌}
+use Rattle.std.proofs.Common.{refl, sym, ap, subst, inl, inr, append-nil}
 use Rattle.std.specs.List.{AllByRecursion, slice_get}
 use Rattle.article_store.specs.declared.store.Found.{Found}
-use Rattle.conn_core.specs.History.{Broke, Event as Happening, Handed, after, outside}
-use Rattle.conn_core.specs.Stands.{left_behind}
+use Rattle.conn_core.specs.History.{Broke, Event as Happening, Handed, after}
+use Rattle.conn_core.specs.declared.outcome.Outcome.{Outcome}
 use Rattle.disk_model.specs.declared.choice.Choice.{Choice}
 use Rattle.world_core.specs.Past.{ConnPast, Life, Past, PeerPast, TapePast, options_of, with_conn, with_past}
 use Rattle.world_core.specs.Events.{AllDo, Claims, Event, Opens, OpensIntake, Returns}
@@ -15,8 +15,8 @@ use Rattle.world_core.specs.Runs.Runs.{Start as NoStep, Next as OneStep}
 use Rattle.world_core.specs.Steps.{RefusesFlushing, RefusesImport, RefusesLine, RefusesPart, RefusesRotation}
 use Rattle.world_core.specs.Steps.{RefusesSeal, RefusesShed}
 use Rattle.world_core.specs.Exchange.{FailsToBreak, FailsToHand, FailsToRead, FailsToSupply, Follows, FollowsNot}
-use Rattle.world_core.specs.Exchange.{HandsOver, IsConn, RefusesConnect, RefusesTick, TicksEach, at_moment, sent_out}
-use Rattle.world_core.specs.Exchange.{settle_events, ticked, told_out, untold, with_taken, with_transcript}
+use Rattle.world_core.specs.Exchange.{HandsOver, IsConn, RefusesConnect, RefusesTick, TicksEach, at_moment, broken_off}
+use Rattle.world_core.specs.Exchange.{followed_up, fresh_conn, settle_events, ticked, unsettled, with_transcript}
 use Rattle.world_core.specs.Exchange.HandsOver.{None_there, Taken_over, Has_no_room, Is_shut}
 use Rattle.world_core.specs.Exchange.TicksEach.{Start as NoneTicked, Next as OneTicked}
 use Rattle.world_core.specs.Halts.{AtRest, Manner, RefusesRestart, RefusesStop, TakesStop, left}
@@ -31,8 +31,8 @@ use Rattle.world_core.specs.declared.step.Step.TheVariants.{Line, Flush, Begin, 
 use Rattle.world_core.specs.declared.step.Step.TheVariants.{Article, Break, Tick, Shed, Import, Rotate, Stop, Restart}
 use Rattle.world_core.specs.declared.told.Handed.{Handed as Handover}
 use Rattle.world_core.proofs.Growing.{Grew, grew_broken, grew_by, grew_outside, grew_received, grew_same, grew_sent}
-use Rattle.world_core.proofs.Growing.{grew_taken}
-use Rattle.world_core.proofs.Keeping.{take_whole}
+use Rattle.world_core.proofs.Growing.{grew_stopped}
+use Rattle.world_core.proofs.Holding.{out_rank}
 use Rattle.world_core.proofs.Walking.{Keeper, events_keep, fails_keep, flush_keeps, flush_refused, import_keeps}
 use Rattle.world_core.proofs.Walking.{import_refused, line_keeps, line_refused, opens_keep, part_keeps, part_refused}
 use Rattle.world_core.proofs.Walking.{restart_keeps, rotate_keeps, rotate_refused, seal_keeps, seal_refused, shed_keeps}
@@ -40,61 +40,55 @@ use Rattle.world_core.proofs.Walking.{shed_refused, strikes_keep, untold_keeps}
 
 -- ---- what follows a step on a connection
 
--- The connection had this transcript: so many of its outcomes have gone to its peer, and its transcript is that one
--- now, in which no further debt was accepted.
+-- The connection was this: the first of its outcomes have gone to its peer, and it is another now, with a transcript in
+-- which no further debt was accepted.
 pub record WentOn (id : ℕ) (conn : ConnPast) (life later : Life) : Type 0 where
   pub peer : PeerPast
   pub here : slice_get life.past.peers conn.rank ≡ Some peer
-  pub count : ℕ
+  pub done : List Outcome
+  pub left : List Outcome
+  pub split : unsettled (options_of peer.conf) conn ≡ done ++ left
   pub past : Past
-  pub settles : AllDo life.past
-      (take count (settle_events conn.rank id life.now (untold (options_of peer.conf) conn.transcript))) past
-  pub unread : List ℕ
-  pub transcript : List Happening
-  pub grew : Grew conn.transcript transcript
-  pub changed : later ≡ with_conn (with_past life past) id
-      (record { rank = conn.rank; unread = unread; transcript = transcript })
+  pub settles : AllDo life.past (settle_events conn.rank id life.now done) past
+  pub next : ConnPast
+  pub grew : (next.rank ≡ conn.rank) × Grew conn.transcript next.transcript
+  pub changed : later ≡ with_conn (with_past life past) id next
 
 -- where what follows has come about
 followed : (id : ℕ) (was : List Happening) (conn : ConnPast) (life later : Life) (told : List Said)
     → Follows id was conn life told later → WentOn id conn life later
 followed id was conn life later told f =
     let o = options_of f.peer.conf in
-    let events = settle_events conn.rank id life.now (untold o conn.transcript) in
     record {
       peer = f.peer;
       here = f.here;
-      count = length events;
+      done = unsettled o conn;
+      left = [];
+      split = sym (append-nil (unsettled o conn));
       past = f.past;
-      settles = subst (λ (es : List Event). AllDo life.past es f.past) (sym (take_whole events)) f.settles;
-      unread = left_behind o conn.unread (told_out o conn.transcript);
-      transcript = sent_out o conn.transcript;
-      grew = grew_sent o conn.transcript;
+      settles = f.settles;
+      next = followed_up o conn;
+      grew = (out_rank (unsettled o conn) conn, grew_sent o conn);
       changed = f.changed;
     }
 
 -- and where it was refused
 not_followed : (id : ℕ) (conn : ConnPast) (life : Life) (fault : Fault) (later : Life)
     → FollowsNot id conn life fault later → WentOn id conn life later
-not_followed id conn life fault later f =
-    let o = options_of f.peer.conf in
-    record {
-      peer = f.peer;
-      here = f.here;
-      count = f.count;
-      past = f.past;
-      settles = f.settles;
-      unread = left_behind o conn.unread conn.transcript;
-      transcript = with_taken (take f.count (untold o conn.transcript)) conn.transcript;
-      grew = grew_taken (take f.count (untold o conn.transcript)) conn.transcript;
-      changed = f.changed;
-    }
+not_followed id conn life fault later f = record {
+  peer = f.peer;
+  here = f.here;
+  done = f.done;
+  left = f.left;
+  split = f.split;
+  past = f.past;
+  settles = f.settles;
+  next = f.later_conn;
+  grew = grew_stopped conn.rank id life.now f.done f.left f.past fault conn f.later_conn f.why;
+  changed = f.changed;
+}
 
 -- ---- what steps make
-
--- a connection at its start
-abbrev pub fresh : ℕ → ConnPast
-fresh rank = record { rank = rank; unread = []; transcript = [] }
 
 -- A relation of what a world was and what a step has made of it, which each kind of change brings about: its tapes
 -- have changed by events of some kind, and its connections are as they were, or gone; a connection more was made; or
@@ -112,7 +106,7 @@ pub record Passage : Type 1 where
   pub halts : (step : Step) (life later : Life) → tapes.KEEPS life.past later.past → later.conns ≡ []
       → MAKES step life later
   pub connects : (step : Step) (life later : Life) (number rank : ℕ) → later.past ≡ life.past
-      → later.conns ≡ life.conns ++ (number, fresh rank) ∷ [] → MAKES step life later
+      → later.conns ≡ life.conns ++ (number, fresh_conn rank) ∷ [] → MAKES step life later
   pub goes_on : (step : Step) (id : ℕ) (conn new : ConnPast) (peer : PeerPast) (life later : Life)
       → IsConn id life conn peer → new.rank ≡ conn.rank → Grew conn.transcript new.transcript
       → WentOn id new life later → MAKES step life later
@@ -127,7 +121,7 @@ pub record Passage : Type 1 where
       (peer : PeerPast)
       → TicksEach begun count told mid → MAKES (Tick now) begun mid
       → slice_get mid.conns count ≡ Some (id, conn)
-      → WentOn id (ticked (options_of peer.conf) mid.now conn) mid later → MAKES (Tick now) begun later
+      → WentOn id (ticked mid.now peer conn) mid later → MAKES (Tick now) begun later
 
 module _ (passage : Passage) where
   open passage use {tapes, on_claims, on_returns, on_opens, on_intake, keeps_left, MAKES}
@@ -207,7 +201,7 @@ module _ (passage : Passage) where
       hand_makes id life t.conn t.peer t.handed t.transcript t.past later t.is t.hands
       (followed id t.conn.transcript _ (with_past life t.past) later t.behind t.follows)
   step_makes (Bytes id octets) life told later (runs, t) =
-      goes_on _ id t.conn (record { rank = t.conn.rank; unread = t.left; transcript = t.transcript }) t.peer life later
+      goes_on _ id t.conn (record t.conn { unread = t.left; transcript = t.transcript }) t.peer life later
       t.is refl (grew_received (options_of t.peer.conf) _ t.left t.conn.transcript t.transcript t.receives)
       (followed id t.conn.transcript _ life later told t.follows)
   step_makes (Article id found) life told later (runs, t) =
@@ -217,7 +211,7 @@ module _ (passage : Passage) where
       (followed id t.conn.transcript _ life later told t.follows)
   step_makes (Break id) life told later (runs, t) =
       let o = options_of t.peer.conf in
-      goes_on _ id t.conn (with_transcript t.conn (outside o t.conn.transcript Broke)) t.peer life later t.is refl
+      goes_on _ id t.conn (broken_off t.peer t.conn) t.peer life later t.is refl
       (grew_outside o t.conn.transcript Broke refl) (followed id t.conn.transcript _ life later told t.follows)
   step_makes (Tick now) life told later (runs, takes) =
       moves now life later (ticks_make now (at_moment now life) _ told later takes)
@@ -271,16 +265,17 @@ module _ (passage : Passage) where
       goes_on step id conn conn peer life later is refl (grew_same conn.transcript) (record {
         peer = peer;
         here = is.peer_is;
-        count = 0;
+        done = [];
+        left = unsettled o conn;
+        split = refl;
         past = life.past;
         settles = NoEvent;
-        unread = [];
-        transcript = after o mid Broke;
-        grew = grew_broken o (conn.unread ++ octets) conn.transcript mid some;
+        next = record conn { unread = []; transcript = after o mid Broke };
+        grew = (refl, grew_broken o (conn.unread ++ octets) conn.transcript mid some);
         changed = changed;
       })
   bytes_refused step id octets life conn peer fault later is (inr (h, rest, came, follows)) =
-      goes_on step id conn (record { rank = conn.rank; unread = rest; transcript = h }) peer life later is refl
+      goes_on step id conn (record conn { unread = rest; transcript = h }) peer life later is refl
       (grew_received (options_of peer.conf) _ rest conn.transcript h came)
       (not_followed id _ life fault later follows)
 
@@ -300,7 +295,7 @@ module _ (passage : Passage) where
       → IsConn id life conn peer → FailsToBreak id life conn peer fault later → MAKES step life later
   break_refused step id life conn peer fault later is follows =
       let o = options_of peer.conf in
-      goes_on step id conn (with_transcript conn (outside o conn.transcript Broke)) peer life later is refl
+      goes_on step id conn (broken_off peer conn) peer life later is refl
       (grew_outside o conn.transcript Broke refl) (not_followed id _ life fault later follows)
 
   conn_refused : (step : Step) (id : ℕ) (R : Life → ConnPast → PeerPast → Fault → Life → Type 0)
@@ -420,7 +415,7 @@ module _ (keeper : Keeper) (any : (event : Event) → keeper.ON event)
     moves = λ now life later keeps. keeps;
     ticks = λ now begun mid later count told id conn peer before keeps here went.
         keeper.joined begun.past mid.past later.past keeps
-        (went_keeps id (ticked (options_of peer.conf) mid.now conn) mid later went);
+        (went_keeps id (ticked mid.now peer conn) mid later went);
   }
 
   pub runs_all : (was : Life) (steps : List Step) (lines : List (List Said)) (later : Life)

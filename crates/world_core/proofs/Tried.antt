@@ -1,6 +1,7 @@
 -- One opening more, and one that is refused.
 use Rattle.std.proofs.Common.{◌≡◌, ℕ, ◌==◌, ◌<◌, Bool, true, false, if◌then◌else◌, Option, None, Some, List, [], ◌∷◌}
 use Rattle.std.proofs.Common.{◌++◌, length, map, refl, sym, ap, ◌∙◌, subst, arith, append_assoc, length-append}
+use Rattle.std.proofs.lemmas.List.{map_push}
 use Rattle.recovery.specs.Leaving.{pending_notes}
 use Rattle.std.specs.Option.{is_some}
 use Rattle.std.specs.List.{AllByRecursion, AllZip, slice_get}
@@ -20,7 +21,7 @@ use Rattle.world_core.specs.declared.peer.StoppedPeer.{StoppedPeer}
 use Rattle.world_core.specs.declared.fault.Halt.{Halt}
 use Rattle.world_core.proofs.Pure.{all_push}
 use Rattle.world_core.proofs.Sound.{each_front, sound_same}
-use Rattle.world_core.proofs.Trying.{get_at, get_rank, has_opened, length_push, length_set, map_push, safe_put, set_at}
+use Rattle.world_core.proofs.Trying.{get_at, get_rank, has_opened, length_push, length_set, safe_put, set_at}
 use Rattle.world_core.proofs.Trying.{sound_opened, take_places}
 use Rattle.world_core.proofs.Zips.{zip_length, zip_push}
 use Rattle.peer_queue.specs.Words.{tape_of}

@@ -1,5 +1,5 @@
 -- The openings of peers, one after another.
-use Rattle.std.proofs.Common.{◌≡◌, ℕ, zero, suc, ◌<◌, ◌≤◌, Some, List, [], ◌∷◌, ◌++◌, length, take, drop, map, refl}
+use Rattle.std.proofs.Common.{◌≡◌, ℕ, zero, suc, ◌<◌, ◌≤◌, Some, List, [], ◌∷◌, ◌++◌, length, take, drop, refl}
 use Rattle.std.proofs.Common.{sym, ap, ◌∙◌, subst, arith, append_assoc, inl, inr}
 use Rattle.std.proofs.Math.ListN.{set}
 use Rattle.std.proofs.lemmas.Bool.{cases_lt}
@@ -41,10 +41,6 @@ module _ {A : Type 0} where
   drop_taken zero xs = refl
   drop_taken (suc n) [] = refl
   drop_taken (suc n) (x ∷ xs) = drop_taken n xs
-
-  pub map_push : {B : Type 0} (f : A → B) (front : List A) (x : A) → map f (front ++ x ∷ []) ≡ map f front ++ f x ∷ []
-  map_push f [] x = refl
-  map_push f (a ∷ front) x = ap (λ l. f a ∷ l) (map_push f front x)
 
 -- ---- the events at each rank
 

@@ -2,7 +2,7 @@
 use Rattle.std.proofs.Common.{◌≡◌, ℕ, zero, suc, Some, List, [], ◌∷◌, ◌++◌, length, map, refl, sym}
 use Rattle.std.proofs.Common.{ap, subst}
 use Rattle.std.proofs.Math.ListN.{set}
-use Rattle.std.specs.List.{AllZip, slice_get}
+use Rattle.std.specs.List.{AllByRecursion, AllZip, slice_get}
 
 module _ {A B : Type 0} (R : A → B → Type 0) where
   -- behind related lists come related ones
@@ -23,6 +23,39 @@ module _ {A B : Type 0} (R : A → B → Type 0) where
   zip_length [] (y ∷ ys) all = absurd all
   zip_length (x ∷ xs) [] all = absurd all
   zip_length (x ∷ xs) (y ∷ ys) all = ap (λ (n : ℕ). suc n) (zip_length xs ys all.1)
+
+  -- what f makes of the one is what g makes of the other
+  pub zip_equal : {E : Type 0} (f : A → E) (g : B → E) → ((x : A) (y : B) → R x y → g y ≡ f x)
+      → (xs : List A) (ys : List B) → AllZip R xs ys → map g ys ≡ map f xs
+  zip_equal f g each [] [] all = refl
+  zip_equal f g each [] (y ∷ ys) all = absurd all
+  zip_equal f g each (x ∷ xs) [] all = absurd all
+  zip_equal f g each (x ∷ xs) (y ∷ ys) all =
+      ap (λ z. z ∷ map g ys) (each x y all.0) ∙ ap (λ l. f x ∷ l) (zip_equal f g each xs ys all.1)
+
+  -- what is so of the one
+  pub zip_first : (S : A → Type 0) → ((x : A) (y : B) → R x y → S x)
+      → (xs : List A) (ys : List B) → AllZip R xs ys → AllByRecursion S xs
+  zip_first S each [] ys all = tt
+  zip_first S each (x ∷ xs) [] all = absurd all
+  zip_first S each (x ∷ xs) (y ∷ ys) all = (each x y all.0, zip_first S each xs ys all.1)
+
+  -- another relation, of what is made of both
+  pub zip_both : {E F : Type 0} (Q : E → F → Type 0) (f : A → E) (g : B → F)
+      → ((x : A) (y : B) → R x y → Q (f x) (g y))
+      → (xs : List A) (ys : List B) → AllZip R xs ys → AllZip Q (map f xs) (map g ys)
+  zip_both Q f g each [] [] all = tt
+  zip_both Q f g each [] (y ∷ ys) all = absurd all
+  zip_both Q f g each (x ∷ xs) [] all = absurd all
+  zip_both Q f g each (x ∷ xs) (y ∷ ys) all = (each x y all.0, zip_both Q f g each xs ys all.1)
+
+  -- or of the two
+  pub zip_weaker : (Q : A → B → Type 0) → ((x : A) (y : B) → R x y → Q x y)
+      → (xs : List A) (ys : List B) → AllZip R xs ys → AllZip Q xs ys
+  zip_weaker Q each [] [] all = tt
+  zip_weaker Q each [] (y ∷ ys) all = absurd all
+  zip_weaker Q each (x ∷ xs) [] all = absurd all
+  zip_weaker Q each (x ∷ xs) (y ∷ ys) all = (each x y all.0, zip_weaker Q each xs ys all.1)
 
 -- one relation through another
 pub zip_then : {A B C : Type 0} (P : A → B → Type 0) (R : B → C → Type 0) (Q : A → C → Type 0)

@@ -262,7 +262,9 @@ Does Acknowledges past later = DoesAcknowledge past later
 Does (Opens rank) past later = DoesOpen rank past later
 Does OpensIntake past later = DoesOpenIntake past later
 
--- Events one after another, in this order; and behind each of them whatever a stop leaves is safe.
+-- Events one after another, in this order; and behind each of them whatever a stop leaves is safe. If all are taken,
+-- this shows only what each tape has been through. In which order a step comes to two tapes is settled by how it is
+-- refused (`Fails`): any event may be refused, and then those before it stand, and none behind it.
 pub data AllDo (begun : Past) : List Event → Past → Type 0 where
   Start : AllDo begun [] begun
   Next : (events : List Event) (event : Event) (past later : Past) → AllDo begun events past → Does event past later

@@ -1,8 +1,8 @@
 -- The steps on connections (docs/FORMATS.md): each puts something into a transcript, and then its outcomes go to the
 -- peer's station, oldest first, each an event; its output counts as sent; and what it wants, and why it closed, is
 -- told.
-use Rattle.std.specs.Prelude.{◌≡◌, ◌⊎◌, ◌+◌, ◌<◌, ◌≤◌, ◌^◌, ℕ, false, None, Some, List, [], ◌∷◌, ◌++◌, length, drop}
-use Rattle.std.specs.Prelude.{map, take, slice_get}
+use Rattle.std.specs.Prelude.{◌≡◌, ◌⊎◌, ◌+◌, ◌<◌, ◌^◌, ℕ, false, None, Some, List, [], ◌∷◌, ◌++◌, length, drop}
+use Rattle.std.specs.Prelude.{if◌then◌else◌, map, nat_lt, slice_get}
 use Rattle.ledger_core.specs.State.{Owing}
 use Rattle.article_store.specs.declared.store.Found.{Found}
 use Rattle.conn_core.specs.Commands.{Handing}
@@ -28,74 +28,95 @@ use Rattle.world_core.specs.declared.told.Handed.TheVariants.{Busy, Closed, Debt
 
 -- ---- what follows a step on a connection
 
--- the outcomes that are still to be taken
-abbrev pub untold : Options → List Happening → List Outcome
-untold options h = drop (taken h) (outcomes options h)
+-- the outcomes that are still to go to its peer
+abbrev pub unsettled : Options → ConnPast → List Outcome
+unsettled options conn = drop conn.settled (outcomes options conn.transcript)
 
--- so many of them are taken
-abbrev pub with_taken : List Outcome → List Happening → List Happening
-with_taken [] h = h
-with_taken (outcome ∷ rest) h = with_taken rest (Taken ∷ h)
+-- one outcome more is taken from a connection, unless so many are already
+abbrev pub out_to : ℕ → List Happening → List Happening
+out_to count h = if nat_lt (taken h) count then Taken ∷ h else h
 
--- the transcript once all are
-abbrev pub told_out : Options → List Happening → List Happening
-told_out options h = with_taken (untold options h) h
+-- the next outcome is taken, unless it was before, and goes to the peer
+abbrev pub one_out : ConnPast → ConnPast
+one_out conn =
+    record conn { transcript = out_to (conn.settled + 1) conn.transcript; settled = conn.settled + 1 }
 
--- and once all of the output counts as sent
-abbrev pub sent_out : Options → List Happening → List Happening
-sent_out options h = noted options (told_out options h) (Sent (length (output options (told_out options h))))
+-- so many do, one after another
+abbrev pub all_out : List Outcome → ConnPast → ConnPast
+all_out [] conn = conn
+all_out (outcome ∷ rest) conn = all_out rest (one_out conn)
+
+-- the next is taken, unless it was before, and waits, since its peer refuses it
+abbrev pub waiting : ConnPast → ConnPast
+waiting conn = record conn { transcript = out_to (conn.settled + 1) conn.transcript }
+
+-- the connection once all have gone to the peer
+abbrev pub told_out : Options → ConnPast → ConnPast
+told_out options conn = all_out (unsettled options conn) conn
+
+-- a connection with this transcript
+abbrev pub with_transcript : ConnPast → List Happening → ConnPast
+with_transcript conn h = record conn { transcript = h }
+
+-- its output counts as sent, and once closed it holds no octets back
+abbrev pub sent_all : Options → ConnPast → ConnPast
+sent_all options conn = record conn {
+  unread = left_behind options conn.unread conn.transcript;
+  transcript = noted options conn.transcript (Sent (length (output options conn.transcript)));
+}
+
+-- what the step leaves of it then
+abbrev pub followed_up : Options → ConnPast → ConnPast
+followed_up options conn = sent_all options (told_out options conn)
 
 -- each outcome goes to the peer at this rank
 abbrev pub settle_events : (rank id now : ℕ) → List Outcome → List Event
 settle_events rank id now outcomes = map (λ (outcome : Outcome). Settles rank id now outcome) outcomes
 
 -- what is told then, of a connection whose transcript was this before the step
-abbrev pub exchange_said : Limits → Options → (id now : ℕ) → (was h : List Happening) → List Said
-exchange_said limits options id now was h =
-    map (λ (outcome : Outcome). Settled id (key_in outcome) (settled_by limits now outcome)) (untold options h)
-    ++ (map (Output id) (lines_in (output options (told_out options h)))
-    ++ (need_said id (need options (told_out options h))
-    ++ closed_said id (reason options was) (reason options (told_out options h))))
+abbrev pub exchange_said : Limits → Options → (id now : ℕ) → (was : List Happening) → ConnPast → List Said
+exchange_said limits options id now was conn =
+    map (λ (outcome : Outcome). Settled id (key_in outcome) (settled_by limits now outcome)) (unsettled options conn)
+    ++ (map (Output id) (lines_in (output options (told_out options conn).transcript))
+    ++ (need_said id (need options (told_out options conn).transcript)
+    ++ closed_said id (reason options was) (reason options (told_out options conn).transcript)))
 
--- The connection has this transcript now, and had that one before the step: what follows has come about, and is told.
+-- The connection is this now, and had that transcript before the step: what follows has come about, and is told.
 pub record Follows (id : ℕ) (was : List Happening) (conn : ConnPast) (life : Life) (told : List Said) (later : Life) :
     Type 0 where
   pub peer : PeerPast
   pub here : slice_get life.past.peers conn.rank ≡ Some peer
   pub past : Past
-  pub settles : AllDo life.past (settle_events conn.rank id life.now (untold (options_of peer.conf) conn.transcript))
-      past
-  pub told_is : told ≡ exchange_said (limits_of peer.conf) (options_of peer.conf) id life.now was conn.transcript
-  pub changed : later ≡ with_conn (with_past life past) id (record {
-    rank = conn.rank;
-    unread = left_behind (options_of peer.conf) conn.unread (told_out (options_of peer.conf) conn.transcript);
-    transcript = sent_out (options_of peer.conf) conn.transcript;
-  })
+  pub settles : AllDo life.past (settle_events conn.rank id life.now (unsettled (options_of peer.conf) conn)) past
+  pub told_is : told ≡ exchange_said (limits_of peer.conf) (options_of peer.conf) id life.now was conn
+  pub changed : later ≡ with_conn (with_past life past) id (followed_up (options_of peer.conf) conn)
 
--- Why only so many outcomes are taken: the next is refused, or memory is, with which they are told.
-abbrev pub StopsAt : List Event → ℕ → Past → Fault → Type 0
-StopsAt events count past fault =
-    (fault ≡ NoMemory) ⊎ ((event : Event) × (slice_get events count ≡ Some event) × Refuses event past fault past)
+-- Why no outcome of these goes to the peer at this rank any more, and what this makes of the connection: memory is
+-- refused, with which they are told; or the first of them is, and waits.
+abbrev pub StopsAt : (rank id now : ℕ) → List Outcome → Past → Fault → (conn later : ConnPast) → Type 0
+StopsAt rank id now outcomes past fault conn later =
+    ((fault ≡ NoMemory) × (later ≡ conn))
+    ⊎ ((outcome : Outcome) × (rest : List Outcome) × (outcomes ≡ outcome ∷ rest)
+    × Refuses (Settles rank id now outcome) past fault past × (later ≡ waiting conn))
 
--- Only so many outcomes were taken, from the first on; the next is the first to be taken still, and no octet counts
--- as sent.
+-- Only the first outcomes went to the peer; the others are still to go, and no octet counts as sent.
 pub record FollowsNot (id : ℕ) (conn : ConnPast) (life : Life) (fault : Fault) (later : Life) : Type 0 where
   pub peer : PeerPast
   pub here : slice_get life.past.peers conn.rank ≡ Some peer
-  pub count : ℕ
-  pub within : count ≤ length (untold (options_of peer.conf) conn.transcript)
+  pub done : List Outcome
+  pub left : List Outcome
+  pub split : unsettled (options_of peer.conf) conn ≡ done ++ left
   pub past : Past
-  pub settles : AllDo life.past
-      (take count (settle_events conn.rank id life.now (untold (options_of peer.conf) conn.transcript))) past
-  pub why : StopsAt (settle_events conn.rank id life.now (untold (options_of peer.conf) conn.transcript)) count past
-      fault
-  pub changed : later ≡ with_conn (with_past life past) id (record {
-    rank = conn.rank;
-    unread = left_behind (options_of peer.conf) conn.unread conn.transcript;
-    transcript = with_taken (take count (untold (options_of peer.conf) conn.transcript)) conn.transcript;
-  })
+  pub settles : AllDo life.past (settle_events conn.rank id life.now done) past
+  pub later_conn : ConnPast
+  pub why : StopsAt conn.rank id life.now left past fault (all_out done conn) later_conn
+  pub changed : later ≡ with_conn (with_past life past) id later_conn
 
 -- ---- a connection is made
+
+-- a connection at its start
+abbrev pub fresh_conn : ℕ → ConnPast
+fresh_conn rank = record { rank = rank; unread = []; transcript = []; settled = 0 }
 
 pub record TakesConnect (name : List ℕ) (life : Life) (told : List Said) (later : Life) : Type 0 where
   pub rank : ℕ
@@ -103,7 +124,7 @@ pub record TakesConnect (name : List ℕ) (life : Life) (told : List Said) (late
   pub fits : life.connected + 1 < 2 ^ 64
   pub told_is : told ≡ Connected (life.connected + 1) name ∷ []
   pub changed : later ≡ record life {
-    conns = life.conns ++ (life.connected + 1, record { rank = rank; unread = []; transcript = [] }) ∷ [];
+    conns = life.conns ++ (life.connected + 1, fresh_conn rank) ∷ [];
     connected = life.connected + 1;
   }
 
@@ -144,10 +165,6 @@ pub record IsConn (id : ℕ) (life : Life) (conn : ConnPast) (peer : PeerPast) :
   pub conn_is : conn_at life.conns id ≡ Some conn
   pub peer_is : slice_get life.past.peers conn.rank ≡ Some peer
 
--- a connection with this transcript
-abbrev pub with_transcript : ConnPast → List Happening → ConnPast
-with_transcript conn h = record conn { transcript = h }
-
 pub record TakesHand (id : ℕ) (life : Life) (told : List Said) (later : Life) : Type 0 where
   pub conn : ConnPast
   pub peer : PeerPast
@@ -183,8 +200,7 @@ pub record TakesBytes (id : ℕ) (octets : List ℕ) (life : Life) (told : List 
   pub transcript : List Happening
   pub left : List ℕ
   pub receives : Receives (options_of peer.conf) (conn.unread ++ octets) conn.transcript transcript left
-  pub follows : Follows id conn.transcript (record { rank = conn.rank; unread = left; transcript = transcript })
-      life told later
+  pub follows : Follows id conn.transcript (record conn { unread = left; transcript = transcript }) life told later
 
 -- Memory was refused to the reader: some of the whole replies were taken, and the connection is broken, of which no
 -- outcome is taken; or what follows was refused.
@@ -192,11 +208,10 @@ abbrev pub FailsToRead : ℕ → List ℕ → Life → ConnPast → PeerPast →
 FailsToRead id octets life conn peer fault later =
     ((fault ≡ NoMemory) × ((mid : List Happening)
     × ReceivesSome (options_of peer.conf) (conn.unread ++ octets) conn.transcript mid
-    × (later ≡ with_conn life id
-    (record { rank = conn.rank; unread = []; transcript = after (options_of peer.conf) mid Broke }))))
+    × (later ≡ with_conn life id (record conn { unread = []; transcript = after (options_of peer.conf) mid Broke }))))
     ⊎ ((transcript : List Happening) × (left : List ℕ)
     × Receives (options_of peer.conf) (conn.unread ++ octets) conn.transcript transcript left
-    × FollowsNot id (record { rank = conn.rank; unread = left; transcript = transcript }) life fault later)
+    × FollowsNot id (record conn { unread = left; transcript = transcript }) life fault later)
 
 -- ---- an article is handed in
 
@@ -222,16 +237,19 @@ FailsToSupply id found life conn peer fault later =
 
 -- ---- a connection breaks
 
+-- it broke, and holds no octets back
+abbrev pub broken_off : PeerPast → ConnPast → ConnPast
+broken_off peer conn =
+    record conn { unread = []; transcript = outside (options_of peer.conf) conn.transcript Broke }
+
 pub record TakesBreak (id : ℕ) (life : Life) (told : List Said) (later : Life) : Type 0 where
   pub conn : ConnPast
   pub peer : PeerPast
   pub is : IsConn id life conn peer
-  pub follows : Follows id conn.transcript
-      (with_transcript conn (outside (options_of peer.conf) conn.transcript Broke)) life told later
+  pub follows : Follows id conn.transcript (broken_off peer conn) life told later
 
 abbrev pub FailsToBreak : ℕ → Life → ConnPast → PeerPast → Fault → Life → Type 0
-FailsToBreak id life conn peer fault later =
-    FollowsNot id (with_transcript conn (outside (options_of peer.conf) conn.transcript Broke)) life fault later
+FailsToBreak id life conn peer fault later = FollowsNot id (broken_off peer conn) life fault later
 
 -- a step on a connection that is not there is refused, and any other so
 abbrev pub RefusesOn : ℕ → Life → (ConnPast → PeerPast → Fault → Life → Type 0) → Fault → Life → Type 0
@@ -245,9 +263,13 @@ RefusesOn id life Fails fault later =
 abbrev pub at_moment : ℕ → Life → Life
 at_moment now life = record life { now = now }
 
--- a connection to a peer of these settings, for which it is this moment
-abbrev pub ticked : Options → ℕ → ConnPast → ConnPast
-ticked options now conn = with_transcript conn (outside options conn.transcript (Tick now))
+-- a connection that was told this moment
+abbrev pub ticked : ℕ → PeerPast → ConnPast → ConnPast
+ticked now peer conn = record conn {
+  unread = left_behind (options_of peer.conf) conn.unread
+      (outside (options_of peer.conf) conn.transcript (Tick now));
+  transcript = outside (options_of peer.conf) conn.transcript (Tick now);
+}
 
 -- so many connections were told the moment, in the order of their numbers, and what follows has come about of each in
 -- turn
@@ -256,7 +278,7 @@ pub data TicksEach (begun : Life) : ℕ → List Said → Life → Type 0 where
   Next : (count : ℕ) (told more : List Said) (mid later : Life) (id : ℕ) (conn : ConnPast) (peer : PeerPast)
       → TicksEach begun count told mid → slice_get mid.conns count ≡ Some (id, conn)
       → slice_get mid.past.peers conn.rank ≡ Some peer
-      → Follows id conn.transcript (ticked (options_of peer.conf) mid.now conn) mid more later
+      → Follows id conn.transcript (ticked mid.now peer conn) mid more later
       → TicksEach begun (count + 1) (told ++ more) later
 
 abbrev pub TakesTick : ℕ → Life → List Said → Life → Type 0
@@ -273,4 +295,4 @@ pub record RefusesTick (now : ℕ) (life : Life) (fault : Fault) (later : Life) 
   pub front : TicksEach (at_moment now life) count told mid
   pub next : slice_get mid.conns count ≡ Some (id, conn)
   pub here : slice_get mid.past.peers conn.rank ≡ Some peer
-  pub follows : FollowsNot id (ticked (options_of peer.conf) mid.now conn) mid fault later
+  pub follows : FollowsNot id (ticked mid.now peer conn) mid fault later

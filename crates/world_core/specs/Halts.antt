@@ -114,7 +114,8 @@ RefusesRestart life fault later =
 
 -- ---- a stop is met
 
--- The events of the steps that call disks, and the tapes at which they begin; each is what the step takes. No other
+-- The events of the steps that call disks, and the tapes at which they begin. They are those that the step takes, but
+-- for a rotation: which generation it answers shows only if it is taken, and no refusal looks at the 0 here. No other
 -- step meets a stop.
 abbrev pub CallsDisks : Step → Life → Past → List Event → Type 0
 CallsDisks (Line text) life begun events = ⊥

@@ -2,7 +2,7 @@
 use Rattle.std.specs.Prelude.{◌≡◌, ℕ, true, Option, None, Some, List, slice_get}
 use Rattle.std.specs.List.{AllZip}
 use Rattle.disk_model.specs.declared.Disk.{Ghosts}
-use Rattle.world_core.specs.Past.{ConnPast, Life, PeerPast, conn_at, options_of}
+use Rattle.world_core.specs.Past.{ConnPast, Life, PeerPast, conn_at}
 use Rattle.world_core.specs.Exchange.{Follows, FollowsNot, RefusesOn, TicksEach, ticked}
 use Rattle.world_core.specs.Pairs.{Tells}
 use Rattle.world_core.specs.Sound.{AreTied}
@@ -35,7 +35,7 @@ pub record TicksOne (index : ℕ) (life : Life) (told : List Said) (later : Life
   pub peer : PeerPast
   pub next : slice_get life.conns index ≡ Some (id, conn)
   pub here : slice_get life.past.peers conn.rank ≡ Some peer
-  pub follows : Follows id conn.transcript (ticked (options_of peer.conf) life.now conn) life told later
+  pub follows : Follows id conn.transcript (ticked life.now peer conn) life told later
 
 -- what follows of that was refused
 pub record TicksOneNot (index : ℕ) (life : Life) (fault : Fault) (later : Life) : Type 0 where
@@ -44,7 +44,7 @@ pub record TicksOneNot (index : ℕ) (life : Life) (fault : Fault) (later : Life
   pub peer : PeerPast
   pub next : slice_get life.conns index ≡ Some (id, conn)
   pub here : slice_get life.past.peers conn.rank ≡ Some peer
-  pub follows : FollowsNot id (ticked (options_of peer.conf) life.now conn) life fault later
+  pub follows : FollowsNot id (ticked life.now peer conn) life fault later
 
 -- so many were, and what follows was refused of the next
 pub record TicksNot (life : Life) (fault : Fault) (later : Life) : Type 0 where

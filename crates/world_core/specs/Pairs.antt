@@ -1,16 +1,17 @@
 -- A connection and its peer: what the steps on connections (specs/Exchange.antt) make of these two alone.
 use Rattle.std.specs.Prelude.{◌≡◌, ◌⊎◌, ◌↔◌, ◌==◌, ℕ, Bool, true, false, None, Some, option_to_list, List, [], ◌∷◌}
-use Rattle.std.specs.Prelude.{◌++◌, map, Contains}
+use Rattle.std.specs.Prelude.{◌++◌, ◌+◌, map, slice_get, Contains, Option}
 use Rattle.std.specs.List.{IsDistinct}
 use Rattle.disk_model.specs.declared.Disk.{Ghosts}
 use Rattle.ledger_core.specs.State.{Owing}
 use Rattle.article_store.specs.declared.store.Found.{Found}
 use Rattle.conn_core.specs.Commands.{Handing}
-use Rattle.conn_core.specs.History.{Broke, Event as Happening, Handed as HandedIn, Offered, Taken, Tick, after, need}
-use Rattle.conn_core.specs.History.{outside}
+use Rattle.conn_core.specs.History.{Broke, Event as Happening, Handed as HandedIn, Offered, after, need, outcomes}
+use Rattle.conn_core.specs.History.{taken}
 use Rattle.conn_core.specs.Receipt.{IsHandedAs, Receives, ReceivesSome}
-use Rattle.conn_core.specs.Stands.{Arises, left_behind, ready_of}
+use Rattle.conn_core.specs.Stands.{StandsFor as ConnStands, ready_of}
 use Rattle.conn_core.specs.State.{untold_at}
+use Rattle.conn_core.specs.declared.options.Options.{Options}
 use Rattle.conn_core.specs.declared.outcome.Outcome.{Outcome}
 use Rattle.conn_core.specs.declared.ready.Ready.TheVariants.{Busy as NoRoom, Shut, Yes}
 use Rattle.peer_queue.specs.Place.{IsHeldBy, Ready, least_candidate, moved}
@@ -18,9 +19,10 @@ use Rattle.peer_queue.specs.Settled.{IsEnded, key_in}
 use Rattle.world_core.specs.Past.{ConnPast, PeerPast, TapePast, limits_of, options_of, with_places, with_tape}
 use Rattle.world_core.specs.Tapes.{HasRoom, IsReadTape}
 use Rattle.world_core.specs.Events.{IsCandidate, RefusesClaim, RefusesEnd, claimed_peer, settled, settling}
-use Rattle.world_core.specs.Exchange.{exchange_said, sent_out, told_out, untold, with_taken, with_transcript}
+use Rattle.world_core.specs.Exchange.{all_out, exchange_said, followed_up, one_out, out_to, unsettled, waiting}
+use Rattle.world_core.specs.Exchange.{with_transcript}
 use Rattle.world_core.specs.Sound.{numbers_at}
-use Rattle.world_core.specs.Stands.{HoldsTranscript, PeerStands}
+use Rattle.world_core.specs.Stands.{HoldsTranscript, PeerStands, WaitsWith}
 use Rattle.world_core.specs.Told.{Handed as SaidHanded, Said, Settled, said_of}
 use Rattle.world_core.specs.declared.connection.Connection.{Connection}
 use Rattle.world_core.specs.declared.fault.Fault.{Fault}
@@ -52,8 +54,8 @@ settled_said id now peer outcome = Settled id (key_in outcome) (settling peer no
 -- The numbers that the connection holds at its peer are exactly those that it has, and it has none twice.
 pub record IsTied (id : ℕ) (conn : ConnPast) (peer : PeerPast) : Type 0 where
   pub held : (number : ℕ) → IsHeldBy peer.places id number
-      ↔ Contains (numbers_at (options_of peer.conf) conn.transcript) number
-  pub once : IsDistinct (λ one other. one == other) (numbers_at (options_of peer.conf) conn.transcript)
+      ↔ Contains (numbers_at (options_of peer.conf) conn) number
+  pub once : IsDistinct (λ one other. one == other) (numbers_at (options_of peer.conf) conn)
 
 -- ---- a debt is handed over
 
@@ -103,45 +105,29 @@ FailsToOfferAt id now conn peer fault later =
 
 -- ---- a connection and its peer
 
--- this moment was told to the connection
-abbrev pub ticked_at : ℕ → PeerPast → ConnPast → ConnPast
-ticked_at now past conn = record {
-  rank = conn.rank;
-  unread = left_behind (options_of past.conf) conn.unread (outside (options_of past.conf) conn.transcript (Tick now));
-  transcript = outside (options_of past.conf) conn.transcript (Tick now);
-}
-
--- the connection broke, and holds no octets back
-abbrev pub broken_off : PeerPast → ConnPast → ConnPast
-broken_off past conn = record {
-  rank = conn.rank;
-  unread = [];
-  transcript =
-      outside (options_of past.conf) conn.transcript Broke;
-}
-
 -- what follows a step on the connection, whose transcript was this before it, is this, and is told
 pub record FollowsAt (id now : ℕ) (was : List Happening) (conn : ConnPast) (past : PeerPast) (said : List Said)
     (later_conn : ConnPast) (later : PeerPast) : Type 0 where
-  pub settles : AllSettleAt id now past (untold (options_of past.conf) conn.transcript) later
-  pub told_is : said ≡ exchange_said (limits_of past.conf) (options_of past.conf) id now was conn.transcript
-  pub changed : later_conn ≡ record {
-    rank = conn.rank;
-    unread = left_behind (options_of past.conf) conn.unread (told_out (options_of past.conf) conn.transcript);
-    transcript = sent_out (options_of past.conf) conn.transcript;
-  }
+  pub settles : AllSettleAt id now past (unsettled (options_of past.conf) conn) later
+  pub told_is : said ≡ exchange_said (limits_of past.conf) (options_of past.conf) id now was conn
+  pub changed : later_conn ≡ followed_up (options_of past.conf) conn
 
--- it was refused: so many outcomes are taken, and of those that are left the first is refused, or memory is
+-- Why no outcome of these goes to the peer any more, and what this makes of the connection: memory was refused; or the
+-- first of them was, and waits.
+abbrev pub StopsHere : (now : ℕ) → List Outcome → PeerPast → Fault → (conn later : ConnPast) → Type 0
+StopsHere now outcomes peer fault conn later =
+    ((fault ≡ NoMemory) × (later ≡ conn))
+    ⊎ ((outcome : Outcome) × (rest : List Outcome) × (outcomes ≡ outcome ∷ rest)
+    × RefusesEnd (settling peer now outcome) peer.tape fault × (later ≡ waiting conn))
+
+-- it was refused: the first outcomes went to the peer, and the others are left
 pub record FollowsNotAt (id now : ℕ) (conn : ConnPast) (past : PeerPast) (fault : Fault) (later_conn : ConnPast)
     (later : PeerPast) : Type 0 where
   pub done : List Outcome
   pub left : List Outcome
-  pub split : untold (options_of past.conf) conn.transcript ≡ done ++ left
+  pub split : unsettled (options_of past.conf) conn ≡ done ++ left
   pub settles : AllSettleAt id now past done later
-  pub why : (fault ≡ NoMemory)
-      ⊎ ((outcome : Outcome) × (more : List Outcome) × (left ≡ outcome ∷ more)
-      × RefusesEnd (settling later now outcome) later.tape fault)
-  pub changed : later_conn ≡ with_transcript conn (with_taken done conn.transcript)
+  pub why : StopsHere now left later fault (all_out done conn) later_conn
 
 -- memory was refused for what it tells; or nothing was handed over; or what follows was refused
 abbrev pub FailsToHandAt : (id now : ℕ) → ConnPast → PeerPast → Fault → ConnPast → PeerPast → Type 0
@@ -156,6 +142,16 @@ FailsToHandAt id now conn past fault later_conn later =
 abbrev pub left_at : Connection → List Outcome
 left_at connection = option_to_list connection.waiting ++ untold_at connection.conn
 
+-- the next outcome was taken from it, or the one that waits; or there was none
+abbrev pub TakesNext : Options → ConnPast → Option Outcome → Connection → Type 0
+TakesNext options past None connection =
+    (unsettled options past ≡ []) × (past.settled ≡ taken past.transcript)
+    × ConnStands options connection.conn past.unread past.transcript
+TakesNext options past (Some outcome) connection =
+    (slice_get (outcomes options past.transcript) past.settled ≡ Some outcome)
+    × (past.settled + 1 ≡ taken (out_to (past.settled + 1) past.transcript))
+    × ConnStands options connection.conn past.unread (out_to (past.settled + 1) past.transcript)
+
 -- more is told
 abbrev pub Tells : List Told → List Said → List Told → Type 0
 Tells was said told = map said_of told ≡ map said_of was ++ said
@@ -166,8 +162,8 @@ module _ {D : Type 0} {g : Ghosts D} where
       Type 0 where
     pub id_is : connection.conn.id.0 ≡ id
     pub rank : connection.rank ≡ conn.rank
-    pub arises : Arises (options_of past.conf) conn.transcript
-    pub holds : HoldsTranscript past.conf conn connection connection.waiting
+    pub holds : HoldsTranscript past.conf conn connection
+    pub waits : WaitsWith past.conf conn connection.waiting
     pub stands : PeerStands past peer
     pub tied : IsTied id conn past
 
@@ -175,53 +171,47 @@ module _ {D : Type 0} {g : Ghosts D} where
   pub record SettledOne (id now : ℕ) (conn : ConnPast) (past : PeerPast) (was : List Told) (connection : Connection)
       (peer : Peer D g) (told : List Told) : Type 0 where
     pub outcome : Outcome
-    pub next : untold (options_of past.conf) conn.transcript
-        ≡ outcome ∷ untold (options_of past.conf) (Taken ∷ conn.transcript)
+    pub next : unsettled (options_of past.conf) conn
+        ≡ outcome ∷ unsettled (options_of past.conf) (one_out conn)
     pub later : PeerPast
     pub settles : SettlesAt id now outcome past later
     pub told_is : Tells was (settled_said id now past outcome ∷ []) told
-    pub stand : PairStands id (with_transcript conn (Taken ∷ conn.transcript)) later connection peer
+    pub stand : PairStands id (one_out conn) later connection peer
 
   -- there was none
   pub record SettledNone (id : ℕ) (conn : ConnPast) (past : PeerPast) (was : List Told) (connection : Connection)
       (peer : Peer D g) (told : List Told) : Type 0 where
-    pub none : untold (options_of past.conf) conn.transcript ≡ []
+    pub none : unsettled (options_of past.conf) conn ≡ []
     pub told_is : Tells was [] told
     pub stand : PairStands id conn past connection peer
-    pub waits : connection.waiting ≡ None
 
   abbrev pub SettledNext : (more : Bool) → (id now : ℕ) → ConnPast → PeerPast → List Told → Connection → Peer D g
       → List Told → Type 0
   SettledNext true id now conn past was connection peer told = SettledOne id now conn past was connection peer told
   SettledNext false id now conn past was connection peer told = SettledNone id conn past was connection peer told
 
-  -- it was refused, and waits
+  -- it was refused
   pub record SettledNot (id now : ℕ) (conn : ConnPast) (past : PeerPast) (fault : Fault) (connection : Connection)
       (peer : Peer D g) : Type 0 where
-    pub why : (fault ≡ NoMemory)
-        ⊎ ((outcome : Outcome) × (untold (options_of past.conf) conn.transcript
-        ≡ outcome ∷ untold (options_of past.conf) (Taken ∷ conn.transcript))
-        × RefusesEnd (settling past now outcome) past.tape fault)
-    pub stand : PairStands id conn past connection peer
+    pub later_conn : ConnPast
+    pub why : StopsHere now (unsettled (options_of past.conf) conn) past fault conn later_conn
+    pub stand : PairStands id later_conn past connection peer
 
   -- so many outcomes, from the first on, went to the peer and were told
   pub record SettledSome (id now : ℕ) (conn : ConnPast) (past : PeerPast) (was : List Told) (done : List Outcome)
       (later : PeerPast)
       (connection : Connection) (peer : Peer D g) (told : List Told) : Type 0 where
-    pub split : untold (options_of past.conf) conn.transcript
-        ≡ done ++ untold (options_of past.conf) (with_taken done conn.transcript)
+    pub split : unsettled (options_of past.conf) conn ≡ done ++ unsettled (options_of past.conf) (all_out done conn)
     pub settles : AllSettleAt id now past done later
     pub same_conf : later.conf ≡ past.conf
     pub told_is : Tells was (map (settled_said id now past) done) told
-    pub stand : PairStands id (with_transcript conn (with_taken done conn.transcript)) later connection peer
+    pub stand : PairStands id (all_out done conn) later connection peer
 
   -- all did, and none waits
   pub record SettledAll (id now : ℕ) (conn : ConnPast) (past : PeerPast) (was : List Told) (connection : Connection)
       (peer : Peer D g) (told : List Told) : Type 0 where
     pub later : PeerPast
-    pub some : SettledSome id now conn past was (untold (options_of past.conf) conn.transcript) later connection peer
-        told
-    pub waits : connection.waiting ≡ None
+    pub some : SettledSome id now conn past was (unsettled (options_of past.conf) conn) later connection peer told
 
   -- what follows has come about, and was told
   pub record Followed (id now : ℕ) (was : List Happening) (conn : ConnPast) (past : PeerPast) (before : List Told)
@@ -285,23 +275,18 @@ module _ {D : Type 0} {g : Ghosts D} where
     pub left : List ℕ
     pub receives : Receives (options_of past.conf) (conn.unread ++ octets) conn.transcript transcript left
     pub followed : Followed id now conn.transcript
-        (record { rank = conn.rank; unread = left; transcript = transcript }) past before connection peer told
+        (record conn { unread = left; transcript = transcript }) past before connection peer told
 
   -- memory was refused to the reader, and the connection is broken; or what follows was refused
   abbrev pub ReceivedNot : List ℕ → (id now : ℕ) → ConnPast → PeerPast → Fault → Connection → Peer D g → Type 0
   ReceivedNot octets id now conn past fault connection peer =
       ((fault ≡ NoMemory) × ((mid : List Happening)
       × ReceivesSome (options_of past.conf) (conn.unread ++ octets) conn.transcript mid
-      × PairStands id (record {
-        rank = conn.rank;
-        unread = [];
-        transcript =
-            after (options_of past.conf) mid Broke;
-      }) past connection peer))
+      × PairStands id (record conn { unread = []; transcript = after (options_of past.conf) mid Broke }) past
+      connection peer))
       ⊎ ((transcript : List Happening) × (left : List ℕ)
       × Receives (options_of past.conf) (conn.unread ++ octets) conn.transcript transcript left
-      × FollowedNot id now (record { rank = conn.rank; unread = left; transcript = transcript }) past fault
-      connection peer)
+      × FollowedNot id now (record conn { unread = left; transcript = transcript }) past fault connection peer)
 
   -- ---- an article is handed in
 

@@ -37,11 +37,13 @@ pub record Past : Type 0 where
   pub last : ℕ
   pub begun : Option ℕ
 
--- A connection: the rank of its peer, the octets of a reply that it holds back, and its transcript, the newest first.
+-- A connection: the rank of its peer, the octets of a reply that it holds back, its transcript, the newest first, and
+-- how many of its outcomes have gone to its peer.
 pub record ConnPast : Type 0 where
   pub rank : ℕ
   pub unread : List ℕ
   pub transcript : List Happening
+  pub settled : ℕ
 
 -- A stop that is armed: at which tape, a peer's by its rank or the intake's, at which call, and what it leaves.
 pub record Armed : Type 0 where

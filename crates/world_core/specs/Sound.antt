@@ -7,14 +7,14 @@ use Rattle.std.specs.List.Sorted.{IsStrictlyIncreasing}
 use Rattle.std.specs.Ordering.{nat_cmp}
 use Rattle.std.specs.declared.cmp.Ordering.TheVariants.{Less}
 use Rattle.conn_core.specs.Commands.{Held}
-use Rattle.conn_core.specs.History.{Event as Happening, held}
+use Rattle.conn_core.specs.History.{held}
 use Rattle.conn_core.specs.Stands.{Arises}
 use Rattle.conn_core.specs.declared.options.Options.{Options}
 use Rattle.peer_queue.specs.Place.{IsHeldBy}
 use Rattle.peer_queue.specs.Settled.{key_in}
 use Rattle.world_core.specs.Past.{ConnPast, Life, Past, PeerPast, conn_at, mark_at, options_of}
 use Rattle.world_core.specs.Safe.{HasAcknowledged}
-use Rattle.world_core.specs.Exchange.{untold}
+use Rattle.world_core.specs.Exchange.{unsettled}
 
 -- ---- all tapes
 
@@ -47,23 +47,24 @@ pub record IsSound (past : Past) : Type 0 where
 
 -- ---- connections
 
--- the numbers that a connection has: those of outcomes that are still to be taken, and of the debts that it holds
-abbrev pub numbers_at : Options → List Happening → List ℕ
-numbers_at options h = map key_in (untold options h) ++ map (λ (x : Held). x.debt.0) (held options h)
+-- the numbers that a connection has: those of outcomes that are still to go to its peer, and of the debts that it holds
+abbrev pub numbers_at : Options → ConnPast → List ℕ
+numbers_at options conn =
+    map key_in (unsettled options conn) ++ map (λ (x : Held). x.debt.0) (held options conn.transcript)
 
 -- the connection has a peer, its transcript can have come about, and it has no number twice
 pub record IsSoundConn (peers : List PeerPast) (conn : ConnPast) : Type 0 where
   pub peer : PeerPast
   pub here : slice_get peers conn.rank ≡ Some peer
   pub arises : Arises (options_of peer.conf) conn.transcript
-  pub once : IsDistinct (λ one other. one == other) (numbers_at (options_of peer.conf) conn.transcript)
+  pub once : IsDistinct (λ one other. one == other) (numbers_at (options_of peer.conf) conn)
 
 -- a connection of this number to the peer at this rank has this number of a debt
 pub record HasNumber (life : Life) (rank : ℕ) (peer : PeerPast) (id number : ℕ) : Type 0 where
   pub conn : ConnPast
   pub here : conn_at life.conns id ≡ Some conn
   pub its : conn.rank ≡ rank
-  pub has : Contains (numbers_at (options_of peer.conf) conn.transcript) number
+  pub has : Contains (numbers_at (options_of peer.conf) conn) number
 
 -- The connections rise by their numbers, of which none was not made; a number is held by a connection at its peer's
 -- station exactly where the connection has it, so that no outcome is of a number that is not held; and a world that

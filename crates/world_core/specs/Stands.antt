@@ -1,5 +1,5 @@
 -- What it is that a world, and what it is made of, stands for what it has been through.
-use Rattle.std.specs.Prelude.{◌≡◌, ◌⊎◌, ◌+◌, ℕ, Bool, true, false, Option, None, Some, option_map, List, [], ◌∷◌, map}
+use Rattle.std.specs.Prelude.{◌≡◌, ◌⊎◌, ◌+◌, ℕ, Bool, true, false, Option, None, Some, option_map, List, [], map}
 use Rattle.std.specs.Prelude.{take, slice_get}
 use Rattle.std.specs.List.{AllZip}
 use Rattle.disk_model.specs.declared.Disk.{Ghosts}
@@ -14,7 +14,7 @@ use Rattle.recovery.specs.Tape.{StandsFor}
 use Rattle.recovery.specs.Words.{log_of, told_of}
 use Rattle.recovery.specs.declared.fault.TapeFault.TheVariants.{Disk}
 use Rattle.recovery.specs.declared.tape.Tape.{Tape}
-use Rattle.conn_core.specs.History.{Taken, outcomes, taken}
+use Rattle.conn_core.specs.History.{outcomes, taken}
 use Rattle.conn_core.specs.Stands.{StandsFor as ConnStands}
 use Rattle.conn_core.specs.declared.outcome.Outcome.{Outcome}
 use Rattle.peer_queue.specs.Place.{all_ready, place_at}
@@ -202,20 +202,23 @@ pub record RefusedOpen (past : PeerPast) (fault : Fault) (peer : StoppedPeer) : 
 
 -- ---- worlds
 
--- A connection stands for its transcript, and holds back these octets; an outcome that its peer's station refused
--- waits as its first.
-abbrev pub HoldsTranscript : PeerConf → ConnPast → Connection → Option Outcome → Type 0
-HoldsTranscript conf past connection None = ConnStands (options_of conf) connection.conn past.unread past.transcript
-HoldsTranscript conf past connection (Some outcome) =
-    (slice_get (outcomes (options_of conf) past.transcript) (taken past.transcript) ≡ Some outcome)
-    × ConnStands (options_of conf) connection.conn past.unread (Taken ∷ past.transcript)
+-- a connection stands for its transcript, and holds back these octets
+abbrev pub HoldsTranscript : PeerConf → ConnPast → Connection → Type 0
+HoldsTranscript conf past connection = ConnStands (options_of conf) connection.conn past.unread past.transcript
+
+-- each outcome that was taken from it has gone to its peer; or one was refused there, and waits
+abbrev pub WaitsWith : PeerConf → ConnPast → Option Outcome → Type 0
+WaitsWith conf past None = past.settled ≡ taken past.transcript
+WaitsWith conf past (Some outcome) = (past.settled + 1 ≡ taken past.transcript)
+    × (slice_get (outcomes (options_of conf) past.transcript) past.settled ≡ Some outcome)
 
 pub record ConnectionStands (peers : List PeerPast) (past : ℕ × ConnPast) (connection : Connection) : Type 0 where
   pub id : connection.conn.id.0 ≡ past.0
   pub rank : connection.rank ≡ past.1.rank
   pub peer : PeerPast
   pub here : slice_get peers past.1.rank ≡ Some peer
-  pub holds : HoldsTranscript peer.conf past.1 connection connection.waiting
+  pub holds : HoldsTranscript peer.conf past.1 connection
+  pub waits : WaitsWith peer.conf past.1 connection.waiting
 
 abbrev pub StageStands : Life → Stage → Type 0
 StageStands life (Running stations connections) =

@@ -3,11 +3,12 @@ ghost use Rattle.std.specs.Prelude.{◌≡◌, ◌<◌, ◌++◌, ◌∷◌, [],
 ghost use Rattle.std.specs.Prelude.{is_none, length, map, option_to_list, IfErr, IfOk, IfSome, MatchOption};
 ghost use Rattle.std.specs.Prelude.{OnOk};
 ghost use Rattle.conn_core.specs.History.{Event, reason};
-ghost use Rattle.conn_core.specs.Stands.{StandsFor, Takes};
+ghost use Rattle.conn_core.specs.Stands.{StandsFor};
 ghost use Rattle.conn_core.specs.declared.reason.Reason.{Reason};
 ghost use Rattle.world_core.specs.Past.{ConnPast, PeerPast, options_of};
-ghost use Rattle.world_core.specs.Pairs.{Tells, broken_off, left_at};
-ghost use Rattle.world_core.specs.Stands.{HoldsTranscript};
+ghost use Rattle.world_core.specs.Exchange.{broken_off, ticked};
+ghost use Rattle.world_core.specs.Pairs.{Tells, left_at};
+ghost use Rattle.world_core.specs.Stands.{WaitsWith};
 ghost use Rattle.world_core.specs.Told.{Output, closed_said, lines_in, need_said};
 
 use crate::fault::Fault;
@@ -37,7 +38,8 @@ impl Connection {
     ghost use Rattle.world_core.specs.Pairs.{PairStands, SettledAll, SettledNext, SettledNot};
     ghost use Rattle.world_core.specs.Pairs.{Followed, FollowedNot};
     ghost use Rattle.world_core.specs.Pairs.{HandedNot, HandedOn, HandedOnNot, HandedOver};
-    ghost use Rattle.world_core.specs.Pairs.{Received, ReceivedNot, Supplied, SuppliedNot, ticked_at};
+    ghost use Rattle.world_core.specs.Pairs.{Received, ReceivedNot, Supplied, SuppliedNot, TakesNext};
+    ghost use Rattle.world_core.specs.Stands.{HoldsTranscript};
 
     /// A connection of this number to the peer of these settings at this rank.
     ///
@@ -66,8 +68,8 @@ impl Connection {
     // The outcome that waits, or the next.
     fn next_outcome(&mut self) -> Option<Outcome>
         ensures takes { (conf : PeerConf) (past : ConnPast)
-            → HoldsTranscript conf past self.old self.old.waiting
-            → Takes (options_of conf) past.unread past.transcript result self.new.conn }
+            → HoldsTranscript conf past self.old → WaitsWith conf past self.old.waiting
+            → TakesNext (options_of conf) past result self.new }
         ensures waits { self.new.waiting ≡ None }
         ensures left { left_at self.old ≡ option_to_list result ++ left_at self.new }
         ensures rank { self.new.rank ≡ self.old.rank }
@@ -253,11 +255,11 @@ impl Connection {
     ) -> Result<(), Fault>
         ensures ok { (id : ℕ) (conn : ConnPast) (past : PeerPast)
             → PairStands id conn past self.old peer.old → OnOk result
-            (Followed id now conn.transcript (ticked_at now past conn) past
+            (Followed id now conn.transcript (ticked now past conn) past
             told.old.items self.new peer.new told.new.items) }
         ensures err { (id : ℕ) (conn : ConnPast) (past : PeerPast)
             → PairStands id conn past self.old peer.old → IfErr result
-            (λ fault. FollowedNot id now (ticked_at now past conn) past fault
+            (λ fault. FollowedNot id now (ticked now past conn) past fault
             self.new peer.new) }
     {
         let was_open = self.conn.closed().is_none();

@@ -1,13 +1,12 @@
 -- The least candidate is claimed, and offered, or given back.
-use Rattle.std.proofs.Common.{◌≡◌, ◌∙◌, ap, refl, sym, subst, inl, inr}
+use Rattle.std.proofs.Common.{◌∙◌, ap, refl, sym, subst, inl, inr}
 use Rattle.ledger_core.specs.State.{Owing}
 use Rattle.conn_core.specs.Stands.{Refuses as RefusesOffer, ready_of}
-use Rattle.conn_core.specs.declared.ready.Ready.{Ready as Readiness}
 use Rattle.peer_queue.specs.Place.{IsHeldBy, Ready, moved}
 use Rattle.peer_queue.specs.Words.{places_of}
 use Rattle.world_core.specs.Past.{options_of}
 use Rattle.world_core.proofs.Handing.{claim_refused, gave_back_busy, gave_back_memory, gave_back_shut, held_there}
-use Rattle.world_core.proofs.Handing.{if_none, if_some, none_claimed, ready_told, took_over}
+use Rattle.world_core.proofs.Handing.{if_none, if_some, none_claimed, took_over}
 use Rattle.world_core.proofs.connection.Connection.offer_next.Goals as goal
 
 pub returns-in-Err-clause-err : goal.returns-in-Err-clause-err
@@ -35,9 +34,7 @@ returns-in_default-offer-clause-ok g c = λ id conn past pair.
     let some = if_some c.in-Ok.claimed debt _ c.in-Some.is is.some in
     let owed = if_some c.in-Ok.claimed debt _ c.in-Some.is (is.debt past.tape.history pair.stands.tape.stands) in
     let taken = c.in_default-offer.ensures.ok in
-    let ready = ready_told (λ (r : Readiness). r ≡ Readiness.Yes) past.conf conn c.args.self.now
-    c.args.self.now.waiting pair.holds
-    (λ o unread h stands. (taken o unread h stands).0) in
+    let ready = (taken (options_of past.conf) conn.unread conn.transcript pair.holds).0 in
     took_over id c.args.now conn past c.args.self.now c.args.peer.now _ pair is.reads refl refl debt c.id-id.result.0
     (ap (λ i. i.0) c.id-id.ensures ∙ pair.id_is) (λ b. let never = is.refuses.broken.1 b in
     cc) some.0 some.1 owed c.each_number_has_one_place.ensures.rising
@@ -70,8 +67,7 @@ returns-in-Busy-clause-ok g c = λ id conn past pair.
     let some = if_some c.in-Ok.claimed debt _ c.in-Some.is is.some in
     let owed = if_some c.in-Ok.claimed debt _ c.in-Some.is (is.debt past.tape.history pair.stands.tape.stands) in
     let refused = c.in-Err-offer.ensures in
-    let ready = ready_told (λ (r : Readiness). RefusesOffer c.in-Err-offer.refused.fault r) past.conf conn
-    c.args.self.now c.args.self.now.waiting pair.holds refused.refuses in
+    let ready = refused.refuses (options_of past.conf) conn.unread conn.transcript pair.holds in
     let back = c.in_default-back.ensures.ok in
     gave_back_busy id c.args.now conn past c.args.self.now c.args.peer.now _ pair is.reads refl refl debt
     c.id-id.result.0
@@ -89,8 +85,7 @@ returns-in-Closed-clause-ok g c = λ id conn past pair.
     let some = if_some c.in-Ok.claimed debt _ c.in-Some.is is.some in
     let owed = if_some c.in-Ok.claimed debt _ c.in-Some.is (is.debt past.tape.history pair.stands.tape.stands) in
     let refused = c.in-Err-offer.ensures in
-    let ready = ready_told (λ (r : Readiness). RefusesOffer c.in-Err-offer.refused.fault r) past.conf conn
-    c.args.self.now c.args.self.now.waiting pair.holds refused.refuses in
+    let ready = refused.refuses (options_of past.conf) conn.unread conn.transcript pair.holds in
     let back = c.in_default-back.ensures.ok in
     gave_back_shut id c.args.now conn past c.args.self.now c.args.peer.now _ pair is.reads refl refl debt
     c.id-id.result.0
@@ -108,8 +103,7 @@ returns-in-NoMemory-clause-err g c = λ id conn past pair.
     let some = if_some c.in-Ok.claimed debt _ c.in-Some.is is.some in
     let owed = if_some c.in-Ok.claimed debt _ c.in-Some.is (is.debt past.tape.history pair.stands.tape.stands) in
     let refused = c.in-Err-offer.ensures in
-    let ready = ready_told (λ (r : Readiness). RefusesOffer c.in-Err-offer.refused.fault r) past.conf conn
-    c.args.self.now c.args.self.now.waiting pair.holds refused.refuses in
+    let ready = refused.refuses (options_of past.conf) conn.unread conn.transcript pair.holds in
     let back = c.in_default-back.ensures.ok in
     gave_back_memory id c.args.now conn past c.args.self.now c.args.peer.now _ pair is.reads refl refl debt
     c.id-id.result.0

@@ -1,7 +1,6 @@
 -- The replies that came in are read, and what follows them is told.
-use Rattle.std.proofs.Common.{◌∙◌, ap, refl, inl, inr}
-use Rattle.std.specs.Prelude.{is_none}
-use Rattle.world_core.proofs.Breaking.{none_told, reason_told}
+use Rattle.std.proofs.Common.{refl, inl, inr}
+use Rattle.world_core.proofs.Breaking.{open_told}
 use Rattle.world_core.proofs.Results.{if_err, if_err_map, on_ok_map}
 use Rattle.world_core.proofs.Receiving.{pair_received, pair_unread}
 use Rattle.world_core.proofs.connection.Connection.receive.Goals as goal
@@ -20,11 +19,10 @@ returns-clause-ok g c = λ id conn past pair.
     let so = pair_received id conn past c.args.self.now _ c.args.peer.now pair refl refl c.in_ok-input.ensures.same_id
     c.args.octets.now c.in_ok-input.ensures.ok in
     on_ok_map c.tell.result _ _
-    (c.tell.ensures.ok id (record { rank = conn.rank; unread = so.1; transcript = so.0 }) past conn.transcript
+    (c.tell.ensures.ok id (record conn { unread = so.1; transcript = so.0 }) past conn.transcript
     so.3
-    (none_told c.is_none-was_open.result c.closed.result c.is_none-was_open.ensures
-    ∙ ap is_none (reason_told past.conf conn c.args.self.now c.args.self.now.waiting c.closed.result pair.holds
-    c.closed.ensures)))
+    (open_told past.conf conn c.args.self.now c.is_none-was_open.result c.closed.result pair.holds c.closed.ensures
+    c.is_none-was_open.ensures))
     (λ followed. record { transcript = so.0; left = so.1; receives = so.2; followed = followed })
 
 pub returns-clause-err : goal.returns-clause-err
@@ -32,5 +30,5 @@ returns-clause-err g c = λ id conn past pair.
     let so = pair_received id conn past c.args.self.now _ c.args.peer.now pair refl refl c.in_ok-input.ensures.same_id
     c.args.octets.now c.in_ok-input.ensures.ok in
     if_err_map c.tell.result _ _
-    (c.tell.ensures.err id (record { rank = conn.rank; unread = so.1; transcript = so.0 }) past so.3)
+    (c.tell.ensures.err id (record conn { unread = so.1; transcript = so.0 }) past so.3)
     (λ fault followed. inr (so.0, so.1, so.2, followed))

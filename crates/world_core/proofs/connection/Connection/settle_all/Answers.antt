@@ -1,6 +1,6 @@
 -- Each outcome in turn, up to the last or one that is refused.
 use Rattle.std.proofs.Common.{subst, []}
-use Rattle.world_core.specs.Exchange.{with_taken, with_transcript}
+use Rattle.world_core.specs.Exchange.{all_out}
 use Rattle.world_core.specs.Pairs.{SettledNext}
 use Rattle.world_core.proofs.Results.{if_err_is}
 use Rattle.world_core.proofs.Following.{settled_all, settled_more, settled_refused, settled_start}
@@ -13,7 +13,7 @@ loop-init g c = λ id conn past pair.
 pub loop-preserved : goal.loop-preserved
 loop-preserved g c = λ id conn past pair.
     let so = c.loop.invariant id conn past pair in
-    let at = with_transcript conn (with_taken so.0 conn.transcript) in
+    let at = all_out so.0 conn in
     let one = subst (λ more.
     SettledNext more id c.args.now at so.1 c.loop.told.items c.settle_next.new.self c.settle_next.new.peer
     c.settle_next.new.told.items)
@@ -25,7 +25,7 @@ loop-preserved g c = λ id conn past pair.
 pub returns-clause-ok : goal.returns-clause-ok
 returns-clause-ok g c = λ id conn past pair.
     let so = c.loop.invariant id conn past pair in
-    let at = with_transcript conn (with_taken so.0 conn.transcript) in
+    let at = all_out so.0 conn in
     let none = subst (λ more.
     SettledNext more id c.args.now at so.1 c.loop.told.items c.settle_next.new.self c.settle_next.new.peer
     c.settle_next.new.told.items)
@@ -37,7 +37,7 @@ returns-clause-ok g c = λ id conn past pair.
 pub returns-in_err-settle_next-clause-err : goal.returns-in_err-settle_next-clause-err
 returns-in_err-settle_next-clause-err g c = λ id conn past pair.
     let so = c.loop.invariant id conn past pair in
-    let at = with_transcript conn (with_taken so.0 conn.transcript) in
+    let at = all_out so.0 conn in
     if_err_is c.from_residual.result _ _ c.from_residual.ensures.1
     (settled_refused id c.args.now conn past c.args.told.now.items so.0 so.1 c.loop.self c.settle_next.new.self
     c.loop.peer c.settle_next.new.peer

@@ -2,7 +2,8 @@
 use Rattle.std.proofs.Common.{◌≡◌, ◌∙◌, ℕ, ◌<◌, length, arith, refl, subst}
 use Rattle.world_core.specs.Stands.{PeerStands}
 use Rattle.world_core.specs.Stepped.{PartedEach}
-use Rattle.world_core.proofs.Stepping.{parted_failed, parted_more, parted_none, zip_long}
+use Rattle.world_core.proofs.Stepping.{parted_failed, parted_more, parted_none}
+use Rattle.world_core.proofs.Zips.{zip_length}
 use Rattle.world_core.proofs.stations.Stations.part_each.Goals as goal
 
 pub loop-rank-init : goal.loop-rank-init
@@ -24,7 +25,7 @@ returns-in-Err-clause-err g c = λ past stands.
     let loop = c.loop-rank in
     let each = loop.invariant.did past stands in
     let within : loop.rank < length past.peers =
-    omega (arith, zip_long PeerStands past.peers c.args.self.now.peers.items stands.peers) in
+    omega (arith, zip_length PeerStands past.peers c.args.self.now.peers.items stands.peers) in
     parted_failed past loop.rank (length past.peers) c.in-Err.fault loop.self _ within each
     (c.in-Err.ensures.err each.did.later each.did.stands)
 
@@ -32,5 +33,5 @@ pub returns-clause-ok : goal.returns-clause-ok
 returns-clause-ok g c = λ past stands.
     let loop = c.loop-rank in
     let all : loop.rank ≡ length past.peers =
-    omega (arith, zip_long PeerStands past.peers c.args.self.now.peers.items stands.peers) in
+    omega (arith, zip_length PeerStands past.peers c.args.self.now.peers.items stands.peers) in
     subst (λ (n : ℕ). PartedEach past n loop.self) all (loop.invariant.did past stands)
