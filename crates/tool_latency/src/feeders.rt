@@ -1,0 +1,203 @@
+// What is claimed and finished while tapes are synced.
+use crate::times::Times;
+use conn_core::{Conn, CxnId, Options, Outcome};
+use disk_model::Disk;
+use flusher::{FeederShare, Naming, Pace, Post, PostFault, Signals, Work};
+use ledger_core::Debt;
+use log::Log;
+use std::alloc::Global;
+use std::sync::Wait;
+use std::thread;
+use std::time::{Clock, Duration, Instant};
+
+// How long a worker waits if there is nothing to do, in microseconds.
+const REST_US: u64 = 100;
+
+const CONNECTION: CxnId = CxnId(1);
+
+/// Claims the debts of the first peer, and finishes each.
+#[derive(Drop)]
+pub struct Feeder<N: Naming> {
+    pub alloc: Global,
+    pub share: FeederShare<N>,
+    pub conn: Conn,
+    pub claims: Times,
+    pub finishes: Times,
+}
+
+impl<N: Naming> Feeder<N> {
+    /// One whose connection has agreed to streaming.
+    pub fn new(alloc: Global, share: FeederShare<N>) -> anyhow::Result<Feeder<N>> {
+        let options = Options {
+            streaming: true,
+            max_queue: 20,
+            check_high: 10_001,
+            check_low: 0,
+            check_filter: 50,
+            response_timeout: 300,
+        };
+        let mut conn = Conn::new(alloc, CONNECTION, options)?;
+        conn.input(b"200 news.example.org\r\n203 streaming\r\n")?;
+        Ok(Feeder {
+            alloc,
+            share,
+            conn,
+            claims: Times::new(alloc),
+            finishes: Times::new(alloc),
+        })
+    }
+
+    // Claims a debt and finishes it, if there is one.
+    fn feed<D: Disk, R: Wait + Clock>(
+        &mut self,
+        rt: &R,
+        post: &Post<D, N>,
+    ) -> Result<bool, &'static str> {
+        if post.peers() == 0 {
+            return Err("no peer");
+        }
+        let start = Instant::now(rt).map_err(|_| "no clock")?;
+        let claimed = post.claim(rt, 0, CONNECTION, 0);
+        let time = start.elapsed(rt).map_err(|_| "no clock")?;
+        match claimed {
+            Ok(Some(debt)) => {
+                self.claims.add(time).map_err(|_| "out of memory")?;
+                self.finish(rt, post, debt)?;
+                Ok(true)
+            }
+            Ok(None) => Ok(false),
+            Err(_) => Err("a claim was refused"),
+        }
+    }
+
+    // Finishes a debt: its peer does not want it.
+    fn finish<D: Disk, R: Wait + Clock>(
+        &mut self,
+        rt: &R,
+        post: &Post<D, N>,
+        debt: Debt,
+    ) -> Result<(), &'static str> {
+        if post.peers() == 0 {
+            return Err("no peer");
+        }
+        let outcome = refused(self.alloc, &mut self.conn, debt)?;
+        let start = Instant::now(rt).map_err(|_| "no clock")?;
+        let finished = post.finish(rt, 0, CONNECTION, outcome, 0, &mut self.share);
+        let time = start.elapsed(rt).map_err(|_| "no clock")?;
+        match finished {
+            Ok(_) => self.finishes.add(time).map_err(|_| "out of memory"),
+            Err(_) => Err("an outcome was refused"),
+        }
+    }
+}
+
+// What becomes of a debt that a connection is handed, and that its peer does not want.
+//
+// proof: what the calls of a connection ensure is left behind here and below, so that `finish` carries none of it.
+fn refused(alloc: Global, conn: &mut Conn, debt: Debt) -> Result<Outcome, &'static str> {
+    let reply = reply_on(alloc, &debt).map_err(|_| "out of memory")?;
+    if conn.offer(debt).is_err() {
+        return Err("a debt was refused");
+    }
+    send_all(conn);
+    conn.input(&reply).map_err(|_| "a reply was refused")?;
+    conn.outcome().ok_or("no outcome")
+}
+
+// All that a connection has to send is sent.
+fn send_all(conn: &mut Conn) {
+    let octets = conn.output().len();
+    conn.sent(octets);
+}
+
+// What a peer replies that does not want this debt.
+fn reply_on(alloc: Global, debt: &Debt) -> anyhow::Result<Vec<u8>> {
+    let mut reply = Vec::new(alloc);
+    reply.extend_from_slice(b"438 ")?;
+    reply.extend_from_slice(debt.id().bytes())?;
+    reply.extend_from_slice(b"\r\n")?;
+    Ok(reply)
+}
+
+/// Tries to claim debts of the second peer, whose texts are on its tape alone, and gives each back.
+#[derive(Drop)]
+pub struct Watcher<N: Naming> {
+    pub share: FeederShare<N>,
+    /// The claims that were refused since the tape was in use.
+    pub busy: Times,
+}
+
+impl<N: Naming> Watcher<N> {
+    fn watch<D: Disk, R: Wait + Clock>(
+        &mut self,
+        rt: &R,
+        post: &Post<D, N>,
+    ) -> Result<bool, &'static str> {
+        if post.peers() < 2 {
+            return Err("no second peer");
+        }
+        let start = Instant::now(rt).map_err(|_| "no clock")?;
+        let claimed = post.try_claim(rt, 1, CONNECTION, 0);
+        let time = start.elapsed(rt).map_err(|_| "no clock")?;
+        match claimed {
+            Ok(_) => {
+                post.release(rt, 1, CONNECTION);
+                Ok(false)
+            }
+            Err(PostFault::Busy { .. }) => {
+                self.busy.add(time).map_err(|_| "out of memory")?;
+                Ok(false)
+            }
+            Err(_) => Err("a claim was refused"),
+        }
+    }
+}
+
+/// One of the two.
+#[derive(Drop)]
+pub enum Job<N: Naming> {
+    Feed(Feeder<N>),
+    Watch(Watcher<N>),
+}
+
+/// A worker that does its job until the last phase, and what stopped it.
+#[derive(Drop)]
+pub struct Worker<N: Naming> {
+    pub job: Job<N>,
+    pub failure: Option<&'static str>,
+}
+
+impl<N: Naming> Worker<N> {
+    /// One that nothing has stopped.
+    pub fn new(job: Job<N>) -> Worker<N> {
+        Worker { job, failure: None }
+    }
+}
+
+impl<D: Disk, N: Naming> Work<D, N> for Worker<N> {
+    fn run<R: AllocGlobal + Wait + Clock + Log, P: Pace>(
+        &mut self,
+        rt: &R,
+        post: &Post<D, N>,
+        signals: &Signals,
+        _pace: &P,
+    ) {
+        for _ in rt.forever() {
+            if signals.is_last_phase() || signals.is_stopped() {
+                break;
+            }
+            let worked = match &mut self.job {
+                Job::Feed(feeder) => feeder.feed(rt, post),
+                Job::Watch(watcher) => watcher.watch(rt, post),
+            };
+            match worked {
+                Ok(true) => {}
+                Ok(false) => thread::sleep(rt, Duration::from_micros(REST_US)),
+                Err(failure) => {
+                    self.failure = Some(failure);
+                    signals.stop();
+                }
+            }
+        }
+    }
+}

@@ -1,0 +1,242 @@
+//! How long the calls of a post take while tapes are synced.
+//!
+//! May touch its arguments, the clock, threads and standard output, and the directory that it is given; it stands on
+//! the public calls of flusher. With no argument it runs once, over disks in memory, and prints what is the same on
+//! each run. `DIRECTORY FLUSHES` keeps a post over files of this directory at work until so many flushes have ended,
+//! and prints `COUNT CALL P nanoseconds` for each call, where P is the time that 99 of 100 such calls kept within;
+//! bench/latency.sh prints ratios from it. Nothing stands above it, and it promises nothing.
+#![tactic(auto)]
+
+ghost use Rattle.std.specs.Prelude.{◌≡◌, length};
+ghost use Rattle.std.specs.Prelude.{IfOk};
+ghost use Rattle.std.specs.List.{All};
+ghost use Rattle.flusher.specs.Post.{IsFor, names_of};
+ghost use Rattle.flusher.specs.Sealed.{IsFlushed};
+
+mod feeders;
+mod lines;
+mod times;
+
+use crate::feeders::{Feeder, Job, Watcher, Worker};
+use crate::lines::{Intake, line_of};
+use crate::times::Times;
+use anyhow::{Context, Result, bail};
+use disk_model::{Disk, MemDisk, TapeDirectory};
+use flusher::{Blanks, Flusher, Free, IntakeShare, Naming, Peer, Post, Signals, run_threads};
+use funnel::PeerName;
+use log::Log;
+use peer_queue::Limits;
+use recovery::Tape;
+use std::alloc::Global;
+use std::env;
+use std::fs::{self, File};
+use std::marker::Brand;
+use std::rt::Files;
+use std::sync::Wait;
+use std::thread::Threads;
+use std::time::Clock;
+
+// The files of the tapes: of the peer whose debts are answered, of the other one, and of the intake.
+const FILES: [[&str; 2]; 3] = [["p.a", "p.b"], ["q.a", "q.b"], ["intake.a", "intake.b"]];
+
+// How many debts the second peer is owed at first. Its front has the texts of the last 8,192 that were settled.
+const OWED: u64 = 10_000;
+
+const UNLIMITED: Limits = Limits {
+    backlog_limit: 0,
+    backlog_high: 0,
+    drop_deferred: false,
+};
+
+fn main(rt: HostRuntime) -> Result<()> {
+    let words: Vec<String> = env::args(&rt)?.skip(1).collect(rt.alloc())?;
+    match words.as_slice() {
+        [] => in_memory(&rt),
+        [directory, flushes] => in_files(
+            &rt,
+            directory,
+            flushes.parse().context("a count is a number")?,
+        ),
+        _ => bail!("tool_latency [DIRECTORY FLUSHES]"),
+    }
+}
+
+// One flush over disks in memory.
+fn in_memory<R: AllocGlobal + Print + Clock + Log + Threads + Wait + Sync>(rt: &R) -> Result<()> {
+    let alloc = rt.alloc();
+    let disks = || (MemDisk::new(alloc), MemDisk::new(alloc));
+    let disks = vec![in alloc; disks(), disks(), disks()]?;
+    let measured = measure(rt, disks, 1)?;
+    let Measured { claims, .. } = measured;
+    if claims.is_empty() {
+        bail!("no debt was claimed");
+    }
+    println!(rt; "lines were taken and debts finished beside a flush")?;
+    Ok(())
+}
+
+// So many flushes over files of this directory.
+fn in_files<R: AllocGlobal + Print + Clock + Log + Threads + Wait + Sync + Files<File = File>>(
+    rt: &R,
+    path: &str,
+    flushes: u64,
+) -> Result<()> {
+    let directory = TapeDirectory::lock(rt, path)?;
+    let mut disks = Vec::new(rt.alloc());
+    for [first, second] in FILES {
+        for name in [first, second] {
+            let file = format!(in rt.alloc(); "{path}/{name}")?;
+            let _ = fs::remove_file(rt, file.as_str());
+        }
+        disks.push((directory.open(rt, first)?, directory.open(rt, second)?))?;
+    }
+    let measured = measure(rt, disks, flushes)?;
+    measured.print(rt)
+}
+
+// What a run has measured.
+#[derive(Drop)]
+struct Measured {
+    lines: Times,
+    claims: Times,
+    finishes: Times,
+    busy: Times,
+}
+
+impl Measured {
+    fn print<R: Print>(self, rt: &R) -> Result<()> {
+        let Measured {
+            lines,
+            claims,
+            finishes,
+            busy,
+        } = self;
+        lines.print(rt, "take_line")?;
+        claims.print(rt, "claim")?;
+        finishes.print(rt, "finish")?;
+        busy.print(rt, "try_claim")
+    }
+}
+
+// Keeps a post over these disks at work until so many flushes have ended.
+fn measure<D: Disk + Drop + Send, R: AllocGlobal + Clock + Log + Threads + Wait + Sync>(
+    rt: &R,
+    disks: Vec<(D, D)>,
+    flushes: u64,
+) -> Result<Measured> {
+    let alloc = rt.alloc();
+    let mut disks = disks.into_iter();
+    let first = peer_on(alloc, b"p", disks.next().context("disks")?)?;
+    let second = peer_on(alloc, b"q", disks.next().context("disks")?)?;
+    let (a, b) = disks.next().context("disks")?;
+    let Ok(intake) = Tape::open(alloc, a, b) else {
+        bail!("the intake tape was not opened");
+    };
+    let peers = vec![in alloc; first, second]?;
+    let blanks = Blanks::new(alloc, 2)?;
+    work::<Brand, D, R>(rt, peers, intake, blanks, flushes)
+}
+
+fn peer_on<D: Disk + Drop>(alloc: Global, name: &[u8], disks: (D, D)) -> Result<Peer<D>>
+    ensures { IfOk result (λ p. IsFlushed p.station) }
+{
+    let (a, b) = disks;
+    let name = PeerName::read(alloc, name)?.context("a name")?;
+    match Peer::open(alloc, name, a, b, UNLIMITED) {
+        Ok(peer) => Ok(peer),
+        Err(_) => bail!("a tape was not opened"),
+    }
+}
+
+fn work<
+    N: Naming + Send + Sync,
+    D: Disk + Drop + Send,
+    R: AllocGlobal + Clock + Log + Threads + Wait + Sync,
+>(rt: &R, peers: Vec<Peer<D>>, intake: Tape<D>, blanks: Blanks, flushes: u64) -> Result<Measured>
+    requires names { N.names ≡ names_of blanks peers.items }
+    requires blanks { IsFor (length peers.items) blanks }
+    requires flushed { All (λ p. IsFlushed p.station) peers.items }
+{
+    let alloc = rt.alloc();
+    let (post, mut share, first, second, third) = Post::<D, N>::new(alloc, peers, intake, blanks)?;
+    owe(rt, &post, &mut share)?;
+    let feeder = Worker::new(Job::Feed(Feeder::new(alloc, first)?));
+    let watcher = Worker::new(Job::Watch(Watcher {
+        share: second,
+        busy: Times::new(alloc),
+    }));
+    let mut intake = Intake {
+        alloc,
+        share,
+        flushes,
+        lines: Times::new(alloc),
+        failure: None,
+    };
+    let signals = Signals::new();
+    let feeders = (feeder, watcher);
+    let flusher = Flusher::new(third);
+    let Ok((first, second, flusher)) = run_threads(
+        rt,
+        &post,
+        &signals,
+        feeders,
+        flusher,
+        &mut intake,
+        &Free,
+    ) else {
+        bail!("a thread was not started");
+    };
+    let Flusher { fault, .. } = flusher;
+    if fault.is_some() {
+        bail!("a flush failed");
+    }
+    measured_by(first, second, intake)
+}
+
+// What the workers have measured, unless one failed.
+fn measured_by<N: Naming>(
+    first: Worker<N>,
+    second: Worker<N>,
+    intake: Intake<N>,
+) -> Result<Measured> {
+    let Intake { lines, failure, .. } = intake;
+    if let Some(failure) = failure.or(first.failure).or(second.failure) {
+        bail!("{failure}");
+    }
+    let Job::Feed(feeder) = first.job else {
+        bail!("no feeder");
+    };
+    let Job::Watch(watcher) = second.job else {
+        bail!("no watcher");
+    };
+    let Feeder {
+        claims,
+        finishes,
+        ..
+    } = feeder;
+    let Watcher { busy, .. } = watcher;
+    Ok(Measured {
+        lines,
+        claims,
+        finishes,
+        busy,
+    })
+}
+
+// Owes the second peer its first debts, and flushes them.
+fn owe<D: Disk, N: Naming, R: AllocGlobal + Wait>(
+    rt: &R,
+    post: &Post<D, N>,
+    share: &mut IntakeShare<N>,
+) -> Result<()> {
+    for number in 0..OWED {
+        let line = line_of(rt.alloc(), number, "q")?;
+        if post.take_line(rt, line.as_bytes(), share).is_err() {
+            bail!("a line was refused");
+        }
+    }
+    match post.flush_all(rt, &Free) {
+        Ok(_) => Ok(()),
+        Err(_) => bail!("a flush failed"),
+    }
+}

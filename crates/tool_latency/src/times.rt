@@ -1,0 +1,44 @@
+// How long calls took.
+use anyhow::Result;
+use std::alloc::{AllocError, Global};
+use std::time::Duration;
+
+/// How long each call of one kind took, in nanoseconds.
+#[derive(Drop)]
+pub struct Times {
+    nanoseconds: Vec<u64>,
+}
+
+impl Times {
+    /// None were made.
+    pub fn new(alloc: Global) -> Times {
+        Times {
+            nanoseconds: Vec::new(alloc),
+        }
+    }
+
+    /// One more took so long.
+    pub fn add(&mut self, time: Duration) -> Result<(), AllocError> {
+        self.nanoseconds
+            .push(u64::try_from(time.as_nanos()).unwrap_or(u64::MAX))?;
+        Ok(())
+    }
+
+    /// Whether none were made.
+    pub fn is_empty(&self) -> bool {
+        self.nanoseconds.is_empty()
+    }
+
+    /// Prints how many were made, and the time that 99 of 100 of them kept within.
+    pub fn print<R: Print>(mut self, rt: &R, call: &str) -> Result<()> {
+        self.nanoseconds.sort()?;
+        let count = self.nanoseconds.len();
+        // The slowest hundredth lies above it.
+        let within = match self.nanoseconds.get(count.saturating_sub(count / 100 + 1)) {
+            Some(within) => *within,
+            None => 0,
+        };
+        println!(rt; "{count} {call} {within} nanoseconds")?;
+        Ok(())
+    }
+}
