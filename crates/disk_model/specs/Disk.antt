@@ -98,10 +98,10 @@ abbrev pub Syncs : List Event → Result (Unit {0}) DiskFault → List Event →
 Syncs old result new = MatchResult result (λ _. new ≡ Synced ∷ old) (λ _. new ≡ old)
 
 -- A fault was told: the count of faults rose, or stands at its greatest value.
-abbrev pub ToldFault : ℕ → ℕ → Type 0
-ToldFault before now = min (before + 1) (2 ^ 64 - 1) ≤ now
+abbrev pub HasRisen : ℕ → ℕ → Type 0
+HasRisen before now = min (before + 1) (2 ^ 64 - 1) ≤ now
 
 -- A count of faults doesn't fall, and it rises where a fault is told, or stands at its greatest value.
 pub record CountsFaults {T : Type 0} (before now : ℕ) (result : Result T DiskFault) : Type 0 where
   pub later : before ≤ now
-  pub rises : IsErr result → ToldFault before now
+  pub rises : IsErr result → HasRisen before now

@@ -18,8 +18,8 @@ abbrev pub own_faults : {D : Type 0} → FlakyDisk D → ℕ
 own_faults disk = disk.faults
 
 -- how many faults it has told in all, over a disk that counts its own so
-abbrev pub all_faults : {D : Type 0} → (told : D → ℕ) → FlakyDisk D → ℕ
-all_faults told disk = min (own_faults disk + told (inner disk)) (2 ^ 64 - 1)
+abbrev pub all_faults : {D : Type 0} → (faults_of : D → ℕ) → FlakyDisk D → ℕ
+all_faults faults_of disk = min (own_faults disk + faults_of (inner disk)) (2 ^ 64 - 1)
 
 -- whether the next call is the one that fails
 abbrev pub is_due : Option ℕ → Bool
@@ -33,9 +33,10 @@ left_after (Some left) = if left == 0 then None else Some (left - 1)
 
 -- One call of read_at, write_at, cut or sync. The one that is due fails, counts that, and the disk within is not
 -- asked. Any other asks the disk within, and fails only where that disk does.
-pub record FailsOnce {D T : Type 0} (told : D → ℕ) (old new : FlakyDisk D) (result : Result T DiskFault) : Type 0 where
+pub record FailsOnce {D T : Type 0} (faults_of : D → ℕ) (old new : FlakyDisk D) (result : Result T DiskFault) : Type
+    0 where
   pub counts_down : calls_before new ≡ left_after (calls_before old)
-  pub passes : is_due (calls_before old) ≡ false → CountsFaults (told (inner old)) (told (inner new)) result
+  pub passes : is_due (calls_before old) ≡ false → CountsFaults (faults_of (inner old)) (faults_of (inner new)) result
   pub own : is_due (calls_before old) ≡ false → own_faults new ≡ own_faults old
   pub fails : is_due (calls_before old) ≡ true → IsErr result
   pub counts : is_due (calls_before old) ≡ true → own_faults new ≡ min (own_faults old + 1) (2 ^ 64 - 1)

@@ -19,13 +19,13 @@ own_faults fuse = fuse.faults
 
 -- how many faults it has told in all
 abbrev pub all_faults : {D : Type 0} {g : Ghosts D} → FuseDisk D g → ℕ
-all_faults {g = g} fuse = min (own_faults fuse + g.told (inner fuse)) (2 ^ 64 - 1)
+all_faults {g = g} fuse = min (own_faults fuse + g.faults_of (inner fuse)) (2 ^ 64 - 1)
 
 -- One call of read_at, write_at, cut or sync. With a call left it takes that one and asks the disk within, and fails
 -- only where that disk does. With none left it fails, counts that, and the disk within is not asked.
 pub record Burns {D T : Type 0} {g : Ghosts D} (old new : FuseDisk D g) (result : Result T DiskFault) : Type 0 where
   pub spends : 0 < calls_left old → calls_left new + 1 ≡ calls_left old
-  pub passes : 0 < calls_left old → CountsFaults (g.told (inner old)) (g.told (inner new)) result
+  pub passes : 0 < calls_left old → CountsFaults (g.faults_of (inner old)) (g.faults_of (inner new)) result
   pub own : 0 < calls_left old → own_faults new ≡ own_faults old
   pub fails : calls_left old ≡ 0 → IsErr result
   pub counts : calls_left old ≡ 0 → own_faults new ≡ min (own_faults old + 1) (2 ^ 64 - 1)

@@ -14,11 +14,11 @@ abbrev pub held : MemDisk → List ℕ
 held disk = disk.octets.items
 
 -- how many faults it has told
-abbrev pub faults_told : MemDisk → ℕ
-faults_told disk = disk.faults
+abbrev pub faults_in : MemDisk → ℕ
+faults_in disk = disk.faults
 
 -- One call that may be refused memory. A refused one changes nothing and is counted, and no other is.
 pub record IsRefusedWhole (old new : MemDisk) (result : Result (Unit {0}) DiskFault) : Type 0 where
-  pub ok : OnOk result (faults_told new ≡ faults_told old)
-  pub err : OnErr result (faults_told new ≡ min (faults_told old + 1) (2 ^ 64 - 1))
+  pub ok : OnOk result (faults_in new ≡ faults_in old)
+  pub err : OnErr result (faults_in new ≡ min (faults_in old + 1) (2 ^ 64 - 1))
   pub unchanged : OnErr result (events new ≡ events old)

@@ -2,7 +2,7 @@
 ghost use Rattle.std.specs.Prelude.{◌≡◌, ◌+◌, ◌-◌, ◌<◌, ◌≤◌, ◌↔◌, ◌^◌, ℕ, List};
 ghost use Rattle.std.specs.Prelude.{length, min, take, OnOk, OnErr, slice_range};
 ghost use Rattle.disk_model.specs.Asks.{ReadsIn, WritesOut, Tries, most_tries};
-ghost use Rattle.disk_model.specs.Disk.{content, Writes, Cuts, Syncs, CountsFaults, ToldFault};
+ghost use Rattle.disk_model.specs.Disk.{content, Writes, Cuts, Syncs, CountsFaults, HasRisen};
 
 use crate::raw_file::{RawFault, RawFile};
 use crate::{Disk, DiskFault};
@@ -53,7 +53,7 @@ impl<F: RawFile> FileDisk<F> {
 
     // Counts a fault.
     fn fault(&mut self) -> DiskFault
-        ensures counts { ToldFault self.old.faults self.new.faults }
+        ensures counts { HasRisen self.old.faults self.new.faults }
         ensures later { self.old.faults ≤ self.new.faults }
         ensures file { self.new.file ≡ self.old.file }
         ensures lost { self.new.lost ≡ self.old.lost }
@@ -162,7 +162,7 @@ impl<F: RawFile> Disk for FileDisk<F> {
 
     ghost size = { λ d. d.len };
 
-    ghost told = { λ d. d.faults };
+    ghost faults_of = { λ d. d.faults };
 
     ghost content_is_image = { λ d is. F.content_is_image d.file is };
 

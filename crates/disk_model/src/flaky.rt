@@ -74,7 +74,7 @@ impl<D: Disk> Disk for FlakyDisk<D> {
 
     ghost size = { λ f. D.size f.disk };
 
-    ghost told = { λ f. min (f.faults + D.told f.disk) (2 ^ 64 - 1) };
+    ghost faults_of = { λ f. min (f.faults + D.faults_of f.disk) (2 ^ 64 - 1) };
 
     ghost content_is_image = { λ f is. D.content_is_image f.disk is };
 
@@ -89,10 +89,11 @@ impl<D: Disk> Disk for FlakyDisk<D> {
             → OnOk result (into.new ≡ slice_range (content (D.log (inner self.old))) at
             (at + length into.old)) }
         ensures log { D.honest (inner self.old) → D.log (inner self.new) ≡ D.log (inner self.old) }
-        ensures cause { CountsFaults (all_faults D.told self.old)
-            (all_faults D.told self.new) result }
-        ensures quiet { OnOk result (all_faults D.told self.new ≡ all_faults D.told self.old) }
-        ensures once { FailsOnce D.told self.old self.new result }
+        ensures cause { CountsFaults (all_faults D.faults_of self.old)
+            (all_faults D.faults_of self.new) result }
+        ensures quiet { OnOk result (all_faults D.faults_of self.new
+            ≡ all_faults D.faults_of self.old) }
+        ensures once { FailsOnce D.faults_of self.old self.new result }
     {
         self.count()?;
         self.disk.read_at(at, into)
@@ -103,10 +104,11 @@ impl<D: Disk> Disk for FlakyDisk<D> {
         ensures honest { D.honest (inner self.old) ↔ D.honest (inner self.new) }
         ensures log { D.honest (inner self.old)
             → Writes at from.now (D.log (inner self.old)) result (D.log (inner self.new)) }
-        ensures cause { CountsFaults (all_faults D.told self.old)
-            (all_faults D.told self.new) result }
-        ensures quiet { OnOk result (all_faults D.told self.new ≡ all_faults D.told self.old) }
-        ensures once { FailsOnce D.told self.old self.new result }
+        ensures cause { CountsFaults (all_faults D.faults_of self.old)
+            (all_faults D.faults_of self.new) result }
+        ensures quiet { OnOk result (all_faults D.faults_of self.new
+            ≡ all_faults D.faults_of self.old) }
+        ensures once { FailsOnce D.faults_of self.old self.new result }
     {
         self.count()?;
         self.disk.write_at(at, from)
@@ -117,10 +119,11 @@ impl<D: Disk> Disk for FlakyDisk<D> {
         ensures honest { D.honest (inner self.old) ↔ D.honest (inner self.new) }
         ensures log { D.honest (inner self.old)
             → Cuts len (D.log (inner self.old)) result (D.log (inner self.new)) }
-        ensures cause { CountsFaults (all_faults D.told self.old)
-            (all_faults D.told self.new) result }
-        ensures quiet { OnOk result (all_faults D.told self.new ≡ all_faults D.told self.old) }
-        ensures once { FailsOnce D.told self.old self.new result }
+        ensures cause { CountsFaults (all_faults D.faults_of self.old)
+            (all_faults D.faults_of self.new) result }
+        ensures quiet { OnOk result (all_faults D.faults_of self.new
+            ≡ all_faults D.faults_of self.old) }
+        ensures once { FailsOnce D.faults_of self.old self.new result }
     {
         self.count()?;
         self.disk.cut(len)
@@ -130,10 +133,11 @@ impl<D: Disk> Disk for FlakyDisk<D> {
         ensures honest { D.honest (inner self.old) ↔ D.honest (inner self.new) }
         ensures log { D.honest (inner self.old)
             → Syncs (D.log (inner self.old)) result (D.log (inner self.new)) }
-        ensures cause { CountsFaults (all_faults D.told self.old)
-            (all_faults D.told self.new) result }
-        ensures quiet { OnOk result (all_faults D.told self.new ≡ all_faults D.told self.old) }
-        ensures once { FailsOnce D.told self.old self.new result }
+        ensures cause { CountsFaults (all_faults D.faults_of self.old)
+            (all_faults D.faults_of self.new) result }
+        ensures quiet { OnOk result (all_faults D.faults_of self.new
+            ≡ all_faults D.faults_of self.old) }
+        ensures once { FailsOnce D.faults_of self.old self.new result }
     {
         self.count()?;
         self.disk.sync()

@@ -70,7 +70,7 @@ impl<D: Disk> Disk for FuseDisk<D> {
 
     ghost size = { λ f. D.size f.disk };
 
-    ghost told = { λ f. min (f.faults + D.told f.disk) (2 ^ 64 - 1) };
+    ghost faults_of = { λ f. min (f.faults + D.faults_of f.disk) (2 ^ 64 - 1) };
 
     ghost content_is_image = { λ f is. D.content_is_image f.disk is };
 

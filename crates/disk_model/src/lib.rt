@@ -13,12 +13,12 @@ use thiserror::Error;
 
 mod choice;
 mod directory;
+mod disk_event;
 mod disk_file;
 mod file;
 mod flaky;
 mod fuse;
 mod memory;
-mod moment;
 mod octets;
 mod raw_file;
 mod tape_file;
@@ -55,7 +55,7 @@ pub trait Disk {
     ghost size: { Self → ℕ };
 
     /// How many faults it has told.
-    ghost told: { Self → ℕ };
+    ghost faults_of: { Self → ℕ };
 
     /// The length in octets.
     fn len(&self) -> u64
@@ -70,35 +70,35 @@ pub trait Disk {
             → OnOk result (into.new ≡ slice_range (content (log self.old)) at
             (at + length into.old)) }
         ensures log { honest self.old → log self.new ≡ log self.old }
-        ensures cause { CountsFaults (told self.old) (told self.new) result }
-        ensures quiet { OnOk result (told self.new ≡ told self.old) };
+        ensures cause { CountsFaults (faults_of self.old) (faults_of self.new) result }
+        ensures quiet { OnOk result (faults_of self.new ≡ faults_of self.old) };
 
     /// Writes these octets at this offset, at most at the end. One that failed may have happened in part.
     fn write_at(&mut self, at: u64, from: &[u8]) -> Result<(), DiskFault>
         requires { at ≤ size self.old }
         ensures honest { honest self.old ↔ honest self.new }
         ensures log { honest self.old → Writes at from.now (log self.old) result (log self.new) }
-        ensures cause { CountsFaults (told self.old) (told self.new) result }
-        ensures quiet { OnOk result (told self.new ≡ told self.old) };
+        ensures cause { CountsFaults (faults_of self.old) (faults_of self.new) result }
+        ensures quiet { OnOk result (faults_of self.new ≡ faults_of self.old) };
 
     /// Cuts it to this length. One that failed may have happened or not.
     fn cut(&mut self, len: u64) -> Result<(), DiskFault>
         requires { len ≤ size self.old }
         ensures honest { honest self.old ↔ honest self.new }
         ensures log { honest self.old → Cuts len (log self.old) result (log self.new) }
-        ensures cause { CountsFaults (told self.old) (told self.new) result }
-        ensures quiet { OnOk result (told self.new ≡ told self.old) };
+        ensures cause { CountsFaults (faults_of self.old) (faults_of self.new) result }
+        ensures quiet { OnOk result (faults_of self.new ≡ faults_of self.old) };
 
     /// Makes the content the only image. One that failed changes nothing.
     fn sync(&mut self) -> Result<(), DiskFault>
         ensures honest { honest self.old ↔ honest self.new }
         ensures log { honest self.old → Syncs (log self.old) result (log self.new) }
-        ensures cause { CountsFaults (told self.old) (told self.new) result }
-        ensures quiet { OnOk result (told self.new ≡ told self.old) };
+        ensures cause { CountsFaults (faults_of self.old) (faults_of self.new) result }
+        ensures quiet { OnOk result (faults_of self.new ≡ faults_of self.old) };
 
     /// How many faults it has told. At the greatest `u64` the count stays, and a fault is told without a rise.
     fn faults(&self) -> u64
-        ensures { result ≡ told self.now };
+        ensures { result ≡ faults_of self.now };
 
     /// The content is one of the images.
     ghost content_is_image: { (disk : Self) → honest disk → Image (log disk) (content (log disk)) };

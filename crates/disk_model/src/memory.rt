@@ -8,7 +8,7 @@ ghost use Rattle.disk_model.specs.Choice.{chosen_image, pending};
 ghost use Rattle.disk_model.specs.Memory.{event_of, logged, log_of, is_settling, IsSettled};
 
 use crate::choice::Choice;
-use crate::moment::Moment;
+use crate::disk_event::DiskEvent;
 use crate::octets::overwrite;
 use crate::{Disk, DiskFault, NoMemory};
 use std::alloc::Global;
@@ -18,14 +18,14 @@ use std::alloc::Global;
 pub struct MemDisk {
     alloc: Global,
     octets: Vec<u8>,
-    moments: Vec<Moment>,
+    moments: Vec<DiskEvent>,
     faults: u64,
     ghost content_is: { octets.items ≡ content (log_of moments.items) },
 }
 
 // Adds a moment, or changes nothing.
 #[tactic(auto, using(crate::proofs::Kept::logged_push))]
-fn keep(moments: &mut Vec<Moment>, moment: Moment) -> Result<(), NoMemory>
+fn keep(moments: &mut Vec<DiskEvent>, moment: DiskEvent) -> Result<(), NoMemory>
     ensures ok { OnOk result
         (log_of moments.new.items ≡ event_of moment ∷ log_of moments.old.items) }
     ensures unchanged { OnErr result (moments.new.items ≡ moments.old.items) }
@@ -36,7 +36,7 @@ fn keep(moments: &mut Vec<Moment>, moment: Moment) -> Result<(), NoMemory>
 }
 
 // How many moments there are up to the last that left one image, or none.
-fn settled_count(moments: &[Moment]) -> usize
+fn settled_count(moments: &[DiskEvent]) -> usize
     ensures within { result ≤ length moments.now }
     ensures settled { IsSettled (log_of (take result moments.now)) }
     ensures rest { AllWithin (λ moment. is_settling moment ≡ false) moments.now result
@@ -52,7 +52,7 @@ fn settled_count(moments: &[Moment]) -> usize
 }
 
 // The content after these moments.
-fn content_after(alloc: Global, moments: &[Moment]) -> Result<Vec<u8>, NoMemory>
+fn content_after(alloc: Global, moments: &[DiskEvent]) -> Result<Vec<u8>, NoMemory>
     ensures { IfOk result (λ octets. octets.items ≡ content (log_of moments.now)) }
 {
     let mut octets = Vec::new(alloc);
@@ -63,7 +63,7 @@ fn content_after(alloc: Global, moments: &[Moment]) -> Result<Vec<u8>, NoMemory>
 }
 
 // Does to an image what the choice has for each of these operations, which are all since the last sync.
-fn leave_each(image: &mut Vec<u8>, waiting: &[Moment], choice: Choice) -> Result<(), NoMemory>
+fn leave_each(image: &mut Vec<u8>, waiting: &[DiskEvent], choice: Choice) -> Result<(), NoMemory>
     requires { All (λ moment. is_settling moment ≡ false) waiting.now }
     ensures { OnOk result ((log : List Event) → pending log ≡ 0
         → image.old.items ≡ chosen_image choice log
@@ -76,7 +76,7 @@ fn leave_each(image: &mut Vec<u8>, waiting: &[Moment], choice: Choice) -> Result
 }
 
 // The image that this choice names after these moments.
-fn image_after(alloc: Global, moments: &[Moment], choice: Choice) -> Result<Vec<u8>, NoMemory>
+fn image_after(alloc: Global, moments: &[DiskEvent], choice: Choice) -> Result<Vec<u8>, NoMemory>
     ensures { IfOk result (λ image. image.items ≡ chosen_image choice (log_of moments.now)) }
 {
     let (settled, waiting) = moments.split_at(settled_count(moments));
@@ -88,7 +88,7 @@ fn image_after(alloc: Global, moments: &[Moment], choice: Choice) -> Result<Vec<
 impl Disk for MemDisk {
     ghost use Rattle.std.specs.Prelude.{IsOk, slice_range};
     ghost use Rattle.disk_model.specs.Disk.{Writes, Cuts, Syncs, CountsFaults};
-    ghost use Rattle.disk_model.specs.InMemory.{events, held, faults_told, IsRefusedWhole};
+    ghost use Rattle.disk_model.specs.InMemory.{events, held, faults_in, IsRefusedWhole};
     ghost use Rattle.disk_model.specs.MemoryLaws.{content_among_images};
 
     ghost honest = { λ _. Unit {0} };
@@ -97,7 +97,7 @@ impl Disk for MemDisk {
 
     ghost size = { λ m. length m.octets.items };
 
-    ghost told = { λ m. m.faults };
+    ghost faults_of = { λ m. m.faults };
 
     ghost content_is_image = { λ m _. content_among_images m.moments.items };
 
@@ -111,8 +111,8 @@ impl Disk for MemDisk {
         ensures read { OnOk result
             (into.new ≡ slice_range (content (events self.old)) at (at + length into.old)) }
         ensures log { events self.new ≡ events self.old }
-        ensures cause { CountsFaults (faults_told self.old) (faults_told self.new) result }
-        ensures quiet { OnOk result (faults_told self.new ≡ faults_told self.old) }
+        ensures cause { CountsFaults (faults_in self.old) (faults_in self.new) result }
+        ensures quiet { OnOk result (faults_in self.new ≡ faults_in self.old) }
         ensures succeeds { IsOk result }
         ensures unchanged { self.new ≡ self.old }
     {
@@ -125,8 +125,8 @@ impl Disk for MemDisk {
     fn write_at(&mut self, at: u64, from: &[u8]) -> Result<(), DiskFault>
         requires { at ≤ length (held self.old) }
         ensures log { Writes at from.now (events self.old) result (events self.new) }
-        ensures cause { CountsFaults (faults_told self.old) (faults_told self.new) result }
-        ensures quiet { OnOk result (faults_told self.new ≡ faults_told self.old) }
+        ensures cause { CountsFaults (faults_in self.old) (faults_in self.new) result }
+        ensures quiet { OnOk result (faults_in self.new ≡ faults_in self.old) }
         ensures unchanged { IsRefusedWhole self.old self.new result }
     {
         match self.try_write(at, from) {
@@ -139,8 +139,8 @@ impl Disk for MemDisk {
     fn cut(&mut self, len: u64) -> Result<(), DiskFault>
         requires { len ≤ length (held self.old) }
         ensures log { Cuts len (events self.old) result (events self.new) }
-        ensures cause { CountsFaults (faults_told self.old) (faults_told self.new) result }
-        ensures quiet { OnOk result (faults_told self.new ≡ faults_told self.old) }
+        ensures cause { CountsFaults (faults_in self.old) (faults_in self.new) result }
+        ensures quiet { OnOk result (faults_in self.new ≡ faults_in self.old) }
         ensures unchanged { IsRefusedWhole self.old self.new result }
     {
         match self.try_cut(len) {
@@ -152,11 +152,11 @@ impl Disk for MemDisk {
     /// Fails where memory is refused.
     fn sync(&mut self) -> Result<(), DiskFault>
         ensures log { Syncs (events self.old) result (events self.new) }
-        ensures cause { CountsFaults (faults_told self.old) (faults_told self.new) result }
-        ensures quiet { OnOk result (faults_told self.new ≡ faults_told self.old) }
+        ensures cause { CountsFaults (faults_in self.old) (faults_in self.new) result }
+        ensures quiet { OnOk result (faults_in self.new ≡ faults_in self.old) }
         ensures unchanged { IsRefusedWhole self.old self.new result }
     {
-        match keep(&mut self.moments, Moment::Sync) {
+        match keep(&mut self.moments, DiskEvent::Sync) {
             Ok(()) => Ok(()),
             Err(_) => Err(self.fault()),
         }
@@ -171,7 +171,7 @@ impl MemDisk {
     /// An empty disk, to which nothing has happened.
     pub fn new(alloc: Global) -> Self
         ensures log { ⟦<MemDisk as Disk>⟧.log result ≡ [] }
-        ensures told { ⟦<MemDisk as Disk>⟧.told result ≡ 0 }
+        ensures faults { ⟦<MemDisk as Disk>⟧.faults_of result ≡ 0 }
     {
         MemDisk {
             alloc,
@@ -187,9 +187,9 @@ impl MemDisk {
     /// `NoMemory` where memory for the new disk is refused.
     pub fn holding(alloc: Global, octets: &[u8]) -> Result<Self, NoMemory>
         ensures log { IfOk result (λ disk. ⟦<MemDisk as Disk>⟧.log disk ≡ Made octets.now ∷ []) }
-        ensures told { IfOk result (λ disk. ⟦<MemDisk as Disk>⟧.told disk ≡ 0) }
+        ensures faults { IfOk result (λ disk. ⟦<MemDisk as Disk>⟧.faults_of disk ≡ 0) }
     {
-        let first = Moment::Began(Vec::from_slice(alloc, octets)?);
+        let first = DiskEvent::Began(Vec::from_slice(alloc, octets)?);
         let mut disk = MemDisk::new(alloc);
         keep(&mut disk.moments, first)?;
         disk.octets = Vec::from_slice(alloc, octets)?;
@@ -207,7 +207,7 @@ impl MemDisk {
             ≡ Made (chosen_image choice (⟦<MemDisk as Disk>⟧.log self.now)) ∷ []) }
         ensures image { Image (⟦<MemDisk as Disk>⟧.log self.now)
             (chosen_image choice (⟦<MemDisk as Disk>⟧.log self.now)) }
-        ensures told { IfOk result (λ left. ⟦<MemDisk as Disk>⟧.told left ≡ 0) }
+        ensures faults { IfOk result (λ left. ⟦<MemDisk as Disk>⟧.faults_of left ≡ 0) }
     {
         let octets = image_after(self.alloc, &self.moments, choice)?;
         MemDisk::holding(self.alloc, &octets)
@@ -235,7 +235,7 @@ impl MemDisk {
         let octets = Vec::from_slice(self.alloc, from)?;
         self.moments.reserve(1)?;
         overwrite(&mut self.octets, at as usize, from)?;
-        keep(&mut self.moments, Moment::Write { at, octets })?;
+        keep(&mut self.moments, DiskEvent::Write { at, octets })?;
         Ok(())
     }
 
@@ -247,7 +247,7 @@ impl MemDisk {
             (log_of self.new.moments.items ≡ log_of self.old.moments.items) }
         ensures faults { self.new.faults ≡ self.old.faults }
     {
-        keep(&mut self.moments, Moment::Cut { len })?;
+        keep(&mut self.moments, DiskEvent::Cut { len })?;
         self.octets.truncate(len as usize);
         Ok(())
     }

@@ -101,7 +101,7 @@ read_all octets rest text so_far final lines form behind read is =
     let none : left.0 ≡ [] = (forms_once left.0 [] rest (end_of_block ++ behind) rest left.1 refl (end_is_final behind) final).0 in
     sym (append-nil text) ∙ (ap (λ (l : List (List ℕ)). text ++ text_of l) (sym none) ∙ left.2)
 
-pub read_front : (octets text : List ℕ) (lines : List (List ℕ)) (form behind : List ℕ) (used : ℕ) → IsReadForm lines form → octets ≡ form ++ behind → used ≡ length form → text ≡ text_of lines → (used ≤ length octets) × ((lines : List (List ℕ)) × IsReadForm lines (take used octets) × (text ≡ text_of lines))
-read_front octets text lines form behind used read is len text_is =
-    let front : take used octets ≡ form = ap (take used) is ∙ take_at form behind used (sym len) in
-    (omega (arith, ap length is, length-append form behind, len), (lines, subst (IsReadForm lines) (sym front) read, text_is))
+pub read_prefix : (octets text : List ℕ) (lines : List (List ℕ)) (form behind : List ℕ) (used : ℕ) → IsReadForm lines form → octets ≡ form ++ behind → used ≡ length form → text ≡ text_of lines → (used ≤ length octets) × ((lines : List (List ℕ)) × IsReadForm lines (take used octets) × (text ≡ text_of lines))
+read_prefix octets text lines form behind used read is len text_is =
+    let prefix : take used octets ≡ form = ap (take used) is ∙ take_at form behind used (sym len) in
+    (omega (arith, ap length is, length-append form behind, len), (lines, subst (IsReadForm lines) (sym prefix) read, text_is))

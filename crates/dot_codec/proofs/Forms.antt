@@ -49,7 +49,7 @@ no_form_at_final line form next rest final is_line is_form is =
     let cut = cut_once final.body form final.tail (13 ∷ 10 ∷ next) final.line (form_is_line line form is_line is_form) final.ends refl (sym final.is ∙ is) in
     dot_is_no_form line form is_form (sym cut.0 ∙ final.last next cut.1)
 
--- octets have one front of forms
+-- octets have one prefix of forms
 pub forms_once : (a b : List (List ℕ)) (octets p q : List ℕ) → HasForms a octets p → HasForms b octets q → IsFinal p → IsFinal q → (a ≡ b) × (p ≡ q)
 forms_once [] [] octets p q has_a has_b final_p final_q = (refl, sym has_a ∙ has_b)
 forms_once [] (line ∷ b) octets p q has_a (form, next, is, is_line, is_form, more) final_p final_q =

@@ -105,32 +105,32 @@ lf_in_none a [] p none is = absurd (no_nil a is)
 lf_in_none [] (y ∷ b) p none is = let lf : y ≡ 10 = cc in both_ways (y == 10) none.0 (ap (λ o. o == 10) lf)
 lf_in_none (x ∷ a) (y ∷ b) p none is = lf_in_none a b p none.1 cc
 
-cr_in_no_line : (line front : List ℕ) → IsLine line → line ≡ front ++ 13 ∷ [] → ⊥
+cr_in_no_line : (line prefix : List ℕ) → IsLine line → line ≡ prefix ++ 13 ∷ [] → ⊥
 cr_in_no_line [] [] is_line is = cc
-cr_in_no_line [] (x ∷ front) is_line is = cc
+cr_in_no_line [] (x ∷ prefix) is_line is = cc
 cr_in_no_line (octet ∷ line) [] is_line is = let cr : octet ≡ 13 = cc in both_ways (is_line_octet octet) (ap is_line_octet cr) (and_parts (is_line_octet octet) _ is_line).0
-cr_in_no_line (octet ∷ line) (x ∷ front) is_line is = cr_in_no_line line front (and_parts (is_line_octet octet) _ is_line).1 cc
+cr_in_no_line (octet ∷ line) (x ∷ prefix) is_line is = cr_in_no_line line prefix (and_parts (is_line_octet octet) _ is_line).1 cc
 
 -- what stands before the first LF, without one CR at its end, is the first line
-first_at_lf : (front behind line : List ℕ) → NoLf front → (front ≡ line) ⊎ (front ≡ line ++ 13 ∷ []) → ((before : List ℕ) → front ≡ before ++ 13 ∷ [] → line ≡ before) → (lines : List (List ℕ)) → HasLines (front ++ 10 ∷ behind) lines → IsFirstLine (front ++ 10 ∷ behind) line behind
-first_at_lf front behind line none either cr [] has = absurd (no_nil front has)
+first_at_lf : (prefix behind line : List ℕ) → NoLf prefix → (prefix ≡ line) ⊎ (prefix ≡ line ++ 13 ∷ []) → ((before : List ℕ) → prefix ≡ before ++ 13 ∷ [] → line ≡ before) → (lines : List (List ℕ)) → HasLines (prefix ++ 10 ∷ behind) lines → IsFirstLine (prefix ++ 10 ∷ behind) line behind
+first_at_lf prefix behind line none either cr [] has = absurd (no_nil prefix has)
   where
     no_nil : (a : List ℕ) → a ++ 10 ∷ behind ≡ [] → ⊥
     no_nil [] is = cc
     no_nil (x ∷ a) is = cc
-first_at_lf front behind line none either cr (first ∷ lines) (next, (is_line, ends), has) = elim ends [
-  | inl last ↦ absurd (lf_in_none front first behind (NoLf-from_line first is_line) (sym last.0))
+first_at_lf prefix behind line none either cr (first ∷ lines) (next, (is_line, ends), has) = elim ends [
+  | inl last ↦ absurd (lf_in_none prefix first behind (NoLf-from_line first is_line) (sym last.0))
   | inr some ↦ elim some [
     | inl lf ↦
-        let cut = cut_at_lf front first behind next none (NoLf-from_line first is_line) lf in
+        let cut = cut_at_lf prefix first behind next none (NoLf-from_line first is_line) lf in
         ⊎_elim
-        (λ same. let whole : front ++ 10 ∷ behind ≡ line ++ 10 ∷ behind = ap (λ (l : List ℕ). l ++ 10 ∷ behind) same in (subst IsLine (sym cut.0 ∙ same) is_line, inr (inl whole)))
+        (λ same. let whole : prefix ++ 10 ∷ behind ≡ line ++ 10 ∷ behind = ap (λ (l : List ℕ). l ++ 10 ∷ behind) same in (subst IsLine (sym cut.0 ∙ same) is_line, inr (inl whole)))
         (λ long. absurd (cr_in_no_line first line is_line (sym cut.0 ∙ long)))
         either
     | inr crlf ↦
-        let cut = cut_at_lf front (first ++ 13 ∷ []) behind next none (NoLf-and_cr first (NoLf-from_line first is_line)) (crlf ∙ sym (append_assoc first (13 ∷ []) (10 ∷ next))) in
+        let cut = cut_at_lf prefix (first ++ 13 ∷ []) behind next none (NoLf-and_cr first (NoLf-from_line first is_line)) (crlf ∙ sym (append_assoc first (13 ∷ []) (10 ∷ next))) in
         let same : line ≡ first = cr first cut.0 in
-        let whole : front ++ 10 ∷ behind ≡ line ++ 13 ∷ 10 ∷ behind = ap (λ (l : List ℕ). l ++ 10 ∷ behind) (cut.0 ∙ ap (λ (l : List ℕ). l ++ 13 ∷ []) (sym same)) ∙ append_assoc line (13 ∷ []) (10 ∷ behind) in
+        let whole : prefix ++ 10 ∷ behind ≡ line ++ 13 ∷ 10 ∷ behind = ap (λ (l : List ℕ). l ++ 10 ∷ behind) (cut.0 ∙ ap (λ (l : List ℕ). l ++ 13 ∷ []) (sym same)) ∙ append_assoc line (13 ∷ []) (10 ∷ behind) in
         (subst IsLine (sym same) is_line, inr (inr whole))
   ]
 ]
@@ -153,19 +153,19 @@ module _ (text : List ℕ) (from : ℕ) where
       (none.low, omega (arith, none.high), found.2 ∙ ap (places_between (is_byte 10) text (at + 1)) whole)
 
   -- a line up to the next LF is written
-  pub line_wrote : (at : ℕ) (left more line old new newer : List ℕ) → from ≤ length text → left ≡ places_between (is_byte 10) text from (length text) → left ≡ at ∷ more → (slice_range text from at ≡ line) ⊎ (slice_range text from at ≡ line ++ 13 ∷ []) → ((front : List ℕ) → slice_range text from at ≡ front ++ 13 ∷ [] → line ≡ front) → Wrote text (drop from text) old new → newer ≡ new ++ (stuffed line ++ 13 ∷ 10 ∷ []) → Wrote text (drop (at + 1) text) old newer
+  pub line_wrote : (at : ℕ) (left more line old new newer : List ℕ) → from ≤ length text → left ≡ places_between (is_byte 10) text from (length text) → left ≡ at ∷ more → (slice_range text from at ≡ line) ⊎ (slice_range text from at ≡ line ++ 13 ∷ []) → ((prefix : List ℕ) → slice_range text from at ≡ prefix ++ 13 ∷ [] → line ≡ prefix) → Wrote text (drop from text) old new → newer ≡ new ++ (stuffed line ++ 13 ∷ 10 ∷ []) → Wrote text (drop (at + 1) text) old newer
   line_wrote at left more line old new newer within is head either cr so_far put =
       let found = first_place (is_byte 10) text from (length text - from) at more (sym is ∙ head) in
       let none : NoneBefore (Passes (is_byte 10) text) from (from + (length text - from)) at = found.0 in
       let inside : at < length text = omega (arith, none.high) in
-      let front = slice_range text from at in
+      let prefix = slice_range text from at in
       let behind = drop (at + 1) text in
       let lf : get_or text at 0 ≡ 10 = eqb-true (get_or text at 0) 10 found.1 in
       let next : drop at text ≡ 10 ∷ behind = drop-cons text at 0 inside ∙ (ap (λ o. o ∷ drop (suc at) text) lf ∙ ap (λ k. 10 ∷ drop k text) (sym (add-one at))) in
-      let whole : drop from text ≡ front ++ 10 ∷ behind = drop_split text from at none.low ∙ ap (λ (l : List ℕ). front ++ l) next in
-      let clear : NoLf front = NoLf-take (drop from text) (at - from) (λ k below short passes. none.before (from + k) (omega arith) (omega arith) (ap (λ o. o == 10) (sym (get_or-drop from text k 0)) ∙ passes)) in
+      let whole : drop from text ≡ prefix ++ 10 ∷ behind = drop_split text from at none.low ∙ ap (λ (l : List ℕ). prefix ++ l) next in
+      let clear : NoLf prefix = NoLf-take (drop from text) (at - from) (λ k below short passes. none.before (from + k) (omega arith) (omega arith) (ap (λ o. o == 10) (sym (get_or-drop from text k 0)) ∙ passes)) in
       wrote_more text (drop from text) line behind old new newer so_far
-      (λ lines has. subst (λ (t : List ℕ). IsFirstLine t line behind) (sym whole) (first_at_lf front behind line clear either cr lines (subst (λ (t : List ℕ). HasLines t lines) whole has)))
+      (λ lines has. subst (λ (t : List ℕ). IsFirstLine t line behind) (sym whole) (first_at_lf prefix behind line clear either cr lines (subst (λ (t : List ℕ). HasLines t lines) whole has)))
       put
 
   NoLf-behind : (left : List ℕ) → left ≡ places_between (is_byte 10) text from (length text) → left ≡ [] → NoLf (drop from text)

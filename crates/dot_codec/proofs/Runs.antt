@@ -37,31 +37,31 @@ lf_ends octets (Some n) (before, at) = (omega (arith, before.high), run_ends_at 
     is_octet : (octet : ℕ) → is_byte 10 octet ≡ true → is_byte3 0 10 13 octet ≡ true
     is_octet octet is = or_left _ _ (or_right (octet == 0) (octet == 10) is)
 
--- a front with no LF, up to its first NUL or CR
-module _ (front tail : List ℕ) (none_lf : (k : ℕ) → k < length front → is_byte 10 (get_or (front ++ tail) k 0) ≡ true → ⊥) (ends : EndsRun tail) where
-  line_below : (n : ℕ) → n ≤ length front → ((k : ℕ) → k < n → is_byte2 0 13 (get_or front k 0) ≡ true → ⊥) → IsLine (take n (front ++ tail))
-  line_below n within none = line_before (front ++ tail) n (λ k below inside is.
-      let here : get_or (front ++ tail) k 0 ≡ get_or front k 0 = get_or_append_left front tail 0 k (omega arith) in
-      excluded (get_or (front ++ tail) k 0) (none_lf k (omega arith)) (λ two. none k below (ap (is_byte2 0 13) (sym here) ∙ two)) is)
+-- a prefix with no LF, up to its first NUL or CR
+module _ (prefix tail : List ℕ) (none_lf : (k : ℕ) → k < length prefix → is_byte 10 (get_or (prefix ++ tail) k 0) ≡ true → ⊥) (ends : EndsRun tail) where
+  line_below : (n : ℕ) → n ≤ length prefix → ((k : ℕ) → k < n → is_byte2 0 13 (get_or prefix k 0) ≡ true → ⊥) → IsLine (take n (prefix ++ tail))
+  line_below n within none = line_before (prefix ++ tail) n (λ k below inside is.
+      let here : get_or (prefix ++ tail) k 0 ≡ get_or prefix k 0 = get_or_append_left prefix tail 0 k (omega arith) in
+      excluded (get_or (prefix ++ tail) k 0) (none_lf k (omega arith)) (λ two. none k below (ap (is_byte2 0 13) (sym here) ∙ two)) is)
     where
       excluded : (octet : ℕ) → (is_byte 10 octet ≡ true → ⊥) → (is_byte2 0 13 octet ≡ true → ⊥) → is_byte3 0 10 13 octet ≡ true → ⊥
       excluded octet lf two is = ⊎_elim
-          (λ front_two. ⊎_elim (λ nul. two (or_left (octet == 0) (octet == 13) nul)) lf (or_cases (octet == 0) (octet == 10) front_two))
+          (λ prefix_two. ⊎_elim (λ nul. two (or_left (octet == 0) (octet == 13) nul)) lf (or_cases (octet == 0) (octet == 10) prefix_two))
           (λ cr. two (or_right (octet == 0) (octet == 13) cr))
           (or_cases (octet == 0 || octet == 10) (octet == 13) is)
 
-  pub line_found : (found : Option ℕ) → IsFirstByte (is_byte2 0 13) front found → (unwrap_or found (length front) ≤ length (front ++ tail)) × IsLine (take (unwrap_or found (length front)) (front ++ tail)) × EndsRun (drop (unwrap_or found (length front)) (front ++ tail))
+  pub line_found : (found : Option ℕ) → IsFirstByte (is_byte2 0 13) prefix found → (unwrap_or found (length prefix) ≤ length (prefix ++ tail)) × IsLine (take (unwrap_or found (length prefix)) (prefix ++ tail)) × EndsRun (drop (unwrap_or found (length prefix)) (prefix ++ tail))
   line_found None none = (
-    omega (arith, length-append front tail),
-    line_below (length front) (omega arith) (λ k below is. none k (omega arith) below is),
-    subst EndsRun (sym (drop_at front tail (length front) refl)) ends,
+    omega (arith, length-append prefix tail),
+    line_below (length prefix) (omega arith) (λ k below is. none k (omega arith) below is),
+    subst EndsRun (sym (drop_at prefix tail (length prefix) refl)) ends,
   )
   line_found (Some n) (before, at) =
-      let inside : n < length front = before.high in
-      let here : get_or (front ++ tail) n 0 ≡ get_or front n 0 = get_or_append_left front tail 0 n inside in (
-        omega (arith, length-append front tail),
+      let inside : n < length prefix = before.high in
+      let here : get_or (prefix ++ tail) n 0 ≡ get_or prefix n 0 = get_or_append_left prefix tail 0 n inside in (
+        omega (arith, length-append prefix tail),
         line_below n (omega arith) (λ k below is. before.before k (omega arith) below is),
-        run_ends_at (front ++ tail) n (omega (arith, length-append front tail)) (is_octet (get_or (front ++ tail) n 0) (ap (is_byte2 0 13) here ∙ at)),
+        run_ends_at (prefix ++ tail) n (omega (arith, length-append prefix tail)) (is_octet (get_or (prefix ++ tail) n 0) (ap (is_byte2 0 13) here ∙ at)),
       )
     where
       is_octet : (octet : ℕ) → is_byte2 0 13 octet ≡ true → is_byte3 0 10 13 octet ≡ true

@@ -64,10 +64,10 @@ fn run_len(octets: &[u8]) -> usize
 #[inline]
 pub(crate) fn without_cr(line: &[u8]) -> &[u8]
     ensures either { (line.now ≡ result.now) ⊎ (line.now ≡ result.now ++ 13 ∷ []) }
-    ensures cr { (front : List ℕ) → line.now ≡ front ++ 13 ∷ [] → result.now ≡ front }
+    ensures cr { (prefix : List ℕ) → line.now ≡ prefix ++ 13 ∷ [] → result.now ≡ prefix }
 {
     match line {
-        [front @ .., b'\r'] => front,
+        [prefix @ .., b'\r'] => prefix,
         _ => line,
     }
 }

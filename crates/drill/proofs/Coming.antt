@@ -7,7 +7,7 @@ use Rattle.world_core.specs.Laws.Comes.{No_step, Step_taken, Step_refused}
 use Rattle.world_core.specs.Past.{Life}
 use Rattle.world_core.specs.Runs.{Runs}
 use Rattle.world_core.specs.Runs.Runs.{Start, Next}
-use Rattle.world_core.specs.Told.{Said}
+use Rattle.world_core.specs.Output.{Said}
 use Rattle.world_core.specs.declared.fault.Fault.{Fault}
 use Rattle.world_core.specs.declared.step.Step.{Step}
 use Rattle.drill.specs.Drill.{WasRefused}
@@ -15,8 +15,8 @@ use Rattle.drill.specs.Drill.{WasRefused}
 pub runs_come : (begun : Life) (steps : List Step) (lines : List (List Said)) (later : Life)
     → Runs begun steps lines later → Comes begun steps lines later
 runs_come begun _ _ _ (Start safe sound) = No_step safe sound
-runs_come begun _ _ _ (Next steps step lines told life later runs takes safe sound) =
-    Step_taken steps step lines told life later (runs_come begun steps lines life runs) takes safe sound
+runs_come begun _ _ _ (Next steps step lines outputs life later runs takes safe sound) =
+    Step_taken steps step lines outputs life later (runs_come begun steps lines life runs) takes safe sound
 
 take_next : {A : Type 0} (xs : List A) (k : ℕ) (x : A) → slice_get xs k ≡ Some x
     → take (suc k) xs ≡ take k xs ++ x ∷ []

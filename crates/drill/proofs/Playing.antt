@@ -8,7 +8,7 @@ use Rattle.drill_script.specs.Script.{IsScript}
 use Rattle.drill_script.specs.declared.read.Script.{Script}
 use Rattle.world_core.specs.Given.{BeginsFrom, RefusesTapes}
 use Rattle.world_core.specs.Stands.{Ends, Reports, HadNoRoom, WasRefused as RunRefused}
-use Rattle.world_core.specs.Told.{Said, said_by}
+use Rattle.world_core.specs.Output.{Said, said_by}
 use Rattle.world_core.specs.declared.fault.Fault.{Fault}
 use Rattle.world_core.specs.declared.fault.Fault.TheVariants.{NoPeer, NoConnection, Stopped, Running, NotNeeded, Tape}
 use Rattle.world_core.specs.declared.fault.Fault.TheVariants.{CountFull}
@@ -36,17 +36,17 @@ pub taken_played : (script : Script) (world later : World) (lines : List (List S
     printed ≡ steps_text lines ++ (flat_map totals_text counts ++ end_text (length script.steps.items)) →
     ending ≡ Done → IsPlayed script printed ending
 taken_played script world later lines counts printed ending b reports prints ends =
-    let told = reports b.life b.stands in
+    let outputs = reports b.life b.stands in
     let taken : WasTaken script printed = record {
       begun = b.life;
       begins = begun_of script world b;
       lines = lines;
-      later = told.0.later;
-      runs = told.0.runs;
+      later = outputs.0.later;
+      runs = outputs.0.runs;
       prints = prints
           ∙ ap (λ (c : List (List ℕ × Totals)).
           steps_text lines ++ (flat_map totals_text c ++ end_text (length script.steps.items)))
-          told.1;
+          outputs.1;
     } in
     subst (IsPlayed script printed) (sym ends) taken
 

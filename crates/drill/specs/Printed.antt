@@ -3,7 +3,7 @@ use Rattle.std.specs.Prelude.{ℕ, List, [], ◌∷◌, ◌++◌, codes, decimal
 use Rattle.ledger_core.specs.declared.ledger.Totals.{Totals}
 use Rattle.world_core.specs.Fault.{fault_name}
 use Rattle.world_core.specs.Lines.{line_text}
-use Rattle.world_core.specs.Told.{Said}
+use Rattle.world_core.specs.Output.{Said}
 use Rattle.world_core.specs.declared.fault.Fault.{Fault}
 
 -- what a step outputs, a line each

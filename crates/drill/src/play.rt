@@ -4,7 +4,7 @@ ghost use Rattle.std.specs.List.{IsDistinct};
 ghost use Rattle.std.specs.Str.{bytes_eq};
 ghost use Rattle.world_core.specs.Given.{given_names};
 ghost use Rattle.world_core.specs.Stands.{counts_in};
-ghost use Rattle.world_core.specs.Told.{said_by};
+ghost use Rattle.world_core.specs.Output.{said_by};
 ghost use Rattle.drill.specs.Drill.{IsDrill, IsPlayed, ending_without, line_of};
 ghost use Rattle.drill.specs.Printed.{end_text, refused_text, steps_text, totals_text};
 

@@ -1,16 +1,16 @@
 // The lines that a drill prints (docs/FORMATS.md).
 ghost use Rattle.std.specs.Prelude.{◌≡◌, ◌++◌, OnOk, decimal as digits_of, flat_map, map};
 ghost use Rattle.world_core.specs.Stands.{counts_in};
-ghost use Rattle.world_core.specs.Told.{said_by, said_of};
+ghost use Rattle.world_core.specs.Output.{said_by, said_of};
 ghost use Rattle.drill.specs.Printed.{broken_text, end_text, refused_text, step_text, steps_text};
 ghost use Rattle.drill.specs.Printed.{totals_text};
 
 use ledger_core::Totals;
 use std::alloc::AllocError;
-use world_core::{Fault, PeerTotals, Told};
+use world_core::{Fault, PeerTotals, Output};
 
 /// The lines that the steps print.
-pub fn add_steps(out: &mut Vec<u8>, lines: &[Vec<Told>]) -> Result<(), AllocError>
+pub fn add_steps(out: &mut Vec<u8>, lines: &[Vec<Output>]) -> Result<(), AllocError>
     ensures { OnOk result (out.new.items ≡ out.old.items ++ steps_text (said_by lines.now)) }
 {
     for step in lines {
@@ -20,12 +20,12 @@ pub fn add_steps(out: &mut Vec<u8>, lines: &[Vec<Told>]) -> Result<(), AllocErro
 }
 
 // The lines that a step prints.
-fn add_step(out: &mut Vec<u8>, step: &[Told]) -> Result<(), AllocError>
+fn add_step(out: &mut Vec<u8>, step: &[Output]) -> Result<(), AllocError>
     ensures { OnOk result (out.new.items ≡ out.old.items ++ step_text (map said_of step.now)) }
 {
     let alloc = *out.allocator();
-    for told in step {
-        out.extend_from_slice(&told.line(alloc)?)?;
+    for outputs in step {
+        out.extend_from_slice(&outputs.line(alloc)?)?;
     }
     Ok(())
 }

@@ -114,7 +114,7 @@ goes_on before line lines said sentences x y keeps e blocks =
     blocks.none line (ended lines ++ y) (e ∙ ended_first line lines y, All-head IsUnended line lines keeps.each)
     said keeps.says.0 keeps.order.0
 
--- two fronts of one text, the first of which is blocked, and the other is blocked or is all
+-- two prefixes of one text, the first of which is blocked, and the other is blocked or is all
 ends_once : (f g : List (List ℕ)) (a b before : List SentenceView) (x y : List ℕ) → Keeps before f a →
     Keeps before g b →
     ended f ++ x ≡ ended g ++ y → Blocks (before ++ a) x → (y ≡ []) ⊎ Blocks (before ++ b) y →

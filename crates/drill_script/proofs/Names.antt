@@ -26,8 +26,8 @@ octets_cmp x y = slice_cmp nat_cmp x.items y.items
 abbrev pub texts : List Octets → List (List ℕ)
 texts keys = map vec_items keys
 
-in_front : (x : List ℕ) (xs : List (List ℕ)) → Contains (x ∷ xs) x
-in_front x xs = (0, omega arith, refl)
+in_prefix : (x : List ℕ) (xs : List (List ℕ)) → Contains (x ∷ xs) x
+in_prefix x xs = (0, omega arith, refl)
 
 behind_it : (x y : List ℕ) (xs : List (List ℕ)) → Contains xs y → Contains (x ∷ xs) y
 behind_it x y xs h = Contains-append_right (x ∷ []) xs y h
@@ -36,8 +36,8 @@ only_one : (x y : List ℕ) → Contains (x ∷ []) y → x ≡ y
 only_one x y (zero, inside, is) = is
 only_one x y (suc k, inside, is) = absurd (omega (arith, inside))
 
-cases_front : (x y : List ℕ) (xs : List (List ℕ)) → Contains (x ∷ xs) y → (x ≡ y) ⊎ Contains xs y
-cases_front x y xs h = elim (Contains-append_cases (x ∷ []) xs y h) [
+cases_prefix : (x y : List ℕ) (xs : List (List ℕ)) → Contains (x ∷ xs) y → (x ≡ y) ⊎ Contains xs y
+cases_prefix x y xs h = elim (Contains-append_cases (x ∷ []) xs y h) [
   | inl one ↦ inl (only_one x y one)
   | inr more ↦ inr more
 ]
@@ -65,7 +65,7 @@ found_at : (name : List ℕ) (k : Octets) (keys : List Octets) (o : Ordering) �
 found_at name k keys Less is e more = behind_it k.items name (texts keys) (more e)
 found_at name k keys Equal is e more =
     subst (λ (n : List ℕ). Contains (k.items ∷ texts keys) n) (sym (same_octets name k.items is))
-    (in_front k.items (texts keys))
+    (in_prefix k.items (texts keys))
 found_at name k keys Greater is e more = behind_it k.items name (texts keys) (more e)
 
 pub found : (name : List ℕ) (keys : List Octets) → list_any (is_at (named name)) keys ≡ true →
@@ -93,27 +93,27 @@ pub unfound : (name : List ℕ) (keys : List Octets) → list_any (is_at (named 
 unfound name [] e h = absurd (omega (arith, h.1))
 unfound name (k ∷ keys) e h =
     unfound_at name k keys (slice_cmp nat_cmp name k.items) refl e (unfound name keys)
-    (cases_front k.items name (texts keys) h)
+    (cases_prefix k.items name (texts keys) h)
 
 -- what a set has that was given one key more
 gains_at : (key k : Octets) (keys rest : List Octets) (name : List ℕ) (o : Ordering) → octets_cmp key k ≡ o →
     (Contains (texts rest) name → Contains (texts keys) name ⊎ (key.items ≡ name)) →
     Contains (texts (match_ordering o (key ∷ k ∷ keys) (k ∷ keys) (k ∷ rest))) name →
     Contains (texts (k ∷ keys)) name ⊎ (key.items ≡ name)
-gains_at key k keys rest name Less is more h = elim (cases_front key.items name (texts (k ∷ keys)) h) [
+gains_at key k keys rest name Less is more h = elim (cases_prefix key.items name (texts (k ∷ keys)) h) [
   | inl same ↦
       inr same
   | inr old ↦ inl old
 ]
 gains_at key k keys rest name Equal is more h = inl h
-gains_at key k keys rest name Greater is more h = elim (cases_front k.items name (texts rest) h) [
-  | inl same ↦ inl (subst (λ (n : List ℕ). Contains (k.items ∷ texts keys) n) same (in_front k.items (texts keys)))
+gains_at key k keys rest name Greater is more h = elim (cases_prefix k.items name (texts rest) h) [
+  | inl same ↦ inl (subst (λ (n : List ℕ). Contains (k.items ∷ texts keys) n) same (in_prefix k.items (texts keys)))
   | inr old ↦ elim (more old) [ inl there ↦ inl (behind_it k.items name (texts keys) there) | inr same ↦ inr same ]
 ]
 
 pub gains_key : (key : Octets) (keys : List Octets) (name : List ℕ) →
     Contains (texts (insert_key octets_cmp keys key)) name → Contains (texts keys) name ⊎ (key.items ≡ name)
-gains_key key [] name h = elim (cases_front key.items name [] h) [ inl same ↦ inr same | inr none ↦ inl none ]
+gains_key key [] name h = elim (cases_prefix key.items name [] h) [ inl same ↦ inr same | inr none ↦ inl none ]
 gains_key key (k ∷ keys) name h =
     gains_at key k keys (insert_key octets_cmp keys key) name (octets_cmp key k) refl (gains_key key keys name) h
 
@@ -124,13 +124,13 @@ keeps_at : (key k : Octets) (keys rest : List Octets) (name : List ℕ) (o : Ord
     Contains (texts (match_ordering o (key ∷ k ∷ keys) (k ∷ keys) (k ∷ rest))) name
 keeps_at key k keys rest name Less is more (inl old) = behind_it key.items name (texts (k ∷ keys)) old
 keeps_at key k keys rest name Less is more (inr same) =
-    subst (λ (n : List ℕ). Contains (key.items ∷ texts (k ∷ keys)) n) same (in_front key.items (texts (k ∷ keys)))
+    subst (λ (n : List ℕ). Contains (key.items ∷ texts (k ∷ keys)) n) same (in_prefix key.items (texts (k ∷ keys)))
 keeps_at key k keys rest name Equal is more (inl old) = old
 keeps_at key k keys rest name Equal is more (inr same) =
     subst (λ (n : List ℕ). Contains (k.items ∷ texts keys) n) (sym (same_octets key.items k.items is) ∙ same)
-    (in_front k.items (texts keys))
-keeps_at key k keys rest name Greater is more (inl old) = elim (cases_front k.items name (texts keys) old) [
-  | inl same ↦ subst (λ (n : List ℕ). Contains (k.items ∷ texts rest) n) same (in_front k.items (texts rest))
+    (in_prefix k.items (texts keys))
+keeps_at key k keys rest name Greater is more (inl old) = elim (cases_prefix k.items name (texts keys) old) [
+  | inl same ↦ subst (λ (n : List ℕ). Contains (k.items ∷ texts rest) n) same (in_prefix k.items (texts rest))
   | inr there ↦ behind_it k.items name (texts rest) (more (inl there))
 ]
 keeps_at key k keys rest name Greater is more (inr same) = behind_it k.items name (texts rest) (more (inr same))
@@ -138,6 +138,6 @@ keeps_at key k keys rest name Greater is more (inr same) = behind_it k.items nam
 pub keeps_key : (key : Octets) (keys : List Octets) (name : List ℕ) →
     Contains (texts keys) name ⊎ (key.items ≡ name) → Contains (texts (insert_key octets_cmp keys key)) name
 keeps_key key [] name (inl none) = absurd (omega (arith, none.1))
-keeps_key key [] name (inr same) = subst (λ (n : List ℕ). Contains (key.items ∷ []) n) same (in_front key.items [])
+keeps_key key [] name (inr same) = subst (λ (n : List ℕ). Contains (key.items ∷ []) n) same (in_prefix key.items [])
 keeps_key key (k ∷ keys) name h =
     keeps_at key k keys (insert_key octets_cmp keys key) name (octets_cmp key k) refl (keeps_key key keys name) h

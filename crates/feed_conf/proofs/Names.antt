@@ -47,8 +47,8 @@ ascii (octet ∷ octets) h (suc i) = ascii octets (and_parts (is_name_octet octe
 -- a name is text
 pub name-utf8 : (name : List ℕ) → is_peer_name name ≡ true → IsUtf8 name
 name-utf8 name h =
-    let front = and_parts (leb 1 (length name) && leb (length name) 64 && list_all is_name_octet name) (not (get_or name 0 0 == 46)) h in
-    let all = and_parts (leb 1 (length name) && leb (length name) 64) (list_all is_name_octet name) front.0 in
+    let prefix = and_parts (leb 1 (length name) && leb (length name) 64 && list_all is_name_octet name) (not (get_or name 0 0 == 46)) h in
+    let all = and_parts (leb 1 (length name) && leb (length name) 64) (list_all is_name_octet name) prefix.0 in
     IsUtf8-from_ascii name (ascii name all.1)
 
 index-step : (o : Option ℕ) (b : Bool) (r : Bool) → is_some o ≡ r → is_some (cond b (Some 0) (option_map (λ index. index + 1) o)) ≡ (b || r)

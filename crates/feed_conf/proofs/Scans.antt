@@ -8,23 +8,23 @@ use Rattle.feed_conf.specs.Lexemes.{Word, Quoted, Unclosed, is_blank, is_word_oc
 use Rattle.feed_conf.specs.Scan.{InQuote, scan, StopsAt, BeginsWord, lexemes_of}
 use Rattle.feed_conf.specs.LexemeLaws.{scan-gap, scan-word, scan-in_quote, scan-unclosed}
 
--- the longest front whose octets pass a test, and what stands behind it
-pub record IsFront (test : ℕ → Bool) (octets : List ℕ) (n : ℕ) : Type 0 where
+-- the longest prefix whose octets pass a test, and what stands behind it
+pub record IsPrefix (test : ℕ → Bool) (octets : List ℕ) (n : ℕ) : Type 0 where
   pub passes : list_all test (take n octets) ≡ true
   pub stops : StopsAt test (drop n octets)
 
-front-step : (test : ℕ → Bool) (octet : ℕ) (octets : List ℕ) (b : Bool) → test octet ≡ b → IsFront test octets (prefix_len test octets) → IsFront test (octet ∷ octets) (prefix_len test (octet ∷ octets))
-front-step test octet octets true e h =
+prefix-step : (test : ℕ → Bool) (octet : ℕ) (octets : List ℕ) (b : Bool) → test octet ≡ b → IsPrefix test octets (prefix_len test octets) → IsPrefix test (octet ∷ octets) (prefix_len test (octet ∷ octets))
+prefix-step test octet octets true e h =
     let n = prefix_len test octets in
     let next : prefix_len test (octet ∷ octets) ≡ suc n = rw e (omega arith) in
-    subst (IsFront test (octet ∷ octets)) (sym next) (record { passes = and_from (test octet) (list_all test (take n octets)) e h.passes; stops = h.stops })
-front-step test octet octets false e h =
+    subst (IsPrefix test (octet ∷ octets)) (sym next) (record { passes = and_from (test octet) (list_all test (take n octets)) e h.passes; stops = h.stops })
+prefix-step test octet octets false e h =
     let next : prefix_len test (octet ∷ octets) ≡ 0 = rw e refl in
-    subst (IsFront test (octet ∷ octets)) (sym next) (record { passes = refl; stops = e })
+    subst (IsPrefix test (octet ∷ octets)) (sym next) (record { passes = refl; stops = e })
 
-pub front : (test : ℕ → Bool) (octets : List ℕ) → IsFront test octets (prefix_len test octets)
-front test [] = record { passes = refl; stops = tt }
-front test (octet ∷ octets) = front-step test octet octets (test octet) refl (front test octets)
+pub prefix : (test : ℕ → Bool) (octets : List ℕ) → IsPrefix test octets (prefix_len test octets)
+prefix test [] = record { passes = refl; stops = tt }
+prefix test (octet ∷ octets) = prefix-step test octet octets (test octet) refl (prefix test octets)
 
 -- where the first octet stands that does not pass, or else the length
 twice-step : (test : ℕ → Bool) (octet : ℕ) (octets : List ℕ) (b : Bool) → test octet ≡ b → prefix_len (λ x. not (not (test x))) octets ≡ prefix_len test octets → prefix_len (λ x. not (not (test x))) (octet ∷ octets) ≡ prefix_len test (octet ∷ octets)
@@ -45,25 +45,25 @@ stop test octets =
     stop-step n (length octets) (ltb n (length octets)) refl (prefix_len-le-length (λ x. not (not (test x))) octets) ∙ twice test octets
 
 -- a line from its first octet on that is not blank has its lexemes
-pub after-blanks : (line : List ℕ) (n : ℕ) → IsFront is_blank line n → lexemes_of line ≡ lexemes_of (drop n line)
+pub after-blanks : (line : List ℕ) (n : ℕ) → IsPrefix is_blank line n → lexemes_of line ≡ lexemes_of (drop n line)
 after-blanks line n f = sym (ap lexemes_of (take-append-drop n line)) ∙ scan-gap (take n line) (drop n line) f.passes
 
 word-stops : (rest : List ℕ) → StopsAt is_word_octet rest → EndsWord rest
 word-stops [] h = tt
 word-stops (octet ∷ rest) h = h
 
-pub word-some : (line : List ℕ) (n : ℕ) → BeginsWord line → IsFront is_word_octet line n → 0 < length (take n line)
+pub word-some : (line : List ℕ) (n : ℕ) → BeginsWord line → IsPrefix is_word_octet line n → 0 < length (take n line)
 word-some [] n begins f = absurd begins
 word-some (octet ∷ line) zero begins f = absurd (both_ways (is_word_octet octet) f.stops begins)
 word-some (octet ∷ line) (suc n) begins f = omega arith
 
 -- a line that begins with a word
-pub after-word : (line : List ℕ) (n : ℕ) → BeginsWord line → IsFront is_word_octet line n → lexemes_of line ≡ Word (take n line) ∷ lexemes_of (drop n line)
+pub after-word : (line : List ℕ) (n : ℕ) → BeginsWord line → IsPrefix is_word_octet line n → lexemes_of line ≡ Word (take n line) ∷ lexemes_of (drop n line)
 after-word line n begins f =
     sym (ap lexemes_of (take-append-drop n line)) ∙ scan-word (take n line) (drop n line) (word-some line n begins f) f.passes (word-stops (drop n line) f.stops)
 
 -- a line behind a quote, where another quote follows
-pub after-quote : (line : List ℕ) (n : ℕ) (octet : ℕ) (rest : List ℕ) → IsFront is_quoted_octet line n → drop n line ≡ octet ∷ rest → lexemes_of (34 ∷ line) ≡ Quoted (take n line) ∷ lexemes_of rest
+pub after-quote : (line : List ℕ) (n : ℕ) (octet : ℕ) (rest : List ℕ) → IsPrefix is_quoted_octet line n → drop n line ≡ octet ∷ rest → lexemes_of (34 ∷ line) ≡ Quoted (take n line) ∷ lexemes_of rest
 after-quote line n octet rest f e =
     let stops : is_quoted_octet octet ≡ false = subst (StopsAt is_quoted_octet) e f.stops in
     let is : octet ≡ 34 = eqb-true octet 34 (not-false (octet == 34) stops) in
@@ -71,12 +71,12 @@ after-quote line n octet rest f e =
     ap (λ z. scan z (InQuote [])) whole ∙ scan-in_quote (take n line) rest [] f.passes
 
 -- and where none follows
-pub after-open_quote : (line : List ℕ) (n : ℕ) → IsFront is_quoted_octet line n → drop n line ≡ [] → lexemes_of (34 ∷ line) ≡ Unclosed ∷ []
+pub after-open_quote : (line : List ℕ) (n : ℕ) → IsPrefix is_quoted_octet line n → drop n line ≡ [] → lexemes_of (34 ∷ line) ≡ Unclosed ∷ []
 after-open_quote line n f e =
     let whole : line ≡ take n line = sym (take-append-drop n line) ∙ ap (λ z. take n line ++ z) e ∙ append-nil (take n line) in
     ap (λ z. scan z (InQuote [])) whole ∙ scan-unclosed (take n line) [] f.passes
 
-pub front-found : (test : ℕ → Bool) (octets : List ℕ) (found : Option ℕ) (n : ℕ) → found ≡ position (λ x. not (test x)) octets → n ≡ unwrap_or found (length octets) → IsFront test octets n
-front-found test octets found n e f =
+pub prefix-found : (test : ℕ → Bool) (octets : List ℕ) (found : Option ℕ) (n : ℕ) → found ≡ position (λ x. not (test x)) octets → n ≡ unwrap_or found (length octets) → IsPrefix test octets n
+prefix-found test octets found n e f =
     let is : prefix_len test octets ≡ n = sym (f ∙ ap (λ o. unwrap_or o (length octets)) e ∙ stop test octets) in
-    subst (IsFront test octets) is (front test octets)
+    subst (IsPrefix test octets) is (prefix test octets)

@@ -10,7 +10,7 @@ ghost use Rattle.peer_queue.specs.Calls.{IsFresh, RefusesClose, RefusesOwe};
 ghost use Rattle.peer_queue.specs.Faults.{IsFlushFault};
 ghost use Rattle.peer_queue.specs.Place.{Ready, with_place};
 ghost use Rattle.peer_queue.specs.Words.{AreHonest, IsBroken, Notes, ledger_of, open_key, places_of};
-ghost use Rattle.peer_queue.specs.Words.{tape_of, told_of};
+ghost use Rattle.peer_queue.specs.Words.{tape_of, faults_of};
 ghost use Rattle.recovery.specs.Image.{EachTape, Survives};
 ghost use Rattle.recovery.specs.Notes.{History};
 ghost use Rattle.recovery.specs.Opens.{HasCause, Opens, OpensWhatSurvives};
@@ -64,7 +64,7 @@ impl<D: Disk> Peer<D> {
         ensures opens { D.honest a → D.honest b
             → Opens (λ peer. tape_of peer.station) (D.log a, D.log b) result }
         ensures causes { D.honest a → D.honest b
-            → IfErr result (HasCause (D.log a, D.log b) (D.told a, D.told b)) }
+            → IfErr result (HasCause (D.log a, D.log b) (D.faults_of a, D.faults_of b)) }
         ensures untouched { D.honest a → D.honest b → IfErr result (λ e. (segment at : ℕ)
             → e.fault ≡ Damaged segment at → refused_log e ≡ (D.log a, D.log b)) }
         ensures kinds { IfErr result (λ e. IsOpenFault e.fault) }
@@ -74,8 +74,8 @@ impl<D: Disk> Peer<D> {
             (λ peer. (D.honest a × D.honest b) ↔ AreHonest peer.station)
             (λ e. (D.honest a × D.honest b) ↔ (D.honest e.a × D.honest e.b)) }
         ensures quiet { MatchResult result
-            (λ peer. told_of peer.station ≡ (D.told a, D.told b))
-            (λ e. (D.told a ≤ D.told e.a) × (D.told b ≤ D.told e.b)) }
+            (λ peer. faults_of peer.station ≡ (D.faults_of a, D.faults_of b))
+            (λ e. (D.faults_of a ≤ D.faults_of e.a) × (D.faults_of b ≤ D.faults_of e.b)) }
     {
         let station = match Station::open(alloc, a, b, limits) {
             Ok(station) => station,

@@ -81,7 +81,7 @@ stands-more old new fed piece given s unended same longer = record {
 
 -- a cutter that was fed the end of a line, its LF and the octets behind it, of which `later` was fed the last
 pub stands-ended : (old later new : Held) (fed end behind line : List ℕ) (given : List (List ℕ)) → StandsFor old fed given → IsUnended end → StandsFor later behind []
-    → ((front : List ℕ) → old.rest ≡ clipped front → line ≡ clipped (front ++ end)) → new.lines ≡ (old.lines ++ line ∷ []) ++ later.lines → new.rest ≡ later.rest
+    → ((prefix : List ℕ) → old.rest ≡ clipped prefix → line ≡ clipped (prefix ++ end)) → new.lines ≡ (old.lines ++ line ∷ []) ++ later.lines → new.rest ≡ later.rest
     → StandsFor new (fed ++ (end ++ 10 ∷ behind)) given
 stands-ended old later new fed end behind line given s unended t longer lines rest =
     let whole = s.rest ++ end in

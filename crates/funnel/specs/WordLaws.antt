@@ -17,30 +17,31 @@ Stops p [] = Unit {0}
 Stops p (octet ∷ rest) = p octet ≡ false
 
 -- what passes at the front of a list, cut off where it stops
-front_len : (p : ℕ → Bool) (xs ys : List ℕ) → list_all p xs ≡ true → Stops p ys → prefix_len p (xs ++ ys) ≡ length xs
-front_len p [] [] h s = refl
-front_len p [] (y ∷ ys) h s = rw s refl
-front_len p (x ∷ xs) ys h s =
+blank_prefix_len : (p : ℕ → Bool) (xs ys : List ℕ) → list_all p xs ≡ true → Stops p ys → prefix_len p (xs ++ ys)
+    ≡ length xs
+blank_prefix_len p [] [] h s = refl
+blank_prefix_len p [] (y ∷ ys) h s = rw s refl
+blank_prefix_len p (x ∷ xs) ys h s =
     let both = and_parts (p x) (list_all p xs) h in
-    rw (both.0, front_len p xs ys both.1 s, one-add) refl
+    rw (both.0, blank_prefix_len p xs ys both.1 s, one-add) refl
 
-front_passes_step : (p : ℕ → Bool) (x : ℕ) (xs : List ℕ) (b : Bool) → p x ≡ b → list_all p (take (prefix_len p xs) xs) ≡ true
+prefix_passes_step : (p : ℕ → Bool) (x : ℕ) (xs : List ℕ) (b : Bool) → p x ≡ b → list_all p (take (prefix_len p xs) xs) ≡ true
     → list_all p (take (cond b (1 + prefix_len p xs) 0) (x ∷ xs)) ≡ true
-front_passes_step p x xs true e h = rw one-add (and_from (p x) (list_all p (take (prefix_len p xs) xs)) e h)
-front_passes_step p x xs false e h = refl
+prefix_passes_step p x xs true e h = rw one-add (and_from (p x) (list_all p (take (prefix_len p xs) xs)) e h)
+prefix_passes_step p x xs false e h = refl
 
-pub front_passes : (p : ℕ → Bool) (xs : List ℕ) → list_all p (take (prefix_len p xs) xs) ≡ true
-front_passes p [] = refl
-front_passes p (x ∷ xs) = front_passes_step p x xs (p x) refl (front_passes p xs)
+pub prefix_passes : (p : ℕ → Bool) (xs : List ℕ) → list_all p (take (prefix_len p xs) xs) ≡ true
+prefix_passes p [] = refl
+prefix_passes p (x ∷ xs) = prefix_passes_step p x xs (p x) refl (prefix_passes p xs)
 
-front_stops_step : (p : ℕ → Bool) (x : ℕ) (xs : List ℕ) (b : Bool) → p x ≡ b → Stops p (drop (prefix_len p xs) xs)
+prefix_stops_step : (p : ℕ → Bool) (x : ℕ) (xs : List ℕ) (b : Bool) → p x ≡ b → Stops p (drop (prefix_len p xs) xs)
     → Stops p (drop (cond b (1 + prefix_len p xs) 0) (x ∷ xs))
-front_stops_step p x xs true e h = rw one-add h
-front_stops_step p x xs false e h = e
+prefix_stops_step p x xs true e h = rw one-add h
+prefix_stops_step p x xs false e h = e
 
-pub front_stops : (p : ℕ → Bool) (xs : List ℕ) → Stops p (drop (prefix_len p xs) xs)
-front_stops p [] = tt
-front_stops p (x ∷ xs) = front_stops_step p x xs (p x) refl (front_stops p xs)
+pub prefix_stops : (p : ℕ → Bool) (xs : List ℕ) → Stops p (drop (prefix_len p xs) xs)
+prefix_stops p [] = tt
+prefix_stops p (x ∷ xs) = prefix_stops_step p x xs (p x) refl (prefix_stops p xs)
 
 -- what stands behind the blanks at the front
 abbrev pub behind_gap : List ℕ → List ℕ
@@ -72,7 +73,7 @@ gap_is : (text word rest : List ℕ) (f : IsFirstWord text word rest) → behind
 gap_is text word rest f =
     let whole : text ≡ f.gap ++ (word ++ rest) = f.parts ∙ append_assoc f.gap word rest in
     let len : prefix_len is_blank (f.gap ++ (word ++ rest)) ≡ length f.gap =
-    front_len is_blank f.gap (word ++ rest) f.blank (word_stops_gap word rest f.whole)
+    blank_prefix_len is_blank f.gap (word ++ rest) f.blank (word_stops_gap word rest f.whole)
     in
     rw (whole, len) (drop_at f.gap (word ++ rest) (length f.gap) refl)
 
@@ -80,7 +81,7 @@ word_is : (text word rest : List ℕ) (f : IsFirstWord text word rest)
     → (take (prefix_len is_solid (behind_gap text)) (behind_gap text) ≡ word) × (drop (prefix_len is_solid (behind_gap text)) (behind_gap text) ≡ rest)
 word_is text word rest f =
     let len : prefix_len is_solid (word ++ rest) ≡ length word =
-    front_len is_solid word rest f.whole.solid (solid_stops rest f.ends)
+    blank_prefix_len is_solid word rest f.whole.solid (solid_stops rest f.ends)
     in
     rw (gap_is text word rest f, len) (take_at word rest (length word) refl, drop_at word rest (length word) refl)
 
@@ -97,7 +98,7 @@ pub gap_alone : (text : List ℕ) → length (behind_gap text) ≡ 0 → IsGap t
 gap_alone text none =
     let n = prefix_len is_blank text in
     let short : length text ≤ prefix_len is_blank text = omega (arith, none, length-drop (prefix_len is_blank text) text) in
-    subst (λ t. IsGap t) (take_all (prefix_len is_blank text) text short) (front_passes is_blank text)
+    subst (λ t. IsGap t) (take_all (prefix_len is_blank text) text short) (prefix_passes is_blank text)
 
 some_solid : (text : List ℕ) → 0 < length text → Stops is_blank text → 0 < length (take (prefix_len is_solid text) text)
 some_solid [] some stops = absurd (omega (arith, some))
@@ -112,15 +113,15 @@ first_word_of text some =
     record {
       gap = take n text;
       parts = sym (append_assoc (take n text) (take m (behind_gap text)) (drop m (behind_gap text)) ∙ ap (λ t. take n text ++ t) (take-append-drop m (behind_gap text)) ∙ take-append-drop n text);
-      blank = front_passes is_blank text;
-      whole = record { some = some_solid (behind_gap text) some (front_stops is_blank text); solid = front_passes is_solid (behind_gap text) };
-      ends = ends_word (drop m (behind_gap text)) (front_stops is_solid (behind_gap text));
+      blank = prefix_passes is_blank text;
+      whole = record { some = some_solid (behind_gap text) some (prefix_stops is_blank text); solid = prefix_passes is_solid (behind_gap text) };
+      ends = ends_word (drop m (behind_gap text)) (prefix_stops is_solid (behind_gap text));
     }
 
 -- a text of blanks alone has no first word
 pub gap_no_word : (text word rest : List ℕ) → IsGap text → IsFirstWord text word rest → ⊥
 gap_no_word text word rest blank f =
-    let passes : prefix_len is_blank (text ++ []) ≡ length text = front_len is_blank text [] blank tt in
+    let passes : prefix_len is_blank (text ++ []) ≡ length text = blank_prefix_len is_blank text [] blank tt in
     let len : prefix_len is_blank text ≡ length text = subst (λ t. prefix_len is_blank t ≡ length text) (append-nil text) passes in
     let none : behind_gap text ≡ [] = drop_all (prefix_len is_blank text) text (omega (arith, len)) in
     let some : word ++ rest ≡ [] = sym (gap_is text word rest f) ∙ none in

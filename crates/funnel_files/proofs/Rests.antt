@@ -13,9 +13,9 @@ pub leaves-append : (before : Bool) (a b : List ℕ) → leaves_rest before (a +
 leaves-append before a b = fold-append (λ (left : Bool) octet. not (octet == 10)) before a b
 
 -- the last octet decides
-pub leaves-push : (before : Bool) (front : List ℕ) (last : ℕ)
-    → leaves_rest before (front ++ last ∷ []) ≡ not (last == 10)
-leaves-push before front last = fold_push (λ (left : Bool) octet. not (octet == 10)) before front last
+pub leaves-push : (before : Bool) (prefix : List ℕ) (last : ℕ)
+    → leaves_rest before (prefix ++ last ∷ []) ≡ not (last == 10)
+leaves-push before prefix last = fold_push (λ (left : Bool) octet. not (octet == 10)) before prefix last
 
 -- after whole lines none is left
 lines_leave : (lines : List (List ℕ)) → leaves_rest false (ended lines) ≡ false

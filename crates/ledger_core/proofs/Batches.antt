@@ -6,9 +6,9 @@ use Rattle.std.specs.List.{IsSplitAt}
 use Rattle.std.specs.Prelude.{MatchOption}
 use Rattle.std.specs.Int.{to_be_bytes, w32}
 use Rattle.ledger_core.specs.declared.note.Note.{Note}
-use Rattle.ledger_core.specs.Batch.{AreSeveral, IsBatch, SpellsNoBatch, batch_spelling, front_length, longest_batch}
+use Rattle.ledger_core.specs.Batch.{AreSeveral, IsBatch, SpellsNoBatch, batch_spelling, prefix_length, longest_batch}
 use Rattle.ledger_core.specs.Batch.{payload_of, together}
-use Rattle.ledger_core.specs.BatchLaws.{count-fits, front_length-note, several-apart, together-append, together-rest}
+use Rattle.ledger_core.specs.BatchLaws.{count-fits, prefix_length-note, several-apart, together-append, together-rest}
 use Rattle.ledger_core.specs.Note.{AreNotes, IsNote}
 use Rattle.ledger_core.specs.Replay.{AreLegalIn, SpellsNoLegal}
 use Rattle.ledger_core.specs.Spelling.{spelling}
@@ -61,7 +61,7 @@ several-batch (note ∷ next ∷ notes) are = (are, refl)
 pub several-alone : (note : Note) (rest : List ℕ) → spelling note ≡ 11 ∷ rest → ⊥
 several-alone note rest e =
     let first : spelling note ++ [] ≡ 11 ∷ rest = append-nil (spelling note) ∙ e in
-    let none : length (spelling note) ≡ 0 = sym (front_length-note note []) ∙ ap front_length first in
+    let none : length (spelling note) ≡ 0 = sym (prefix_length-note note []) ∙ ap prefix_length first in
     omega (arith, ap length e, none)
 
 -- notes that were read off a payload of several are a batch of that payload
@@ -114,10 +114,10 @@ pub record AreTaken (first now : State) (count : ℕ) (octets rest : List ℕ) :
   pub state : now ≡ after first read
 
 -- one more is taken
-pub one-taken : (first old new : State) (count : ℕ) (octets rest front behind : List ℕ) (note : Note)
-    → AreTaken first old count octets rest → rest ≡ front ++ behind → IsNote note → front ≡ spelling note
+pub one-taken : (first old new : State) (count : ℕ) (octets rest prefix behind : List ℕ) (note : Note)
+    → AreTaken first old count octets rest → rest ≡ prefix ++ behind → IsNote note → prefix ≡ spelling note
     → IsLegal old note → new ≡ step old note → AreTaken first new (count + 1) octets behind
-one-taken first old new count octets rest front behind note taken split is spelled legal stepped =
+one-taken first old new count octets rest prefix behind note taken split is spelled legal stepped =
     let all : together (taken.read ++ note ∷ []) ≡ together taken.read ++ spelling note =
     together-append taken.read (note ∷ [])
     ∙ ap (λ (l : List ℕ). together taken.read ++ l) (append-nil (spelling note)) in
@@ -162,29 +162,29 @@ no-end first now count octets rest taken left notes are =
 
 -- the octets of the note that stands first are as many as its tag and its texts' lengths tell
 pub note-first : (octets first behind : List ℕ) (note : Note) → octets ≡ spelling note ++ behind
-    → first ≡ take (front_length octets) octets → first ≡ spelling note
+    → first ≡ take (prefix_length octets) octets → first ≡ spelling note
 note-first octets first behind note split is =
-    let long : length (spelling note) ≡ front_length octets =
-    sym (ap front_length split ∙ front_length-note note behind) in
-    is ∙ (ap (take (front_length octets)) split ∙ take_at (spelling note) behind (front_length octets) long)
+    let long : length (spelling note) ≡ prefix_length octets =
+    sym (ap prefix_length split ∙ prefix_length-note note behind) in
+    is ∙ (ap (take (prefix_length octets)) split ∙ take_at (spelling note) behind (prefix_length octets) long)
 
 -- and none of them is missing
 pub note-inside : (octets behind : List ℕ) (note : Note) → octets ≡ spelling note ++ behind
-    → front_length octets ≤ length octets
+    → prefix_length octets ≤ length octets
 note-inside octets behind note split =
     omega (
       arith,
-      ap front_length split ∙ front_length-note note behind,
+      ap prefix_length split ∙ prefix_length-note note behind,
       ap length split,
       length-append (spelling note) behind,
     )
 
 -- the octets of the note that stands first are there, if one does
-pub first-there : {P : Type 0} (octets behind : List ℕ) (n : ℕ) (note : Note) (front rest : P → List ℕ) (o : Option P)
-    → n ≡ front_length octets → octets ≡ spelling note ++ behind
-    → MatchOption o (length octets < n) (λ p. IsSplitAt octets n (front p) (rest p))
-    → IsSome o × IfSome o (λ p. front p ≡ spelling note)
-first-there octets behind n note front rest None many split cases =
+pub first-there : {P : Type 0} (octets behind : List ℕ) (n : ℕ) (note : Note) (prefix rest : P → List ℕ) (o : Option P)
+    → n ≡ prefix_length octets → octets ≡ spelling note ++ behind
+    → MatchOption o (length octets < n) (λ p. IsSplitAt octets n (prefix p) (rest p))
+    → IsSome o × IfSome o (λ p. prefix p ≡ spelling note)
+first-there octets behind n note prefix rest None many split cases =
     absurd (omega (arith, cases, many, note-inside octets behind note split))
-first-there octets behind n note front rest (Some p) many split cases =
-    (refl, note-first octets (front p) behind note split (cases.1 ∙ ap (λ (m : ℕ). take m octets) many))
+first-there octets behind n note prefix rest (Some p) many split cases =
+    (refl, note-first octets (prefix p) behind note split (cases.1 ∙ ap (λ (m : ℕ). take m octets) many))

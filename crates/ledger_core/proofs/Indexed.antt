@@ -35,51 +35,51 @@ on-ok (Err fault) p = tt
 
 -- ---- records, one behind another
 
-pub records-append : (front behind : List (List ℕ))
-    → records_length (front ++ behind) ≡ records_length front + records_length behind
+pub records-append : (prefix behind : List (List ℕ))
+    → records_length (prefix ++ behind) ≡ records_length prefix + records_length behind
 records-append [] behind = omega arith
-records-append (payload ∷ front) behind = omega (arith, records-append front behind)
+records-append (payload ∷ prefix) behind = omega (arith, records-append prefix behind)
 
-pub records-push : (front : List (List ℕ)) (payload : List ℕ)
-    → records_length (front ++ payload ∷ []) ≡ records_length front + (5 + length payload)
-records-push front payload = omega (arith, records-append front (payload ∷ []))
+pub records-push : (prefix : List (List ℕ)) (payload : List ℕ)
+    → records_length (prefix ++ payload ∷ []) ≡ records_length prefix + (5 + length payload)
+records-push prefix payload = omega (arith, records-append prefix (payload ∷ []))
 
-front-more : (front payloads : List (List ℕ)) (index : ℕ) → index < length payloads
-    → front ++ take (index + 1) payloads ≡ (front ++ take index payloads) ++ get_or payloads index [] ∷ []
-front-more front payloads index within =
-    ap (λ (l : List (List ℕ)). front ++ l) (take_more payloads index [] within)
-    ∙ sym (append_assoc front (take index payloads) (get_or payloads index [] ∷ []))
+prefix-more : (prefix payloads : List (List ℕ)) (index : ℕ) → index < length payloads
+    → prefix ++ take (index + 1) payloads ≡ (prefix ++ take index payloads) ++ get_or payloads index [] ∷ []
+prefix-more prefix payloads index within =
+    ap (λ (l : List (List ℕ)). prefix ++ l) (take_more payloads index [] within)
+    ∙ sym (append_assoc prefix (take index payloads) (get_or payloads index [] ∷ []))
 
 -- a payload behind the others, all of which are on the tape
-pub stands-here : (kept : ℕ) (front payloads : List (List ℕ)) (index at : ℕ) → index < length payloads
-    → length front + length payloads ≤ kept
-    → at ≡ min (records_length (front ++ take index payloads)) (2 ^ 64 - 1)
-    → StandsAt kept (front ++ payloads) at 0 (get_or payloads index [])
-stands-here kept front payloads index at within few is =
-    let before = front ++ take index payloads in
+pub stands-here : (kept : ℕ) (prefix payloads : List (List ℕ)) (index at : ℕ) → index < length payloads
+    → length prefix + length payloads ≤ kept
+    → at ≡ min (records_length (prefix ++ take index payloads)) (2 ^ 64 - 1)
+    → StandsAt kept (prefix ++ payloads) at 0 (get_or payloads index [])
+stands-here kept prefix payloads index at within few is =
+    let before = prefix ++ take index payloads in
     let rest = drop (index + 1) payloads in
     record {
-      front = before;
+      prefix = before;
       behind = rest;
-      split = ap (λ (l : List (List ℕ)). front ++ l) (sym (take-append-drop (index + 1) payloads))
-          ∙ (sym (append_assoc front (take (index + 1) payloads) rest)
-          ∙ (ap (λ (l : List (List ℕ)). l ++ rest) (front-more front payloads index within)
+      split = ap (λ (l : List (List ℕ)). prefix ++ l) (sym (take-append-drop (index + 1) payloads))
+          ∙ (sym (append_assoc prefix (take (index + 1) payloads) rest)
+          ∙ (ap (λ (l : List (List ℕ)). l ++ rest) (prefix-more prefix payloads index within)
           ∙ append_assoc before (get_or payloads index [] ∷ []) rest));
       at_is = is;
       slot_is = λ pends. absurd
-          (omega (arith, pends, few, within, length-append front (take index payloads), length-take index payloads));
+          (omega (arith, pends, few, within, length-append prefix (take index payloads), length-take index payloads));
     }
 
 -- and where the next one does
-pub next-here : (front payloads : List (List ℕ)) (index at next : ℕ) → index < length payloads
-    → at ≡ min (records_length (front ++ take index payloads)) (2 ^ 64 - 1)
+pub next-here : (prefix payloads : List (List ℕ)) (index at next : ℕ) → index < length payloads
+    → at ≡ min (records_length (prefix ++ take index payloads)) (2 ^ 64 - 1)
     → next ≡ min (at + (5 + length (get_or payloads index []))) (2 ^ 64 - 1)
-    → next ≡ min (records_length (front ++ take (index + 1) payloads)) (2 ^ 64 - 1)
-next-here front payloads index at next within is step =
-    let more : records_length (front ++ take (index + 1) payloads)
-    ≡ records_length (front ++ take index payloads) + (5 + length (get_or payloads index [])) =
-    ap records_length (front-more front payloads index within)
-    ∙ records-push (front ++ take index payloads) (get_or payloads index []) in
+    → next ≡ min (records_length (prefix ++ take (index + 1) payloads)) (2 ^ 64 - 1)
+next-here prefix payloads index at next within is step =
+    let more : records_length (prefix ++ take (index + 1) payloads)
+    ≡ records_length (prefix ++ take index payloads) + (5 + length (get_or payloads index [])) =
+    ap records_length (prefix-more prefix payloads index within)
+    ∙ records-push (prefix ++ take index payloads) (get_or payloads index []) in
     omega (arith, is, step, more)
 
 -- ---- the record of a Base

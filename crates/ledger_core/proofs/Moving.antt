@@ -84,16 +84,16 @@ owe-length debt =
     ]
 
 -- behind these payloads stand the notes of the debts
-pub points-anew : (entries : Entries) (spots : List (ℕ × Spot)) (front : List (List ℕ)) (at : ℕ)
-    → at ≡ min (records_length front) (2 ^ 64 - 1) → map spot_at entries ≡ anew at spots
-    → All (PointsAt (length (front ++ spellings (owes (debts_of entries))))
-    (front ++ spellings (owes (debts_of entries)))) entries
-points-anew [] spots front at is same = λ k d within. absurd (omega arith)
-points-anew (entry ∷ entries) [] front at is same = cc same
-points-anew (entry ∷ entries) (spot ∷ spots) front at is same =
+pub points-anew : (entries : Entries) (spots : List (ℕ × Spot)) (prefix : List (List ℕ)) (at : ℕ)
+    → at ≡ min (records_length prefix) (2 ^ 64 - 1) → map spot_at entries ≡ anew at spots
+    → All (PointsAt (length (prefix ++ spellings (owes (debts_of entries))))
+    (prefix ++ spellings (owes (debts_of entries)))) entries
+points-anew [] spots prefix at is same = λ k d within. absurd (omega arith)
+points-anew (entry ∷ entries) [] prefix at is same = cc same
+points-anew (entry ∷ entries) (spot ∷ spots) prefix at is same =
     let payload = spelling (owe (debt_of entry)) in
     let rest = spellings (owes (debts_of entries)) in
-    let whole = front ++ payload ∷ rest in
+    let whole = prefix ++ payload ∷ rest in
     let moved : ◌≡◌ {A = ℕ × Spot} (spot_at entry) (spot.0, moved_to at spot.1) = cc same in
     let behind : map spot_at entries ≡ anew (beyond at spot) spots = cc same in
     let at_is : entry.1.spot.at ≡ at = ap (λ (s : ℕ × Spot). s.1.at) moved in
@@ -102,22 +102,22 @@ points-anew (entry ∷ entries) (spot ∷ spots) front at is same =
     sym (ap (λ (s : ℕ × Spot). s.1.token_len) moved) ∙ entry.1.token_len in
     let id_len : spot.1.id_len ≡ length entry.1.id.value =
     sym (ap (λ (s : ℕ × Spot). s.1.id_len) moved) ∙ entry.1.id_len in
-    let next : beyond at spot ≡ min (records_length (front ++ payload ∷ [])) (2 ^ 64 - 1) =
+    let next : beyond at spot ≡ min (records_length (prefix ++ payload ∷ [])) (2 ^ 64 - 1) =
     let same_key : spot.0 ≡ entry.0 = sym (ap (λ (s : ℕ × Spot). s.0) moved) in
-    omega (arith, is, records-push front payload, owe-length (debt_of entry), token_len, id_len, ap owe_octets same_key) in
-    let split : (front ++ payload ∷ []) ++ rest ≡ whole = append_assoc front (payload ∷ []) rest in
+    omega (arith, is, records-push prefix payload, owe-length (debt_of entry), token_len, id_len, ap owe_octets same_key) in
+    let split : (prefix ++ payload ∷ []) ++ rest ≡ whole = append_assoc prefix (payload ∷ []) rest in
     All-cons (PointsAt (length whole) whole) entry entries
     (subst (λ (n : ℕ). IsFound (length whole) whole entry.1.spot.at entry.1.spot.slot n payload) (sym within_is)
     (found-alone (length whole) whole entry.1.spot.at entry.1.spot.slot (owe (debt_of entry))
     (record {
-      front = front;
+      prefix = prefix;
       behind = rest;
       split = refl;
       at_is = at_is ∙ is;
-      slot_is = λ pends. absurd (omega (arith, pends, length-append front (payload ∷ rest)));
+      slot_is = λ pends. absurd (omega (arith, pends, length-append prefix (payload ∷ rest)));
     })))
     (subst (λ (w : List (List ℕ)). All (PointsAt (length w) w) entries) split
-    (points-anew entries spots (front ++ payload ∷ []) (beyond at spot) next behind))
+    (points-anew entries spots (prefix ++ payload ∷ []) (beyond at spot) next behind))
 
 -- ---- how long they are
 

@@ -43,17 +43,17 @@ leaves-push : (first : State) (payloads : List (List ℕ)) (payload : List ℕ) 
     → LeavesFrom first payloads state → Steps state payload new → LeavesFrom first (payloads ++ payload ∷ []) new
 leaves-push first payloads payload state new before (batch, is_batch, spelled, legal, stepped) =
     let batches = before.0 in
-    let front = notes_of batches in
-    let whole : notes_of (batches ++ batch ∷ []) ≡ front ++ batch =
-    notes_of-append batches (batch ∷ []) ∙ ap (λ (l : List Note). front ++ l) (append-nil batch) in
-    let here : AllLegal (after first front) batch = subst (λ s. AllLegal s batch) before.4 legal in (
+    let prefix = notes_of batches in
+    let whole : notes_of (batches ++ batch ∷ []) ≡ prefix ++ batch =
+    notes_of-append batches (batch ∷ []) ∙ ap (λ (l : List Note). prefix ++ l) (append-nil batch) in
+    let here : AllLegal (after first prefix) batch = subst (λ s. AllLegal s batch) before.4 legal in (
       batches ++ batch ∷ [],
       AreBatches-append batches (batch ∷ []) before.1 (is_batch, tt),
       ap (λ (l : List (List ℕ)). l ++ payload ∷ []) before.2
           ∙ ap (λ x. payloads_of batches ++ x ∷ []) spelled
           ∙ sym (payloads_of-append batches (batch ∷ [])),
-      subst (AllLegal first) (sym whole) (AllLegal-append first front batch before.3 here),
-      stepped ∙ ap (λ s. after s batch) before.4 ∙ sym (after-append first front batch)
+      subst (AllLegal first) (sym whole) (AllLegal-append first prefix batch before.3 here),
+      stepped ∙ ap (λ s. after s batch) before.4 ∙ sym (after-append first prefix batch)
           ∙ ap (after first) (sym whole),
     )
 
@@ -438,7 +438,7 @@ pub gone-stops : (old new : Restoring) (payloads : List (List ℕ)) (payload : L
     → RestoreStopsAt (payloads ++ payload ∷ []) (length payloads) → new.stage ≡ Refused
     → new.index ≡ old.index → new.at ≡ old.at → HasTaken new (payloads ++ payload ∷ [])
 gone-stops old new payloads payload gone stops stage index at =
-    let front : take (length payloads) (payloads ++ payload ∷ []) ≡ payloads =
+    let prefix : take (length payloads) (payloads ++ payload ∷ []) ≡ payloads =
     take-append-le (length payloads) payloads (payload ∷ []) (omega arith)
     ∙ take_all (length payloads) payloads (omega arith) in
     inr (record {
@@ -446,7 +446,7 @@ gone-stops old new payloads payload gone stops stage index at =
       stop = length payloads;
       within = omega (arith, length_push payloads payload);
       stops = stops;
-      place = subst (λ (ps : List (List ℕ)). IsPlace ps new.index new.at) (sym front)
+      place = subst (λ (ps : List (List ℕ)). IsPlace ps new.index new.at) (sym prefix)
           (record { index_is = index ∙ gone.place.index_is; at_is = at ∙ gone.place.at_is });
     })
 
@@ -525,7 +525,7 @@ indexed-all restoring payloads on taken = (going restoring payloads on taken).in
 pub stands-next : (kept : ℕ) (payloads : List (List ℕ)) (payload : List ℕ) (at : ℕ) → length payloads + 1 ≤ kept
     → at ≡ min (records_length payloads) (2 ^ 64 - 1) → StandsAt kept (payloads ++ payload ∷ []) at 0 payload
 stands-next kept payloads payload at few is = record {
-  front = payloads;
+  prefix = payloads;
   behind = [];
   split = refl;
   at_is = is;

@@ -24,7 +24,7 @@ use Rattle.ledger_core.specs.Note.{AreNotes}
 use Rattle.ledger_core.specs.Replay.{LeavesFrom, StopsFrom}
 use Rattle.ledger_core.specs.ReplayLaws.{never, never_from}
 use Rattle.ledger_core.specs.Spelling.{spelling, spellings}
-use Rattle.ledger_core.specs.SpellingLaws.{AreNotes-front, IsTagOf, head-apart, same-notes, source-apart}
+use Rattle.ledger_core.specs.SpellingLaws.{AreNotes-prefix, IsTagOf, head-apart, same-notes, source-apart}
 use Rattle.ledger_core.specs.SpellingLaws.{spellings-append, tag-told}
 use Rattle.ledger_core.specs.State.{IsPast, Owing, State, line_octets, keys_in, after, start}
 
@@ -123,16 +123,16 @@ base-no-batch base (note ∷ next ∷ notes) e = by-flag (is_told base.closed ba
     by-flag true e = omega (arith, e)
     by-flag false e = omega (arith, e)
 
--- ---- a front of debts
+-- ---- a prefix of debts
 
-rising-front : (ns ms : List ℕ) → IsStrictlyIncreasing (ns ++ ms) → IsStrictlyIncreasing ns
-rising-front ns ms rising k within =
+rising-prefix : (ns ms : List ℕ) → IsStrictlyIncreasing (ns ++ ms) → IsStrictlyIncreasing ns
+rising-prefix ns ms rising k within =
     let here : k < length ns = omega arith in
     rw (← get_or_append_left ns ms 0 k here, ← get_or_append_left ns ms 0 (k + 1) within)
     (rising k (omega (arith, length-append ns ms)))
 
-past-front : (marks : Marks) (ns ms : List ℕ) → All (IsPast marks) (ns ++ ms) → All (IsPast marks) ns
-past-front marks ns ms past = subst (All (IsPast marks)) (take_at ns ms (length ns) refl)
+past-prefix : (marks : Marks) (ns ms : List ℕ) → All (IsPast marks) (ns ++ ms) → All (IsPast marks) ns
+past-prefix marks ns ms past = subst (All (IsPast marks)) (take_at ns ms (length ns) refl)
     (All-take (IsPast marks) (length ns) (ns ++ ms) past)
 
 pub owes-append : (debts more : List Owing) → owes (debts ++ more) ≡ owes debts ++ owes more
@@ -150,14 +150,14 @@ length-spellings (note ∷ notes) = omega (arith, length-spellings notes)
 pub length-owes : (debts : List Owing) → length (spellings (owes debts)) ≡ length debts
 length-owes debts = length-spellings (owes debts) ∙ length-map debts owe
 
-pub AreDebts-front : (marks : Marks) (debts more : List Owing) → AreDebts marks (debts ++ more)
+pub AreDebts-prefix : (marks : Marks) (debts more : List Owing) → AreDebts marks (debts ++ more)
     → AreDebts marks debts
-AreDebts-front marks debts more are = record {
-  valid = AreNotes-front (owes debts) (owes more) (subst AreNotes (owes-append debts more)
+AreDebts-prefix marks debts more are = record {
+  valid = AreNotes-prefix (owes debts) (owes more) (subst AreNotes (owes-append debts more)
       are.valid);
-  rising = rising-front (0 ∷ keys_in debts) (keys_in more)
+  rising = rising-prefix (0 ∷ keys_in debts) (keys_in more)
       (subst (λ ns. IsStrictlyIncreasing (0 ∷ ns)) (keys-append debts more) are.rising);
-  past = past-front marks (keys_in debts) (keys_in more)
+  past = past-prefix marks (keys_in debts) (keys_in more)
       (subst (All (IsPast marks)) (keys-append debts more) are.past);
   octets = omega (
     arith,
@@ -167,10 +167,10 @@ AreDebts-front marks debts more are = record {
   );
 }
 
-pub HasDebts-front : (marks : Marks) (behind : List (List ℕ)) (debts more : List Owing)
+pub HasDebts-prefix : (marks : Marks) (behind : List (List ℕ)) (debts more : List Owing)
     → HasDebts marks behind (debts ++ more) → HasDebts marks behind debts
-HasDebts-front marks behind debts more has = record {
-  are = AreDebts-front marks debts more has.are;
+HasDebts-prefix marks behind debts more has = record {
+  are = AreDebts-prefix marks debts more has.are;
   spelled =
       sym (take-take (length debts) (length (debts ++ more)) behind
       (omega (arith, length-append debts more)))
@@ -203,16 +203,16 @@ HasDebts-once marks behind debts others same has has' =
     ∙ ap (λ n. take n behind) same ∙ has'.spelled))
 
 record Parts (debts : List Owing) (place : ℕ) : Type 0 where
-  front : List Owing
+  prefix : List Owing
   debt : Owing
   back : List Owing
-  whole : debts ≡ (front ++ debt ∷ []) ++ back
-  count : length front ≡ place
+  whole : debts ≡ (prefix ++ debt ∷ []) ++ back
+  count : length prefix ≡ place
 
 parts : (debts : List Owing) (place : ℕ) → place < length debts → Parts debts place
 parts [] place within = absurd (omega arith)
 parts (debt ∷ debts) zero within = record {
-  front = [];
+  prefix = [];
   debt = debt;
   back = debts;
   whole =
@@ -222,7 +222,7 @@ parts (debt ∷ debts) zero within = record {
 parts (debt ∷ debts) (suc place) within =
     let rest = parts debts place (omega arith) in
     record {
-      front = debt ∷ rest.front;
+      prefix = debt ∷ rest.prefix;
       debt = rest.debt;
       back = rest.back;
       whole =
@@ -235,10 +235,10 @@ pub ended : (marks : Marks) (behind : List (List ℕ)) (debts others : List Owin
     → DebtsEnd marks behind debts → length debts < length others → HasDebts marks behind others → ⊥
 ended marks behind debts others end few has =
     let split = parts others (length debts) few in
-    let more = HasDebts-front marks behind (split.front ++ split.debt ∷ []) split.back
+    let more = HasDebts-prefix marks behind (split.prefix ++ split.debt ∷ []) split.back
     (subst (HasDebts marks behind) split.whole has) in
-    let same : split.front ≡ debts = HasDebts-once marks behind split.front debts split.count
-    (HasDebts-front marks behind split.front (split.debt ∷ []) more) end.has in
+    let same : split.prefix ≡ debts = HasDebts-once marks behind split.prefix debts split.count
+    (HasDebts-prefix marks behind split.prefix (split.debt ∷ []) more) end.has in
     end.no_more split.debt (subst (λ ds. HasDebts marks behind (ds ++ split.debt ∷ [])) same more)
 
 -- ---- payloads leave one ledger, or reading stops, and never both

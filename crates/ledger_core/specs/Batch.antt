@@ -36,9 +36,9 @@ abbrev pub text_end : List ℕ → ℕ → ℕ
 text_end octets at = at + 1 + get_or octets at 0
 
 -- how long a note is that begins so, by its tag and the lengths of its texts; 0 where none does
-abbrev pub front_length : List ℕ → ℕ
-front_length [] = 0
-front_length (tag ∷ rest) =
+abbrev pub prefix_length : List ℕ → ℕ
+prefix_length [] = 0
+prefix_length (tag ∷ rest) =
     cond (tag == 1) (text_end (tag ∷ rest) (text_end (tag ∷ rest) 9))
     (cond (tag == 6) (text_end (tag ∷ rest) (text_end (tag ∷ rest) 13))
     (cond (tag == 2) 11 (cond (tag == 7) 15 (cond (tag == 3) 10 (cond (tag == 8) 14

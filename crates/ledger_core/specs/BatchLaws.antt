@@ -8,7 +8,7 @@ use Rattle.std.proofs.lemmas.Nat.{from_be_bytes-to_be_bytes_4}
 use Rattle.std.specs.Int.{to_be_bytes, from_be_bytes, w16, w32, w64}
 use Rattle.ledger_core.specs.declared.note.Note.{Note}
 use Rattle.ledger_core.specs.declared.note.Note.TheVariants.{Owe, Final, Drop, Seen, Closed}
-use Rattle.ledger_core.specs.Batch.{AreBatches, AreSeveral, IsBatch, batch_spelling, body_of, front_length, notes_of}
+use Rattle.ledger_core.specs.Batch.{AreBatches, AreSeveral, IsBatch, batch_spelling, body_of, prefix_length, notes_of}
 use Rattle.ledger_core.specs.Batch.{payload_of, payloads_of, text_end, together}
 use Rattle.ledger_core.specs.Codes.{code_number, cause_number}
 use Rattle.ledger_core.specs.Keys.{number_of, source_of}
@@ -23,9 +23,9 @@ pub AreBatches-append : (one other : List (List Note)) → AreBatches one → Ar
 AreBatches-append [] other a b = b
 AreBatches-append (batch ∷ one) other a b = (a.0, AreBatches-append one other a.1 b)
 
-pub AreBatches-front : (one other : List (List Note)) → AreBatches (one ++ other) → AreBatches one
-AreBatches-front [] other a = tt
-AreBatches-front (batch ∷ one) other a = (a.0, AreBatches-front one other a.1)
+pub AreBatches-prefix : (one other : List (List Note)) → AreBatches (one ++ other) → AreBatches one
+AreBatches-prefix [] other a = tt
+AreBatches-prefix (batch ∷ one) other a = (a.0, AreBatches-prefix one other a.1)
 
 pub AreBatches-back : (one other : List (List Note)) → AreBatches (one ++ other) → AreBatches other
 AreBatches-back [] other a = a
@@ -69,9 +69,9 @@ texts-end : (tag : ℕ) (bytes token id x : List ℕ) (at : ℕ) → at ≡ 1 + 
     ≡ length (tag ∷ (bytes ++ (sized_text token ++ sized_text id)))
 texts-end tag bytes token id x at is =
     let whole = (tag ∷ (bytes ++ (sized_text token ++ sized_text id))) ++ x in
-    let front = tag ∷ (bytes ++ sized_text token) in
-    let long : length front ≡ at + 1 + length token = omega (arith, is, length-append bytes (sized_text token)) in
-    let split : whole ≡ front ++ (sized_text id ++ x) =
+    let prefix = tag ∷ (bytes ++ sized_text token) in
+    let long : length prefix ≡ at + 1 + length token = omega (arith, is, length-append bytes (sized_text token)) in
+    let split : whole ≡ prefix ++ (sized_text id ++ x) =
     ap (λ (l : List ℕ). tag ∷ (l ++ x)) (sym (append_assoc bytes (sized_text token) (sized_text id)))
     ∙ ap (λ (l : List ℕ). tag ∷ l) (append_assoc (bytes ++ sized_text token) (sized_text id) x) in
     let split' : whole ≡ (tag ∷ bytes) ++ (sized_text token ++ (sized_text id ++ x)) =
@@ -79,11 +79,11 @@ texts-end tag bytes token id x at is =
     ∙ ap (λ (l : List ℕ). tag ∷ (bytes ++ l)) (append_assoc (sized_text token) (sized_text id) x) in
     let at-first : get_or whole at 0 ≡ length token =
     ap (λ (l : List ℕ). get_or l at 0) split'
-    ∙ behind-front (tag ∷ bytes) (sized_text token ++ (sized_text id ++ x)) at (omega (arith, is)) in
+    ∙ behind-prefix (tag ∷ bytes) (sized_text token ++ (sized_text id ++ x)) at (omega (arith, is)) in
     let first : text_end whole at ≡ at + 1 + length token = omega (arith, at-first) in
     let second : get_or whole (text_end whole at) 0 ≡ length id =
     ap (λ (n : ℕ). get_or whole n 0) first ∙ (ap (λ (l : List ℕ). get_or l (at + 1 + length token) 0) split
-    ∙ behind-front front (sized_text id ++ x) (at + 1 + length token) long) in
+    ∙ behind-prefix prefix (sized_text id ++ x) (at + 1 + length token) long) in
     omega (
       arith,
       is,
@@ -96,8 +96,8 @@ texts-end tag bytes token id x at is =
     minus-self : (n : ℕ) → n - n ≡ 0
     minus-self n = omega arith
 
-    behind-front : (one other : List ℕ) (n : ℕ) → length one ≡ n → get_or (one ++ other) n 0 ≡ get_or other 0 0
-    behind-front one other n is =
+    behind-prefix : (one other : List ℕ) (n : ℕ) → length one ≡ n → get_or (one ++ other) n 0 ≡ get_or other 0 0
+    behind-prefix one other n is =
         get_or-append_right one other n n 0 is (omega arith) ∙ ap (λ (k : ℕ). get_or other k 0) (minus-self n)
 
 -- what holds of a line of the funnel and of any other holds of a key
@@ -110,27 +110,27 @@ by-key line imported key P low far = elim (cases_lt key (2 ^ 64)) [
 ]
 
 -- it is as long as its spelling, whatever stands behind it
-pub front_length-note : (note : Note) (x : List ℕ) → front_length (spelling note ++ x) ≡ length (spelling note)
-front_length-note (Owe key token id) x =
-    by-key 1 6 key (λ (h : List ℕ). front_length ((h ++ (sized_text token ++ sized_text id)) ++ x)
+pub prefix_length-note : (note : Note) (x : List ℕ) → prefix_length (spelling note ++ x) ≡ length (spelling note)
+prefix_length-note (Owe key token id) x =
+    by-key 1 6 key (λ (h : List ℕ). prefix_length ((h ++ (sized_text token ++ sized_text id)) ++ x)
     ≡ length (h ++ (sized_text token ++ sized_text id)))
     (texts-end 1 (to_be_bytes w64 key) token id x 9 refl)
     (texts-end 6 (to_be_bytes w32 (source_of key) ++ to_be_bytes w64 (number_of key)) token id x 13 refl)
-front_length-note (Final key code) x =
-    by-key 2 7 key (λ (h : List ℕ). front_length ((h ++ to_be_bytes w16 (code_number code)) ++ x)
+prefix_length-note (Final key code) x =
+    by-key 2 7 key (λ (h : List ℕ). prefix_length ((h ++ to_be_bytes w16 (code_number code)) ++ x)
     ≡ length (h ++ to_be_bytes w16 (code_number code))) refl refl
-front_length-note (Drop key cause) x =
-    by-key 3 8 key (λ (h : List ℕ). front_length ((h ++ (cause_number cause ∷ [])) ++ x)
+prefix_length-note (Drop key cause) x =
+    by-key 3 8 key (λ (h : List ℕ). prefix_length ((h ++ (cause_number cause ∷ [])) ++ x)
     ≡ length (h ++ (cause_number cause ∷ []))) refl refl
-front_length-note (Seen number) x = refl
-front_length-note (Closed source) x = refl
+prefix_length-note (Seen number) x = refl
+prefix_length-note (Closed source) x = refl
 
 -- it is told from what is behind it
-pub front-apart : (one other : Note) (x y : List ℕ) → IsNote one → IsNote other
+pub prefix-apart : (one other : Note) (x y : List ℕ) → IsNote one → IsNote other
     → spelling one ++ x ≡ spelling other ++ y → (one ≡ other) × (x ≡ y)
-front-apart one other x y a b e =
+prefix-apart one other x y a b e =
     let long : length (spelling one) ≡ length (spelling other) =
-    sym (front_length-note one x) ∙ (ap front_length e ∙ front_length-note other y) in
+    sym (prefix_length-note one x) ∙ (ap prefix_length e ∙ prefix_length-note other y) in
     let parts = append-apart (spelling one) (spelling other) x y long e in
     (same-note one other a b parts.0, parts.1)
 
@@ -142,7 +142,7 @@ pub together-rest : (read all : List Note) (rest : List ℕ) → AreNotes read �
 together-rest [] all rest a b few e = (all, b, e, omega arith, refl)
 together-rest (note ∷ read) [] rest a b few e = absurd (omega (arith, few))
 together-rest (note ∷ read) (other ∷ all) rest a b few e =
-    let parts = front-apart other note (together all) (together read ++ rest) b.0 a.0
+    let parts = prefix-apart other note (together all) (together read ++ rest) b.0 a.0
     (e ∙ append_assoc (spelling note) (together read) rest) in
     let left = together-rest read all rest a.1 b.1 (omega (arith, few)) parts.1 in
     let whole : other ∷ all ≡ note ∷ (read ++ left.0) =
@@ -167,7 +167,7 @@ same-together [] [] a b l e = refl
 same-together [] (note ∷ other) a b l e = absurd (omega (arith, l))
 same-together (note ∷ one) [] a b l e = absurd (omega (arith, l))
 same-together (note ∷ one) (second ∷ other) a b l e =
-    let parts = front-apart note second (together one) (together other) a.0 b.0 e in
+    let parts = prefix-apart note second (together one) (together other) a.0 b.0 e in
     let first : note ≡ second = parts.0 in
     let rest : one ≡ other = same-together one other a.1 b.1 (omega (arith, l)) parts.1 in
     cc
@@ -257,15 +257,15 @@ body-joined batch last is =
     ∙ ap (λ (l : List ℕ). l ++ spelling last) (sym (body-payload batch is))))
 
 -- the notes of the first of some batches are a prefix of their notes
-pub notes-front : (batches : List (List Note)) (m : ℕ)
+pub notes-prefix : (batches : List (List Note)) (m : ℕ)
     → notes_of batches ≡ notes_of (take m batches) ++ notes_of (drop m batches)
-notes-front batches m =
+notes-prefix batches m =
     ap notes_of (sym (take-append-drop m batches)) ∙ notes_of-append (take m batches) (drop m batches)
 
 pub notes-take : (batches : List (List Note)) (m : ℕ)
     → take (length (notes_of (take m batches))) (notes_of batches) ≡ notes_of (take m batches)
 notes-take batches m =
-    ap (take (length (notes_of (take m batches)))) (notes-front batches m)
+    ap (take (length (notes_of (take m batches)))) (notes-prefix batches m)
     ∙ take_at (notes_of (take m batches)) (notes_of (drop m batches)) (length (notes_of (take m batches))) refl
 
 pub payloads_of-take : (batches : List (List Note)) (m : ℕ)

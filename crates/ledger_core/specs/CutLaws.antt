@@ -7,7 +7,7 @@ use Rattle.std.specs.Int.{to_be_bytes, w32}
 use Rattle.ledger_core.specs.declared.note.Note.{Note}
 use Rattle.ledger_core.specs.Batch.{AreBatches, AreLongest, Cuts, IsBatch, IsFullBefore, IsFullFor, batch_spelling}
 use Rattle.ledger_core.specs.Batch.{longest_batch, notes_of, together}
-use Rattle.ledger_core.specs.BatchLaws.{AreBatches-append, AreBatches-back, AreBatches-front, notes_of-append}
+use Rattle.ledger_core.specs.BatchLaws.{AreBatches-append, AreBatches-back, AreBatches-prefix, notes_of-append}
 use Rattle.ledger_core.specs.BatchLaws.{together-append}
 use Rattle.ledger_core.specs.Note.{IsNote}
 use Rattle.ledger_core.specs.SpellingLaws.{AreNotes-append}
@@ -50,11 +50,11 @@ batch-length : (notes : List Note) → length (batch_spelling notes) ≡ 5 + len
 batch-length notes = omega (arith, length-append (to_be_bytes w32 (length notes)) (together notes))
 
 -- of several notes none of the first is too long
-front-short : (a b : List Note) (note : Note) → IsBatch b → Goes a b note → 0 < length a → IsFullFor a note → ⊥
-front-short a [] note is goes some full = is
-front-short a (c ∷ []) note is goes some full =
+prefix-short : (a b : List Note) (note : Note) → IsBatch b → Goes a b note → 0 < length a → IsFullFor a note → ⊥
+prefix-short a [] note is goes some full = is
+prefix-short a (c ∷ []) note is goes some full =
     omega (arith, some, ap length goes.is, length-append (a ++ note ∷ []) goes.more, length-append a (note ∷ []))
-front-short a (c ∷ d ∷ b) note is goes some full =
+prefix-short a (c ∷ d ∷ b) note is goes some full =
     let whole : together (c ∷ d ∷ b) ≡ together (a ++ note ∷ []) ++ together goes.more =
     ap together goes.is ∙ together-append (a ++ note ∷ []) goes.more in
     omega (
@@ -79,7 +79,7 @@ shorter a b [] other is is' are longest e few =
     omega (arith, few, ap length e, length-append a [], length-append b (notes_of other))
 shorter a b ([] ∷ one) other is is' are longest e few = are.0
 shorter a b ((note ∷ notes) ∷ one) other is is' are longest e few =
-    front-short a b note is' (goes-on a b note (notes ++ notes_of one) (notes_of other) few e) (some-batch a is)
+    prefix-short a b note is' (goes-on a b note (notes ++ notes_of one) (notes_of other) few e) (some-batch a is)
     longest.0
 
 longest-behind : (batch : List Note) (batches : List (List Note)) → AreLongest (batch ∷ batches) → AreLongest batches
@@ -109,24 +109,24 @@ cut_once (batch ∷ one) (second ∷ other) a b l l' e =
 
 -- ---- one note more
 
-longest-begins : (front : List (List Note)) (batch : List Note) (note : Note) → AreLongest (front ++ batch ∷ [])
-    → IsFullFor batch note → AreLongest (front ++ batch ∷ (note ∷ []) ∷ [])
+longest-begins : (prefix : List (List Note)) (batch : List Note) (note : Note) → AreLongest (prefix ++ batch ∷ [])
+    → IsFullFor batch note → AreLongest (prefix ++ batch ∷ (note ∷ []) ∷ [])
 longest-begins [] batch note longest full = (full, tt)
 longest-begins (first ∷ []) batch note longest full = (longest.0, (full, tt))
-longest-begins (first ∷ next ∷ front) batch note longest full =
-    (longest.0, longest-begins (next ∷ front) batch note longest.1 full)
+longest-begins (first ∷ next ∷ prefix) batch note longest full =
+    (longest.0, longest-begins (next ∷ prefix) batch note longest.1 full)
 
 full-joined : (first batch : List Note) (note : Note) → IsFullBefore first batch
     → IsFullBefore first (batch ++ note ∷ [])
 full-joined first [] note full = absurd full
 full-joined first (n ∷ batch) note full = full
 
-longest-joins : (front : List (List Note)) (batch : List Note) (note : Note) → AreLongest (front ++ batch ∷ [])
-    → AreLongest (front ++ (batch ++ note ∷ []) ∷ [])
+longest-joins : (prefix : List (List Note)) (batch : List Note) (note : Note) → AreLongest (prefix ++ batch ∷ [])
+    → AreLongest (prefix ++ (batch ++ note ∷ []) ∷ [])
 longest-joins [] batch note longest = tt
 longest-joins (first ∷ []) batch note longest = (full-joined first batch note longest.0, tt)
-longest-joins (first ∷ next ∷ front) batch note longest =
-    (longest.0, longest-joins (next ∷ front) batch note longest.1)
+longest-joins (first ∷ next ∷ prefix) batch note longest =
+    (longest.0, longest-joins (next ∷ prefix) batch note longest.1)
 
 -- a batch and one note more are several
 pub joined-several : (batch : List Note) (note : Note) → IsBatch batch → IsNote note
@@ -145,33 +145,33 @@ pub cut-first : (note : Note) → IsNote note → Cuts (note ∷ []) ((note ∷ 
 cut-first note is = record { are = (is, tt); longest = tt; whole = refl }
 
 -- it begins a batch of its own
-pub cut-begins : (notes : List Note) (front : List (List Note)) (batch : List Note) (note : Note)
-    → Cuts notes (front ++ batch ∷ []) → IsNote note → IsFullFor batch note
-    → Cuts (notes ++ note ∷ []) (front ++ batch ∷ (note ∷ []) ∷ [])
-cut-begins notes front batch note cut is full =
-    let whole : (front ++ batch ∷ []) ++ (note ∷ []) ∷ [] ≡ front ++ batch ∷ (note ∷ []) ∷ [] =
-    append_assoc front (batch ∷ []) ((note ∷ []) ∷ []) in
+pub cut-begins : (notes : List Note) (prefix : List (List Note)) (batch : List Note) (note : Note)
+    → Cuts notes (prefix ++ batch ∷ []) → IsNote note → IsFullFor batch note
+    → Cuts (notes ++ note ∷ []) (prefix ++ batch ∷ (note ∷ []) ∷ [])
+cut-begins notes prefix batch note cut is full =
+    let whole : (prefix ++ batch ∷ []) ++ (note ∷ []) ∷ [] ≡ prefix ++ batch ∷ (note ∷ []) ∷ [] =
+    append_assoc prefix (batch ∷ []) ((note ∷ []) ∷ []) in
     record {
-      are = subst AreBatches whole (AreBatches-append (front ++ batch ∷ []) ((note ∷ []) ∷ []) cut.are (is, tt));
-      longest = longest-begins front batch note cut.longest full;
-      whole = ap notes_of (sym whole) ∙ (notes_of-append (front ++ batch ∷ []) ((note ∷ []) ∷ [])
+      are = subst AreBatches whole (AreBatches-append (prefix ++ batch ∷ []) ((note ∷ []) ∷ []) cut.are (is, tt));
+      longest = longest-begins prefix batch note cut.longest full;
+      whole = ap notes_of (sym whole) ∙ (notes_of-append (prefix ++ batch ∷ []) ((note ∷ []) ∷ [])
           ∙ ap (λ (l : List Note). l ++ note ∷ []) cut.whole);
     }
 
 -- it joins the last
-pub cut-joins : (notes : List Note) (front : List (List Note)) (batch : List Note) (note : Note)
-    → Cuts notes (front ++ batch ∷ []) → IsNote note → length (batch_spelling (batch ++ note ∷ [])) ≤ longest_batch
-    → Cuts (notes ++ note ∷ []) (front ++ (batch ++ note ∷ []) ∷ [])
-cut-joins notes front batch note cut is fits =
-    let last = AreBatches-back front (batch ∷ []) cut.are in
+pub cut-joins : (notes : List Note) (prefix : List (List Note)) (batch : List Note) (note : Note)
+    → Cuts notes (prefix ++ batch ∷ []) → IsNote note → length (batch_spelling (batch ++ note ∷ [])) ≤ longest_batch
+    → Cuts (notes ++ note ∷ []) (prefix ++ (batch ++ note ∷ []) ∷ [])
+cut-joins notes prefix batch note cut is fits =
+    let last = AreBatches-back prefix (batch ∷ []) cut.are in
     record {
-      are = AreBatches-append front ((batch ++ note ∷ []) ∷ []) (AreBatches-front front (batch ∷ []) cut.are)
+      are = AreBatches-append prefix ((batch ++ note ∷ []) ∷ []) (AreBatches-prefix prefix (batch ∷ []) cut.are)
           (joined-several batch note last.0 is fits, tt);
-      longest = longest-joins front batch note cut.longest;
-      whole = notes_of-append front ((batch ++ note ∷ []) ∷ [])
-          ∙ (ap (λ (l : List Note). notes_of front ++ l) (append-nil (batch ++ note ∷ []))
-          ∙ (sym (append_assoc (notes_of front) batch (note ∷ []))
+      longest = longest-joins prefix batch note cut.longest;
+      whole = notes_of-append prefix ((batch ++ note ∷ []) ∷ [])
+          ∙ (ap (λ (l : List Note). notes_of prefix ++ l) (append-nil (batch ++ note ∷ []))
+          ∙ (sym (append_assoc (notes_of prefix) batch (note ∷ []))
           ∙ ap (λ (l : List Note). l ++ note ∷ [])
-          (ap (λ (l : List Note). notes_of front ++ l) (sym (append-nil batch))
-          ∙ (sym (notes_of-append front (batch ∷ [])) ∙ cut.whole))));
+          (ap (λ (l : List Note). notes_of prefix ++ l) (sym (append-nil batch))
+          ∙ (sym (notes_of-append prefix (batch ∷ [])) ∙ cut.whole))));
     }

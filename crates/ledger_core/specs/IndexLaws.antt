@@ -29,9 +29,10 @@ use Rattle.ledger_core.specs.declared.spot.Spot.{Spot}
 pub stands-more : (kept : ℕ) (payloads more : List (List ℕ)) (at slot : ℕ) (payload : List ℕ)
     → StandsAt kept payloads at slot payload → StandsAt kept (payloads ++ more) at slot payload
 stands-more kept payloads more at slot payload stands = record {
-  front = stands.front;
+  prefix = stands.prefix;
   behind = stands.behind ++ more;
-  split = ap (λ (l : List (List ℕ)). l ++ more) stands.split ∙ append_assoc stands.front (payload ∷ stands.behind) more;
+  split = ap (λ (l : List (List ℕ)). l ++ more) stands.split ∙ append_assoc stands.prefix (payload ∷ stands.behind)
+      more;
   at_is = stands.at_is;
   slot_is = stands.slot_is;
 }
@@ -40,12 +41,12 @@ stands-more kept payloads more at slot payload stands = record {
 pub stands-flushed : (kept : ℕ) (payloads : List (List ℕ)) (at slot : ℕ) (payload : List ℕ)
     → StandsAt kept payloads at slot payload → StandsAt (length payloads) payloads at slot payload
 stands-flushed kept payloads at slot payload stands = record {
-  front = stands.front;
+  prefix = stands.prefix;
   behind = stands.behind;
   split = stands.split;
   at_is = stands.at_is;
   slot_is = λ pends. absurd
-      (omega (arith, pends, ap length stands.split, length-append stands.front (payload ∷ stands.behind)));
+      (omega (arith, pends, ap length stands.split, length-append stands.prefix (payload ∷ stands.behind)));
 }
 
 -- an index of payloads is one of more
@@ -88,18 +89,18 @@ found-alone kept payloads at slot note stands = record {
 }
 
 -- and one of several stands behind those before it
-pub found-among : (kept : ℕ) (payloads : List (List ℕ)) (at slot within : ℕ) (front : List Note) (note : Note)
-    (behind : List Note) → StandsAt kept payloads at slot (batch_spelling (front ++ note ∷ behind))
-    → within ≡ length (together front) → IsFound kept payloads at slot within (spelling note)
-found-among kept payloads at slot within front note behind stands is = record {
-  payload = batch_spelling (front ++ note ∷ behind);
+pub found-among : (kept : ℕ) (payloads : List (List ℕ)) (at slot within : ℕ) (prefix : List Note) (note : Note)
+    (behind : List Note) → StandsAt kept payloads at slot (batch_spelling (prefix ++ note ∷ behind))
+    → within ≡ length (together prefix) → IsFound kept payloads at slot within (spelling note)
+found-among kept payloads at slot within prefix note behind stands is = record {
+  payload = batch_spelling (prefix ++ note ∷ behind);
   stands = stands;
   inside = record {
-    before = together front;
+    before = together prefix;
     behind = together behind;
-    split = together-append front (note ∷ behind);
+    split = together-append prefix (note ∷ behind);
     within_is = is;
-    headed = inr (to_be_bytes w32 (length (front ++ note ∷ behind)) ++ together (front ++ note ∷ behind), refl);
+    headed = inr (to_be_bytes w32 (length (prefix ++ note ∷ behind)) ++ together (prefix ++ note ∷ behind), refl);
   };
 }
 
@@ -129,38 +130,38 @@ placed kept payloads at slot within (Seen number) found = tt
 placed kept payloads at slot within (Closed source) found = tt
 
 -- what comes behind all payloads stands there, and pends
-pub stands-last : (kept : ℕ) (front : List (List ℕ)) (at slot : ℕ) (payload : List ℕ)
-    → at ≡ min (records_length front) (2 ^ 64 - 1) → slot + kept ≡ length front
-    → StandsAt kept (front ++ payload ∷ []) at slot payload
-stands-last kept front at slot payload at_is slot_is =
-    record { front = front; behind = []; split = refl; at_is = at_is; slot_is = λ pends. slot_is }
+pub stands-last : (kept : ℕ) (prefix : List (List ℕ)) (at slot : ℕ) (payload : List ℕ)
+    → at ≡ min (records_length prefix) (2 ^ 64 - 1) → slot + kept ≡ length prefix
+    → StandsAt kept (prefix ++ payload ∷ []) at slot payload
+stands-last kept prefix at slot payload at_is slot_is =
+    record { prefix = prefix; behind = []; split = refl; at_is = at_is; slot_is = λ pends. slot_is }
 
 -- records, one behind the others
-pub records_length-append : (front behind : List (List ℕ))
-    → records_length (front ++ behind) ≡ records_length front + records_length behind
+pub records_length-append : (prefix behind : List (List ℕ))
+    → records_length (prefix ++ behind) ≡ records_length prefix + records_length behind
 records_length-append [] behind = omega arith
-records_length-append (payload ∷ front) behind = omega (arith, records_length-append front behind)
+records_length-append (payload ∷ prefix) behind = omega (arith, records_length-append prefix behind)
 
 -- ---- the last payload grows
 
 -- the one that stands here is one of the others, or the last
-record Before (others : List (List ℕ)) (front : List (List ℕ)) (payload last : List ℕ) (behind : List (List ℕ))
+record Before (others : List (List ℕ)) (prefix : List (List ℕ)) (payload last : List ℕ) (behind : List (List ℕ))
     : Type 0 where
   rest : List (List ℕ)
-  others_are : others ≡ front ++ payload ∷ rest
+  others_are : others ≡ prefix ++ payload ∷ rest
   behind_is : behind ≡ rest ++ last ∷ []
 
-record Last (others front : List (List ℕ)) (payload last : List ℕ) : Type 0 where
-  front_is : front ≡ others
+record Last (others prefix : List (List ℕ)) (payload last : List ℕ) : Type 0 where
+  prefix_is : prefix ≡ others
   payload_is : payload ≡ last
 
-before_or_last : (others front behind : List (List ℕ)) (payload last : List ℕ)
-    → others ++ last ∷ [] ≡ front ++ payload ∷ behind → Before others front payload last behind
-    ⊎ Last others front payload last
-before_or_last [] [] [] payload last split = inr (record { front_is = refl; payload_is = cc split })
+before_or_last : (others prefix behind : List (List ℕ)) (payload last : List ℕ)
+    → others ++ last ∷ [] ≡ prefix ++ payload ∷ behind → Before others prefix payload last behind
+    ⊎ Last others prefix payload last
+before_or_last [] [] [] payload last split = inr (record { prefix_is = refl; payload_is = cc split })
 before_or_last [] [] (b ∷ behind) payload last split = absurd (cc split)
 before_or_last [] (f ∷ []) behind payload last split = absurd (cc split)
-before_or_last [] (f ∷ g ∷ front) behind payload last split = absurd (cc split)
+before_or_last [] (f ∷ g ∷ prefix) behind payload last split = absurd (cc split)
 before_or_last (o ∷ others) [] behind payload last split =
     let same : o ≡ payload = cc split in
     let rest : others ++ last ∷ [] ≡ behind = cc split in
@@ -169,17 +170,17 @@ before_or_last (o ∷ others) [] behind payload last split =
       others_are = ap (λ (p : List ℕ). p ∷ others) same;
       behind_is = sym rest;
     })
-before_or_last (o ∷ others) (f ∷ front) behind payload last split =
+before_or_last (o ∷ others) (f ∷ prefix) behind payload last split =
     let same : o ≡ f = cc split in
-    let rest : others ++ last ∷ [] ≡ front ++ payload ∷ behind = cc split in
-    elim (before_or_last others front behind payload last rest) [
+    let rest : others ++ last ∷ [] ≡ prefix ++ payload ∷ behind = cc split in
+    elim (before_or_last others prefix behind payload last rest) [
       | inl b ↦ inl (record {
         rest = b.rest;
         others_are = ap (λ (p : List ℕ). p ∷ others) same ∙ ap (λ (l : List (List ℕ)). f ∷ l) b.others_are;
         behind_is = b.behind_is;
       })
       | inr l ↦ inr (record {
-        front_is = ap (λ (p : List ℕ). p ∷ front) (sym same) ∙ ap (λ (fs : List (List ℕ)). o ∷ fs) l.front_is;
+        prefix_is = ap (λ (p : List ℕ). p ∷ prefix) (sym same) ∙ ap (λ (fs : List (List ℕ)). o ∷ fs) l.prefix_is;
         payload_is = l.payload_is;
       })
     ]
@@ -205,14 +206,14 @@ pub found-grown : (kept : ℕ) (others : List (List ℕ)) (last grown more : Lis
     → IsFound kept (others ++ grown ∷ []) at slot within octets
 found-grown kept others last grown more at slot within octets longer rest headed found =
     let stands = found.stands in
-    elim (before_or_last others stands.front stands.behind found.payload last stands.split) [
+    elim (before_or_last others stands.prefix stands.behind found.payload last stands.split) [
       | inl b ↦ record {
         payload = found.payload;
         stands = record {
-          front = stands.front;
+          prefix = stands.prefix;
           behind = b.rest ++ grown ∷ [];
           split = ap (λ (l : List (List ℕ)). l ++ grown ∷ []) b.others_are
-              ∙ append_assoc stands.front (found.payload ∷ b.rest) (grown ∷ []);
+              ∙ append_assoc stands.prefix (found.payload ∷ b.rest) (grown ∷ []);
           at_is = stands.at_is;
           slot_is = stands.slot_is;
         };
@@ -221,9 +222,9 @@ found-grown kept others last grown more at slot within octets longer rest headed
       | inr l ↦ record {
         payload = grown;
         stands = record {
-          front = stands.front;
+          prefix = stands.prefix;
           behind = [];
-          split = ap (λ (fs : List (List ℕ)). fs ++ grown ∷ []) (sym l.front_is);
+          split = ap (λ (fs : List (List ℕ)). fs ++ grown ∷ []) (sym l.prefix_is);
           at_is = stands.at_is;
           slot_is = stands.slot_is;
         };
@@ -248,7 +249,7 @@ pub found-joined : (kept : ℕ) (others : List (List ℕ)) (batch : List Note) (
     → IsFound kept (others ++ batch_spelling (batch ++ note ∷ []) ∷ []) at slot within (spelling note)
 found-joined kept others batch note at slot within at_is slot_is is =
     found-among kept (others ++ batch_spelling (batch ++ note ∷ []) ∷ []) at slot within batch note []
-    (record { front = others; behind = []; split = refl; at_is = at_is; slot_is = slot_is }) is
+    (record { prefix = others; behind = []; split = refl; at_is = at_is; slot_is = slot_is }) is
 
 -- ---- the spots, one by one
 
@@ -331,14 +332,14 @@ spots-length ledger =
 
 -- ---- a note in a part of its payload
 
-front-case : (b : Bool) (tag : ℕ) (rest octets behind : List ℕ) (len : ℕ) → length octets ≡ len
+prefix-case : (b : Bool) (tag : ℕ) (rest octets behind : List ℕ) (len : ℕ) → length octets ≡ len
     → cond b (drop 4 rest) (tag ∷ rest) ≡ octets ++ behind
     → (more : List ℕ) × (cond b (drop 4 (take (4 + len) rest)) (tag ∷ take (4 + len) rest) ≡ octets ++ more)
-front-case true tag rest octets behind len long split = (
+prefix-case true tag rest octets behind len long split = (
   [],
   drop-take 4 len rest ∙ (ap (take len) split ∙ (take_at octets behind len long ∙ sym (append-nil octets))),
 )
-front-case false tag rest octets behind len long split =
+prefix-case false tag rest octets behind len long split =
     let count : suc (4 + len) ≡ length octets + 5 = omega (arith, long) in (
       take 5 behind,
       ap (take (suc (4 + len))) split
@@ -348,12 +349,12 @@ front-case false tag rest octets behind len long split =
 stands-first : (payload octets behind : List ℕ) (len : ℕ) → length octets ≡ len → body_of payload ≡ octets ++ behind
     → (more : List ℕ) × (body_of (take (suc (4 + len)) payload) ≡ octets ++ more)
 stands-first [] octets behind len long split = (behind, split)
-stands-first (tag ∷ rest) octets behind len long split = front-case (tag == 11) tag rest octets behind len long split
+stands-first (tag ∷ rest) octets behind len long split = prefix-case (tag == 11) tag rest octets behind len long split
 
 -- at the front of the first octets
-pub stands-front : (payload octets : List ℕ) (len : ℕ) → length octets ≡ len → StandsIn payload 0 octets
+pub stands-prefix : (payload octets : List ℕ) (len : ℕ) → length octets ≡ len → StandsIn payload 0 octets
     → StandsIn (take (len + 5) payload) 0 octets
-stands-front payload octets len long stands =
+stands-prefix payload octets len long stands =
     let none : stands.before ≡ [] = nil_from_length stands.before (sym stands.within_is) in
     let first = stands-first payload octets stands.behind len long
     (stands.split ∙ ap (λ (l : List ℕ). l ++ (octets ++ stands.behind)) none) in

@@ -33,17 +33,17 @@ records_length (payload ∷ payloads) = 5 + length payload + records_length payl
 -- The payload is one of these, of which the first so many are on the tape and the others pend. Its record is at this
 -- offset; and where it pends it does so in this slot.
 pub record StandsAt (kept : ℕ) (payloads : List (List ℕ)) (at slot : ℕ) (payload : List ℕ) : Type 0 where
-  pub front : List (List ℕ)
+  pub prefix : List (List ℕ)
   pub behind : List (List ℕ)
-  pub split : payloads ≡ front ++ payload ∷ behind
-  pub at_is : at ≡ min (records_length front) (2 ^ 64 - 1)
-  pub slot_is : kept ≤ length front → slot + kept ≡ length front
+  pub split : payloads ≡ prefix ++ payload ∷ behind
+  pub at_is : at ≡ min (records_length prefix) (2 ^ 64 - 1)
+  pub slot_is : kept ≤ length prefix → slot + kept ≡ length prefix
 
 -- The records of these payloads begin at this offset, behind others, and so many are on the tape, those and
 -- these among them.
-pub record Follows (kept : ℕ) (front payloads : List (List ℕ)) (at : ℕ) : Type 0 where
-  pub at_is : at ≡ min (records_length front) (2 ^ 64 - 1)
-  pub on_tape : length front + length payloads ≤ kept
+pub record Follows (kept : ℕ) (prefix payloads : List (List ℕ)) (at : ℕ) : Type 0 where
+  pub at_is : at ≡ min (records_length prefix) (2 ^ 64 - 1)
+  pub on_tape : length prefix + length payloads ≤ kept
 
 -- these octets stand in one of these payloads, at that place and behind so many octets of its notes
 pub record IsFound (kept : ℕ) (payloads : List (List ℕ)) (at slot within : ℕ) (octets : List ℕ) : Type 0 where

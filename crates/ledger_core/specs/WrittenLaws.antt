@@ -28,7 +28,7 @@ use Rattle.ledger_core.specs.StateLaws.{past-more, past-new, put, rising-with, s
 use Rattle.ledger_core.specs.Note.{AreNotes, IsNote, IsNumber}
 use Rattle.ledger_core.specs.Replay.{LeavesFrom}
 use Rattle.ledger_core.specs.Spelling.{spellings}
-use Rattle.ledger_core.specs.SpellingLaws.{AreNotes-append, AreNotes-back, AreNotes-front}
+use Rattle.ledger_core.specs.SpellingLaws.{AreNotes-append, AreNotes-back, AreNotes-prefix}
 use Rattle.ledger_core.specs.State.{Owing, State, AllLegal, IsLegal, IsNext, IsPast, after, line_octets, keys, marks_of}
 use Rattle.ledger_core.specs.State.{with_debt}
 use Rattle.ledger_core.specs.State.{keys_in, octets_of_debts, start, step, without}
@@ -98,11 +98,11 @@ owes-with : (debts : List Owing) (key : ℕ) (token id : List ℕ) → AreNotes 
     → All (λ n. key ≡ n → ⊥) (keys_in debts) → AreNotes (owes (with_debt debts key token id))
 owes-with debts key token id valid is_note apart =
     let here = put debts key token id apart in
-    let were = subst AreNotes (ap owes here.was ∙ owes-append here.front here.behind) valid in
-    subst AreNotes (sym (ap owes here.is ∙ owes-append here.front ((key, (token, id)) ∷ here.behind)))
-    (AreNotes-append (owes here.front) (Owe key token id ∷ owes here.behind)
-    (AreNotes-front (owes here.front) (owes here.behind) were)
-    (is_note, AreNotes-back (owes here.front) (owes here.behind) were))
+    let were = subst AreNotes (ap owes here.was ∙ owes-append here.prefix here.behind) valid in
+    subst AreNotes (sym (ap owes here.is ∙ owes-append here.prefix ((key, (token, id)) ∷ here.behind)))
+    (AreNotes-append (owes here.prefix) (Owe key token id ∷ owes here.behind)
+    (AreNotes-prefix (owes here.prefix) (owes here.behind) were)
+    (is_note, AreNotes-back (owes here.prefix) (owes here.behind) were))
 
 rising-behind : (ns : List ℕ) → IsStrictlyIncreasing (0 ∷ ns) → IsStrictlyIncreasing ns
 rising-behind ns rising = λ k within.
@@ -302,16 +302,16 @@ restored-whole payloads generation state (inr (base, behind, begins, is, leaves)
 leaves-on : (first : State) (payloads : List (List ℕ)) (state : State) (batches : List (List Note))
     → LeavesFrom first payloads state → AreBatches batches → AllLegal state (notes_of batches)
     → LeavesFrom first (payloads ++ payloads_of batches) (after state (notes_of batches))
-leaves-on first payloads state batches (front, are, spelled, legal, left) more lawful =
+leaves-on first payloads state batches (prefix, are, spelled, legal, left) more lawful =
     let notes = notes_of batches in
-    let whole = notes_of-append front batches in (
-      front ++ batches,
-      AreBatches-append front batches are more,
-      ap (λ (l : List (List ℕ)). l ++ payloads_of batches) spelled ∙ sym (payloads_of-append front batches),
+    let whole = notes_of-append prefix batches in (
+      prefix ++ batches,
+      AreBatches-append prefix batches are more,
+      ap (λ (l : List (List ℕ)). l ++ payloads_of batches) spelled ∙ sym (payloads_of-append prefix batches),
       subst (AllLegal first) (sym whole)
-          (AllLegal-append first (notes_of front) notes legal (subst (λ (s : State). AllLegal s notes) left lawful)),
+          (AllLegal-append first (notes_of prefix) notes legal (subst (λ (s : State). AllLegal s notes) left lawful)),
       ap (λ (s : State). after s notes) left
-          ∙ (sym (after-append first (notes_of front) notes) ∙ ap (after first) (sym whole)),
+          ∙ (sym (after-append first (notes_of prefix) notes) ∙ ap (after first) (sym whole)),
     )
 
 no_base-append : (payloads : List (List ℕ)) (batches : List (List Note)) → HasNoBase payloads → HasNoBase

@@ -5,7 +5,7 @@ ghost use Rattle.std.specs.Int.{to_be_bytes, w32};
 ghost use Rattle.ledger_core.specs.declared.note.Note.{Note};
 ghost use Rattle.ledger_core.specs.Base.{owe};
 ghost use Rattle.ledger_core.specs.Batch.{AreSeveral, IsBatch, SpellsNoBatch, StandsIn, batch_spelling};
-ghost use Rattle.ledger_core.specs.Batch.{body_of, front_length, longest_batch, payload_of, text_end, together};
+ghost use Rattle.ledger_core.specs.Batch.{body_of, prefix_length, longest_batch, payload_of, text_end, together};
 ghost use Rattle.ledger_core.specs.Note.{AreNotes, IsNote};
 ghost use Rattle.ledger_core.specs.Spelling.{spelling};
 ghost use Rattle.ledger_core.specs.State.{Owing};
@@ -236,10 +236,10 @@ fn first_note(alloc: Global, octets: &[u8]) -> Result<Option<(Note, &[u8])>, All
     ensures none { IfOk result (λ o. IfNone o ((note : Note) (behind : List ℕ) → IsNote note
         → octets.now ≡ spelling note ++ behind → ⊥)) }
 {
-    let Some((front, behind)) = first_in(octets) else {
+    let Some((prefix, behind)) = first_in(octets) else {
         return Ok(None);
     };
-    match decode(alloc, front)? {
+    match decode(alloc, prefix)? {
         Some(note) => Ok(Some((note, behind))),
         None => Ok(None),
     }
@@ -251,12 +251,12 @@ pub(crate) fn first_in(octets: &[u8]) -> Option<(&[u8], &[u8])>
     ensures first { (note : Note) (behind : List ℕ) → octets.now ≡ spelling note ++ behind
         → IsSome result × IfSome result (λ found. found.0.now ≡ spelling note) }
 {
-    octets.split_at_checked(front_len(octets))
+    octets.split_at_checked(prefix_len(octets))
 }
 
 // How long the note is that stands first, by its tag and the lengths of its texts; 0 if none does.
-fn front_len(octets: &[u8]) -> usize
-    ensures { result ≡ front_length octets.now }
+fn prefix_len(octets: &[u8]) -> usize
+    ensures { result ≡ prefix_length octets.now }
 {
     match octets {
         [1, ..] => text_end(octets, text_end(octets, 9)),

@@ -364,10 +364,10 @@ impl Ledger {
         ensures refused { (told : ℕ) → IsErrOf result (ReplayFault.Refused told)
             → (index : ℕ) × (told ≡ first + index)
             × StopsFrom (state_of self.old) (map vec_items payloads.now) index }
-        ensures indexes { (kept : ℕ) (front : List (List ℕ))
-            → Follows kept front (map vec_items payloads.now) offset
-            → Indexes kept (front ++ map vec_items payloads.now) self.old
-            → OnOk result (Indexes kept (front ++ map vec_items payloads.now) self.new) }
+        ensures indexes { (kept : ℕ) (prefix : List (List ℕ))
+            → Follows kept prefix (map vec_items payloads.now) offset
+            → Indexes kept (prefix ++ map vec_items payloads.now) self.old
+            → OnOk result (Indexes kept (prefix ++ map vec_items payloads.now) self.new) }
     {
         let mut at = offset;
         for (index, payload) in payloads.iter().enumerate() {

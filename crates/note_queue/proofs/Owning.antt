@@ -9,8 +9,8 @@ use Rattle.ledger_core.specs.State.{State, step, after}
 use Rattle.ledger_core.specs.StateLaws.{after-append}
 use Rattle.recovery.specs.DiskLaws.{honest-along, log-read}
 use Rattle.recovery.specs.Image.{Survives, TapeLeaves}
-use Rattle.recovery.specs.Leaving.{EachLedger, HasLedger, IsFront, LedgersLeave}
-use Rattle.recovery.specs.LeavingLaws.{TapeLeaves-weaker, LedgersLeave-weaker, EachLedger-weaker, front_of_survives}
+use Rattle.recovery.specs.Leaving.{EachLedger, HasLedger, IsPrefix, LedgersLeave}
+use Rattle.recovery.specs.LeavingLaws.{TapeLeaves-weaker, LedgersLeave-weaker, EachLedger-weaker, prefix_of_survives}
 use Rattle.recovery.specs.Notes.{History, noted, flushed}
 use Rattle.recovery.specs.Pairs.{at_start}
 use Rattle.recovery.specs.Tape.{StandsFor, IsRead}
@@ -71,7 +71,7 @@ stepped base old new notes note s is = s ∙ ap (λ x. step x note) is ∙ sym (
 
 -- a front of the history is the ledger of the split with the first of the notes
 first_of_front : {D : Type 0} {g : Ghosts D} (tape : Tape D g) (base : State) (notes : List Note)
-    (o : Owns tape base notes) (state : State) → IsFront o.h state → IsFirst base notes state
+    (o : Owns tape base notes) (state : State) → IsPrefix o.h state → IsFirst base notes state
 first_of_front tape base notes o state front =
     let k : ℕ = front.count - length o.before in
     let some : length o.before ≤ front.count = omega (arith, o.enough, front.enough) in
@@ -110,7 +110,7 @@ module _ {D : Type 0} {g : Ghosts D} where
   each_first : (tape : Tape D g) (base : State) (notes : List Note) → Owns tape base notes
       → EachLedger (IsFirst base notes) (log_of tape)
   each_first tape base notes o = λ one other is is'.
-      let has = front_of_survives o.h (one, other) (o.stands.images one other is is') in
+      let has = prefix_of_survives o.h (one, other) (o.stands.images one other is is') in
       (has.0, has.1, first_of_front tape base notes o has.0 has.2)
 
   -- so at each moment of a call
@@ -118,8 +118,10 @@ module _ {D : Type 0} {g : Ghosts D} where
       → TapeLeaves (Survives o.h) (log_of old) (log_of new)
       → LedgersLeave (IsFirst base notes) (log_of old) (log_of new)
   all_first old new base notes o run =
-      LedgersLeave-weaker (IsFront o.h) (IsFirst base notes) (first_of_front old base notes o) (log_of old) (log_of new)
-      (TapeLeaves-weaker (Survives o.h) (HasLedger (IsFront o.h)) (front_of_survives o.h) (log_of old) (log_of new) run)
+      LedgersLeave-weaker (IsPrefix o.h) (IsFirst base notes) (first_of_front old base notes o) (log_of old) (log_of
+          new)
+      (TapeLeaves-weaker (Survives o.h) (HasLedger (IsPrefix o.h)) (prefix_of_survives o.h) (log_of old) (log_of new)
+          run)
 
   takes : (old new : Tape D g) (base : State) (notes : List Note) (note : Note) → disks_of new ≡ disks_of old
       → ((h : History) → StandsFor old h → StandsFor new (noted h note)) → IsOwner old base notes

@@ -38,7 +38,7 @@ impl<D: Disk> Side<D> {
     ghost use Rattle.recovery.specs.Rotates.{RefusesRotation, Rotates};
     ghost use Rattle.recovery.specs.Tape.{IsRead, StandsFor};
     ghost use Rattle.recovery.specs.Texts.{HasLengths};
-    ghost use Rattle.recovery.specs.Words.{Continues, IsDebtFault, OneHasRisen, told_of};
+    ghost use Rattle.recovery.specs.Words.{Continues, IsDebtFault, OneHasRisen, faults_of};
     ghost use Rattle.note_queue.specs.Ends.{IsSameEnd, KeepsFor};
 
     // The side of a tape on which nothing pends, by a pass that has taken nothing yet.
@@ -186,7 +186,7 @@ impl<D: Disk> Side<D> {
         ensures refuses { IfErr result (λ e. IsDebtFault e
             × (e ≢ TapeFault.Broken → IsOwed (ledger_of self.old.tape) key)) }
         ensures cause { (h : History) → StandsFor self.old.tape h → IsErrOf result TapeFault.Disk
-            → OneHasRisen (told_of self.old.tape) (told_of self.new.tape) }
+            → OneHasRisen (faults_of self.old.tape) (faults_of self.new.tape) }
         ensures reads { IsRead self.old.tape self.new.tape }
         ensures keeps { IsSameEnd self.old self.new }
         ensures moments { LeavesFirst (view self.old.pass).got_on (view self.old.pass).got

@@ -130,11 +130,11 @@ room_same (Ok a) old mid new one two = tt
 room_same (Err e) old mid new one two = same_twice old mid new one two
 
 -- the drops of the first so many, and one more
-pub drops_front : (cause : Cause) (ns : List ℕ) (i n : ℕ) → i < length ns → n ≡ get_or ns i n
+pub drops_prefix : (cause : Cause) (ns : List ℕ) (i n : ℕ) → i < length ns → n ≡ get_or ns i n
     → drops cause (take (i + 1) ns) ≡ drops cause (take i ns) ++ Drop n cause ∷ []
-drops_front cause [] i n inside is = absurd (omega arith)
-drops_front cause (m ∷ ns) zero n inside is = ap (λ (k : ℕ). Drop k cause ∷ []) (sym is)
-drops_front cause (m ∷ ns) (suc i) n inside is =
+drops_prefix cause [] i n inside is = absurd (omega arith)
+drops_prefix cause (m ∷ ns) zero n inside is = ap (λ (k : ℕ). Drop k cause ∷ []) (sym is)
+drops_prefix cause (m ∷ ns) (suc i) n inside is =
     let s : suc i + 1 ≡ suc (i + 1) = omega arith in
     ap (λ (k : ℕ). drops cause (take k (m ∷ ns))) s
-    ∙ ap (λ (l : List Note). Drop m cause ∷ l) (drops_front cause ns i n (omega (arith, inside)) is)
+    ∙ ap (λ (l : List Note). Drop m cause ∷ l) (drops_prefix cause ns i n (omega (arith, inside)) is)

@@ -6,20 +6,20 @@ use Rattle.std.proofs.lemmas.Bool.{cases_lt, lt-ltb, ltb-true}
 use Rattle.std.proofs.lemmas.List.{length-take, length-take-le, take-take, take_all}
 use Rattle.recovery.specs.Notes.{most_pending}
 use Rattle.peer_queue.specs.Place.{Places, unheld}
-use Rattle.peer_queue.specs.Shed.{AreWithin, IsShedOf, IsShortestFront}
+use Rattle.peer_queue.specs.Shed.{AreWithin, IsShedOf, IsShortestPrefix}
 use Rattle.peer_queue.specs.Station.{IsShedFrom}
 use Rattle.peer_queue.specs.declared.limits.Limits.{Limits}
 use Rattle.peer_queue.specs.declared.limits.Shed.{Shed}
-use Rattle.peer_queue.proofs.Sheds.{IsFront, front_all}
+use Rattle.peer_queue.proofs.Sheds.{IsPrefix, prefix_all}
 
 -- Where no front of fewer than k passes, the shortest has k or more: by induction over those behind the k first.
 extended : (Passes : List ℕ → Type 0) → ((l : List ℕ) → Passes l ⊎ (Passes l → ⊥)) → (l : List ℕ) (rest k : ℕ)
     → k + rest ≡ length l → ((fewer : ℕ) → fewer < k → Passes (take fewer l) → ⊥)
-    → (set : List ℕ) × IsShortestFront Passes l set × (k ≤ length set)
+    → (set : List ℕ) × IsShortestPrefix Passes l set × (k ≤ length set)
 extended Passes decide l zero k all none = (
   l,
   record {
-    front = sym (take_all (length l) l (omega arith));
+    prefix = sym (take_all (length l) l (omega arith));
     passes = inr refl;
     shortest = λ fewer less. none fewer (omega arith);
   },
@@ -29,7 +29,7 @@ extended Passes decide l (suc rest) k more none = elim (decide (take k l)) [
   | inl passes ↦ (
     take k l,
     record {
-      front = ap (λ (n : ℕ). take n l) (sym long);
+      prefix = ap (λ (n : ℕ). take n l) (sym long);
       passes = inl passes;
       shortest = λ fewer less. none fewer (omega (arith, less, long));
     },
@@ -52,16 +52,16 @@ extended Passes decide l (suc rest) k more none = elim (decide (take k l)) [
     ]
 
 -- what the walk has found is the first of what is to be shed, wherever it stops
-front_begins : (limits : Limits) (all : ℕ) (octets_without : List ℕ → ℕ) (places : Places) (front : List ℕ)
+prefix_begins : (limits : Limits) (all : ℕ) (octets_without : List ℕ → ℕ) (places : Places) (prefix : List ℕ)
     (next : Option ℕ) (owed : ℕ)
-    → (AreWithin limits all → ⊥) → IsFront limits.backlog_limit octets_without places front next owed
-    → (set : List ℕ) × IsShedOf limits all octets_without places set × (front ≡ take (length front) set)
-front_begins limits all octets_without places front next owed over is = (
+    → (AreWithin limits all → ⊥) → IsPrefix limits.backlog_limit octets_without places prefix next owed
+    → (set : List ℕ) × IsShedOf limits all octets_without places set × (prefix ≡ take (length prefix) set)
+prefix_begins limits all octets_without places prefix next owed over is = (
   found.0,
   inr (over, found.1),
-  is.front
-      ∙ (sym (take-take (length front) (length found.0) U found.2)
-      ∙ ap (λ (l : List ℕ). take (length front) l) (sym found.1.front)),
+  is.prefix
+      ∙ (sym (take-take (length prefix) (length found.0) U found.2)
+      ∙ ap (λ (l : List ℕ). take (length prefix) l) (sym found.1.prefix)),
 )
   where
     U : List ℕ
@@ -76,27 +76,27 @@ front_begins limits all octets_without places front next owed over is = (
       | inr enough ↦ inl enough
     ]
 
-    found : (set : List ℕ) × IsShortestFront Passes U set × (length front ≤ length set)
-    found = extended Passes decide U (length U - length front) (length front) (omega (arith, is.few))
+    found : (set : List ℕ) × IsShortestPrefix Passes U set × (length prefix ≤ length set)
+    found = extended Passes decide U (length U - length prefix) (length prefix) (omega (arith, is.few))
         (λ fewer less passes. omega (arith, is.shortest fewer less, passes))
 
 -- What was found is what is to be shed, as far as one more than there is room for: none comes next, enough is shed, or
 -- it is so many.
-pub front_cut : (limits : Limits) (all : ℕ) (octets_without : List ℕ → ℕ) (places : Places) (front : List ℕ)
+pub prefix_cut : (limits : Limits) (all : ℕ) (octets_without : List ℕ → ℕ) (places : Places) (prefix : List ℕ)
     (next : Option ℕ) (owed room : ℕ)
-    → (AreWithin limits all → ⊥) → IsFront limits.backlog_limit octets_without places front next owed
-    → length front ≤ room + 1 → ((next ≡ None) ⊎ (owed ≤ limits.backlog_limit)) ⊎ (room < length front)
-    → (set : List ℕ) × IsShedOf limits all octets_without places set × (front ≡ take (room + 1) set)
-front_cut limits all octets_without places front next owed room over is few ends = elim ends [
+    → (AreWithin limits all → ⊥) → IsPrefix limits.backlog_limit octets_without places prefix next owed
+    → length prefix ≤ room + 1 → ((next ≡ None) ⊎ (owed ≤ limits.backlog_limit)) ⊎ (room < length prefix)
+    → (set : List ℕ) × IsShedOf limits all octets_without places set × (prefix ≡ take (room + 1) set)
+prefix_cut limits all octets_without places prefix next owed room over is few ends = elim ends [
   | inl ended ↦ (
-    front,
-    front_all limits all octets_without places front next owed over is ended,
+    prefix,
+    prefix_all limits all octets_without places prefix next owed over is ended,
     sym (take_all
-        (room + 1) front few),
+        (room + 1) prefix few),
   )
   | inr full ↦
-      let found = front_begins limits all octets_without places front next owed over is in
-      let long : length front ≡ room + 1 = omega (arith, few, full) in
+      let found = prefix_begins limits all octets_without places prefix next owed over is in
+      let long : length prefix ≡ room + 1 = omega (arith, few, full) in
       (found.0, found.1, found.2 ∙ ap (λ (n : ℕ). take n found.0) long)
 ]
 

@@ -4,7 +4,7 @@ pub mod Closes
 pub mod Cuts
 pub mod EndFaults
 pub mod Ends
-pub mod Fronts
+pub mod Prefixes
 pub mod Inserted
 pub mod Kept
 pub mod Moves

@@ -18,10 +18,10 @@ use Rattle.peer_queue.specs.Faults.{station_fault}
 use Rattle.peer_queue.specs.declared.fault.StationFault.TheVariants.{NoMemory}
 use Rattle.peer_queue.specs.Place.{AreRising, Places, all_gone, gone, placed, unheld}
 use Rattle.peer_queue.specs.Shed.{AreWithin, IsShedOf, IsShedSet, dropped, owed_without, sized_without}
-use Rattle.peer_queue.specs.ShedLaws.{front_of}
+use Rattle.peer_queue.specs.ShedLaws.{prefix_of}
 use Rattle.peer_queue.specs.declared.limits.Limits.{Limits}
 use Rattle.peer_queue.proofs.Ends.{placed_ended}
-use Rattle.peer_queue.proofs.Fronts.{Each, Rise, are_owed_all, at_none, at_some, each_contained, each_take, each_unheld, found_first, found_next, none_before, rise_placed, rise_take, rise_unheld}
+use Rattle.peer_queue.proofs.Prefixes.{Each, Rise, are_owed_all, at_none, at_some, each_contained, each_take, each_unheld, found_first, found_next, none_before, rise_placed, rise_take, rise_unheld}
 
 -- ---- the octets of what stays
 
@@ -170,66 +170,66 @@ sized_fall shape places set n rising same new =
     (subst (λ (l : List ℕ). Rise l) same (rise_placed places rising)) new
     ∙ ap (λ (o : Option ℕ). sized_without shape.sizes (set ++ n ∷ []) + unwrap_or o 0) (sym (same_size shape.sizes n))
 
--- ---- a front of the numbers that no connection holds
+-- ---- a prefix of the numbers that no connection holds
 
--- These are a front of the numbers that no connection holds, after which the candidate comes; without them so many octets are owed, and
+-- These are a prefix of the numbers that no connection holds, after which the candidate comes; without them so many octets are owed, and
 -- without fewer of them more than the limit.
-pub record IsFront (limit : ℕ) (octets_without : List ℕ → ℕ) (places : Places) (set : List ℕ) (candidate : Option ℕ)
+pub record IsPrefix (limit : ℕ) (octets_without : List ℕ → ℕ) (places : Places) (set : List ℕ) (candidate : Option ℕ)
     (octets : ℕ) : Type 0 where
   pub few : length set ≤ length (unheld places)
-  pub front : set ≡ take (length set) (unheld places)
+  pub prefix : set ≡ take (length set) (unheld places)
   pub next : candidate ≡ slice_get (unheld places) (length set)
   pub owed : octets ≡ octets_without set
   pub shortest : (fewer : ℕ) → fewer < length set → limit < octets_without (take fewer (unheld places))
 
-pub front_none : (limit : ℕ) (octets_without : List ℕ → ℕ) (places : Places) (next : Option ℕ) (owed : ℕ)
+pub prefix_none : (limit : ℕ) (octets_without : List ℕ → ℕ) (places : Places) (next : Option ℕ) (owed : ℕ)
     → next ≡ find (λ m. nat_le 0 m) (unheld places) → owed ≡ octets_without []
-    → IsFront limit octets_without places [] next owed
-front_none limit octets_without places next owed found is = record {
+    → IsPrefix limit octets_without places [] next owed
+prefix_none limit octets_without places next owed found is = record {
   few = omega arith;
-  front = refl;
+  prefix = refl;
   next = found ∙ found_first (unheld places);
   owed = is;
   shortest = λ fewer less. absurd (omega arith);
 }
 
-pub front_more : (limit : ℕ) (octets_without : List ℕ → ℕ) (places : Places) (set : List ℕ) (n : ℕ) (next : Option ℕ)
-    (owed owed' octets : ℕ) → AreRising places → IsFront limit octets_without places set (Some n) owed → limit < owed
+pub prefix_more : (limit : ℕ) (octets_without : List ℕ → ℕ) (places : Places) (set : List ℕ) (n : ℕ) (next : Option ℕ)
+    (owed owed' octets : ℕ) → AreRising places → IsPrefix limit octets_without places set (Some n) owed → limit < owed
     → next ≡ find (λ m. nat_lt n m) (unheld places) → owed' ≡ owed - octets
     → (list_any (λ (m : ℕ). m == n) set ≡ false → octets_without set ≡ octets_without (set ++ n ∷ []) + octets)
-    → IsFront limit octets_without places (set ++ n ∷ []) next owed'
-front_more limit octets_without places set n next owed owed' octets rising is above found fall falls =
+    → IsPrefix limit octets_without places (set ++ n ∷ []) next owed'
+prefix_more limit octets_without places set n next owed owed' octets rising is above found fall falls =
     let U = unheld places in
     let rise : Rise U = rise_unheld places rising in
     let at = at_some U (length set) n (sym is.next) in
     let more : length (set ++ n ∷ []) ≡ length set + 1 = length_push set n in
-    let new : list_any (λ (m : ℕ). m == n) set ≡ false = subst (λ (l : List ℕ). list_any (λ (m : ℕ). m == n) l ≡ false) (sym is.front) (none_before U (length set) n rise at.0 at.1) in
+    let new : list_any (λ (m : ℕ). m == n) set ≡ false = subst (λ (l : List ℕ). list_any (λ (m : ℕ). m == n) l ≡ false) (sym is.prefix) (none_before U (length set) n rise at.0 at.1) in
     let less = falls new in
     record {
       few = omega (arith, at.0, more);
-      front = ap (λ (l : List ℕ). l ++ n ∷ []) is.front ∙ (ap (λ (m : ℕ). take (length set) U ++ m ∷ []) at.1 ∙ (sym (take_more U (length set) 0 at.0) ∙ ap (λ (k : ℕ). take k U) (sym more)));
+      prefix = ap (λ (l : List ℕ). l ++ n ∷ []) is.prefix ∙ (ap (λ (m : ℕ). take (length set) U ++ m ∷ []) at.1 ∙ (sym (take_more U (length set) 0 at.0) ∙ ap (λ (k : ℕ). take k U) (sym more)));
       next = found ∙ (found_next U (length set) n rise at.0 at.1 ∙ ap (λ (k : ℕ). slice_get U k) (sym more));
       owed = omega (arith, fall, is.owed, less);
       shortest = λ fewer below. elim (cases_lt fewer (length set)) [
         | inl before ↦ is.shortest fewer before
         | inr last ↦
             let here : fewer ≡ length set = omega (arith, below, more) in
-            subst (λ (l : List ℕ). limit < octets_without l) (is.front ∙ ap (λ (k : ℕ). take k U) (sym here)) (omega
+            subst (λ (l : List ℕ). limit < octets_without l) (is.prefix ∙ ap (λ (k : ℕ). take k U) (sym here)) (omega
             (arith, is.owed, above))
       ];
     }
 
 -- it is what is to be shed, where none comes next or enough is shed
-pub front_all : (limits : Limits) (all : ℕ) (octets_without : List ℕ → ℕ) (places : Places) (set : List ℕ)
+pub prefix_all : (limits : Limits) (all : ℕ) (octets_without : List ℕ → ℕ) (places : Places) (set : List ℕ)
     (next : Option ℕ) (owed : ℕ) → (AreWithin limits all → ⊥)
-    → IsFront limits.backlog_limit octets_without places set next owed
+    → IsPrefix limits.backlog_limit octets_without places set next owed
     → (next ≡ None) ⊎ (owed ≤ limits.backlog_limit) → IsShedOf limits all octets_without places set
-front_all limits all octets_without places set next owed over is ends = inr (
+prefix_all limits all octets_without places set next owed over is ends = inr (
   over,
   record {
-    front = is.front;
+    prefix = is.prefix;
     passes = elim ends [
-      | inl none ↦ inr (is.front ∙ take_all (length set) (unheld places) (at_none (unheld places) (length set) (sym is.next ∙ none)))
+      | inl none ↦ inr (is.prefix ∙ take_all (length set) (unheld places) (at_none (unheld places) (length set) (sym is.next ∙ none)))
       | inr enough ↦ inl (omega (arith, is.owed, enough))
     ];
     shortest = λ fewer less passes. omega (arith, is.shortest fewer less, passes);
@@ -243,16 +243,16 @@ pub placed_dropped : (p : Places) (state : State) (l : List ℕ) → placed p �
 placed_dropped p state [] same = same
 placed_dropped p state (n ∷ l) same = placed_dropped (gone p n) (step state (Drop n Limit)) l (placed_ended p state (Drop n Limit) n refl same)
 
--- a front of them is owed, each once
-front_owed : (p : Places) (state : State) (k : ℕ) → AreRising p → placed p ≡ keys state → AreOwed state [] (take k (unheld p))
-front_owed p state k rising same =
+-- a prefix of them is owed, each once
+prefix_owed : (p : Places) (state : State) (k : ℕ) → AreRising p → placed p ≡ keys state → AreOwed state [] (take k (unheld p))
+prefix_owed p state k rising same =
     are_owed_all state (take k (unheld p)) (rise_take k (unheld p) (rise_unheld p rising))
     (each_take (IsOwed state) k (unheld p) (subst (λ (l : List ℕ). Each (λ n. Contains l n) (unheld p)) same (each_unheld (Contains (placed p)) p (each_contained (placed p)))))
 
 pub shed_owed : (limits : Limits) (state : State) (places : Places) (set : List ℕ) (k : ℕ) → AreRising places → placed places ≡ keys state → IsShedSet limits state places set → AreOwed state [] (take k set)
 shed_owed limits state places set k rising same is =
-    let front = front_of limits state places set k is in
-    subst (λ (l : List ℕ). AreOwed state [] l) (sym front.1) (front_owed places state front.0 rising same)
+    let prefix = prefix_of limits state places set k is in
+    subst (λ (l : List ℕ). AreOwed state [] l) (sym prefix.1) (prefix_owed places state prefix.0 rising same)
 
 -- the only fault of a tape that is left, where it works, all are owed and there is room
 pub drop_fault : (fault : TapeFault) → IsDropFault fault → (fault ≡ BrokenTape → ⊥) → (fault ≡ RefusedNote NotOwed → ⊥) → (fault ≡ PendingFull → ⊥) → station_fault fault ≡ NoMemory

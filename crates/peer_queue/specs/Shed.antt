@@ -21,21 +21,21 @@ AreWithin limits octets = (limits.backlog_limit ≡ 0) ⊎ (octets ≤ limits.ba
 abbrev pub IsWithin : Limits → State → Type 0
 IsWithin limits state = AreWithin limits (owed_bytes state)
 
--- ys is the shortest front of xs that passes, or all of xs where none does
-pub record IsShortestFront {A : Type 0} (Passes : List A → Type 0) (xs ys : List A) : Type 0 where
-  pub front : ys ≡ take (length ys) xs
+-- ys is the shortest prefix of xs that passes, or all of xs where none does
+pub record IsShortestPrefix {A : Type 0} (Passes : List A → Type 0) (xs ys : List A) : Type 0 where
+  pub prefix : ys ≡ take (length ys) xs
   pub passes : Passes ys ⊎ (ys ≡ xs)
   pub shortest : (fewer : ℕ) → fewer < length ys → Passes (take fewer xs) → ⊥
 
 -- The numbers to shed, where so many octets are owed, and so many without the debts of some: none within the limit,
 -- else
--- of the debts that no connection holds, oldest first, the shortest front without which the octets that are owed are at
+-- of the debts that no connection holds, oldest first, the shortest prefix without which the octets that are owed are at
 -- or below it.
 abbrev pub IsShedOf : Limits → ℕ → (List ℕ → ℕ) → Places → List ℕ → Type 0
 IsShedOf limits octets octets_without places numbers =
     (AreWithin limits octets × (numbers ≡ []))
     ⊎ ((AreWithin limits octets → ⊥)
-    × IsShortestFront (λ front. octets_without front ≤ limits.backlog_limit) (unheld places) numbers)
+    × IsShortestPrefix (λ prefix. octets_without prefix ≤ limits.backlog_limit) (unheld places) numbers)
 
 -- the numbers to shed of this ledger
 abbrev pub IsShedSet : Limits → State → Places → List ℕ → Type 0

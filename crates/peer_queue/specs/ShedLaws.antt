@@ -76,9 +76,9 @@ are_unheld p zero l rising is = tt
 are_unheld p (suc k) [] rising is = tt
 are_unheld p (suc k) (n ∷ l) rising is = let first = unheld_first p n l rising is in (first.0, are_unheld (gone p n) k l (rising_gone n p rising) first.1)
 
--- a front of them may be taken out one after another
-front_unheld : (p : Places) (k : ℕ) → AreRising p → AreUnheld p (take k (unheld p))
-front_unheld p k rising = are_unheld p k (unheld p) rising refl
+-- a prefix of them may be taken out one after another
+prefix_unheld : (p : Places) (k : ℕ) → AreRising p → AreUnheld p (take k (unheld p))
+prefix_unheld p k rising = are_unheld p k (unheld p) rising refl
 
 take_both : (k c : ℕ) (l : List ℕ) → (j : ℕ) × (take k (take c l) ≡ take j l)
 take_both zero c l = (0, refl)
@@ -86,15 +86,15 @@ take_both (suc k) zero l = (0, refl)
 take_both (suc k) (suc c) [] = (0, refl)
 take_both (suc k) (suc c) (n ∷ l) = let rest = take_both k c l in (suc rest.0, ap (λ (r : List ℕ). n ∷ r) rest.1)
 
--- a front of what is to be shed is a front of the numbers that no connection holds
-pub front_in : (limits : Limits) (octets : ℕ) (octets_without : List ℕ → ℕ) (places : Places) (set : List ℕ) (k : ℕ)
+-- a prefix of what is to be shed is a prefix of the numbers that no connection holds
+pub prefix_in : (limits : Limits) (octets : ℕ) (octets_without : List ℕ → ℕ) (places : Places) (set : List ℕ) (k : ℕ)
     → IsShedOf limits octets octets_without places set
     → (j : ℕ) × (take k set ≡ take j (unheld places))
-front_in limits octets octets_without places set k is = elim is [
+prefix_in limits octets octets_without places set k is = elim is [
   | inl none ↦ (0, ap (λ (l : List ℕ). take k l) none.1 ∙ take-nil k)
   | inr some ↦
       let both = take_both k (length set) (unheld places) in
-      (both.0, ap (λ (l : List ℕ). take k l) some.1.front ∙ both.1)
+      (both.0, ap (λ (l : List ℕ). take k l) some.1.prefix ∙ both.1)
 ]
   where
     take-nil : (n : ℕ) → (let none : List ℕ = [] in take n none ≡ none)
@@ -104,13 +104,13 @@ front_in limits octets octets_without places set k is = elim is [
 pub set_unheld : (limits : Limits) (octets : ℕ) (octets_without : List ℕ → ℕ) (places : Places) (set : List ℕ) (k : ℕ)
     → AreRising places → IsShedOf limits octets octets_without places set → AreUnheld places (take k set)
 set_unheld limits octets octets_without places set k rising is =
-    let front = front_in limits octets octets_without places set k is in
-    subst (λ (l : List ℕ). AreUnheld places l) (sym front.1) (front_unheld places front.0 rising)
+    let prefix = prefix_in limits octets octets_without places set k is in
+    subst (λ (l : List ℕ). AreUnheld places l) (sym prefix.1) (prefix_unheld places prefix.0 rising)
 
-pub front_of : (limits : Limits) (state : State) (places : Places) (set : List ℕ) (k : ℕ)
+pub prefix_of : (limits : Limits) (state : State) (places : Places) (set : List ℕ) (k : ℕ)
     → IsShedSet limits state places set
     → (j : ℕ) × (take k set ≡ take j (unheld places))
-front_of limits state places set k is = front_in limits (owed_bytes state) (owed_without state) places set k is
+prefix_of limits state places set k is = prefix_in limits (owed_bytes state) (owed_without state) places set k is
 
 pub shed_unheld : (limits : Limits) (state : State) (places : Places) (set : List ℕ) (k : ℕ) → AreRising places
     → IsShedSet limits state places set → AreUnheld places (take k set)

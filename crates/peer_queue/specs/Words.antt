@@ -10,7 +10,7 @@ use Rattle.recovery.specs.Notes.{History, most_pending, noted}
 use Rattle.recovery.specs.Image.{Log}
 use Rattle.recovery.specs.Tape.{IsOpenedTape, IsRead as IsTapeRead, StandsFor as TapeStandsFor}
 use Rattle.recovery.specs.declared.tape.Tape.{Tape}
-use Rattle.recovery.specs.Words.{log_of as tape_log, disks_of as tape_disks, told_of as tape_told, generation_of as tape_generation, AreHonest as AreTapeHonest, Continues as TapeContinues, ledger_of as tape_ledger, pending_of as tape_pending, IsBroken as IsBrokenTape}
+use Rattle.recovery.specs.Words.{log_of as tape_log, disks_of as tape_disks, faults_of as tape_faults, generation_of as tape_generation, AreHonest as AreTapeHonest, Continues as TapeContinues, ledger_of as tape_ledger, pending_of as tape_pending, IsBroken as IsBrokenTape}
 use Rattle.conn_core.specs.declared.verdict.Verdict.{Verdict}
 use Rattle.conn_core.specs.declared.deferral.Deferral.{Deferral}
 use Rattle.peer_queue.specs.Place.{Places, IsHeldBy}
@@ -53,8 +53,8 @@ module _ {D : Type 0} {g : Ghosts D} where
   AreHonest station = AreTapeHonest station.tape
 
   -- the counts of faults that they told
-  abbrev pub told_of : Station D g → ℕ × ℕ
-  told_of station = tape_told station.tape
+  abbrev pub faults_of : Station D g → ℕ × ℕ
+  faults_of station = tape_faults station.tape
 
   -- they are honest where they were, and their counts of faults did not fall
   abbrev pub Continues : Station D g → Station D g → Type 0

@@ -7,7 +7,7 @@ ghost use Rattle.recovery.specs.Notes.{History, recovered};
 ghost use Rattle.recovery.specs.Words.{OneHasRisen};
 ghost use Rattle.peer_queue.specs.Place.{AreRising, all_ready, placed};
 ghost use Rattle.peer_queue.specs.Refusals.{Tells};
-ghost use Rattle.peer_queue.specs.Words.{IsBroken, StandsFor, ledger_of, told_of, limits_of, pending_of};
+ghost use Rattle.peer_queue.specs.Words.{IsBroken, StandsFor, ledger_of, faults_of, limits_of, pending_of};
 ghost use Rattle.peer_queue.specs.Words.{places_of};
 
 use crate::fault::station_fault;
@@ -50,7 +50,7 @@ pub fn reopened<D: Disk>(
         → e.1 ≢ StationFault.Tape (TapeFault.Damaged segment at)) }
     ensures cause { (h : History) → StandsFor station h → IfErr result (λ e.
         e.1 ≡ StationFault.Tape TapeFault.Disk
-        → OneHasRisen (told_of station) (D.told e.0.0, D.told e.0.1)) }
+        → OneHasRisen (faults_of station) (D.faults_of e.0.0, D.faults_of e.0.1)) }
 {
     let limits = station.limits;
     if let Err(fault) = station.flush() {

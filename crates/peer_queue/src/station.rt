@@ -64,7 +64,7 @@ impl<D: Disk> Station<D> {
     ghost use Rattle.peer_queue.specs.Words.{IsBroken, IsEnd, IsRead, IsSame, IsSameTape, MeetsFull};
     ghost use Rattle.peer_queue.specs.Refusals.{Tells};
     ghost use Rattle.peer_queue.specs.Words.{Notes, Refuses, StandsFor, code_of, deferred_key, disks_of};
-    ghost use Rattle.peer_queue.specs.Words.{generation_of, told_of, AreHonest, Continues, ledger_of, limits_of};
+    ghost use Rattle.peer_queue.specs.Words.{generation_of, faults_of, AreHonest, Continues, ledger_of, limits_of};
     ghost use Rattle.peer_queue.specs.Words.{answered_key, open_key, pending_of, places_of};
 
     /// Opens the station of two disks, empty ones among them: all that its tape owes is ready.
@@ -82,7 +82,7 @@ impl<D: Disk> Station<D> {
             → Opens (λ station. station.tape) (D.log a, D.log b) result }
         // Each fault has its cause; what is no tape is handed back as it was.
         ensures causes { D.honest a → D.honest b
-            → IfErr result (HasCause (D.log a, D.log b) (D.told a, D.told b)) }
+            → IfErr result (HasCause (D.log a, D.log b) (D.faults_of a, D.faults_of b)) }
         ensures untouched { D.honest a → D.honest b → IfErr result (λ e. (segment at : ℕ)
             → e.fault ≡ TapeFault.Damaged segment at → refused_log e ≡ (D.log a, D.log b)) }
         ensures kinds { IfErr result (λ e. IsOpenFault e.fault) }
@@ -90,8 +90,9 @@ impl<D: Disk> Station<D> {
         ensures honest { MatchResult result
             (λ station. (D.honest a × D.honest b) ↔ AreHonest station)
             (λ e. (D.honest a × D.honest b) ↔ (D.honest e.a × D.honest e.b)) }
-        ensures quiet { MatchResult result (λ station. told_of station ≡ (D.told a, D.told b))
-            (λ e. (D.told a ≤ D.told e.a) × (D.told b ≤ D.told e.b)) }
+        ensures quiet { MatchResult result (λ station. faults_of station
+            ≡ (D.faults_of a, D.faults_of b))
+            (λ e. (D.faults_of a ≤ D.faults_of e.a) × (D.faults_of b ≤ D.faults_of e.b)) }
     {
         let tape = match Tape::open(alloc, a, b) {
             Ok(tape) => tape,
@@ -198,11 +199,11 @@ impl<D: Disk> Station<D> {
         ensures debt { (h : History) → StandsFor self.old h
             → IfOk result (λ debt. IfSome debt (λ d. Contains (ledger_of self.old).debts d)) }
         ensures reads { IsRead self.old self.new }
-        ensures quiet { OnOk result (told_of self.new ≡ told_of self.old) }
+        ensures quiet { OnOk result (faults_of self.new ≡ faults_of self.old) }
         ensures refuses { RefusesClaim now self.old self.new result }
         ensures cause { (h : History) → StandsFor self.old h
             → IsErrOf result (StationFault.Tape TapeFault.Disk)
-            → OneHasRisen (told_of self.old) (told_of self.new) }
+            → OneHasRisen (faults_of self.old) (faults_of self.new) }
     {
         if self.tape.is_broken() {
             return Err(StationFault::Broken);
@@ -458,11 +459,11 @@ impl<D: Disk> Station<D> {
             → IfOk result (λ debt. Contains (ledger_of self.old).debts debt) }
         ensures cause { (h : History) → StandsFor self.old h
             → IsErrOf result (StationFault.Tape TapeFault.Disk)
-            → OneHasRisen (told_of self.old) (told_of self.new) }
+            → OneHasRisen (faults_of self.old) (faults_of self.new) }
         ensures kinds { IfErr result
             (λ e. (e ≡ StationFault.Tape TapeFault.Disk) ⊎ (e ≡ StationFault.NoMemory)) }
         ensures reads { IsRead self.old self.new }
-        ensures quiet { OnOk result (told_of self.new ≡ told_of self.old) }
+        ensures quiet { OnOk result (faults_of self.new ≡ faults_of self.old) }
         ensures places { places_of self.new ≡ places_of self.old }
     {
         match self.tape.debt(key) {
@@ -599,7 +600,7 @@ impl<D: Disk> Station<D> {
         ensures refuses { RefusesFlush self.old self.new result }
         ensures keeps { KeepsDebts self.old self.new }
         ensures continues { Continues self.old self.new }
-        ensures quiet { OnOk result (told_of self.new ≡ told_of self.old) }
+        ensures quiet { OnOk result (faults_of self.new ≡ faults_of self.old) }
     {
         match self.tape.flush() {
             Ok(flushed) => Ok(flushed),
@@ -630,7 +631,7 @@ impl<D: Disk> Station<D> {
         ensures refuses { RefusesRotation self.old self.new result }
         ensures keeps { KeepsDebts self.old self.new }
         ensures continues { Continues self.old self.new }
-        ensures quiet { OnOk result (told_of self.new ≡ told_of self.old) }
+        ensures quiet { OnOk result (faults_of self.new ≡ faults_of self.old) }
     {
         match self.tape.rotate() {
             Ok(generation) => Ok(generation),
@@ -653,9 +654,9 @@ impl<D: Disk> Station<D> {
         ensures refuses { RefusesDebt key self.old result }
         ensures cause { (h : History) → StandsFor self.old h
             → IsErrOf result (StationFault.Tape TapeFault.Disk)
-            → OneHasRisen (told_of self.old) (told_of self.new) }
+            → OneHasRisen (faults_of self.old) (faults_of self.new) }
         ensures reads { IsRead self.old self.new }
-        ensures quiet { OnOk result (told_of self.new ≡ told_of self.old) }
+        ensures quiet { OnOk result (faults_of self.new ≡ faults_of self.old) }
         ensures places { places_of self.new ≡ places_of self.old }
     {
         match self.tape.debt(key) {
@@ -731,7 +732,7 @@ impl<D: Disk> Station<D> {
     /// The disks beneath, the first and the second. Notes that pend are gone. A broken station answers too.
     pub fn into_disks(self) -> (D, D)
         ensures disks { result ≡ disks_of self }
-        ensures told { (D.told result.0, D.told result.1) ≡ told_of self }
+        ensures faults { (D.faults_of result.0, D.faults_of result.1) ≡ faults_of self }
         ensures survives { (h : History) → StandsFor self h → D.honest result.0 × D.honest result.1
             × EachTape (Survives h) (D.log result.0, D.log result.1) }
     {

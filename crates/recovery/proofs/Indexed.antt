@@ -35,70 +35,70 @@ pub placed-last : (kept pending : List (List ℕ)) (next slot : ℕ) (note : Not
     → next ≡ min (records_length (kept ++ pending)) (2 ^ 64 - 1) → slot ≡ length pending → payload ≡ spelling note
     → IsPlaced (length kept) ((kept ++ pending) ++ payload ∷ []) next slot 0 note
 placed-last kept pending next slot note payload next_is slot_is spelled =
-    let front = kept ++ pending in
-    placed (length kept) (front ++ payload ∷ []) next slot 0 note
-    (found-alone (length kept) (front ++ payload ∷ []) next slot note
-    (subst (λ (p : List ℕ). StandsAt (length kept) (front ++ payload ∷ []) next slot p) spelled
-    (stands-last (length kept) front next slot payload next_is (omega (arith, slot_is, length-append kept pending)))))
+    let prefix = kept ++ pending in
+    placed (length kept) (prefix ++ payload ∷ []) next slot 0 note
+    (found-alone (length kept) (prefix ++ payload ∷ []) next slot note
+    (subst (λ (p : List ℕ). StandsAt (length kept) (prefix ++ payload ∷ []) next slot p) spelled
+    (stands-last (length kept) prefix next slot payload next_is (omega (arith, slot_is, length-append kept pending)))))
 
 -- ---- what stands there
 
 -- what begins before the end of these payloads is one of them
-pub record Among (payloads front : List (List ℕ)) (payload : List ℕ) : Type 0 where
+pub record Among (payloads prefix : List (List ℕ)) (payload : List ℕ) : Type 0 where
   pub behind : List (List ℕ)
-  pub split : payloads ≡ front ++ payload ∷ behind
+  pub split : payloads ≡ prefix ++ payload ∷ behind
 
-pub on_tape : (payloads pending front behind : List (List ℕ)) (payload : List ℕ)
-    → payloads ++ pending ≡ front ++ payload ∷ behind → records_length front < records_length payloads
-    → Among payloads front payload
-on_tape [] pending front behind payload split before = absurd (omega (arith, before))
+pub on_tape : (payloads pending prefix behind : List (List ℕ)) (payload : List ℕ)
+    → payloads ++ pending ≡ prefix ++ payload ∷ behind → records_length prefix < records_length payloads
+    → Among payloads prefix payload
+on_tape [] pending prefix behind payload split before = absurd (omega (arith, before))
 on_tape (first ∷ payloads) pending [] behind payload split before =
     let same : first ≡ payload = cc split in
     record { behind = payloads; split = ap (λ (p : List ℕ). p ∷ payloads) same }
-on_tape (first ∷ payloads) pending (other ∷ front) behind payload split before =
+on_tape (first ∷ payloads) pending (other ∷ prefix) behind payload split before =
     let same : first ≡ other = cc split in
-    let rest : payloads ++ pending ≡ front ++ payload ∷ behind = cc split in
-    let inner = on_tape payloads pending front behind payload rest (omega (arith, before, ap length same)) in
+    let rest : payloads ++ pending ≡ prefix ++ payload ∷ behind = cc split in
+    let inner = on_tape payloads pending prefix behind payload rest (omega (arith, before, ap length same)) in
     record {
       behind = inner.behind;
       split = ap (λ (p : List ℕ). p ∷ payloads) same ∙ ap (λ (l : List (List ℕ)). other ∷ l) inner.split;
     }
 
 -- and what doesn't pends behind them
-pub record Pends (payloads pending front : List (List ℕ)) (payload : List ℕ) (slot : ℕ) : Type 0 where
+pub record Pends (payloads pending prefix : List (List ℕ)) (payload : List ℕ) (slot : ℕ) : Type 0 where
   pub within : slot < length pending
   pub is : get_or pending slot [] ≡ payload
 
-in_slot : (pending front behind : List (List ℕ)) (payload : List ℕ) (slot : ℕ) → pending ≡ front ++ payload ∷ behind
-    → slot ≡ length front → Pends [] pending front payload slot
+in_slot : (pending prefix behind : List (List ℕ)) (payload : List ℕ) (slot : ℕ) → pending ≡ prefix ++ payload ∷ behind
+    → slot ≡ length prefix → Pends [] pending prefix payload slot
 in_slot [] [] behind payload slot split place = cc split
-in_slot [] (other ∷ front) behind payload slot split place = cc split
+in_slot [] (other ∷ prefix) behind payload slot split place = cc split
 in_slot (first ∷ pending) [] behind payload slot split place =
     let same : first ≡ payload = cc split in
     record {
       within = omega (arith, place);
       is = ap (λ (n : ℕ). get_or (first ∷ pending) n []) place ∙ same;
     }
-in_slot (first ∷ pending) (other ∷ front) behind payload slot split place =
-    let rest : pending ≡ front ++ payload ∷ behind = cc split in
-    let inner = in_slot pending front behind payload (length front) rest refl in
+in_slot (first ∷ pending) (other ∷ prefix) behind payload slot split place =
+    let rest : pending ≡ prefix ++ payload ∷ behind = cc split in
+    let inner = in_slot pending prefix behind payload (length prefix) rest refl in
     record {
       within = omega (arith, place, inner.within);
       is = ap (λ (n : ℕ). get_or (first ∷ pending) n []) place ∙ inner.is;
     }
 
-pub in_pending : (payloads pending front behind : List (List ℕ)) (payload : List ℕ) (slot : ℕ)
-    → payloads ++ pending ≡ front ++ payload ∷ behind → records_length payloads ≤ records_length front
-    → (length payloads ≤ length front → slot + length payloads ≡ length front) → Pends payloads pending front payload
+pub in_pending : (payloads pending prefix behind : List (List ℕ)) (payload : List ℕ) (slot : ℕ)
+    → payloads ++ pending ≡ prefix ++ payload ∷ behind → records_length payloads ≤ records_length prefix
+    → (length payloads ≤ length prefix → slot + length payloads ≡ length prefix) → Pends payloads pending prefix payload
     slot
-in_pending [] pending front behind payload slot split before place =
-    let inner = in_slot pending front behind payload slot split (omega (arith, place (omega arith))) in
+in_pending [] pending prefix behind payload slot split before place =
+    let inner = in_slot pending prefix behind payload slot split (omega (arith, place (omega arith))) in
     record { within = inner.within; is = inner.is }
 in_pending (first ∷ payloads) pending [] behind payload slot split before place = absurd (omega (arith, before))
-in_pending (first ∷ payloads) pending (other ∷ front) behind payload slot split before place =
+in_pending (first ∷ payloads) pending (other ∷ prefix) behind payload slot split before place =
     let same : first ≡ other = cc split in
-    let rest : payloads ++ pending ≡ front ++ payload ∷ behind = cc split in
-    let inner = in_pending payloads pending front behind payload slot rest (omega (arith, before, ap length same))
+    let rest : payloads ++ pending ≡ prefix ++ payload ∷ behind = cc split in
+    let inner = in_pending payloads pending prefix behind payload slot rest (omega (arith, before, ap length same))
     (λ few. omega (arith, place (omega (arith, few)))) in
     record { within = inner.within; is = inner.is }
 

@@ -1,7 +1,7 @@
 -- A segment whose payloads are judged as they are read.
 use Rattle.std.proofs.Common.{◌≡◌, ◌↔◌, inr, ℕ, List, length, take, refl, ap, ◌∙◌, subst, arith}
 use Rattle.std.specs.Prelude.{Ok, Err}
-use Rattle.disk_model.specs.Disk.{ToldFault, content}
+use Rattle.disk_model.specs.Disk.{HasRisen, content}
 use Rattle.disk_model.specs.declared.Disk.{Ghosts}
 use Rattle.tape_journal.specs.Records.{HasEnded, KeepsDisk}
 use Rattle.tape_journal.specs.Segment.{records}
@@ -19,13 +19,13 @@ module _ {D : Type 0} {g : Ghosts D} where
   pub record IsSameDisk (old new : SegmentReader D g) : Type 0 where
     pub honest : g.honest old.disk ↔ g.honest new.disk
     pub log : g.honest old.disk → g.log new.disk ≡ g.log old.disk
-    pub told : g.told new.disk ≡ g.told old.disk
+    pub faults : g.faults_of new.disk ≡ g.faults_of old.disk
 
   pub same_start : (reader : SegmentReader D g) → IsSameDisk reader reader
   same_start reader = record {
     honest = (λ honest. honest, λ honest. honest);
     log = λ honest. refl;
-    told = refl;
+    faults = refl;
   }
 
   -- one record was read, or the segment's end
@@ -34,7 +34,7 @@ module _ {D : Type 0} {g : Ghosts D} where
   same_then old now new value same keeps = record {
     honest = (λ honest. keeps.honest.0 (same.honest.0 honest), λ honest. same.honest.1 (keeps.honest.1 honest));
     log = λ honest. keeps.log (same.honest.0 honest) ∙ same.log honest;
-    told = keeps.quiet ∙ same.told;
+    faults = keeps.quiet ∙ same.faults;
   }
 
   pub same_kept : {T : Type 0} (old new : SegmentReader D g) (value : T) → IsSameDisk old new
@@ -42,9 +42,9 @@ module _ {D : Type 0} {g : Ghosts D} where
   same_kept old new value same = record {
     honest = same.honest;
     log = same.log;
-    later = omega (arith, same.told);
+    later = omega (arith, same.faults);
     cause = λ honest is. absurd (cc is);
-    quiet = same.told;
+    quiet = same.faults;
   }
 
   -- or that failed
@@ -53,10 +53,10 @@ module _ {D : Type 0} {g : Ghosts D} where
   fault_kept old now new fault same keeps = record {
     honest = (λ honest. keeps.honest.0 (same.honest.0 honest), λ honest. same.honest.1 (keeps.honest.1 honest));
     log = λ honest. keeps.log (same.honest.0 honest) ∙ same.log honest;
-    later = omega (arith, same.told, keeps.later);
+    later = omega (arith, same.faults, keeps.later);
     cause = λ honest is.
         let is_disk : fault ≡ Disk = cc is in
-        subst (λ (n : ℕ). ToldFault n (g.told new.disk)) same.told
+        subst (λ (n : ℕ). HasRisen n (g.faults_of new.disk)) same.faults
         (keeps.cause (same.honest.0 honest) (ap Err is_disk));
     quiet = tt;
   }

@@ -10,7 +10,7 @@ use Rattle.std.specs.List.{All}
 use Rattle.ledger_core.specs.declared.note.Note.{Note}
 use Rattle.ledger_core.specs.Batch.{AreBatches, AreLongest, Cuts, IsBatch, IsFullFor, batch_spelling, longest_batch}
 use Rattle.ledger_core.specs.Batch.{notes_of, payload_of, payloads_of}
-use Rattle.ledger_core.specs.BatchLaws.{AreBatches-append, AreBatches-back, AreBatches-front, notes_of-append}
+use Rattle.ledger_core.specs.BatchLaws.{AreBatches-append, AreBatches-back, AreBatches-prefix, notes_of-append}
 use Rattle.ledger_core.specs.BatchLaws.{payloads_of-append}
 use Rattle.ledger_core.specs.CutLaws.{cut-begins, cut-first, cut-joins}
 use Rattle.ledger_core.specs.Note.{IsNote}
@@ -22,28 +22,28 @@ use Rattle.recovery.specs.declared.pending.Pending.{Pending}
 
 -- all but the last, and the last
 pub record Ends {A : Type 0} (xs : List A) : Type 0 where
-  pub front : List A
+  pub prefix : List A
   pub last : A
-  pub is : xs ≡ front ++ last ∷ []
+  pub is : xs ≡ prefix ++ last ∷ []
 
 pub ends : {A : Type 0} (xs : List A) → 0 < length xs → Ends xs
 ends [] some = absurd (omega (arith, some))
-ends (x ∷ []) some = record { front = []; last = x; is = refl }
+ends (x ∷ []) some = record { prefix = []; last = x; is = refl }
 ends (x ∷ y ∷ xs) some =
     let rest = ends (y ∷ xs) (omega arith) in
-    record { front = x ∷ rest.front; last = rest.last; is = ap (λ (l : List _). x ∷ l) rest.is }
+    record { prefix = x ∷ rest.prefix; last = rest.last; is = ap (λ (l : List _). x ∷ l) rest.is }
 
-pub last-length : {A : Type 0} (front : List A) (last : A) → length (front ++ last ∷ []) ≡ length front + 1
-last-length front last = omega (arith, length-append front (last ∷ []))
+pub last-length : {A : Type 0} (prefix : List A) (last : A) → length (prefix ++ last ∷ []) ≡ length prefix + 1
+last-length prefix last = omega (arith, length-append prefix (last ∷ []))
 
-pub set-last : {A : Type 0} (front : List A) (last new : A) → slice_set (front ++ last ∷ []) (length front) new
-    ≡ front ++ new ∷ []
+pub set-last : {A : Type 0} (prefix : List A) (last new : A) → slice_set (prefix ++ last ∷ []) (length prefix) new
+    ≡ prefix ++ new ∷ []
 set-last [] last new = refl
-set-last (x ∷ front) last new = ap (λ (l : List _). x ∷ l) (set-last front last new)
+set-last (x ∷ prefix) last new = ap (λ (l : List _). x ∷ l) (set-last prefix last new)
 
-pub get-last : {A : Type 0} (front : List A) (last : A) → slice_get (front ++ last ∷ []) (length front) ≡ Some last
+pub get-last : {A : Type 0} (prefix : List A) (last : A) → slice_get (prefix ++ last ∷ []) (length prefix) ≡ Some last
 get-last [] last = refl
-get-last (x ∷ front) last = get-last front last
+get-last (x ∷ prefix) last = get-last prefix last
 
 pub last-apart : {A : Type 0} (a b : List A) (x y : A) → a ++ x ∷ [] ≡ b ++ y ∷ [] → (a ≡ b) × (x ≡ y)
 last-apart [] [] x y e = (refl, cc e)
@@ -62,34 +62,34 @@ pub some-apart : {A : Type 0} (x y : A) → Some x ≡ Some y → x ≡ y
 some-apart x y e = cc e
 
 -- the last payload is that of the last batch
-pub record LastBatch (front : List (Vec ℕ Global)) (last : Vec ℕ Global) (batches : List (List Note)) : Type 0 where
+pub record LastBatch (prefix : List (Vec ℕ Global)) (last : Vec ℕ Global) (batches : List (List Note)) : Type 0 where
   pub before : List (List Note)
   pub batch : List Note
   pub is : batches ≡ before ++ batch ∷ []
-  pub front_is : map vec_items front ≡ payloads_of before
+  pub prefix_is : map vec_items prefix ≡ payloads_of before
   pub last_is : last.items ≡ payload_of batch
 
 payloads-length : (batches : List (List Note)) → length (payloads_of batches) ≡ length batches
 payloads-length [] = refl
 payloads-length (batch ∷ batches) = omega (arith, payloads-length batches)
 
-pub last_batch : (front : List (Vec ℕ Global)) (last : Vec ℕ Global) (batches : List (List Note))
-    → map vec_items (front ++ last ∷ []) ≡ payloads_of batches → LastBatch front last batches
-last_batch front last batches same =
-    let split : map vec_items (front ++ last ∷ []) ≡ map vec_items front ++ last.items ∷ [] =
-    map-append (λ (v : Vec ℕ Global). v.items) front (last ∷ []) in
+pub last_batch : (prefix : List (Vec ℕ Global)) (last : Vec ℕ Global) (batches : List (List Note))
+    → map vec_items (prefix ++ last ∷ []) ≡ payloads_of batches → LastBatch prefix last batches
+last_batch prefix last batches same =
+    let split : map vec_items (prefix ++ last ∷ []) ≡ map vec_items prefix ++ last.items ∷ [] =
+    map-append (λ (v : Vec ℕ Global). v.items) prefix (last ∷ []) in
     let some : 0 < length batches =
     omega (
       arith,
       ap length same,
       payloads-length batches,
-      length-map (front ++ last ∷ []) (λ (v : Vec ℕ Global). v.items),
-      last-length front last,
+      length-map (prefix ++ last ∷ []) (λ (v : Vec ℕ Global). v.items),
+      last-length prefix last,
     ) in
     let end = ends batches some in
-    let parts = last-apart (map vec_items front) (payloads_of end.front) last.items (payload_of end.last)
-    (sym split ∙ (same ∙ (ap payloads_of end.is ∙ payloads_of-append end.front (end.last ∷ [])))) in
-    record { before = end.front; batch = end.last; is = end.is; front_is = parts.0; last_is = parts.1 }
+    let parts = last-apart (map vec_items prefix) (payloads_of end.prefix) last.items (payload_of end.last)
+    (sym split ∙ (same ∙ (ap payloads_of end.is ∙ payloads_of-append end.prefix (end.last ∷ [])))) in
+    record { before = end.prefix; batch = end.last; is = end.is; prefix_is = parts.0; last_is = parts.1 }
 
 -- ---- one note more
 
@@ -98,14 +98,14 @@ nil-of [] none = refl
 nil-of (x ∷ xs) none = absurd (omega (arith, none))
 
 -- it joins the last payload
-pub pushed-joins : (pending after : Pending) (notes : List Note) (note : Note) (front : List (Vec ℕ Global))
-    (old new : Vec ℕ Global) → Holds pending notes → IsNote note → pending.payloads.items ≡ front ++ old ∷ []
-    → after.payloads.items ≡ front ++ new ∷ []
+pub pushed-joins : (pending after : Pending) (notes : List Note) (note : Note) (prefix : List (Vec ℕ Global))
+    (old new : Vec ℕ Global) → Holds pending notes → IsNote note → pending.payloads.items ≡ prefix ++ old ∷ []
+    → after.payloads.items ≡ prefix ++ new ∷ []
     → ((batch : List Note) → IsBatch batch → old.items ≡ payload_of batch
     → (length (batch_spelling (batch ++ note ∷ [])) ≤ longest_batch) × (new.items ≡ payload_of (batch ++ note ∷ [])))
     → Holds after (notes ++ note ∷ [])
-pushed-joins pending after notes note front old new holds is was now joins =
-    let last = last_batch front old holds.batches (ap (map vec_items) (sym was) ∙ holds.payloads) in
+pushed-joins pending after notes note prefix old new holds is was now joins =
+    let last = last_batch prefix old holds.batches (ap (map vec_items) (sym was) ∙ holds.payloads) in
     let cut : Cuts notes (last.before ++ last.batch ∷ []) = subst (Cuts notes) last.is holds.cut in
     let batch_is = AreBatches-back last.before (last.batch ∷ []) cut.are in
     let joined = joins last.batch batch_is.0 last.last_is in
@@ -113,8 +113,8 @@ pushed-joins pending after notes note front old new holds is was now joins =
       batches = last.before ++ (last.batch ++ note ∷ []) ∷ [];
       cut = cut-joins notes last.before last.batch note cut is joined.0;
       payloads = ap (map vec_items) now
-          ∙ (map-append (λ (v : Vec ℕ Global). v.items) front (new ∷ [])
-          ∙ (ap (λ (l : List (List ℕ)). l ++ new.items ∷ []) last.front_is
+          ∙ (map-append (λ (v : Vec ℕ Global). v.items) prefix (new ∷ [])
+          ∙ (ap (λ (l : List (List ℕ)). l ++ new.items ∷ []) last.prefix_is
           ∙ (ap (λ (p : List ℕ). payloads_of last.before ++ p ∷ []) joined.1
           ∙ sym (payloads_of-append last.before ((last.batch ++ note ∷ []) ∷ [])))));
     }
@@ -123,7 +123,7 @@ pushed-joins pending after notes note front old new holds is was now joins =
 pub pushed-begins : (pending after : Pending) (notes : List Note) (note : Note) (octets : Vec ℕ Global)
     → Holds pending notes → IsNote note → octets.items ≡ spelling note
     → after.payloads.items ≡ pending.payloads.items ++ octets ∷ []
-    → ((front : List (Vec ℕ Global)) (old : Vec ℕ Global) → pending.payloads.items ≡ front ++ old ∷ []
+    → ((prefix : List (Vec ℕ Global)) (old : Vec ℕ Global) → pending.payloads.items ≡ prefix ++ old ∷ []
     → (batch : List Note) → IsBatch batch → old.items ≡ payload_of batch → IsFullFor batch note)
     → Holds after (notes ++ note ∷ [])
 pushed-begins pending after notes note octets holds is spelled now full =
@@ -139,14 +139,15 @@ pushed-begins pending after notes note octets holds is spelled now full =
       cut = elim (cases_lt 0 (length items)) [
         | inl some ↦
             let end = ends items some in
-            let last = last_batch end.front end.last holds.batches (ap (map vec_items) (sym end.is) ∙ holds.payloads) in
+            let last = last_batch end.prefix end.last holds.batches (ap (map vec_items) (sym end.is)
+            ∙ holds.payloads) in
             let cut : Cuts notes (last.before ++ last.batch ∷ []) = subst (Cuts notes) last.is holds.cut in
             let batch_is = AreBatches-back last.before (last.batch ∷ []) cut.are in
             subst (Cuts (notes ++ note ∷ []))
             (sym (append_assoc last.before (last.batch ∷ []) ((note ∷ []) ∷ []))
             ∙ ap (λ (l : List (List Note)). l ++ (note ∷ []) ∷ []) (sym last.is))
             (cut-begins notes last.before last.batch note cut is
-            (full end.front end.last end.is last.batch batch_is.0 last.last_is))
+            (full end.prefix end.last end.is last.batch batch_is.0 last.last_is))
         | inr none ↦
             let batches : holds.batches ≡ [] =
             nil-of holds.batches (omega (
@@ -167,78 +168,78 @@ pushed-begins pending after notes note octets holds is spelled now full =
 -- what begins, and what joins
 pub begins_so : (items after : List (Vec ℕ Global)) (note : Note) (octets : Vec ℕ Global)
     → octets.items ≡ spelling note → after ≡ items ++ octets ∷ []
-    → ((front : List (Vec ℕ Global)) (old : Vec ℕ Global) → items ≡ front ++ old ∷ []
+    → ((prefix : List (Vec ℕ Global)) (old : Vec ℕ Global) → items ≡ prefix ++ old ∷ []
     → (batch : List Note) → IsBatch batch → old.items ≡ payload_of batch → IsFullFor batch note)
     → Begins (map vec_items items) (map vec_items after) note
 begins_so items after note octets spelled now full = (
   ap (map vec_items) now
       ∙ (map-append (λ (v : Vec ℕ Global). v.items) items (octets ∷ [])
       ∙ ap (λ (p : List ℕ). map vec_items items ++ p ∷ []) spelled),
-  λ front batch is split.
+  λ prefix batch is split.
       let some : 0 < length items =
       omega (
         arith,
         ap length split,
-        length-append front (payload_of batch ∷ []),
+        length-append prefix (payload_of batch ∷ []),
         length-map items (λ (v : Vec ℕ Global). v.items),
       ) in
       let end = ends items some in
-      let parts = last-apart (map vec_items end.front) front end.last.items (payload_of batch)
-      (sym (map-append (λ (v : Vec ℕ Global). v.items) end.front (end.last ∷ []))
+      let parts = last-apart (map vec_items end.prefix) prefix end.last.items (payload_of batch)
+      (sym (map-append (λ (v : Vec ℕ Global). v.items) end.prefix (end.last ∷ []))
       ∙ (ap (map vec_items) (sym end.is) ∙ split)) in
-      full end.front end.last end.is batch is parts.1,
+      full end.prefix end.last end.is batch is parts.1,
 )
 
-pub joins_so : (pending : Pending) (after : List (Vec ℕ Global)) (notes : List Note) (note : Note) (front : List (Vec ℕ Global))
-    (old new : Vec ℕ Global) → Holds pending notes → pending.payloads.items ≡ front ++ old ∷ []
-    → after ≡ front ++ new ∷ []
+pub joins_so : (pending : Pending) (after : List (Vec ℕ Global)) (notes : List Note) (note : Note) (prefix : List (Vec ℕ Global))
+    (old new : Vec ℕ Global) → Holds pending notes → pending.payloads.items ≡ prefix ++ old ∷ []
+    → after ≡ prefix ++ new ∷ []
     → ((batch : List Note) → IsBatch batch → old.items ≡ payload_of batch
     → (length (batch_spelling (batch ++ note ∷ [])) ≤ longest_batch) × (new.items ≡ payload_of (batch ++ note ∷ [])))
     → Joins (payloads_in pending) (map vec_items after) note
-joins_so pending after notes note front old new holds was now joins =
-    let last = last_batch front old holds.batches (ap (map vec_items) (sym was) ∙ holds.payloads) in
+joins_so pending after notes note prefix old new holds was now joins =
+    let last = last_batch prefix old holds.batches (ap (map vec_items) (sym was) ∙ holds.payloads) in
     let batch_is = AreBatches-back last.before (last.batch ∷ []) (subst AreBatches last.is holds.cut.are) in
     let joined = joins last.batch batch_is.0 last.last_is in
     record {
-      front = map vec_items front;
+      prefix = map vec_items prefix;
       batch = last.batch;
       is = batch_is.0;
-      was = ap (map vec_items) was ∙ (map-append (λ (v : Vec ℕ Global). v.items) front (old ∷ [])
-          ∙ ap (λ (p : List ℕ). map vec_items front ++ p ∷ []) last.last_is);
+      was = ap (map vec_items) was ∙ (map-append (λ (v : Vec ℕ Global). v.items) prefix (old ∷ [])
+          ∙ ap (λ (p : List ℕ). map vec_items prefix ++ p ∷ []) last.last_is);
       fits = joined.0;
-      now = ap (map vec_items) now ∙ (map-append (λ (v : Vec ℕ Global). v.items) front (new ∷ [])
-          ∙ ap (λ (p : List ℕ). map vec_items front ++ p ∷ []) joined.1);
+      now = ap (map vec_items) now ∙ (map-append (λ (v : Vec ℕ Global). v.items) prefix (new ∷ [])
+          ∙ ap (λ (p : List ℕ). map vec_items prefix ++ p ∷ []) joined.1);
     }
 
 -- ---- each payload fits
 
-pub all-front : (front : List (List ℕ)) (last : List ℕ) (most : ℕ) → All (λ (l : List ℕ). length l ≤ most) (front ++ last ∷ [])
-    → All (λ (l : List ℕ). length l ≤ most) front
-all-front front last most all =
-    subst (All (λ (l : List ℕ). length l ≤ most)) (take_at front (last ∷ []) (length front) refl)
-    (All-take (λ (l : List ℕ). length l ≤ most) (length front) (front ++ last ∷ []) all)
+pub all-prefix : (prefix : List (List ℕ)) (last : List ℕ) (most : ℕ) → All (λ (l : List ℕ). length l ≤ most) (prefix ++ last ∷ [])
+    → All (λ (l : List ℕ). length l ≤ most) prefix
+all-prefix prefix last most all =
+    subst (All (λ (l : List ℕ). length l ≤ most)) (take_at prefix (last ∷ []) (length prefix) refl)
+    (All-take (λ (l : List ℕ). length l ≤ most) (length prefix) (prefix ++ last ∷ []) all)
 
 -- where the last is another that fits
-pub fit-set : (items now front : List (Vec ℕ Global)) (last new : Vec ℕ Global) (most : ℕ)
-    → items ≡ front ++ last ∷ [] → now ≡ front ++ new ∷ [] → length new.items ≤ most
+pub fit-set : (items now prefix : List (Vec ℕ Global)) (last new : Vec ℕ Global) (most : ℕ)
+    → items ≡ prefix ++ last ∷ [] → now ≡ prefix ++ new ∷ [] → length new.items ≤ most
     → All (λ (l : List ℕ). length l ≤ most) (map vec_items items)
     → All (λ (l : List ℕ). length l ≤ most) (map vec_items now)
-fit-set items now front last new most was is fits all =
-    let before : map vec_items items ≡ map vec_items front ++ last.items ∷ [] =
-    ap (map vec_items) was ∙ map-append (λ (v : Vec ℕ Global). v.items) front (last ∷ []) in
-    let behind : map vec_items now ≡ map vec_items front ++ new.items ∷ [] =
-    ap (map vec_items) is ∙ map-append (λ (v : Vec ℕ Global). v.items) front (new ∷ []) in
+fit-set items now prefix last new most was is fits all =
+    let before : map vec_items items ≡ map vec_items prefix ++ last.items ∷ [] =
+    ap (map vec_items) was ∙ map-append (λ (v : Vec ℕ Global). v.items) prefix (last ∷ []) in
+    let behind : map vec_items now ≡ map vec_items prefix ++ new.items ∷ [] =
+    ap (map vec_items) is ∙ map-append (λ (v : Vec ℕ Global). v.items) prefix (new ∷ []) in
     subst (All (λ (l : List ℕ). length l ≤ most)) (sym behind)
-    (All-push (λ (l : List ℕ). length l ≤ most) (map vec_items front) new.items
-    (all-front (map vec_items front) last.items most (subst (All (λ (l : List ℕ). length l ≤ most)) before all)) fits)
+    (All-push (λ (l : List ℕ). length l ≤ most) (map vec_items prefix) new.items
+    (all-prefix (map vec_items prefix) last.items most (subst (All (λ (l : List ℕ). length l ≤ most)) before all)) fits)
 
 -- the last of what was set is what was set
-pub last-set : (now front : List (Vec ℕ Global)) (new last : Vec ℕ Global) → now ≡ front ++ new ∷ []
+pub last-set : (now prefix : List (Vec ℕ Global)) (new last : Vec ℕ Global) → now ≡ prefix ++ new ∷ []
     → slice_get now (length now - 1) ≡ Some last → last ≡ new
-last-set now front new last is found =
-    let place : length now - 1 ≡ length front = omega (arith, ap length is, last-length front new) in
+last-set now prefix new last is found =
+    let place : length now - 1 ≡ length prefix = omega (arith, ap length is, last-length prefix new) in
     some-apart last new (sym found ∙ (ap (λ (n : ℕ). slice_get now n) place
-    ∙ (ap (λ (l : List (Vec ℕ Global)). slice_get l (length front)) is ∙ get-last front new)))
+    ∙ (ap (λ (l : List (Vec ℕ Global)). slice_get l (length prefix)) is ∙ get-last prefix new)))
 
 -- ---- what pends stays, and what is none
 
@@ -262,11 +263,11 @@ holds-none pending none = record {
 pub ends-none : (kept pending : List (List ℕ)) (last next : ℕ) → pending ≡ []
     → next ≡ min (records_length kept) (2 ^ 64 - 1) → EndsAt kept pending last next
 ends-none kept pending last next none here = record {
-  last_is = λ front payload split. absurd (omega (
+  last_is = λ prefix payload split. absurd (omega (
     arith,
     ap length none,
     ap length split,
-    length-append front (payload ∷ []),
+    length-append prefix (payload ∷ []),
   ));
   next_is = here ∙ ap (λ (l : List (List ℕ)). min (records_length l) (2 ^ 64 - 1))
       (sym (ap (λ (l : List (List ℕ)). kept ++ l) none ∙ append-nil kept));
@@ -295,10 +296,10 @@ longest-behind (first ∷ second ∷ before) batch more behind is are whole long
 pub cut-behind : (notes : List Note) (before : List (List Note)) (batch more : List Note) (behind : List (List Note))
     → Cuts notes (before ++ batch ∷ []) → Cuts (batch ++ more) behind → Cuts (notes ++ more) (before ++ behind)
 cut-behind notes before batch more behind cut cut' =
-    let front : AreBatches before = AreBatches-front before (batch ∷ []) cut.are in
+    let prefix : AreBatches before = AreBatches-prefix before (batch ∷ []) cut.are in
     let is : IsBatch batch = (AreBatches-back before (batch ∷ []) cut.are).0 in
     record {
-      are = AreBatches-append before behind front cut'.are;
+      are = AreBatches-append before behind prefix cut'.are;
       longest = longest-behind before batch more behind is cut'.are cut'.whole cut.longest cut'.longest;
       whole = notes_of-append before behind
           ∙ (ap (λ (l : List Note). notes_of before ++ l) cut'.whole
@@ -324,7 +325,7 @@ tail-holds notes batches whole cut is =
     elim (cases_lt 0 (length batches)) [
       | inl some ↦
           let end = ends batches some in
-          let before = end.front in
+          let before = end.prefix in
           let batch = end.last in
           let here : Cuts notes (before ++ batch ∷ []) = subst (Cuts notes) end.is cut in
           let split : whole ≡ payloads_of before ++ payload_of batch ∷ [] =
@@ -381,40 +382,41 @@ tail-holds notes batches whole cut is =
 pub ends-tail : (kept whole : List (List ℕ)) (last next : ℕ) → EndsAt kept whole last next
     → EndsAt (kept ++ take (length whole - 1) whole) (drop (length whole - 1) whole) last next
 ends-tail kept whole last next at =
-    let front = take (length whole - 1) whole in
+    let prefix = take (length whole - 1) whole in
     let back = drop (length whole - 1) whole in
-    let parts : front ++ back ≡ whole = take-append-drop (length whole - 1) whole in
+    let parts : prefix ++ back ≡ whole = take-append-drop (length whole - 1) whole in
     record {
       last_is = λ more payload split.
-          at.last_is (front ++ more) payload
-          (sym parts ∙ (ap (λ (l : List (List ℕ)). front ++ l) split ∙ sym (append_assoc front more (payload ∷ []))))
-          ∙ ap (λ (l : List (List ℕ)). min (records_length l) (2 ^ 64 - 1)) (sym (append_assoc kept front more));
+          at.last_is (prefix ++ more) payload
+          (sym parts ∙ (ap (λ (l : List (List ℕ)). prefix ++ l) split ∙ sym (append_assoc prefix more (payload ∷ []))))
+          ∙ ap (λ (l : List (List ℕ)). min (records_length l) (2 ^ 64 - 1)) (sym (append_assoc kept prefix more));
       next_is = at.next_is ∙ ap (λ (l : List (List ℕ)). min (records_length l) (2 ^ 64 - 1))
-          (ap (λ (l : List (List ℕ)). kept ++ l) (sym parts) ∙ sym (append_assoc kept front back));
+          (ap (λ (l : List (List ℕ)). kept ++ l) (sym parts) ∙ sym (append_assoc kept prefix back));
     }
 
-pub ends-whole : (kept front back : List (List ℕ)) (last next : ℕ) → (length back ≡ 0 → length front ≡ 0)
-    → EndsAt (kept ++ front) back last next → EndsAt kept (front ++ back) last next
-ends-whole kept front back last next some at = record {
+pub ends-whole : (kept prefix back : List (List ℕ)) (last next : ℕ) → (length back ≡ 0 → length prefix ≡ 0)
+    → EndsAt (kept ++ prefix) back last next → EndsAt kept (prefix ++ back) last next
+ends-whole kept prefix back last next some at = record {
   last_is = λ more payload split. elim (cases_lt 0 (length back)) [
     | inl here ↦
         let end = ends back here in
-        let parts = last-apart (front ++ end.front) more end.last payload
-        (append_assoc front end.front (end.last ∷ [])
-        ∙ (ap (λ (l : List (List ℕ)). front ++ l) (sym end.is) ∙ split)) in
-        at.last_is end.front end.last end.is
+        let parts = last-apart (prefix ++ end.prefix) more end.last payload
+        (append_assoc prefix end.prefix (end.last ∷ [])
+        ∙ (ap (λ (l : List (List ℕ)). prefix ++ l) (sym end.is) ∙ split)) in
+        at.last_is end.prefix end.last end.is
         ∙ ap (λ (l : List (List ℕ)). min (records_length l) (2 ^ 64 - 1))
-        (append_assoc kept front end.front ∙ ap (λ (l : List (List ℕ)). kept ++ l) parts.0)
+        (append_assoc kept prefix end.prefix ∙ ap (λ (l : List (List ℕ)). kept ++ l) parts.0)
     | inr none ↦
-        let no_front = some (omega (arith, none)) in
+        let no_prefix = some (omega (arith, none)) in
         absurd (omega (
           arith,
           none,
-          no_front,
+          no_prefix,
           ap length split,
-          length-append front back,
+          length-append prefix back,
           length-append more (payload ∷ []),
         ))
   ];
-  next_is = at.next_is ∙ ap (λ (l : List (List ℕ)). min (records_length l) (2 ^ 64 - 1)) (append_assoc kept front back);
+  next_is = at.next_is ∙ ap (λ (l : List (List ℕ)). min (records_length l) (2 ^ 64 - 1)) (append_assoc kept prefix
+      back);
 }

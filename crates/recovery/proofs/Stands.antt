@@ -18,7 +18,7 @@ use Rattle.ledger_core.specs.Spots.{records_length}
 use Rattle.ledger_core.specs.StateLaws.{after-append, AllLegal-back}
 use Rattle.ledger_core.specs.Note.{AreNotes, IsNote}
 use Rattle.ledger_core.specs.Batch.{AreBatches, notes_of, payload_of, payloads_of}
-use Rattle.ledger_core.specs.BatchLaws.{AreBatches-front, notes_of-append}
+use Rattle.ledger_core.specs.BatchLaws.{AreBatches-prefix, notes_of-append}
 use Rattle.ledger_core.specs.Spelling.{spelling}
 use Rattle.ledger_core.specs.SpellingLaws.{spelling-short}
 use Rattle.ledger_core.specs.State.{State, AllLegal, after}
@@ -53,7 +53,7 @@ notes_of-split batches n =
 
 AreBatches-take : (batches : List (List Note)) (n : ℕ) → AreBatches batches → AreBatches (take n batches)
 AreBatches-take batches n are =
-    AreBatches-front (take n batches) (drop n batches) (subst AreBatches (sym (take-append-drop n batches)) are)
+    AreBatches-prefix (take n batches) (drop n batches) (subst AreBatches (sym (take-append-drop n batches)) are)
 
 pub note_short : (note : Note) → IsNote note → IsShort (spelling note)
 note_short note is = omega (arith, spelling-short note is)
@@ -131,19 +131,19 @@ module _ {D : Type 0} {g : Ghosts D} (tape : Tape D g) (h : History) where
         length-drop h.kept h.notes,
         stands.kept_within,
       ) in
-      let front : take (h.kept + count) h.notes ≡ take h.kept h.notes ++ notes_of first =
+      let prefix : take (h.kept + count) h.notes ≡ take h.kept h.notes ++ notes_of first =
       take-add h.kept count h.notes ∙ ap (λ (l : List Note). take h.kept h.notes ++ l)
       (ap (take count) split ∙ take_at (notes_of first) (notes_of (drop m batches)) count refl) in
       let legal : AreLegal h.base (take (h.kept + count) h.notes) = AreLegal-take h.base h.notes (h.kept + count)
       stands.are_legal in
       let lawful : AllLegal state (notes_of first) =
-      AllLegal-back h.base (take h.kept h.notes) (notes_of first) (subst (AllLegal h.base) front legal.legal) in
+      AllLegal-back h.base (take h.kept h.notes) (notes_of first) (subst (AllLegal h.base) prefix legal.legal) in
       let here : take n (payloads ++ payloads_in tape.pending) ≡ payloads ++ payloads_of first =
       ap (λ (k : ℕ). take k (payloads ++ payloads_in tape.pending)) plus
       ∙ (take-append-add payloads (payloads_in tape.pending) m
       ∙ ap (λ (l : List (List ℕ)). payloads ++ l) (ap (take m) pending.payloads ∙ payloads_of-take batches m)) in
       let left : after state (notes_of first) ≡ after h.base (take (h.kept + count) h.notes) =
-      sym (after-append h.base (take h.kept h.notes) (notes_of first)) ∙ ap (after h.base) (sym front) in
+      sym (after-append h.base (take h.kept h.notes) (notes_of first)) ∙ ap (after h.base) (sym prefix) in
       record {
         count = h.kept + count;
         enough = omega arith;
@@ -195,7 +195,7 @@ pub stands_noted_all : {D : Type 0} {g : Ghosts D} (old new : Tape D g) (h : His
     → StandsFor new (noted_all h notes)
 stands_noted_all {D} {g} old new h notes stands same are legal stepped flushed count holds grows =
     let here : AllLegal (ledger_after h) notes = subst (λ (s : State). AllLegal s notes) stands.ledger legal in
-    let front : take h.kept (h.notes ++ notes) ≡ take h.kept h.notes = take-append-le h.kept h.notes notes
+    let prefix : take h.kept (h.notes ++ notes) ≡ take h.kept h.notes = take-append-le h.kept h.notes notes
     stands.kept_within in
     let back : drop h.kept (h.notes ++ notes) ≡ drop h.kept h.notes ++ notes = drop-append-le h.kept h.notes notes
     stands.kept_within in
@@ -216,7 +216,7 @@ stands_noted_all {D} {g} old new h notes stands same are legal stepped flushed c
             holds = subst (λ (s : Segments D g). Holds s.live w.payloads) (sym same) w.holds;
             restores = subst (λ (s : Segments D g). Restores w.payloads s.generation
                 (after h.base (take h.kept (h.notes ++ notes)))) (sym same)
-                (subst (λ (l : List Note). Restores w.payloads (generation_of old) (after h.base l)) (sym front)
+                (subst (λ (l : List Note). Restores w.payloads (generation_of old) (after h.base l)) (sym prefix)
                 w.restores);
             other = subst (λ (s : Segments D g). EachImage (StaysBehind s.second s.generation) (g.log s.other))
                 (sym same) w.other;

@@ -31,24 +31,24 @@ pub record HasRoom (pending : Pending) (len : ℕ) : Type 0 where
 -- A note came behind these payloads. It begins one of its own, where the last would be too long with it, or joins the last.
 abbrev pub Begins : List (List ℕ) → List (List ℕ) → Note → Type 0
 Begins old new note =
-    (new ≡ old ++ spelling note ∷ []) × ((front : List (List ℕ)) (batch : List Note) → IsBatch batch
-    → old ≡ front ++ payload_of batch ∷ [] → IsFullFor batch note)
+    (new ≡ old ++ spelling note ∷ []) × ((prefix : List (List ℕ)) (batch : List Note) → IsBatch batch
+    → old ≡ prefix ++ payload_of batch ∷ [] → IsFullFor batch note)
 
 pub record Joins (old new : List (List ℕ)) (note : Note) : Type 0 where
-  pub front : List (List ℕ)
+  pub prefix : List (List ℕ)
   pub batch : List Note
   pub is : IsBatch batch
-  pub was : old ≡ front ++ payload_of batch ∷ []
+  pub was : old ≡ prefix ++ payload_of batch ∷ []
   pub fits : length (batch_spelling (batch ++ note ∷ [])) ≤ longest_batch
-  pub now : new ≡ front ++ payload_of (batch ++ note ∷ []) ∷ []
+  pub now : new ≡ prefix ++ payload_of (batch ++ note ∷ []) ∷ []
 
 abbrev pub Grows : List (List ℕ) → List (List ℕ) → Note → Type 0
 Grows old new note = Begins old new note ⊎ Joins old new note
 
 -- Where the last record of what pends begins, and where one behind all of it will, behind those that are on the tape.
 pub record EndsAt (kept pending : List (List ℕ)) (last next : ℕ) : Type 0 where
-  pub last_is : (front : List (List ℕ)) (payload : List ℕ) → pending ≡ front ++ payload ∷ []
-      → last ≡ min (records_length (kept ++ front)) (2 ^ 64 - 1)
+  pub last_is : (prefix : List (List ℕ)) (payload : List ℕ) → pending ≡ prefix ++ payload ∷ []
+      → last ≡ min (records_length (kept ++ prefix)) (2 ^ 64 - 1)
   pub next_is : next ≡ min (records_length (kept ++ pending)) (2 ^ 64 - 1)
 
 -- A note has its place in these payloads that pend, and the ledger still tells where the others stand.

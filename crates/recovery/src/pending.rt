@@ -85,8 +85,8 @@ impl Pending {
         ensures fits { (last : Vec ℕ Global)
             → slice_get self.now.payloads.items (length self.now.payloads.items - 1) ≡ Some last
             → IsTrue result → 5 + length (body_of last.items) + len ≤ longest_batch }
-        ensures joins { (front : List (Vec ℕ Global)) (last : Vec ℕ Global)
-            → self.now.payloads.items ≡ front ++ last ∷ [] → (batch : List Note) (note : Note)
+        ensures joins { (prefix : List (Vec ℕ Global)) (last : Vec ℕ Global)
+            → self.now.payloads.items ≡ prefix ++ last ∷ [] → (batch : List Note) (note : Note)
             → IsBatch batch → last.items ≡ payload_of batch → len ≡ length (spelling note)
             → IsTrue result ↔ length (batch_spelling (batch ++ note ∷ [])) ≤ longest_batch }
     {
@@ -99,8 +99,8 @@ impl Pending {
     // How long the last payload is with a note of so many octets behind it.
     pub(crate) fn joined(&self, len: usize) -> usize
         requires { len ≤ 1024 }
-        ensures { (front : List (Vec ℕ Global)) (last : Vec ℕ Global)
-            → self.now.payloads.items ≡ front ++ last ∷ [] → (batch : List Note) (note : Note)
+        ensures { (prefix : List (Vec ℕ Global)) (last : Vec ℕ Global)
+            → self.now.payloads.items ≡ prefix ++ last ∷ [] → (batch : List Note) (note : Note)
             → IsBatch batch → last.items ≡ payload_of batch → len ≡ length (spelling note)
             → result ≡ length (batch_spelling (batch ++ note ∷ [])) }
     {
@@ -196,9 +196,9 @@ impl Pending {
         ensures ends { (kept : List (List ℕ)) (notes : List Note) → Holds self.old notes
             → EndsAt kept (payloads_in self.old) last next
             → IfOk result (λ r. EndsAt kept (payloads_in self.new) r.0 r.1) }
-        ensures indexes { (kept : ℕ) (front : List (List ℕ)) (ledger : Ledger) (notes : List Note)
-            → Holds self.old notes → Indexes kept (front ++ payloads_in self.old) ledger
-            → OnOk result (Indexes kept (front ++ payloads_in self.new) ledger) }
+        ensures indexes { (kept : ℕ) (prefix : List (List ℕ)) (ledger : Ledger) (notes : List Note)
+            → Holds self.old notes → Indexes kept (prefix ++ payloads_in self.old) ledger
+            → OnOk result (Indexes kept (prefix ++ payloads_in self.new) ledger) }
         ensures note { OnOk result (IsNote note.now) }
         ensures count { OnOk result (self.new.count ≡ self.old.count + 1) }
         ensures more { OnOk result
@@ -229,9 +229,9 @@ impl Pending {
         ensures ends { (kept : List (List ℕ)) (notes : List Note) → Holds self.old notes
             → EndsAt kept (payloads_in self.old) last next
             → IfOk result (λ r. EndsAt kept (payloads_in self.new) r.0 r.1) }
-        ensures indexes { (kept : ℕ) (front : List (List ℕ)) (ledger : Ledger) (notes : List Note)
-            → Holds self.old notes → Indexes kept (front ++ payloads_in self.old) ledger
-            → OnOk result (Indexes kept (front ++ payloads_in self.new) ledger) }
+        ensures indexes { (kept : ℕ) (prefix : List (List ℕ)) (ledger : Ledger) (notes : List Note)
+            → Holds self.old notes → Indexes kept (prefix ++ payloads_in self.old) ledger
+            → OnOk result (Indexes kept (prefix ++ payloads_in self.new) ledger) }
         ensures notes { OnOk result (AreNotes (drops cause keys.now)) }
         ensures count { OnOk result (self.new.count ≡ self.old.count + length keys.now) }
         ensures more { OnOk result
@@ -303,9 +303,9 @@ impl Pending {
         ensures ends { (kept : List (List ℕ)) (notes : List Note) → Holds self.old notes
             → EndsAt kept (payloads_in self.old) last next
             → IfOk result (λ r. EndsAt kept (payloads_in self.new) r.0 r.1) }
-        ensures indexes { (kept : ℕ) (front : List (List ℕ)) (ledger : Ledger) (notes : List Note)
-            → Holds self.old notes → Indexes kept (front ++ payloads_in self.old) ledger
-            → OnOk result (Indexes kept (front ++ payloads_in self.new) ledger) }
+        ensures indexes { (kept : ℕ) (prefix : List (List ℕ)) (ledger : Ledger) (notes : List Note)
+            → Holds self.old notes → Indexes kept (prefix ++ payloads_in self.old) ledger
+            → OnOk result (Indexes kept (prefix ++ payloads_in self.new) ledger) }
         ensures notes { OnOk result (AreNotes (drops cause keys.now)) }
         ensures count { OnOk result (self.new.count ≡ self.old.count + length keys.now) }
         ensures stays { OnErr result (payloads_in self.new ≡ payloads_in self.old) }

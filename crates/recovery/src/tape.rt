@@ -109,7 +109,7 @@ impl<D: Disk> Tape<D> {
     ghost use Rattle.recovery.specs.Pairs.{placed};
     ghost use Rattle.recovery.specs.Words.{AreHonest, Continues, disks_of};
     ghost use Rattle.recovery.specs.Words.{flushed_of, generation_of, ledger_of, place_of};
-    ghost use Rattle.recovery.specs.Words.{pending_of, refused_log, rotated_length, told_of};
+    ghost use Rattle.recovery.specs.Words.{pending_of, refused_log, rotated_length, faults_of};
     ghost use Rattle.recovery.specs.Words.{IsBroken, IsDue, IsSame, RefusesNote};
     ghost use Rattle.recovery.specs.Words.{IsOpenFault, IsNoteFault};
     ghost use Rattle.recovery.specs.Tape.{StandsFor, contents_of};
@@ -137,7 +137,7 @@ impl<D: Disk> Tape<D> {
 
         // Each fault has its cause; refused disks are as they were, but for a `Disk` of the repair.
         ensures causes { D.honest a → D.honest b
-            → IfErr result (HasCause (D.log a, D.log b) (D.told a, D.told b)) }
+            → IfErr result (HasCause (D.log a, D.log b) (D.faults_of a, D.faults_of b)) }
         ensures untouched { D.honest a → D.honest b → IfErr result
             (λ e. e.fault ≢ TapeFault.Disk → refused_log e ≡ (D.log a, D.log b)) }
         ensures kinds { IfErr result (λ e. IsOpenFault e.fault) }
@@ -145,8 +145,8 @@ impl<D: Disk> Tape<D> {
         ensures fresh { IfOk result IsFresh }
         ensures honest { MatchResult result (λ tape. (D.honest a × D.honest b) ↔ AreHonest tape)
             (λ e. (D.honest a × D.honest b) ↔ (D.honest e.a × D.honest e.b)) }
-        ensures quiet { MatchResult result (λ tape. told_of tape ≡ (D.told a, D.told b))
-            (λ e. (D.told a ≤ D.told e.a) × (D.told b ≤ D.told e.b)) }
+        ensures quiet { MatchResult result (λ tape. faults_of tape ≡ (D.faults_of a, D.faults_of b))
+            (λ e. (D.faults_of a ≤ D.faults_of e.a) × (D.faults_of b ≤ D.faults_of e.b)) }
     {
         match is_second_live(alloc, &mut a, &mut b) {
             Ok(false) => Tape::open_live(alloc, false, a, b),
@@ -172,7 +172,7 @@ impl<D: Disk> Tape<D> {
             result }
         ensures causes { D.honest live → D.honest other
             → IfErr result (HasCause (placed second (D.log live) (D.log other))
-            (placed second (D.told live) (D.told other))) }
+            (placed second (D.faults_of live) (D.faults_of other))) }
         ensures untouched { D.honest live → D.honest other → IfErr result
             (λ e. e.fault ≢ TapeFault.Disk
             → refused_log e ≡ (placed second (D.log live) (D.log other))) }
@@ -182,9 +182,9 @@ impl<D: Disk> Tape<D> {
             (λ tape. (D.honest live × D.honest other) ↔ AreHonest tape)
             (λ e. (D.honest live × D.honest other) ↔ (D.honest e.a × D.honest e.b)) }
         ensures quiet { MatchResult result
-            (λ tape. told_of tape ≡ (placed second (D.told live) (D.told other)))
-            (λ e. ((placed second (D.told live) (D.told other)).0 ≤ D.told e.a)
-            × ((placed second (D.told live) (D.told other)).1 ≤ D.told e.b)) }
+            (λ tape. faults_of tape ≡ (placed second (D.faults_of live) (D.faults_of other)))
+            (λ e. ((placed second (D.faults_of live) (D.faults_of other)).0 ≤ D.faults_of e.a)
+            × ((placed second (D.faults_of live) (D.faults_of other)).1 ≤ D.faults_of e.b)) }
     {
         let segment = if second { 1 } else { 0 };
         let mut reader = match SegmentReader::begin(alloc, live) {
@@ -474,7 +474,7 @@ impl<D: Disk> Tape<D> {
         ensures refuses { RefusesFlush self.old self.new result }
         ensures ledger { ledger_of self.new ≡ ledger_of self.old }
         ensures continues { Continues self.old self.new }
-        ensures quiet { OnOk result (told_of self.new ≡ told_of self.old) }
+        ensures quiet { OnOk result (faults_of self.new ≡ faults_of self.old) }
     {
         if self.segments.live.is_broken() {
             return Err(TapeFault::Broken);
@@ -501,7 +501,7 @@ impl<D: Disk> Tape<D> {
         ensures refuses { RefusesFlush self.old self.new result }
         ensures ledger { ledger_of self.new ≡ ledger_of self.old }
         ensures continues { Continues self.old self.new }
-        ensures quiet { OnOk result (told_of self.new ≡ told_of self.old) }
+        ensures quiet { OnOk result (faults_of self.new ≡ faults_of self.old) }
     {
         match self.segments.live.append_all(self.pending.payloads()) {
             Ok(()) => {
@@ -545,7 +545,7 @@ impl<D: Disk> Tape<D> {
         ensures refuses { RefusesRotation self.old self.new result }
         ensures ledger { ledger_of self.new ≡ ledger_of self.old }
         ensures continues { Continues self.old self.new }
-        ensures quiet { OnOk result (told_of self.new ≡ told_of self.old) }
+        ensures quiet { OnOk result (faults_of self.new ≡ faults_of self.old) }
     {
         if self.segments.live.is_broken() {
             return Err(TapeFault::Broken);
@@ -676,7 +676,7 @@ impl<D: Disk> Tape<D> {
     /// of the tape.
     pub fn into_disks(self) -> (D, D)
         ensures disks { result ≡ disks_of self }
-        ensures told { (D.told result.0, D.told result.1) ≡ told_of self }
+        ensures faults { (D.faults_of result.0, D.faults_of result.1) ≡ faults_of self }
         ensures survives { (h : History) → StandsFor self h → D.honest result.0 × D.honest result.1
             × EachTape (Survives h) (D.log result.0, D.log result.1) }
     {

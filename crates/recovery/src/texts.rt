@@ -81,7 +81,7 @@ impl<D: Disk> Tape<D> {
     ghost use Rattle.recovery.specs.Tape.{IsRead, StandsFor};
     ghost use Rattle.recovery.specs.Texts.{HasLengths, IsAt};
     ghost use Rattle.recovery.specs.Words.{IsBroken, IsDebtFault, OneHasRisen, Writes, generation_of, ledger_of};
-    ghost use Rattle.recovery.specs.Words.{live_segment, told_of};
+    ghost use Rattle.recovery.specs.Words.{live_segment, faults_of};
 
     /// The debt of this key, where it is owed. Its note is read back from the disk, unless it pends. Logarithmic in
     /// what is owed, and one reading of the disk.
@@ -100,10 +100,11 @@ impl<D: Disk> Tape<D> {
         ensures refuses { IfErr result
             (λ e. e ≢ TapeFault.Broken → IsOwed (ledger_of self.old) key) }
         ensures cause { (h : History) → StandsFor self.old h
-            → IsErrOf result TapeFault.Disk → OneHasRisen (told_of self.old) (told_of self.new) }
+            → IsErrOf result TapeFault.Disk → OneHasRisen (faults_of self.old)
+            (faults_of self.new) }
         ensures kinds { IfErr result IsDebtFault }
         ensures reads { IsRead self.old self.new }
-        ensures quiet { OnOk result (told_of self.new ≡ told_of self.old) }
+        ensures quiet { OnOk result (faults_of self.new ≡ faults_of self.old) }
     {
         if self.segments.live.is_broken() {
             return Err(TapeFault::Broken);
@@ -129,10 +130,11 @@ impl<D: Disk> Tape<D> {
             → debt_at (ledger_of self.old) key ≡ Some debt → v.items ≡ spelling (owe debt)) }
         ensures spelled { IfOk result (λ v. SpellsOwe v.items key spot.token_len spot.id_len) }
         ensures cause { (h : History) → StandsFor self.old h
-            → IsErrOf result TapeFault.Disk → OneHasRisen (told_of self.old) (told_of self.new) }
+            → IsErrOf result TapeFault.Disk → OneHasRisen (faults_of self.old)
+            (faults_of self.new) }
         ensures kinds { IfErr result IsReadFault }
         ensures reads { IsRead self.old self.new }
-        ensures quiet { OnOk result (told_of self.new ≡ told_of self.old) }
+        ensures quiet { OnOk result (faults_of self.new ≡ faults_of self.old) }
     {
         let note = match self.note_octets(key, spot) {
             Ok(note) => note,
@@ -154,10 +156,11 @@ impl<D: Disk> Tape<D> {
             → IfOk result (λ v. v.items ≡ spelling (owe debt)) }
         ensures cause { (h : History) (debt : Owing) → StandsFor self.old h
             → IsAt self.old.ledger key spot debt
-            → IsErrOf result TapeFault.Disk → OneHasRisen (told_of self.old) (told_of self.new) }
+            → IsErrOf result TapeFault.Disk → OneHasRisen (faults_of self.old)
+            (faults_of self.new) }
         ensures kinds { IfErr result IsReadFault }
         ensures reads { IsRead self.old self.new }
-        ensures quiet { OnOk result (told_of self.new ≡ told_of self.old) }
+        ensures quiet { OnOk result (faults_of self.new ≡ faults_of self.old) }
     {
         let len = owed_len(key, spot.token_len, spot.id_len);
         if spot.at >= end_of(&self.segments.live) {
@@ -183,17 +186,18 @@ impl<D: Disk> Tape<D> {
     // So many octets at most, from this one on, of the payload of the record at this offset of the disk.
     fn part_of(&mut self, at: u64, from: u32, most: u32) -> Result<Vec<u8>, TapeFault>
         requires works { IsBroken self.old → ⊥ }
-        ensures part { (front more : List (List ℕ)) (payload : List ℕ)
-            → Holds (live_segment self.old) (front ++ payload ∷ more)
-            → at ≡ length (records front)
+        ensures part { (prefix more : List (List ℕ)) (payload : List ℕ)
+            → Holds (live_segment self.old) (prefix ++ payload ∷ more)
+            → at ≡ length (records prefix)
             → IfOk result (λ v. v.items ≡ take most (drop from payload)) }
-        ensures cause { (front more : List (List ℕ)) (payload : List ℕ)
-            → Holds (live_segment self.old) (front ++ payload ∷ more)
-            → at ≡ length (records front)
-            → IsErrOf result TapeFault.Disk → OneHasRisen (told_of self.old) (told_of self.new) }
+        ensures cause { (prefix more : List (List ℕ)) (payload : List ℕ)
+            → Holds (live_segment self.old) (prefix ++ payload ∷ more)
+            → at ≡ length (records prefix)
+            → IsErrOf result TapeFault.Disk → OneHasRisen (faults_of self.old)
+            (faults_of self.new) }
         ensures kinds { IfErr result IsReadFault }
         ensures reads { IsRead self.old self.new }
-        ensures quiet { OnOk result (told_of self.new ≡ told_of self.old) }
+        ensures quiet { OnOk result (faults_of self.new ≡ faults_of self.old) }
     {
         match self.segments.live.part_at(at, from, most) {
             Ok(part) => Ok(part),
@@ -240,10 +244,11 @@ impl<D: Disk> Tape<D> {
             (Writes self.old) }
         ensures some { IfOk result (λ gathered. 0 < octets_in gathered) }
         ensures cause { (h : History) → StandsFor self.old h
-            → IsErrOf result TapeFault.Disk → OneHasRisen (told_of self.old) (told_of self.new) }
+            → IsErrOf result TapeFault.Disk → OneHasRisen (faults_of self.old)
+            (faults_of self.new) }
         ensures kinds { IfErr result IsReadFault }
         ensures reads { IsRead self.old self.new }
-        ensures quiet { OnOk result (told_of self.new ≡ told_of self.old) }
+        ensures quiet { OnOk result (faults_of self.new ≡ faults_of self.old) }
     {
         self.read_ahead()?;
         let read = self.read_each(spots);
@@ -254,7 +259,7 @@ impl<D: Disk> Tape<D> {
     // Has the segment that lives read ahead.
     fn read_ahead(&mut self) -> Result<(), AllocError>
         ensures reads { IsRead self.old self.new }
-        ensures told { told_of self.new ≡ told_of self.old }
+        ensures faults { faults_of self.new ≡ faults_of self.old }
     {
         self.segments.live.read_ahead()
     }
@@ -262,7 +267,7 @@ impl<D: Disk> Tape<D> {
     // Has it read ahead no more.
     fn read_singly(&mut self)
         ensures reads { IsRead self.old self.new }
-        ensures told { told_of self.new ≡ told_of self.old }
+        ensures faults { faults_of self.new ≡ faults_of self.old }
     {
         self.segments.live.read_singly();
     }
@@ -277,10 +282,11 @@ impl<D: Disk> Tape<D> {
             (Writes self.old) }
         ensures some { IfOk result (λ gathered. 0 < octets_in gathered) }
         ensures cause { (h : History) → StandsFor self.old h
-            → IsErrOf result TapeFault.Disk → OneHasRisen (told_of self.old) (told_of self.new) }
+            → IsErrOf result TapeFault.Disk → OneHasRisen (faults_of self.old)
+            (faults_of self.new) }
         ensures kinds { IfErr result IsReadFault }
         ensures reads { IsRead self.old self.new }
-        ensures quiet { OnOk result (told_of self.new ≡ told_of self.old) }
+        ensures quiet { OnOk result (faults_of self.new ≡ faults_of self.old) }
     {
         let mut gathered = Gathered::with_room(self.alloc, self.rotated_len() as usize)?;
         let base = self.ledger.base(self.segments.generation + 1);

@@ -31,8 +31,8 @@ value_more xs i h l =
     omega (arith, d, e)
 
 -- the first digits never write more than all
-pub value_front : (xs : List ℕ) (i : ℕ) → digits_value 10 (take i xs) ≤ digits_value 10 xs
-value_front xs i = digits_value-take-le 10 xs i (omega arith)
+pub value_prefix : (xs : List ℕ) (i : ℕ) → digits_value 10 (take i xs) ≤ digits_value 10 xs
+value_prefix xs i = digits_value-take-le 10 xs i (omega arith)
 
 -- a number before digits counts at least for its place
 pub after_least : (n : ℕ) (xs : List ℕ) → n * 10 ^ length xs ≤ digits_value_after 10 n xs

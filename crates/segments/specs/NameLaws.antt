@@ -52,11 +52,11 @@ first_after m n (x ∷ xs) (y ∷ ys) l a b h =
         | inl below ↦ inl below
         | inr above ↦ inr (omega (arith, less, a.0, b.0), (0, refl, omega (arith, less, a.0, b.0, f, g)))
       ]
-      | inr (value, (at, front, less)) ↦
+      | inr (value, (at, prefix, less)) ↦
           let first : x ≡ y = omega (arith, value, f, g, a.0, b.0) in
           inr (
             omega (arith, value, a.0, b.0),
-            (suc at, ap (λ z. z ∷ take at xs) first ∙ ap (λ zs. y ∷ zs) front, less),
+            (suc at, ap (λ z. z ∷ take at xs) first ∙ ap (λ zs. y ∷ zs) prefix, less),
           )
     ]
 

@@ -7,30 +7,30 @@ use Rattle.std.proofs.lemmas.List.{take_more}
 use Rattle.std.specs.Prelude.{flat_map}
 use Rattle.std.proofs.KnownBytes.{Appends-nil, Appends-trans, Appends-kept}
 use Rattle.std.specs.Io.KnownBytes.{Appends, Keeps, WriteAppends}
-use Rattle.status.specs.Fronts.{AppendsFront}
+use Rattle.status.specs.Prefixes.{AppendsPrefix}
 
--- nothing of a text is a front of it
-pub none_of : (a : Option (List ℕ)) (text : List ℕ) → AppendsFront a a text
-none_of a text = record { front = []; rest = text; whole = refl; out = Appends-nil a }
+-- nothing of a text is a prefix of it
+pub none_of : (a : Option (List ℕ)) (text : List ℕ) → AppendsPrefix a a text
+none_of a text = record { prefix = []; rest = text; whole = refl; out = Appends-nil a }
 
--- a front of the first part is a front of the whole
-pub front_before : (a b : Option (List ℕ)) (first rest : List ℕ) → AppendsFront a b first
-    → AppendsFront a b (first ++ rest)
-front_before a b first rest h = record {
-  front = h.front;
+-- a prefix of the first part is a prefix of the whole
+pub prefix_before : (a b : Option (List ℕ)) (first rest : List ℕ) → AppendsPrefix a b first
+    → AppendsPrefix a b (first ++ rest)
+prefix_before a b first rest h = record {
+  prefix = h.prefix;
   rest = h.rest ++ rest;
-  whole = ap (λ l. l ++ rest) h.whole ∙ append_assoc h.front h.rest rest;
+  whole = ap (λ l. l ++ rest) h.whole ∙ append_assoc h.prefix h.rest rest;
   out = h.out;
 }
 
--- the first part, and a front of the rest
-pub front_after : (a b c : Option (List ℕ)) (first rest : List ℕ) → Appends a b first → AppendsFront b c rest
-    → AppendsFront a c (first ++ rest)
-front_after a b c first rest p h = record {
-  front = first ++ h.front;
+-- the first part, and a prefix of the rest
+pub prefix_after : (a b c : Option (List ℕ)) (first rest : List ℕ) → Appends a b first → AppendsPrefix b c rest
+    → AppendsPrefix a c (first ++ rest)
+prefix_after a b c first rest p h = record {
+  prefix = first ++ h.prefix;
   rest = h.rest;
-  whole = ap (λ l. first ++ l) h.whole ∙ sym (append_assoc first h.front h.rest);
-  out = Appends-trans a b c first h.front p h.out;
+  whole = ap (λ l. first ++ l) h.whole ∙ sym (append_assoc first h.prefix h.rest);
+  out = Appends-trans a b c first h.prefix p h.out;
 }
 
 -- the whole is written by its parts
@@ -40,53 +40,53 @@ both a b c first rest p q = Appends-trans a b c first rest p q
 
 -- so much of a text was written that this is its rest
 pub record Leaves (old new : Option (List ℕ)) (text rest : List ℕ) : Type 0 where
-  pub front : List ℕ
-  pub whole : text ≡ front ++ rest
-  pub out : Appends old new front
+  pub prefix : List ℕ
+  pub whole : text ≡ prefix ++ rest
+  pub out : Appends old new prefix
 
 pub at_start : (a : Option (List ℕ)) (text : List ℕ) → Leaves a a text text
-at_start a text = record { front = []; whole = refl; out = Appends-nil a }
+at_start a text = record { prefix = []; whole = refl; out = Appends-nil a }
 
 -- a write took some of the rest
 pub leaves_less : (a b c : Option (List ℕ)) (text rest : List ℕ) (n : ℕ) → Leaves a b text rest
     → Appends b c (take n rest)
     → Leaves a c text (drop n rest)
 leaves_less a b c text rest n h p = record {
-  front = h.front ++ take n rest;
+  prefix = h.prefix ++ take n rest;
   whole =
-      h.whole ∙ ap (λ l. h.front ++ l) (sym (take-append-drop n rest))
-      ∙ sym (append_assoc h.front (take n rest) (drop n rest));
-  out = Appends-trans a b c h.front (take n rest) h.out p;
+      h.whole ∙ ap (λ l. h.prefix ++ l) (sym (take-append-drop n rest))
+      ∙ sym (append_assoc h.prefix (take n rest) (drop n rest));
+  out = Appends-trans a b c h.prefix (take n rest) h.out p;
 }
 
 pub at_end : (a b : Option (List ℕ)) (text rest : List ℕ) → Leaves a b text rest → length rest ≡ 0
     → Appends a b text
-at_end a b text [] h e = subst (λ l. Appends a b l) (sym (h.whole ∙ append-nil h.front)) h.out
+at_end a b text [] h e = subst (λ l. Appends a b l) (sym (h.whole ∙ append-nil h.prefix)) h.out
 at_end a b text (x ∷ xs) h e = absurd (omega (arith, e))
 
-pub rest_left : (a b : Option (List ℕ)) (text rest : List ℕ) → Leaves a b text rest → AppendsFront a b text
-rest_left a b text rest h = record { front = h.front; rest = rest; whole = h.whole; out = h.out }
+pub rest_left : (a b : Option (List ℕ)) (text rest : List ℕ) → Leaves a b text rest → AppendsPrefix a b text
+rest_left a b text rest h = record { prefix = h.prefix; rest = rest; whole = h.whole; out = h.out }
 
--- a front of the rest came out
-pub leaves_front : (a b c : Option (List ℕ)) (text rest : List ℕ) → Leaves a b text rest → AppendsFront b c rest
-    → AppendsFront a c text
-leaves_front a b c text rest h p = record {
-  front = h.front ++ p.front;
+-- a prefix of the rest came out
+pub leaves_prefix : (a b c : Option (List ℕ)) (text rest : List ℕ) → Leaves a b text rest → AppendsPrefix b c rest
+    → AppendsPrefix a c text
+leaves_prefix a b c text rest h p = record {
+  prefix = h.prefix ++ p.prefix;
   rest = p.rest;
-  whole = h.whole ∙ ap (λ l. h.front ++ l) p.whole ∙ sym (append_assoc h.front p.front p.rest);
-  out = Appends-trans a b c h.front p.front h.out p.out;
+  whole = h.whole ∙ ap (λ l. h.prefix ++ l) p.whole ∙ sym (append_assoc h.prefix p.prefix p.rest);
+  out = Appends-trans a b c h.prefix p.prefix h.out p.out;
 }
 
 -- what a writer kept is no octet more
 pub kept_none : (a b : Option (List ℕ)) → Keeps a b → Appends a b []
 kept_none a b p = Appends-kept a a b [] (Appends-nil a) p
 
--- what came out of one write is a front
-pub write_front : {E : Type 0} (a b : Option (List ℕ)) (text : List ℕ) (r : Result ℕ E) → WriteAppends a b r text
-    → AppendsFront a b text
-write_front a b text (Ok n) p =
-    record { front = take n text; rest = drop n text; whole = sym (take-append-drop n text); out = p }
-write_front a b text (Err e) p = record { front = []; rest = text; whole = refl; out = kept_none a b p }
+-- what came out of one write is a prefix
+pub write_prefix : {E : Type 0} (a b : Option (List ℕ)) (text : List ℕ) (r : Result ℕ E) → WriteAppends a b r text
+    → AppendsPrefix a b text
+write_prefix a b text (Ok n) p =
+    record { prefix = take n text; rest = drop n text; whole = sym (take-append-drop n text); out = p }
+write_prefix a b text (Err e) p = record { prefix = []; rest = text; whole = refl; out = kept_none a b p }
 
 pub on_err : {A E P : Type 0} (r : Result A E) → P → OnErr r P
 on_err (Ok x) p = tt
@@ -115,15 +115,15 @@ next_whole a b c f xs i x h e p q =
     subst (Appends a c) (ap (λ y. flat_map f (take i xs) ++ f y) e ∙ sym (next_text f xs i x h))
     (both a b c (flat_map f (take i xs)) (f x) p q)
 
--- the lines so far came out, and then a front of the next one
-pub next_front : {X : Type 0} (a b c : Option (List ℕ)) (f : X → List ℕ) (xs : List X) (i : ℕ) (x : X) → i < length xs
-    → x ≡ get_or xs i x → Appends a b (flat_map f (take i xs)) → AppendsFront b c (f x)
-    → AppendsFront a c (flat_map f xs)
-next_front a b c f xs i x h e p q =
+-- the lines so far came out, and then a prefix of the next one
+pub next_prefix : {X : Type 0} (a b c : Option (List ℕ)) (f : X → List ℕ) (xs : List X) (i : ℕ) (x : X) → i < length xs
+    → x ≡ get_or xs i x → Appends a b (flat_map f (take i xs)) → AppendsPrefix b c (f x)
+    → AppendsPrefix a c (flat_map f xs)
+next_prefix a b c f xs i x h e p q =
     let rest = flat_map f (drop (i + 1) xs) in
     let all : flat_map f xs ≡ flat_map f (take (i + 1) xs) ++ rest =
     ap (flat_map f) (sym (take-append-drop (i + 1) xs)) ∙ flat_map-append f (take (i + 1) xs) (drop (i + 1) xs) in
     let next : flat_map f (take (i + 1) xs) ≡ flat_map f (take i xs) ++ f x =
     next_text f xs i x h ∙ ap (λ y. flat_map f (take i xs) ++ f y) (sym e) in
-    subst (AppendsFront a c) (sym (all ∙ ap (λ l. l ++ rest) next))
-    (front_before a c (flat_map f (take i xs) ++ f x) rest (front_after a b c (flat_map f (take i xs)) (f x) p q))
+    subst (AppendsPrefix a c) (sym (all ∙ ap (λ l. l ++ rest) next))
+    (prefix_before a c (flat_map f (take i xs) ++ f x) rest (prefix_after a b c (flat_map f (take i xs)) (f x) p q))

@@ -1,7 +1,7 @@
 // The columns of a line: a text padded with spaces, after it or before it, to the column's width.
 ghost use Rattle.std.specs.Prelude.{◌≤◌, OnOk, OnErr};
 ghost use Rattle.std.specs.Io.KnownBytes.{Appends};
-ghost use Rattle.status.specs.Fronts.{AppendsFront};
+ghost use Rattle.status.specs.Prefixes.{AppendsPrefix};
 ghost use Rattle.status.specs.Report.{left, number, spaces};
 
 use crate::lines::ReportFault;
@@ -23,8 +23,8 @@ pub(crate) fn put_name<W: Write>(
     requires { width ≤ 20 }
     ensures whole { OnOk result
         (Appends (W.contents out.old) (W.contents out.new) (left width name.now)) }
-    ensures front { OnErr result
-        (AppendsFront (W.contents out.old) (W.contents out.new) (left width name.now)) }
+    ensures prefix { OnErr result
+        (AppendsPrefix (W.contents out.old) (W.contents out.new) (left width name.now)) }
 {
     let octets = name.bytes();
     put(out, octets)?;
@@ -36,8 +36,8 @@ pub(crate) fn put_number<W: Write>(out: &mut W, width: usize, value: u64) -> Res
     requires { width ≤ 12 }
     ensures whole { OnOk result
         (Appends (W.contents out.old) (W.contents out.new) (number width value)) }
-    ensures front { OnErr result
-        (AppendsFront (W.contents out.old) (W.contents out.new) (number width value)) }
+    ensures prefix { OnErr result
+        (AppendsPrefix (W.contents out.old) (W.contents out.new) (number width value)) }
 {
     let mut buffer = itoa::Buffer::new();
     let digits = buffer.format(value).as_bytes();
@@ -49,8 +49,8 @@ fn put_spaces<W: Write>(out: &mut W, count: usize) -> Result<(), ReportFault>
     requires { count ≤ 20 }
     ensures whole { OnOk result
         (Appends (W.contents out.old) (W.contents out.new) (spaces count)) }
-    ensures front { OnErr result
-        (AppendsFront (W.contents out.old) (W.contents out.new) (spaces count)) }
+    ensures prefix { OnErr result
+        (AppendsPrefix (W.contents out.old) (W.contents out.new) (spaces count)) }
 {
     put(out, &SPACES[..count])
 }

@@ -1,7 +1,7 @@
 // The report: a header, and a line for each peer.
 ghost use Rattle.std.specs.Prelude.{OnOk, OnErr, flat_map};
 ghost use Rattle.std.specs.Io.KnownBytes.{Appends};
-ghost use Rattle.status.specs.Fronts.{AppendsFront};
+ghost use Rattle.status.specs.Prefixes.{AppendsPrefix};
 ghost use Rattle.status.specs.Report.{peer_text, report_text};
 
 use crate::columns::{put_name, put_number};
@@ -39,8 +39,8 @@ pub enum ReportFault {
 pub fn report<W: Write>(peers: &[PeerStatus<'_>], out: &mut W) -> Result<(), ReportFault>
     ensures whole { OnOk result
         (Appends (W.contents out.old) (W.contents out.new) (report_text peers.now)) }
-    ensures front { OnErr result
-        (AppendsFront (W.contents out.old) (W.contents out.new) (report_text peers.now)) }
+    ensures prefix { OnErr result
+        (AppendsPrefix (W.contents out.old) (W.contents out.new) (report_text peers.now)) }
 {
     put(out, HEADER)?;
     put_peers(out, peers)
@@ -50,8 +50,8 @@ pub fn report<W: Write>(peers: &[PeerStatus<'_>], out: &mut W) -> Result<(), Rep
 fn put_peers<W: Write>(out: &mut W, peers: &[PeerStatus<'_>]) -> Result<(), ReportFault>
     ensures whole { OnOk result
         (Appends (W.contents out.old) (W.contents out.new) (flat_map peer_text peers.now)) }
-    ensures front { OnErr result
-        (AppendsFront (W.contents out.old) (W.contents out.new) (flat_map peer_text peers.now)) }
+    ensures prefix { OnErr result
+        (AppendsPrefix (W.contents out.old) (W.contents out.new) (flat_map peer_text peers.now)) }
 {
     for peer in peers {
         put_peer(out, peer)?;
@@ -63,8 +63,8 @@ fn put_peers<W: Write>(out: &mut W, peers: &[PeerStatus<'_>]) -> Result<(), Repo
 fn put_peer<W: Write>(out: &mut W, peer: &PeerStatus<'_>) -> Result<(), ReportFault>
     ensures whole { OnOk result
         (Appends (W.contents out.old) (W.contents out.new) (peer_text peer.now)) }
-    ensures front { OnErr result
-        (AppendsFront (W.contents out.old) (W.contents out.new) (peer_text peer.now)) }
+    ensures prefix { OnErr result
+        (AppendsPrefix (W.contents out.old) (W.contents out.new) (peer_text peer.now)) }
 {
     put_name(out, 20, peer.name)?;
     put_number(out, 10, peer.totals.taken)?;

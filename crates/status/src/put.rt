@@ -1,7 +1,7 @@
 // Writes texts so that after a fault a prefix of them was written.
 ghost use Rattle.std.specs.Prelude.{◌≤◌, length, take, IfOk, OnOk, OnErr};
 ghost use Rattle.std.specs.Io.KnownBytes.{Appends};
-ghost use Rattle.status.specs.Fronts.{AppendsFront};
+ghost use Rattle.status.specs.Prefixes.{AppendsPrefix};
 
 use crate::lines::ReportFault;
 use std::io::{ErrorKind, Write};
@@ -10,7 +10,8 @@ use std::io::{ErrorKind, Write};
 // Writes all of a text. `write_all` would do the same, but says nothing of what was written before a fault.
 pub(crate) fn put<W: Write>(out: &mut W, text: &[u8]) -> Result<(), ReportFault>
     ensures whole { OnOk result (Appends (W.contents out.old) (W.contents out.new) text.now) }
-    ensures front { OnErr result (AppendsFront (W.contents out.old) (W.contents out.new) text.now) }
+    ensures prefix { OnErr result (AppendsPrefix (W.contents out.old)
+        (W.contents out.new) text.now) }
 {
     let mut rest = text;
     for _ in 0..u64::MAX {
@@ -24,13 +25,14 @@ pub(crate) fn put<W: Write>(out: &mut W, text: &[u8]) -> Result<(), ReportFault>
     Err(ReportFault::Write)
 }
 
-#[tactic(auto, using(crate::proofs::Parts::write_front, crate::proofs::Parts::kept_none))]
+#[tactic(auto, using(crate::proofs::Parts::write_prefix, crate::proofs::Parts::kept_none))]
 // Writes some of a text that is not empty, and returns how many octets; none if the write was interrupted.
 fn put_some<W: Write>(out: &mut W, text: &[u8]) -> Result<usize, ReportFault>
     ensures within { IfOk result (λ count. count ≤ length text.now) }
     ensures some { IfOk result (λ count.
         Appends (W.contents out.old) (W.contents out.new) (take count text.now)) }
-    ensures front { OnErr result (AppendsFront (W.contents out.old) (W.contents out.new) text.now) }
+    ensures prefix { OnErr result (AppendsPrefix (W.contents out.old)
+        (W.contents out.new) text.now) }
 {
     match out.write(text) {
         Ok(0) => Err(ReportFault::Write),

@@ -3,7 +3,7 @@ use Rattle.std.specs.Prelude.{◌≡◌, ◌↔◌, ◌+◌, ◌-◌, ◌<◌, �
 use Rattle.std.specs.Prelude.{Option, Result, IfOk, IfSome, IsErrOf, MatchOption, MatchResult, OnOk}
 use Rattle.std.specs.Borrow.{Fml, MutBor, RattleType, follows_so}
 use mathlib.Core.Option.{none}
-use Rattle.disk_model.specs.Disk.{ToldFault, content}
+use Rattle.disk_model.specs.Disk.{HasRisen, content}
 use Rattle.disk_model.specs.declared.Disk.{Ghosts}
 use Rattle.tape_journal.specs.Given.{IsGiven, longest_given}
 use Rattle.tape_journal.specs.Segment.{AllShort, BeginsRecord, HasPayloads, records}
@@ -18,7 +18,7 @@ use Rattle.tape_journal.specs.declared.records.Step.TheVariants.{End, Held, TooL
 
 -- the records of these payloads, none of them too long, are the first octets, up to this offset
 pub record HasRead (all : List ℕ) (payloads : List (List ℕ)) (at : ℕ) : Type 0 where
-  pub front : all ≡ records payloads ++ drop at all
+  pub prefix : all ≡ records payloads ++ drop at all
   pub place : at ≡ length (records payloads)
   pub short : AllShort payloads
 
@@ -55,9 +55,9 @@ module _ {D : Type 0} {g : Ghosts D} where
   pub record KeepsDisk {T : Type 0} (old new : SegmentReader D g) (result : Result T OpenFault) : Type 0 where
     pub honest : g.honest old.disk ↔ g.honest new.disk
     pub log : g.honest old.disk → g.log new.disk ≡ g.log old.disk
-    pub later : g.told old.disk ≤ g.told new.disk
-    pub cause : g.honest old.disk → IsErrOf result Disk → ToldFault (g.told old.disk) (g.told new.disk)
-    pub quiet : OnOk result (g.told new.disk ≡ g.told old.disk)
+    pub later : g.faults_of old.disk ≤ g.faults_of new.disk
+    pub cause : g.honest old.disk → IsErrOf result Disk → HasRisen (g.faults_of old.disk) (g.faults_of new.disk)
+    pub quiet : OnOk result (g.faults_of new.disk ≡ g.faults_of old.disk)
 
   -- What comes of reading the next record.
   pub record ReadsNext (old new : SegmentReader D g)

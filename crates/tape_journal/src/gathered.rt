@@ -89,7 +89,7 @@ fn add_record(octets: &mut Vec<u8>, payload: &[u8]) -> Result<(), AllocError>
     requires { IsShort payload.now }
     ensures ok { OnOk result
         (octets.new.items ≡ octets.old.items ++ gated open_gate payload.now) }
-    ensures front { take (length octets.old.items) octets.new.items ≡ octets.old.items }
+    ensures prefix { take (length octets.old.items) octets.new.items ≡ octets.old.items }
 {
     let size = payload.len() as u32;
     octets.push(OPEN)?;

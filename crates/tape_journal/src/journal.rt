@@ -55,7 +55,7 @@ fn read_fault_of(fault: OpenFault) -> ReadFault
 impl<D: Disk> Journal<D> {
     ghost use Rattle.std.specs.Prelude.{◌≢◌, ◌↔◌, [], ◌∷◌, ◌++◌, length, min, MatchResult, IfOk};
     ghost use Rattle.std.specs.Prelude.{IfErr, OnOk, OnErr, IsOk, IsErrOf, IsTrue, map, vec_items};
-    ghost use Rattle.disk_model.specs.Disk.{ToldFault};
+    ghost use Rattle.disk_model.specs.Disk.{HasRisen};
     ghost use Rattle.tape_journal.specs.Segment.{AllShort, IsRecord, records, longest_segment};
     ghost use Rattle.tape_journal.specs.Append.{Appends, Continues, RefusesAppend};
     ghost use Rattle.tape_journal.specs.Part.{IsPart};
@@ -81,13 +81,13 @@ impl<D: Disk> Journal<D> {
         ensures damaged { D.honest disk → IfErr result (λ e. (at : ℕ)
             → e.fault ≡ OpenFault.Damaged at → IsDamagedAt (content (D.log disk)) at) }
         ensures cause { D.honest disk → IfErr result (λ e. e.fault ≡ OpenFault.Disk
-            → ToldFault (D.told disk) (D.told e.disk)) }
+            → HasRisen (D.faults_of disk) (D.faults_of e.disk)) }
 
         ensures honest { MatchResult result (λ r. D.honest disk ↔ D.honest (read_disk r.0))
             (λ e. D.honest disk ↔ D.honest e.disk) }
-        ensures later { MatchResult result (λ r. D.told disk ≤ D.told (read_disk r.0))
-            (λ e. D.told disk ≤ D.told e.disk) }
-        ensures quiet { IfOk result (λ r. D.told (read_disk r.0) ≡ D.told disk) }
+        ensures later { MatchResult result (λ r. D.faults_of disk ≤ D.faults_of (read_disk r.0))
+            (λ e. D.faults_of disk ≤ D.faults_of e.disk) }
+        ensures quiet { IfOk result (λ r. D.faults_of (read_disk r.0) ≡ D.faults_of disk) }
     {
         match payloads_of(alloc, &mut disk) {
             Ok((payloads, end)) => Ok((Unrepaired { alloc, disk, end }, payloads)),
@@ -166,7 +166,8 @@ impl<D: Disk> Journal<D> {
             (λ _. end_of self.new ≡ end_of self.old + length (records (map vec_items payloads.now)))
             (λ _. end_of self.new ≡ end_of self.old) }
         ensures continues { Continues self.old self.new }
-        ensures quiet { OnOk result (D.told (disk_of self.new) ≡ D.told (disk_of self.old)) }
+        ensures quiet { OnOk result (D.faults_of (disk_of self.new)
+            ≡ D.faults_of (disk_of self.old)) }
     {
         let added = self.room_for(payloads)?;
         if payloads.is_empty() {
@@ -192,13 +193,13 @@ impl<D: Disk> Journal<D> {
     /// `Broken` after a `Disk` of `append_all`; `NoMemory`; `Disk` where a read failed, or where no open record stands
     /// there, which an honest disk never gives at the offset of a payload's gate. None of them breaks the journal.
     pub fn payload_at(&mut self, offset: u64) -> Result<Vec<u8>, ReadFault>
-        ensures payload { (front more : List (List ℕ)) (payload : List ℕ)
-            → Holds self.old (front ++ payload ∷ more) → offset ≡ length (records front)
+        ensures payload { (prefix more : List (List ℕ)) (payload : List ℕ)
+            → Holds self.old (prefix ++ payload ∷ more) → offset ≡ length (records prefix)
             → IfOk result (λ v. v.items ≡ payload) }
-        ensures cause { (front more : List (List ℕ)) (payload : List ℕ)
-            → Holds self.old (front ++ payload ∷ more) → offset ≡ length (records front)
+        ensures cause { (prefix more : List (List ℕ)) (payload : List ℕ)
+            → Holds self.old (prefix ++ payload ∷ more) → offset ≡ length (records prefix)
             → IsErrOf result ReadFault.Disk
-            → ToldFault (D.told (disk_of self.old)) (D.told (disk_of self.new)) }
+            → HasRisen (D.faults_of (disk_of self.old)) (D.faults_of (disk_of self.new)) }
 
         // At any offset an honest disk gives the payload of a whole open record, or none.
         ensures record { D.honest (disk_of self.old)
@@ -209,7 +210,8 @@ impl<D: Disk> Journal<D> {
         ensures unchanged { IsErrOf result ReadFault.Broken → self.new ≡ self.old }
         ensures keeps { Keeps self.old self.new }
         ensures continues { Continues self.old self.new }
-        ensures quiet { OnOk result (D.told (disk_of self.new) ≡ D.told (disk_of self.old)) }
+        ensures quiet { OnOk result (D.faults_of (disk_of self.new)
+            ≡ D.faults_of (disk_of self.old)) }
     {
         if self.broken {
             return Err(ReadFault::Broken);
@@ -232,13 +234,13 @@ impl<D: Disk> Journal<D> {
     /// # Errors
     /// Those of `payload_at`, in the same order, for the same causes.
     pub fn part_at(&mut self, offset: u64, from: u32, most: u32) -> Result<Vec<u8>, ReadFault>
-        ensures part { (front more : List (List ℕ)) (payload : List ℕ)
-            → Holds self.old (front ++ payload ∷ more) → offset ≡ length (records front)
+        ensures part { (prefix more : List (List ℕ)) (payload : List ℕ)
+            → Holds self.old (prefix ++ payload ∷ more) → offset ≡ length (records prefix)
             → IfOk result (λ v. v.items ≡ take most (drop from payload)) }
-        ensures cause { (front more : List (List ℕ)) (payload : List ℕ)
-            → Holds self.old (front ++ payload ∷ more) → offset ≡ length (records front)
+        ensures cause { (prefix more : List (List ℕ)) (payload : List ℕ)
+            → Holds self.old (prefix ++ payload ∷ more) → offset ≡ length (records prefix)
             → IsErrOf result ReadFault.Disk
-            → ToldFault (D.told (disk_of self.old)) (D.told (disk_of self.new)) }
+            → HasRisen (D.faults_of (disk_of self.old)) (D.faults_of (disk_of self.new)) }
 
         // At any offset an honest disk gives a part of a whole open record's payload, or none.
         ensures record { D.honest (disk_of self.old)
@@ -249,7 +251,8 @@ impl<D: Disk> Journal<D> {
         ensures unchanged { IsErrOf result ReadFault.Broken → self.new ≡ self.old }
         ensures keeps { Keeps self.old self.new }
         ensures continues { Continues self.old self.new }
-        ensures quiet { OnOk result (D.told (disk_of self.new) ≡ D.told (disk_of self.old)) }
+        ensures quiet { OnOk result (D.faults_of (disk_of self.new)
+            ≡ D.faults_of (disk_of self.old)) }
     {
         if self.broken {
             return Err(ReadFault::Broken);

@@ -3,7 +3,7 @@ ghost use Rattle.std.specs.Prelude.{◌≡◌, ◌+◌, ◌-◌, ◌^◌, ◌<�
 ghost use Rattle.std.specs.Prelude.{length, min, take, drop, IfOk, IfErr, OnOk, IsErrOf, MatchOption, IfSome};
 ghost use Rattle.std.specs.Prelude.{map, vec_items};
 ghost use Rattle.std.specs.Int.{to_be_bytes, from_be_bytes, w32};
-ghost use Rattle.disk_model.specs.Disk.{ToldFault, content};
+ghost use Rattle.disk_model.specs.Disk.{HasRisen, content};
 ghost use Rattle.tape_journal.specs.Head.{IsHead, FitsHead};
 ghost use Rattle.tape_journal.specs.Segment.{Ends, IsRecord, IsCutShort, IsDamagedAt, HasPayloads};
 ghost use Rattle.tape_journal.specs.Part.{IsPart};
@@ -46,11 +46,11 @@ fn octets_at<D: Disk>(
     ensures octets { D.honest disk.old
         → IfOk result (λ v. v.items ≡ take count (drop at (content (D.log disk.old)))) }
     ensures length { IfOk result (λ v. length v.items ≡ count) }
-    ensures later { D.told disk.old ≤ D.told disk.new }
+    ensures later { D.faults_of disk.old ≤ D.faults_of disk.new }
     ensures damaged { (e : ℕ) → IsErrOf result (OpenFault.Damaged e) → ⊥ }
     ensures cause { D.honest disk.old → at + count ≤ length (content (D.log disk.old))
-        → IsErrOf result OpenFault.Disk → ToldFault (D.told disk.old) (D.told disk.new) }
-    ensures quiet { OnOk result (D.told disk.new ≡ D.told disk.old) }
+        → IsErrOf result OpenFault.Disk → HasRisen (D.faults_of disk.old) (D.faults_of disk.new) }
+    ensures quiet { OnOk result (D.faults_of disk.new ≡ D.faults_of disk.old) }
 {
     let mut octets = vec![in alloc; 0u8; count]?;
     window.fill(disk, at, &mut octets)?;
@@ -104,10 +104,10 @@ pub(crate) fn head_at<D: Disk>(
     ensures fits { IfOk result (λ head. FitsHead head (len - at)) }
     ensures kinds { IfErr result (λ e. e ≡ OpenFault.Disk) }
     ensures room { room_of window.new ≡ room_of window.old }
-    ensures later { D.told disk.old ≤ D.told disk.new }
+    ensures later { D.faults_of disk.old ≤ D.faults_of disk.new }
     ensures cause { D.honest disk.old → len ≡ length (content (D.log disk.old))
-        → IsErrOf result OpenFault.Disk → ToldFault (D.told disk.old) (D.told disk.new) }
-    ensures quiet { OnOk result (D.told disk.new ≡ D.told disk.old) }
+        → IsErrOf result OpenFault.Disk → HasRisen (D.faults_of disk.old) (D.faults_of disk.new) }
+    ensures quiet { OnOk result (D.faults_of disk.new ≡ D.faults_of disk.old) }
 {
     let left = len - at;
     let mut octets = [0u8; 5];
@@ -136,10 +136,10 @@ pub(crate) fn record_at<D: Disk>(
     ensures damaged { D.honest disk.old → len ≡ length (content (D.log disk.old)) → (e : ℕ)
         → IsErrOf result (OpenFault.Damaged e)
         → (e ≡ at) × IsCutShort (drop at (content (D.log disk.old))) }
-    ensures later { D.told disk.old ≤ D.told disk.new }
+    ensures later { D.faults_of disk.old ≤ D.faults_of disk.new }
     ensures cause { D.honest disk.old → len ≡ length (content (D.log disk.old))
-        → IsErrOf result OpenFault.Disk → ToldFault (D.told disk.old) (D.told disk.new) }
-    ensures quiet { OnOk result (D.told disk.new ≡ D.told disk.old) }
+        → IsErrOf result OpenFault.Disk → HasRisen (D.faults_of disk.old) (D.faults_of disk.new) }
+    ensures quiet { OnOk result (D.faults_of disk.new ≡ D.faults_of disk.old) }
 {
     match head_at(window, disk, at, len)? {
         Head::End => Ok(None),
@@ -173,10 +173,10 @@ pub(crate) fn part_of<D: Disk>(
     ensures damaged { D.honest disk.old → len ≡ length (content (D.log disk.old)) → (e : ℕ)
         → IsErrOf result (OpenFault.Damaged e)
         → (e ≡ at) × IsCutShort (drop at (content (D.log disk.old))) }
-    ensures later { D.told disk.old ≤ D.told disk.new }
+    ensures later { D.faults_of disk.old ≤ D.faults_of disk.new }
     ensures cause { D.honest disk.old → len ≡ length (content (D.log disk.old))
-        → IsErrOf result OpenFault.Disk → ToldFault (D.told disk.old) (D.told disk.new) }
-    ensures quiet { OnOk result (D.told disk.new ≡ D.told disk.old) }
+        → IsErrOf result OpenFault.Disk → HasRisen (D.faults_of disk.old) (D.faults_of disk.new) }
+    ensures quiet { OnOk result (D.faults_of disk.new ≡ D.faults_of disk.old) }
 {
     let size = match head_at(window, disk, at, len)? {
         Head::Record(size) => size,
@@ -202,10 +202,10 @@ pub(crate) fn payloads_of<D: Disk>(
     ensures end { IfOk result (λ r. r.1 < 2 ^ 64 - 1) }
     ensures damaged { D.honest disk.old → (e : ℕ) → IsErrOf result (OpenFault.Damaged e)
         → IsDamagedAt (content (D.log disk.old)) e }
-    ensures later { D.told disk.old ≤ D.told disk.new }
+    ensures later { D.faults_of disk.old ≤ D.faults_of disk.new }
     ensures cause { D.honest disk.old → IsErrOf result OpenFault.Disk
-        → ToldFault (D.told disk.old) (D.told disk.new) }
-    ensures quiet { OnOk result (D.told disk.new ≡ D.told disk.old) }
+        → HasRisen (D.faults_of disk.old) (D.faults_of disk.new) }
+    ensures quiet { OnOk result (D.faults_of disk.new ≡ D.faults_of disk.old) }
 {
     let len = disk.len();
     let mut payloads = Vec::new(alloc);
@@ -238,10 +238,10 @@ pub fn peek_first<D: Disk>(alloc: Global, disk: &mut D) -> Result<Option<Vec<u8>
     ensures damaged { D.honest disk.old → (at : ℕ) → IsErrOf result (OpenFault.Damaged at)
         → (at ≡ 0) × IsCutShort (content (D.log disk.old)) }
     ensures cause { D.honest disk.old → IsErrOf result OpenFault.Disk
-        → ToldFault (D.told disk.old) (D.told disk.new) }
+        → HasRisen (D.faults_of disk.old) (D.faults_of disk.new) }
     ensures honest { D.honest disk.old ↔ D.honest disk.new }
-    ensures later { D.told disk.old ≤ D.told disk.new }
-    ensures quiet { OnOk result (D.told disk.new ≡ D.told disk.old) }
+    ensures later { D.faults_of disk.old ≤ D.faults_of disk.new }
+    ensures quiet { OnOk result (D.faults_of disk.new ≡ D.faults_of disk.old) }
 {
     let len = disk.len();
     if len == 0 {

@@ -666,7 +666,7 @@ fn workers_that_meet(rt: HostRuntime) -> Result<(), Fail> {
     let alloc = rt.alloc();
     for row in &ROWS {
         let told = on_disks(&rt, alloc, row)?;
-        assert_eq!(rt; told, row.told, "{}", row.name);
+        assert_eq!(rt; told, row.faults_of, "{}", row.name);
     }
     Ok(())
 }

@@ -4,7 +4,7 @@ use crate::disks::disks_of;
 use crate::rotations::with_octet;
 use crate::samples::{Sample, is_sample, note_of};
 use crate::tape_steps::{Opening, Step, flush, opened, run, run_each};
-use crate::tapes::{FILLS, assert_damaged, front_of, fused, image, stopped};
+use crate::tapes::{FILLS, assert_damaged, prefix_of, fused, image, stopped};
 use disk_model::{Disk, FuseDisk, MemDisk};
 use funnel::{MsgId, Token};
 use ledger_core::{
@@ -606,7 +606,7 @@ fn assert_ends<A: Abort>(
     ends: &[u64],
 ) -> Result<(), Fail> {
     for (at, fill) in FILLS.iter().enumerate() {
-        let mark = front_of(alloc, image(disks, (at % 8) as u64, *fill)?)??;
+        let mark = prefix_of(alloc, image(disks, (at % 8) as u64, *fill)?)??;
         let is_end = ends.iter().any(|end| *end == mark);
         assert_answer(rt, at, &is_end, &true);
     }

@@ -5,7 +5,7 @@ use crate::planned_file::{Plan, PlannedFile};
 use crate::rotations::ROTATED;
 use crate::samples::Sample;
 use crate::tape_steps::{flush, note, opened, rotate};
-use crate::tapes::{Calls, Counts, OWED, TORN, assert_fronts, flaky, front_of};
+use crate::tapes::{Calls, Counts, OWED, TORN, assert_prefixes, flaky, prefix_of};
 use disk_model::{Disk, FileDisk};
 use recovery::{Tape, TapeFault};
 use std::alloc::Global;
@@ -112,7 +112,7 @@ fn opened_again<D: Disk + Drop>(alloc: Global, disks: (D, D)) -> Result<Tape<D>,
 type Rotated<'a> = (&'a [u8], &'a [u8], u64);
 
 // Disks of these octets, of each of which the call behind so many fails: where that is one of the opening, the disks
-// are opened a second time. What a stop leaves then is a front with every acknowledged debt. Whether that call came.
+// are opened a second time. What a stop leaves then is a prefix with every acknowledged debt. Whether that call came.
 fn meets_fault<A: Abort>(
     rt: &A,
     alloc: Global,
@@ -127,7 +127,7 @@ fn meets_fault<A: Abort>(
     let counts = work(rt, alloc, &mut tape, generation)?;
     let (a, b) = tape.into_disks();
     let met = 0 < a.faults() || 0 < b.faults();
-    assert_fronts(rt, alloc, &(a.into_inner(), b.into_inner()), counts)?;
+    assert_prefixes(rt, alloc, &(a.into_inner(), b.into_inner()), counts)?;
     Ok(met)
 }
 
@@ -163,7 +163,7 @@ const TAPES: [(Rotated<'static>, Calls); 4] = [
 ];
 
 #[test]
-fn a_fault_at_any_call_leaves_a_front(rt: HostRuntime) -> Result<(), Fail> {
+fn a_fault_at_any_call_leaves_a_prefix(rt: HostRuntime) -> Result<(), Fail> {
     for (row, (tape, (first, second))) in TAPES.iter().enumerate() {
         for (is_second, want) in [(false, *first), (true, *second)] {
             let calls = calls_of(&rt, rt.alloc(), *tape, is_second)?;
@@ -203,13 +203,13 @@ fn tape_of_files<A: Abort>(
 }
 
 // These octets are the tape of so many debts.
-fn assert_front<A: Abort>(
+fn assert_prefix<A: Abort>(
     rt: &A,
     alloc: Global,
     octets: (&[u8], &[u8]),
     (least, most): Counts,
 ) -> Result<(), Fail> {
-    let mark = front_of(alloc, disks_of(alloc, octets)?)??;
+    let mark = prefix_of(alloc, disks_of(alloc, octets)?)??;
     assert_answer(rt, 0, &(least <= mark && mark <= most), &true);
     Ok(())
 }
@@ -225,8 +225,8 @@ fn file_meets_fault<A: Abort>(
     let counts = work(rt, alloc, &mut tape, generation)?;
     let (a, b) = tape.into_disks();
     let (a, b) = (a.into_inner(), b.into_inner());
-    assert_front(rt, alloc, (a.octets(), b.octets()), counts)?;
-    assert_front(rt, alloc, (a.durable(), b.durable()), counts)?;
+    assert_prefix(rt, alloc, (a.octets(), b.octets()), counts)?;
+    assert_prefix(rt, alloc, (a.durable(), b.durable()), counts)?;
     Ok(!a.is_sound() && !b.is_sound())
 }
 
@@ -258,7 +258,7 @@ fn sweep_file<A: Abort>(
 }
 
 #[test]
-fn a_fault_of_a_file_at_any_call_leaves_a_front(rt: HostRuntime) -> Result<(), Fail> {
+fn a_fault_of_a_file_at_any_call_leaves_a_prefix(rt: HostRuntime) -> Result<(), Fail> {
     for (tape, _) in TAPES {
         for kept in [0, 1, 3, 30, 1_000] {
             sweep_file(&rt, rt.alloc(), tape, false, kept)?;

@@ -570,7 +570,7 @@ fn calls_of<A: Abort>(rt: &A, alloc: Global, segment: &[u8]) -> Result<u64, Fail
 // Opening an empty disk takes five calls, and one more, a read, where something lies there. Two
 // payloads take five calls, and one takes four.
 #[test]
-fn a_fault_at_any_call_leaves_a_front(rt: HostRuntime) -> Result<(), Fail> {
+fn a_fault_at_any_call_leaves_a_prefix(rt: HostRuntime) -> Result<(), Fail> {
     for (segment, calls) in [([].as_slice(), 14), (&SEGMENT, 15)] {
         assert_answer(
             &rt,

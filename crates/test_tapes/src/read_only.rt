@@ -23,7 +23,7 @@ impl<D: Disk> Disk for ReadOnly<D> {
 
     ghost size = { λ r. D.size r.disk };
 
-    ghost told = { λ r. min (r.faults + D.told r.disk) (2 ^ 64 - 1) };
+    ghost faults_of = { λ r. min (r.faults + D.faults_of r.disk) (2 ^ 64 - 1) };
 
     ghost content_is_image = { λ r is. D.content_is_image r.disk is };
 

@@ -5,7 +5,7 @@ use crate::disks::{assert_both, disks_of};
 use crate::samples::Sample;
 use crate::tape_steps::{Octets, Opening, Step, opened, run_each};
 use crate::tapes::{
-    Calls, Counts, FILLS, OLD_NUMBER, OWED, assert_damaged, assert_fronts, image, stopped,
+    Calls, Counts, FILLS, OLD_NUMBER, OWED, assert_damaged, assert_prefixes, image, stopped,
 };
 use disk_model::MemDisk;
 use ledger_core::Totals;
@@ -618,7 +618,7 @@ fn a_changed_octet_is_read_or_told_as_damage(rt: HostRuntime) -> Result<(), Fail
 // No opening here makes as many calls of a disk, reads among them.
 const OPENING_CALLS: u64 = 9;
 
-// An opening of this image of the disks is stopped behind each call of either: what is left is a front all the same.
+// An opening of this image of the disks is stopped behind each call of either: what is left is a prefix all the same.
 fn assert_openings<A: Abort>(
     rt: &A,
     alloc: Global,
@@ -629,7 +629,7 @@ fn assert_openings<A: Abort>(
     for calls in 0..OPENING_CALLS {
         for calls in [(calls, u64::MAX), (u64::MAX, calls)] {
             let disks = stopped(rt, alloc, image(disks, happened, fill)?, calls, &[])?;
-            assert_fronts(rt, alloc, &disks, counts)?;
+            assert_prefixes(rt, alloc, &disks, counts)?;
         }
     }
     Ok(())
@@ -700,7 +700,7 @@ const STOPS: &[(Octets, Calls, &[Step], Counts)] = &[
 ];
 
 #[test]
-fn a_stop_in_a_rotation_leaves_a_front(rt: HostRuntime) -> Result<(), Fail> {
+fn a_stop_in_a_rotation_leaves_a_prefix(rt: HostRuntime) -> Result<(), Fail> {
     for (octets, calls, steps, counts) in STOPS {
         let disks = disks_of(rt.alloc(), *octets)?;
         let disks = stopped(&rt, rt.alloc(), disks, *calls, steps)?;

@@ -234,7 +234,7 @@ fn steps_are_taken_at_a_tape_on_files(rt: HostRuntime) -> Result<(), Fail> {
 }
 
 // The mark of the tape of these disks, or why it is refused. No number but those owed was ever noted.
-pub(crate) fn front_of(
+pub(crate) fn prefix_of(
     alloc: Global,
     disks: (MemDisk, MemDisk),
 ) -> Result<Result<u64, TapeFault>, Fail> {
@@ -502,14 +502,14 @@ pub(crate) fn image(
 }
 
 // Each image of the disks that a choice names is the tape of so many of the first debts.
-pub(crate) fn assert_fronts<A: Abort>(
+pub(crate) fn assert_prefixes<A: Abort>(
     rt: &A,
     alloc: Global,
     disks: &(MemDisk, MemDisk),
     (least, most): Counts,
 ) -> Result<(), Fail> {
     for (at, fill) in FILLS.iter().enumerate() {
-        let mark = front_of(alloc, image(disks, (at % 8) as u64, *fill)?)??;
+        let mark = prefix_of(alloc, image(disks, (at % 8) as u64, *fill)?)??;
         assert_answer(rt, at, &(least <= mark && mark <= most), &true);
     }
     Ok(())
@@ -528,7 +528,7 @@ fn assert_stops<A: Abort>(
     for calls in calls {
         let disks = disks_of(alloc, (octets, &[]))?;
         let disks = stopped(rt, alloc, disks, (calls, u64::MAX), steps)?;
-        assert_fronts(rt, alloc, &disks, counts)?;
+        assert_prefixes(rt, alloc, &disks, counts)?;
     }
     Ok(())
 }
@@ -536,7 +536,7 @@ fn assert_stops<A: Abort>(
 // Opening makes five calls of an empty first disk, behind the sync of the second. A flush takes four, whether it is of
 // one note or of a batch: a write, a sync, a write for the gate and a sync.
 #[test]
-fn a_stop_leaves_a_front(rt: HostRuntime) -> Result<(), Fail> {
+fn a_stop_leaves_a_prefix(rt: HostRuntime) -> Result<(), Fail> {
     const FIRST: &[Step] = &[
         Step::Note(Sample::Owe(1), Ok(())),
         Step::Note(Sample::Owe(2), Ok(())),
@@ -578,7 +578,7 @@ fn a_stop_before_the_repair_leaves_the_tape(rt: HostRuntime) -> Result<(), Fail>
     for (octets, counts) in ROWS {
         let disks = disks_of(rt.alloc(), (octets, &[]))?;
         let disks = stopped(&rt, rt.alloc(), disks, (u64::MAX, 0), &[])?;
-        assert_fronts(&rt, rt.alloc(), &disks, *counts)?;
+        assert_prefixes(&rt, rt.alloc(), &disks, *counts)?;
     }
     Ok(())
 }

@@ -24,8 +24,8 @@ fn line_and_flush(alloc: Global) -> Result<Vec<Step>, AllocError> {
 fn told_by(alloc: Global, world: &mut World, steps: &[Step]) -> Result<Vec<u8>, AllocError> {
     let mut out = Vec::new(alloc);
     if let Ok(report) = world.run(steps) {
-        for told in &report.lines {
-            for one in told {
+        for outputs in &report.lines {
+            for one in outputs {
                 out.extend_from_slice(&one.line(alloc)?)?;
             }
         }
@@ -48,7 +48,7 @@ fn a_new_world_takes_steps(rt: HostRuntime) -> Result<(), Fail> {
     let Some(peer) = peer_of(rt.alloc(), b"peer p { }") else {
         return Err(Fail::from("no peer"));
     };
-    let told = told_of(rt.alloc(), peer)?;
-    assert_eq!(rt; told.as_slice(), b"1 p new\ntaken 1\n".as_slice());
+    let outputs = told_of(rt.alloc(), peer)?;
+    assert_eq!(rt; outputs.as_slice(), b"1 p new\ntaken 1\n".as_slice());
     Ok(())
 }

@@ -35,7 +35,7 @@ impl<D: Disk> Disk for CountedDisk<D> {
 
     ghost size = { λ counted. D.size counted.disk };
 
-    ghost told = { λ counted. D.told counted.disk };
+    ghost faults_of = { λ counted. D.faults_of counted.disk };
 
     ghost content_is_image = { λ counted is. D.content_is_image counted.disk is };
 

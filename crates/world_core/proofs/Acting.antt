@@ -17,13 +17,13 @@ use Rattle.world_core.specs.Joined.{AreRunning, FoundConn, MadeOn, RefusedOn, Re
 use Rattle.world_core.specs.Pairs.{ClaimsAt, FailsToHandAt, FailsToOfferAt, Followed, FollowedNot, FollowsAt}
 use Rattle.world_core.specs.Pairs.{FollowsNotAt, GivesBackAt, HandedOn, HandedOnNot, HandsOverAt, None_at, No_room_at}
 use Rattle.world_core.specs.Pairs.{PairStands, Received, ReceivedNot, Shut_at, Supplied, SuppliedNot, Taken_at}
-use Rattle.world_core.specs.Told.{Handed as SaidHanded, Said}
+use Rattle.world_core.specs.Output.{Handed as SaidHanded, Said}
 use Rattle.world_core.specs.declared.connection.Connection.{Connection}
 use Rattle.world_core.specs.declared.fault.Fault.{Fault}
 use Rattle.world_core.specs.declared.peer.Peer.{Peer}
 use Rattle.world_core.specs.declared.stations.Stations.{Stations}
-use Rattle.world_core.specs.declared.told.Handed.{Handed as Handover}
-use Rattle.world_core.specs.declared.told.Told.{Told}
+use Rattle.world_core.specs.declared.output.Handed.{Handed as Handover}
+use Rattle.world_core.specs.declared.output.Output.{Output}
 use Rattle.world_core.proofs.Chains.{fails_one}
 use Rattle.world_core.proofs.Joining.{conn_there, pair_there, put_back, put_there}
 use Rattle.world_core.proofs.Lifting.{Leads, PeerKeeps, keeps_same, keeps_with_tape, leads_claim, leads_nowhere}
@@ -152,18 +152,18 @@ module _ {D : Type 0} {g : Ghosts D} where
     -- ---- where the peer is as it was
 
     module _ (m : ConnPast) (at : m.rank ≡ conn.rank) where
-      made_here : (T : Life → List Said → Life → Type 0) (h : List Happening) (before told : List Told)
+      made_here : (T : Life → List Said → Life → Type 0) (h : List Happening) (before outputs : List Output)
           → ((said : List Said) (later : Life) → Follows id h m life said later → T life said later)
-          → Followed id moment h m peer before new_c now told → MadeOn T life.connected life before told new new_cs
-      made_here T h before told makes at_moment =
-          let is = subst (λ (n : ℕ). Followed id n h m peer before new_c now told) (sym is_now) at_moment in
+          → Followed id moment h m peer before new_c now outputs → MadeOn T life.connected life before outputs new new_cs
+      made_here T h before outputs makes at_moment =
+          let is = subst (λ (n : ℕ). Followed id n h m peer before new_c now outputs) (sym is_now) at_moment in
           let so = acted peer (keeps_same id peer) m at h is.said is.later_conn is.later is.follows is.stand in
           let later = put_life is.later_conn is.later in
           record {
             later = later;
             said = is.said;
             makes = makes is.said later (subst (λ (l : Life). Follows id h m l is.said later) same_life so.0);
-            told_is = is.told_is;
+            outputs_are = is.outputs_are;
             stand = so.1;
             armed = refl;
             connected_is = refl;
@@ -240,10 +240,10 @@ module _ {D : Type 0} {g : Ghosts D} where
           lead.keeps,
         )
 
-    pub handed_on : (before told : List Told) → HandedOn id moment conn peer before new_c now told
-        → MadeOn (TakesHand id) life.connected life before told new new_cs
-    handed_on before told at =
-        let is = subst (λ (n : ℕ). HandedOn id n conn peer before new_c now told) (sym is_now) at in
+    pub handed_on : (before outputs : List Output) → HandedOn id moment conn peer before new_c now outputs
+        → MadeOn (TakesHand id) life.connected life before outputs new new_cs
+    handed_on before outputs at =
+        let is = subst (λ (n : ℕ). HandedOn id n conn peer before new_c now outputs) (sym is_now) at in
         let hands = hands_life is.handed is.transcript is.mid is.hands in
         let so = acted is.mid hands.1 (with_transcript conn is.transcript) refl conn.transcript is.said is.later_conn
         is.later is.follows is.stand in
@@ -260,9 +260,9 @@ module _ {D : Type 0} {g : Ghosts D} where
             hands = hands.0;
             behind = is.said;
             follows = so.0;
-            told_is = refl;
+            outputs_are = refl;
           };
-          told_is = is.told_is;
+          outputs_are = is.outputs_are;
           stand = so.1;
           armed = refl;
           connected_is = refl;
@@ -345,11 +345,11 @@ module _ {D : Type 0} {g : Ghosts D} where
 
     -- ---- it breaks
 
-    pub broke_off : (before told : List Told)
-        → Followed id moment conn.transcript (broken_off peer conn) peer before new_c now told
-        → MadeOn (TakesBreak id) life.connected life before told new new_cs
-    broke_off before told is =
-        made_here (broken_off peer conn) refl (TakesBreak id) conn.transcript before told
+    pub broke_off : (before outputs : List Output)
+        → Followed id moment conn.transcript (broken_off peer conn) peer before new_c now outputs
+        → MadeOn (TakesBreak id) life.connected life before outputs new new_cs
+    broke_off before outputs is =
+        made_here (broken_off peer conn) refl (TakesBreak id) conn.transcript before outputs
         (λ said later follows. record { conn = conn; peer = peer; is = is_conn; follows = follows }) is
 
     pub broke_off_not : (fault : Fault) → FollowedNot id moment (broken_off peer conn) peer fault new_c now
@@ -360,11 +360,11 @@ module _ {D : Type 0} {g : Ghosts D} where
 
     -- ---- the moment is told
 
-    pub ticked_one : (before told : List Told)
-        → Followed id moment conn.transcript (ticked moment peer conn) peer before new_c now told
-        → MadeOn (TicksOne put.index) life.connected life before told new new_cs
-    ticked_one before told is =
-        made_here (ticked moment peer conn) refl (TicksOne put.index) conn.transcript before told
+    pub ticked_one : (before outputs : List Output)
+        → Followed id moment conn.transcript (ticked moment peer conn) peer before new_c now outputs
+        → MadeOn (TicksOne put.index) life.connected life before outputs new new_cs
+    ticked_one before outputs is =
+        made_here (ticked moment peer conn) refl (TicksOne put.index) conn.transcript before outputs
         (λ said later follows. record {
           id = id;
           conn = conn;
@@ -390,12 +390,12 @@ module _ {D : Type 0} {g : Ghosts D} where
 
     -- ---- octets come in
 
-    pub received : (octets : List ℕ) (before told : List Told)
-        → Received octets id moment conn peer before new_c now told
-        → MadeOn (TakesBytes id octets) life.connected life before told new new_cs
-    received octets before told is =
+    pub received : (octets : List ℕ) (before outputs : List Output)
+        → Received octets id moment conn peer before new_c now outputs
+        → MadeOn (TakesBytes id octets) life.connected life before outputs new new_cs
+    received octets before outputs is =
         made_here (record conn { unread = is.left; transcript = is.transcript }) refl (TakesBytes id octets)
-        conn.transcript before told
+        conn.transcript before outputs
         (λ said later follows. record {
           conn = conn;
           peer = peer;
@@ -427,13 +427,13 @@ module _ {D : Type 0} {g : Ghosts D} where
 
     -- ---- an article is handed in
 
-    pub supplied : (found : Found) (before told : List Told)
-        → Supplied found id moment conn peer before new_c now told
-        → MadeOn (TakesArticle id found) life.connected life before told new new_cs
-    supplied found before told is =
+    pub supplied : (found : Found) (before outputs : List Output)
+        → Supplied found id moment conn peer before new_c now outputs
+        → MadeOn (TakesArticle id found) life.connected life before outputs new new_cs
+    supplied found before outputs is =
         made_here (with_transcript conn
         (after (options_of peer.conf) conn.transcript (HandedIn is.number is.handing))) refl (TakesArticle id found)
-        conn.transcript before told
+        conn.transcript before outputs
         (λ said later follows. record {
           conn = conn;
           peer = peer;

@@ -359,7 +359,7 @@ module _ (options : Options) where
       let on = same_numbers (with_transcript conn (Offered debt ∷ h))
       (with_transcript conn (after options h (Offered debt))) refl (goes_offered h debt)
       (omega (arith, few, ap length outs)) m in
-      let front = ap (λ (os : List Outcome).
+      let prefix = ap (λ (os : List Outcome).
       times (map key_in (drop conn.settled os) ++ held_numbers (held options (Offered debt ∷ h))) m) outs in
       let back = ap (λ (hs : List Held). times (map key_in (unsettled options conn) ++ held_numbers hs) m)
       (held_offered h debt) in
@@ -368,4 +368,4 @@ module _ (options : Options) where
       let both = ap (λ (l : List ℕ). times l m) (held_numbers_both (held options h) last) in
       let two = times_both (held_numbers (held options h)) (debt.0 ∷ []) m in
       let old = times_both (map key_in (unsettled options conn)) (held_numbers (held options h)) m in
-      omega (arith, on, front, back, apart, both, two, old)
+      omega (arith, on, prefix, back, apart, both, two, old)

@@ -16,19 +16,19 @@ use Rattle.world_core.specs.declared.peer.Peer.{Peer}
 use Rattle.world_core.proofs.Balance.{goes_outside}
 use Rattle.world_core.proofs.Pairing.{pair_on}
 
-pub none_told : (none : Bool) (r : Option Reason) → is_some r ≡ not none → none ≡ is_none r
-none_told true None e = refl
-none_told true (Some reason) e = cc
-none_told false None e = cc
-none_told false (Some reason) e = refl
+pub says_none : (none : Bool) (r : Option Reason) → is_some r ≡ not none → none ≡ is_none r
+says_none true None e = refl
+says_none true (Some reason) e = cc
+says_none false None e = cc
+says_none false (Some reason) e = refl
 
 -- it tells that it is open exactly if it is by the world's transcript
-pub open_told : (conf : PeerConf) (conn : ConnPast) (c : Connection) (none : Bool) (told : Option Reason)
+pub open_told : (conf : PeerConf) (conn : ConnPast) (c : Connection) (none : Bool) (outputs : Option Reason)
     → HoldsTranscript conf conn c
-    → ((o : Options) (unread : List ℕ) (h : List Event) → ConnStands o c.conn unread h → told ≡ reason o h)
-    → is_some told ≡ not none → none ≡ is_none (reason (options_of conf) conn.transcript)
-open_told conf conn c none told holds says is =
-    none_told none told is ∙ ap is_none (says (options_of conf) conn.unread conn.transcript holds)
+    → ((o : Options) (unread : List ℕ) (h : List Event) → ConnStands o c.conn unread h → outputs ≡ reason o h)
+    → is_some outputs ≡ not none → none ≡ is_none (reason (options_of conf) conn.transcript)
+open_told conf conn c none outputs holds says is =
+    says_none none outputs is ∙ ap is_none (says (options_of conf) conn.unread conn.transcript holds)
 
 module _ {D : Type 0} {g : Ghosts D} where
   pub pair_broken : (id : ℕ) (conn : ConnPast) (past : PeerPast) (old new : Connection) (peer : Peer D g)

@@ -29,17 +29,17 @@ use Rattle.world_core.specs.Runs.{Does as DoesStep, Refuses as RefusesAny, Refus
 use Rattle.world_core.specs.Steps.{Good, NotGood, Reading, RefusesFlushing, RefusesImport, RefusesLine, RefusesNamed}
 use Rattle.world_core.specs.Steps.{RefusesPart, RefusesRotation, RefusesSeal, RefusesShed, RefusesTelling}
 use Rattle.world_core.specs.Steps.{TakesReading, begun_at, flush_events, is_named, owes_from}
-use Rattle.world_core.specs.Told.{Said}
+use Rattle.world_core.specs.Output.{Said}
 use Rattle.recovery.specs.declared.fault.TapeFault.TheVariants.{Disk}
 use Rattle.world_core.specs.declared.fault.Fault.{Fault}
 use Rattle.world_core.specs.declared.fault.Fault.TheVariants.{Tape}
 use Rattle.world_core.specs.declared.step.Step.{Step}
 use Rattle.world_core.specs.declared.step.Step.TheVariants.{Line, Flush, Begin, Part, Seal, Connect, Hand, Bytes}
 use Rattle.world_core.specs.declared.step.Step.TheVariants.{Article, Break, Tick, Shed, Import, Rotate, Stop, Restart}
-use Rattle.world_core.specs.declared.told.Handed.{Handed as Handover}
+use Rattle.world_core.specs.declared.output.Handed.{Handed as Handover}
 use Rattle.world_core.proofs.Acknowledged.{all_at}
 use Rattle.world_core.proofs.Moments.{log_of, not_none, starts}
-use Rattle.world_core.proofs.Pure.{first_all, front_all, last_all, map_set}
+use Rattle.world_core.proofs.Pure.{first_all, prefix_all, last_all, map_set}
 
 -- ---- lists
 
@@ -132,13 +132,13 @@ all_quiet : (was now : Past) (events : List Event) → AllDo was events now → 
 all_quiet was _ _ Start quiet = refl
 all_quiet was _ _ (Next events event past now does one safe) quiet =
     quiet_taken event past now (last_all IsQuiet events event quiet) one
-    ∙ all_quiet was past events does (front_all IsQuiet events (event ∷ []) quiet)
+    ∙ all_quiet was past events does (prefix_all IsQuiet events (event ∷ []) quiet)
 
 fails_quiet : (was now : Past) (events : List Event) (fault : Fault) → AllByRecursion IsQuiet events
     → Fails was events fault now → logs now ≡ logs was
 fails_quiet was now events fault quiet f =
     quiet_refused f.event f.mid now fault (all_at IsQuiet events f.count f.event quiet f.here) f.refused
-    ∙ all_quiet was f.mid _ f.front (first_all IsQuiet f.count events quiet)
+    ∙ all_quiet was f.mid _ f.prefix (first_all IsQuiet f.count events quiet)
 
 owes_quiet : (rank : ℕ) (token id : List ℕ) (named : List (List ℕ)) (peers : List PeerPast)
     → AllByRecursion IsQuiet (owes_from rank token id named peers)
@@ -161,9 +161,9 @@ settles_quiet rank id now (outcome ∷ outcomes) = (tt, settles_quiet rank id no
 past_of : (later life : Life) → later ≡ life → logs later.past ≡ logs life.past
 past_of later life same = ap (λ (l : Life). logs l.past) same
 
-followed_quiet : (id : ℕ) (was : _) (conn : ConnPast) (life : Life) (told : List Said) (later : Life)
-    → Follows id was conn life told later → logs later.past ≡ logs life.past
-followed_quiet id was conn life told later f =
+followed_quiet : (id : ℕ) (was : _) (conn : ConnPast) (life : Life) (outputs : List Said) (later : Life)
+    → Follows id was conn life outputs later → logs later.past ≡ logs life.past
+followed_quiet id was conn life outputs later f =
     past_of later _ f.changed ∙ all_quiet life.past f.past _ f.settles (settles_quiet conn.rank id life.now _)
 
 not_followed_quiet : (id : ℕ) (conn : ConnPast) (life : Life) (fault : Fault) (later : Life)
@@ -184,11 +184,11 @@ handed_quiet id now conn peer past _ _ _ here (Has_no_room debt later is ready d
 handed_quiet id now conn peer past _ _ _ here (Is_shut debt later is ready does) =
     all_quiet past later _ does (tt, (tt, tt))
 
-ticked_quiet : (begun : Life) (count : ℕ) (told : List Said) (later : Life) → TicksEach begun count told later
+ticked_quiet : (begun : Life) (count : ℕ) (outputs : List Said) (later : Life) → TicksEach begun count outputs later
     → logs later.past ≡ logs begun.past
 ticked_quiet begun _ _ _ NoneTicked = refl
-ticked_quiet begun _ _ _ (OneTicked count told more mid later id conn peer before here at follows) =
-    followed_quiet id _ _ mid more later follows ∙ ticked_quiet begun count told mid before
+ticked_quiet begun _ _ _ (OneTicked count outputs more mid later id conn peer before here at follows) =
+    followed_quiet id _ _ mid more later follows ∙ ticked_quiet begun count outputs mid before
 
 begun_quiet : (peers : List PeerPast)
     → map (λ (peer : PeerPast). peer.tape.log) (map (λ (peer : PeerPast). record peer { parted = false }) peers)
@@ -196,11 +196,11 @@ begun_quiet : (peers : List PeerPast)
 begun_quiet [] = refl
 begun_quiet (peer ∷ peers) = ap (λ l. peer.tape.log ∷ l) (begun_quiet peers)
 
-reading_quiet : (reading : Reading) (past later : Past) (told : List Said) → TakesReading reading past told later
+reading_quiet : (reading : Reading) (past later : Past) (outputs : List Said) → TakesReading reading past outputs later
     → logs later ≡ logs past
-reading_quiet (Good token id named) past later told (said, (mid, does, changed)) =
+reading_quiet (Good token id named) past later outputs (said, (mid, does, changed)) =
     ap logs changed ∙ all_quiet past mid _ does (owes_quiet 0 token id named past.peers)
-reading_quiet (NotGood fault) past later told (said, changed) = ap logs changed
+reading_quiet (NotGood fault) past later outputs (said, changed) = ap logs changed
 
 -- ---- a step
 
@@ -239,7 +239,7 @@ module _ (step : Step) (life : Life) where
           events = events;
           may = may;
           count = length some;
-          front = subst (λ (es : List Event). AllDo begun es past) (sym last.0) does;
+          prefix = subst (λ (es : List Event). AllDo begun es past) (sym last.0) does;
           event = event;
           here = last.1;
           makes = inl one;
@@ -251,7 +251,7 @@ module _ (step : Step) (life : Life) where
       events = events;
       may = may;
       count = f.count;
-      front = f.front;
+      prefix = f.prefix;
       event = f.event;
       here = f.here;
       makes = inr (fault, f.refused);
@@ -307,7 +307,7 @@ met step life stop under_way m = at_end step life m.mid under_way (record {
   events = m.events;
   may = may_of step life m.begun m.events m.calls;
   count = m.count;
-  front = m.front;
+  prefix = m.prefix;
   event = m.event;
   here = m.here;
   makes = inr (Tape Disk, m.met);
@@ -315,58 +315,58 @@ met step life stop under_way m = at_end step life m.mid under_way (record {
 
 -- ---- a step that is taken
 
-stop_at : (peer : Option (List ℕ)) (call : ℕ) (choice : Choice) (step : Step) (life : Life) (told : List Said)
-    (later : Life) → TakesStop peer call choice life told later → AtEnd step life later.past
-stop_at peer zero choice step life told later (runs, said, changed) =
+stop_at : (peer : Option (List ℕ)) (call : ℕ) (choice : Choice) (step : Step) (life : Life) (outputs : List Said)
+    (later : Life) → TakesStop peer call choice life outputs later → AtEnd step life later.past
+stop_at peer zero choice step life outputs later (runs, said, changed) =
     stopped step life AtRest life.past later changed (at_first step life)
-stop_at peer (suc calls) choice step life told later (rank, is, said, changed) =
+stop_at peer (suc calls) choice step life outputs later (rank, is, said, changed) =
     quiet step life later (past_of later _ changed)
 
-does_at : (step : Step) (life : Life) (told : List Said) (later : Life) → DoesStep step life told later
+does_at : (step : Step) (life : Life) (outputs : List Said) (later : Life) → DoesStep step life outputs later
     → AtEnd step life later.past
-does_at (Line text) life told later (runs, (past, t, changed)) =
-    quiet (Line text) life later (past_of later _ changed ∙ reading_quiet t.reading life.past past told t.takes)
-does_at Flush life told later (runs, (past, (does, said), changed)) =
+does_at (Line text) life outputs later (runs, (past, t, changed)) =
+    quiet (Line text) life later (past_of later _ changed ∙ reading_quiet t.reading life.past past outputs t.takes)
+does_at Flush life outputs later (runs, (past, (does, said), changed)) =
     moved Flush life past later changed
     (at_all Flush life (begun_at life.past) (flush_events life.past) (runs, refl, refl) past does)
-does_at Begin life told later (runs, (past, (said, is), changed)) =
+does_at Begin life outputs later (runs, (past, (said, is), changed)) =
     quiet Begin life later (past_of later _ changed ∙ ap logs is ∙ begun_quiet life.past.peers)
-does_at (Part name) life told later (runs, (past, (rank, here, does, said), changed)) =
+does_at (Part name) life outputs later (runs, (past, (rank, here, does, said), changed)) =
     moved (Part name) life past later changed
     (at_all (Part name) life life.past _ (runs, refl, (rank, here, refl)) past does)
-does_at Seal life told later (runs, (past, (number, may, does, said), changed)) =
+does_at Seal life outputs later (runs, (past, (number, may, does, said), changed)) =
     moved Seal life past later changed (at_all Seal life life.past _ (runs, refl, (number, may, refl)) past does)
-does_at (Connect name) life told later (runs, t) = quiet (Connect name) life later (past_of later _ t.changed)
-does_at (Hand id) life told later (runs, t) =
+does_at (Connect name) life outputs later (runs, t) = quiet (Connect name) life later (past_of later _ t.changed)
+does_at (Hand id) life outputs later (runs, t) =
     quiet (Hand id) life later (followed_quiet id _ _ (with_past life t.past) t.behind later t.follows
     ∙ handed_quiet id life.now t.conn t.peer life.past t.handed t.transcript t.past t.is.peer_is t.hands)
-does_at (Bytes id octets) life told later (runs, t) =
-    quiet (Bytes id octets) life later (followed_quiet id _ _ life told later t.follows)
-does_at (Article id found) life told later (runs, t) =
-    quiet (Article id found) life later (followed_quiet id _ _ life told later t.follows)
-does_at (Break id) life told later (runs, t) =
-    quiet (Break id) life later (followed_quiet id _ _ life told later t.follows)
-does_at (Tick now) life told later (runs, t) =
-    quiet (Tick now) life later (ticked_quiet (at_moment now life) _ told later t)
-does_at (Shed name) life told later (runs, (past, (rank, numbers, here, does, said), changed)) =
+does_at (Bytes id octets) life outputs later (runs, t) =
+    quiet (Bytes id octets) life later (followed_quiet id _ _ life outputs later t.follows)
+does_at (Article id found) life outputs later (runs, t) =
+    quiet (Article id found) life later (followed_quiet id _ _ life outputs later t.follows)
+does_at (Break id) life outputs later (runs, t) =
+    quiet (Break id) life later (followed_quiet id _ _ life outputs later t.follows)
+does_at (Tick now) life outputs later (runs, t) =
+    quiet (Tick now) life later (ticked_quiet (at_moment now life) _ outputs later t)
+does_at (Shed name) life outputs later (runs, (past, (rank, numbers, here, does, said), changed)) =
     quiet (Shed name) life later (past_of later _ changed ∙ all_quiet life.past past _ does (tt, tt))
-does_at (Rotate name) life told later (runs, (past, (rank, generation, here, does, said), changed)) =
+does_at (Rotate name) life outputs later (runs, (past, (rank, generation, here, does, said), changed)) =
     moved (Rotate name) life past later changed
     (at_all (Rotate name) life life.past _ (runs, refl, (rank, generation, here, refl)) past does)
-does_at (Import name text) life told later (runs, (past, (events, is, does, said), changed)) =
+does_at (Import name text) life outputs later (runs, (past, (events, is, does, said), changed)) =
     moved (Import name text) life past later changed
     (at_all (Import name text) life life.past events (runs, refl, is) past does)
-does_at (Stop peer call choice) life told later takes =
-    stop_at peer call choice (Stop peer call choice) life told later takes
-does_at Restart life told later t =
+does_at (Stop peer call choice) life outputs later takes =
+    stop_at peer call choice (Stop peer call choice) life outputs later takes
+does_at Restart life outputs later t =
     subst (λ (l : Life). AtEnd Restart life l.past) (sym t.changed)
     (λ rank log has. inl (at_all Restart life life.past (restart_events life.past) (t.stopped, refl, refl) t.past
     t.opens rank log has))
 
-takes_at : (step : Step) (life : Life) (told : List Said) (later : Life) → Takes step life told later
+takes_at : (step : Step) (life : Life) (outputs : List Said) (later : Life) → Takes step life outputs later
     → AtEnd step life later.past
-takes_at step life told later (inl does) = does_at step life told later does
-takes_at step life told later (inr s) =
+takes_at step life outputs later (inl does) = does_at step life outputs later does
+takes_at step life outputs later (inr s) =
     stopped step life (ByChoice s.stop.choice) s.under_way later s.changed (met step life s.stop s.under_way s.meets)
 
 -- ---- a step that is refused
@@ -498,7 +498,7 @@ refuses_at (Break id) life fault later r =
 refuses_at (Tick now) life fault later (inl off) = still (Tick now) life later off.2
 refuses_at (Tick now) life fault later (inr (runs, r)) =
     quiet (Tick now) life later (not_followed_quiet r.id _ r.mid fault later r.follows
-    ∙ ticked_quiet (at_moment now life) r.count r.told r.mid r.front)
+    ∙ ticked_quiet (at_moment now life) r.count r.outputs r.mid r.prefix)
 refuses_at (Shed name) life fault later r =
     tapes_at (Shed name) (RefusesShed name) life fault later (λ runs past. named_at (Shed name) life name _ past fault
     (λ rank here. shed_at name life past fault rank)) r
@@ -516,7 +516,7 @@ refuses_at (Stop peer call choice) life fault later r =
 refuses_at Restart life fault later r = restart_at life fault later r
 
 ended_at : (step : Step) (life later : Life) → Ended step life later → AtEnd step life later.past
-ended_at step life later (inl (told, takes)) = takes_at step life told later takes
+ended_at step life later (inl (outputs, takes)) = takes_at step life outputs later takes
 ended_at step life later (inr (fault, inl refuses)) = refuses_at step life fault later refuses
 ended_at step life later (inr (fault, inr s)) =
     stopped step life AtRest s.under_way later s.changed (met step life s.stop s.under_way s.meets)

@@ -71,8 +71,8 @@ fails_before begun later events next fault fails =
       count = fails.count;
       mid = fails.mid;
       event = fails.event;
-      front = subst (λ (es : List Event). AllDo begun es fails.mid)
-          (sym (take_left events next fails.count (omega (arith, within)))) fails.front;
+      prefix = subst (λ (es : List Event). AllDo begun es fails.mid)
+          (sym (take_left events next fails.count (omega (arith, within)))) fails.prefix;
       here = get_left events next fails.count fails.event fails.here;
       refused = fails.refused;
       safe = fails.safe;
@@ -86,8 +86,8 @@ fails_behind begun mid later events next fault does fails = record {
   count = length events + fails.count;
   mid = fails.mid;
   event = fails.event;
-  front = subst (λ (es : List Event). AllDo begun es fails.mid) (sym (take_right events next fails.count))
-      (all_then begun mid fails.mid events (take fails.count next) does fails.front);
+  prefix = subst (λ (es : List Event). AllDo begun es fails.mid) (sym (take_right events next fails.count))
+      (all_then begun mid fails.mid events (take fails.count next) does fails.prefix);
   here = get_right events next fails.count ∙ fails.here;
   refused = fails.refused;
   safe = fails.safe;
@@ -97,7 +97,7 @@ fails_behind begun mid later events next fault does fails = record {
 abbrev pub fails_one : (past later : Past) (event : Event) (fault : Fault) → Refuses event past fault later
     → IsSafe later → Fails past (event ∷ []) fault later
 fails_one past later event fault refuses safe =
-    record { count = 0; mid = past; event = event; front = Start; here = refl; refused = refuses; safe = safe }
+    record { count = 0; mid = past; event = event; prefix = Start; here = refl; refused = refuses; safe = safe }
 
 -- ---- the same of stations
 

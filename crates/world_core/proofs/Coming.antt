@@ -7,7 +7,7 @@ use Rattle.world_core.specs.Laws.Comes.{No_step, Step_taken, Step_refused}
 use Rattle.world_core.specs.Runs.{Runs}
 use Rattle.world_core.specs.Runs.Runs.{Start, Next}
 use Rattle.world_core.specs.Stands.{Ran, WasRefused, WorldStands}
-use Rattle.world_core.specs.Told.{Said, said_by}
+use Rattle.world_core.specs.Output.{Said, said_by}
 use Rattle.world_core.specs.declared.fault.WorldFault.{WorldFault}
 use Rattle.world_core.specs.declared.step.Step.{Step}
 use Rattle.world_core.specs.declared.world.World.{World}
@@ -22,37 +22,38 @@ module _ (begun : Life) where
       (subst (λ (l : List (List Said)). Comes begun steps l later) (sym said) comes)
 
   -- steps are taken behind what came before
-  comes_on : (before : List Step) (told : List (List Said)) (mid : Life) → Comes begun before told mid
+  comes_on : (before : List Step) (outputs : List (List Said)) (mid : Life) → Comes begun before outputs mid
       → (steps : List Step) (lines : List (List Said)) (later : Life) → Runs mid steps lines later
-      → Comes begun (before ++ steps) (told ++ lines) later
-  comes_on before told mid comes _ _ _ (Start safe sound) =
-      comes_at before (before ++ []) told (told ++ []) mid (append-nil before) (append-nil told) comes
-  comes_on before told mid comes _ _ _ (Next steps step lines said life later runs takes safe sound) =
-      comes_at ((before ++ steps) ++ step ∷ []) (before ++ (steps ++ step ∷ [])) ((told ++ lines) ++ said ∷ [])
-      (told ++ (lines ++ said ∷ [])) later (sym (append_assoc before steps (step ∷ [])))
-      (sym (append_assoc told lines (said ∷ [])))
-      (Step_taken (before ++ steps) step (told ++ lines) said life later
-      (comes_on before told mid comes steps lines life runs) takes safe sound)
+      → Comes begun (before ++ steps) (outputs ++ lines) later
+  comes_on before outputs mid comes _ _ _ (Start safe sound) =
+      comes_at before (before ++ []) outputs (outputs ++ []) mid (append-nil before) (append-nil outputs) comes
+  comes_on before outputs mid comes _ _ _ (Next steps step lines said life later runs takes safe sound) =
+      comes_at ((before ++ steps) ++ step ∷ []) (before ++ (steps ++ step ∷ [])) ((outputs ++ lines) ++ said ∷ [])
+      (outputs ++ (lines ++ said ∷ [])) later (sym (append_assoc before steps (step ∷ [])))
+      (sym (append_assoc outputs lines (said ∷ [])))
+      (Step_taken (before ++ steps) step (outputs ++ lines) said life later
+      (comes_on before outputs mid comes steps lines life runs) takes safe sound)
 
-  pub ran_comes : (before steps : List Step) (told lines : List (List Said)) (mid : Life) (new : World)
-      → Comes begun before told mid → (ran : Ran steps mid lines new)
-      → Comes begun (before ++ steps) (told ++ lines) ran.later
-  ran_comes before steps told lines mid new comes ran = comes_on before told mid comes steps lines ran.later ran.runs
+  pub ran_comes : (before steps : List Step) (outputs lines : List (List Said)) (mid : Life) (new : World)
+      → Comes begun before outputs mid → (ran : Ran steps mid lines new)
+      → Comes begun (before ++ steps) (outputs ++ lines) ran.later
+  ran_comes before steps outputs lines mid new comes ran = comes_on before outputs mid comes steps lines ran.later
+      ran.runs
 
-  pub refused_comes : (before steps : List Step) (told : List (List Said)) (mid : Life) (fault : WorldFault)
+  pub refused_comes : (before steps : List Step) (outputs : List (List Said)) (mid : Life) (fault : WorldFault)
       (new : World)
-      → Comes begun before told mid → (was : WasRefused steps mid fault new)
-      → Comes begun (before ++ take (was.index + 1) steps) (told ++ said_by fault.lines.items) was.later
-  refused_comes before steps told mid fault new comes was =
-      let front = take was.index steps in
-      let lines = told ++ said_by fault.lines.items in
+      → Comes begun before outputs mid → (was : WasRefused steps mid fault new)
+      → Comes begun (before ++ take (was.index + 1) steps) (outputs ++ said_by fault.lines.items) was.later
+  refused_comes before steps outputs mid fault new comes was =
+      let prefix = take was.index steps in
+      let lines = outputs ++ said_by fault.lines.items in
       let more : suc was.index ≡ was.index + 1 = omega arith in
-      let all : take (was.index + 1) steps ≡ front ++ was.step ∷ [] =
+      let all : take (was.index + 1) steps ≡ prefix ++ was.step ∷ [] =
       ap (λ (n : ℕ). take n steps) (sym more) ∙ take_next steps was.index was.step was.here in
-      comes_at ((before ++ front) ++ was.step ∷ []) (before ++ take (was.index + 1) steps) lines lines was.later
-      (ap (λ (l : List Step). before ++ l) all ∙ sym (append_assoc before front (was.step ∷ []))) refl
-      (Step_refused (before ++ front) was.step lines fault.kind was.mid was.later
-      (comes_on before told mid comes front (said_by fault.lines.items) was.mid was.runs) was.refuses was.safe
+      comes_at ((before ++ prefix) ++ was.step ∷ []) (before ++ take (was.index + 1) steps) lines lines was.later
+      (ap (λ (l : List Step). before ++ l) all ∙ sym (append_assoc before prefix (was.step ∷ []))) refl
+      (Step_refused (before ++ prefix) was.step lines fault.kind was.mid was.later
+      (comes_on before outputs mid comes prefix (said_by fault.lines.items) was.mid was.runs) was.refuses was.safe
       was.stands.sound)
 
 pub begins_so : (life : Life) (world : World) → WorldStands world life → Comes life [] [] life

@@ -21,13 +21,13 @@ use Rattle.world_core.specs.Joined.{AreRunning, MadeOn, RefusedOn}
 use Rattle.world_core.specs.Pairs.{Tells}
 use Rattle.world_core.specs.Sound.{HasNumber, IsSoundConn, numbers_at}
 use Rattle.world_core.specs.Stands.{ConnectionStands, PeerStands, WaitsWith}
-use Rattle.world_core.specs.Told.{Connected}
+use Rattle.world_core.specs.Output.{Connected}
 use Rattle.world_core.specs.declared.connection.Connection.{Connection}
 use Rattle.world_core.specs.declared.fault.Fault.{Fault}
 use Rattle.world_core.specs.declared.fault.Fault.TheVariants.{CountFull, NoMemory, NoPeer}
 use Rattle.world_core.specs.declared.peer.Peer.{Peer}
 use Rattle.world_core.specs.declared.stations.Stations.{Stations}
-use Rattle.world_core.specs.declared.told.Told.{Told}
+use Rattle.world_core.specs.declared.output.Output.{Output}
 use Rattle.world_core.proofs.Pure.{all_push, all_weaker, zip_at}
 use Rattle.world_core.proofs.Zips.{zip_push}
 
@@ -57,16 +57,16 @@ numbers_below n (e ∷ conns) all = (omega (arith, all.0), numbers_below n conns
 
 -- ---- one connection more
 
-front_step : (b : Bool) (e : Entry) (found more : Option ConnPast) (k : ConnPast) → (found ≡ Some k → more ≡ Some k)
+prefix_step : (b : Bool) (e : Entry) (found more : Option ConnPast) (k : ConnPast) → (found ≡ Some k → more ≡ Some k)
     → cond b (Some e.1) found ≡ Some k → cond b (Some e.1) more ≡ Some k
-front_step true e found more k rest is = is
-front_step false e found more k rest is = rest is
+prefix_step true e found more k rest is = is
+prefix_step false e found more k rest is = rest is
 
-at_front : (conns : List Entry) (new : Entry) (id : ℕ) (k : ConnPast) → conn_at conns id ≡ Some k
+at_prefix : (conns : List Entry) (new : Entry) (id : ℕ) (k : ConnPast) → conn_at conns id ≡ Some k
     → conn_at (conns ++ new ∷ []) id ≡ Some k
-at_front [] new id k is = let never : None ≡ Some k = is in cc
-at_front (e ∷ conns) new id k is =
-    front_step (e.0 == id) e (conn_at conns id) (conn_at (conns ++ new ∷ []) id) k (at_front conns new id k) is
+at_prefix [] new id k is = let never : None ≡ Some k = is in cc
+at_prefix (e ∷ conns) new id k is =
+    prefix_step (e.0 == id) e (conn_at conns id) (conn_at (conns ++ new ∷ []) id) k (at_prefix conns new id k) is
 
 last_step : (b : Bool) (e : Entry) (found more : Option ConnPast) (new k : ConnPast)
     → (more ≡ Some k → (found ≡ Some k) ⊎ (k ≡ new))
@@ -125,7 +125,7 @@ module _ {D : Type 0} {g : Ghosts D} (name : List ℕ) (life : Life) (old : Stat
               let has = was.0 is in
               record {
                 conn = has.conn;
-                here = at_front life.conns (life.connected + 1, fresh) id has.conn has.here;
+                here = at_prefix life.conns (life.connected + 1, fresh) id has.conn has.here;
                 its = has.its;
                 has = has.has;
               },
@@ -137,15 +137,15 @@ module _ {D : Type 0} {g : Ghosts D} (name : List ℕ) (life : Life) (old : Stat
           ],
         )
 
-    pub connected_made : (number : ℕ) (before told : List Told) (new_cs : List Connection)
+    pub connected_made : (number : ℕ) (before outputs : List Output) (new_cs : List Connection)
         → number ≡ life.connected + 1 → new_cs ≡ cs ++ c ∷ []
-        → Tells before (Connected (life.connected + 1) name ∷ []) told
-        → MadeOn (TakesConnect name) number life before told old new_cs
-    connected_made number before told new_cs is pushed tells = record {
+        → Tells before (Connected (life.connected + 1) name ∷ []) outputs
+        → MadeOn (TakesConnect name) number life before outputs old new_cs
+    connected_made number before outputs new_cs is pushed tells = record {
       later = later_life;
       said = Connected (life.connected + 1) name ∷ [];
-      makes = record { rank = rank; here = here; fits = fits; told_is = refl; changed = refl };
-      told_is = tells;
+      makes = record { rank = rank; here = here; fits = fits; outputs_are = refl; changed = refl };
+      outputs_are = tells;
       stand = record {
         running = running.running;
         stands = running.stands;

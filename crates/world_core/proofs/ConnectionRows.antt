@@ -25,7 +25,7 @@ use Rattle.world_core.specs.Runs.Runs.{Next, Start}
 use Rattle.world_core.specs.Safe.{IsSafe}
 use Rattle.world_core.specs.Sound.{IsSoundLife}
 use Rattle.world_core.specs.Steps.{begun_at}
-use Rattle.world_core.specs.Told.{Closed, Connected, Need, Output, Said, Settled}
+use Rattle.world_core.specs.Output.{Closed, Connected, Need, SentLine, Said, Settled}
 use Rattle.world_core.specs.declared.fault.Fault.TheVariants.{NoConnection, NoPeer}
 use Rattle.world_core.specs.declared.step.Step.TheVariants.{Begin, Connect, Hand, Stop}
 
@@ -49,8 +49,8 @@ abbrev cxn : List Happening → ConnPast
 cxn h = record { rank = 2; unread = []; transcript = h; settled = 0 }
 
 -- what is told of it, if its transcript was the first before the step, and is the second
-abbrev told : List Happening → List Happening → List Said
-told was h = exchange_said limits options 1 60 was (cxn h)
+abbrev outputs : List Happening → List Happening → List Said
+outputs was h = exchange_said limits options 1 60 was (cxn h)
 
 -- its transcript once its outcomes have gone to the peer and its output counts as sent
 abbrev sent : List Happening → List Happening
@@ -72,7 +72,7 @@ greeted = outside options [] (line 200)
 abbrev streaming : List Happening
 streaming = sent (outside options (sent greeted) (line 203))
 
-greeting_tells : told [] greeted ≡ Output 1 (codes "MODE STREAM") ∷ []
+greeting_tells : outputs [] greeted ≡ SentLine 1 (codes "MODE STREAM") ∷ []
 unfolding after story
 greeting_tells = refl
 
@@ -84,7 +84,7 @@ nothing_left = refl
 abbrev offered : List Happening
 offered = after options streaming (Offered debt)
 
-offer_tells : told streaming offered ≡ Output 1 (codes "CHECK <x@y>") ∷ []
+offer_tells : outputs streaming offered ≡ SentLine 1 (codes "CHECK <x@y>") ∷ []
 unfolding after story
 offer_tells = refl
 
@@ -95,7 +95,7 @@ checked = sent offered
 abbrev wanted : List Happening
 wanted = outside options checked (about 238)
 
-wanted_tells : told checked wanted ≡ Need 1 7 ∷ []
+wanted_tells : outputs checked wanted ≡ Need 1 7 ∷ []
 unfolding after story
 wanted_tells = refl
 
@@ -106,13 +106,13 @@ abbrev given : List Happening
 given = after options wanted
     (HandedIn 7 (Sendable (codes "S: t" ++ crlf ++ crlf ++ codes "..b" ++ crlf ++ codes "." ++ crlf)))
 
-article_tells : told wanted given ≡ Output 1 (codes "TAKETHIS <x@y>") ∷ Output 1 (codes "S: t") ∷ Output 1 []
-    ∷ Output 1 (codes "..b") ∷ Output 1 (codes ".") ∷ []
+article_tells : outputs wanted given ≡ SentLine 1 (codes "TAKETHIS <x@y>") ∷ SentLine 1 (codes "S: t") ∷ SentLine 1 []
+    ∷ SentLine 1 (codes "..b") ∷ SentLine 1 (codes ".") ∷ []
 unfolding after story
 article_tells = refl
 
 -- or there is none, and the debt is lost
-lost_tells : told wanted (after options wanted (HandedIn 7 Gone)) ≡ Settled 1 7 (Dropped Missing) ∷ []
+lost_tells : outputs wanted (after options wanted (HandedIn 7 Gone)) ≡ Settled 1 7 (Dropped Missing) ∷ []
 unfolding after story
 lost_tells = refl
 
@@ -125,12 +125,12 @@ answer_has : settle_events 2 1 60 (unsettled options (cxn answered))
 unfolding after story
 answer_has = refl
 
-answer_tells : told (sent given) answered ≡ Settled 1 7 (Answered TakethisReceived) ∷ []
+answer_tells : outputs (sent given) answered ≡ Settled 1 7 (Answered TakethisReceived) ∷ []
 unfolding after story
 answer_tells = refl
 
 -- If it is refused, it waits, as the first to be settled still, after a tick, too; once it is settled there is none.
-waits_on : told answered (outside options (waiting (cxn answered)).transcript (Tick 61))
+waits_on : outputs answered (outside options (waiting (cxn answered)).transcript (Tick 61))
     ≡ Settled 1 7 (Answered TakethisReceived) ∷ []
 unfolding after story
 waits_on = refl
@@ -140,7 +140,7 @@ unfolding after story
 none_waits = refl
 
 -- the peer defers it: it waits, or is dropped where deferred debts are
-defer_tells : told checked (outside options checked (about 431)) ≡ Settled 1 7 (Later 120) ∷ []
+defer_tells : outputs checked (outside options checked (about 431)) ≡ Settled 1 7 (Later 120) ∷ []
 unfolding after story
 defer_tells = refl
 
@@ -150,15 +150,15 @@ unfolding after story
 drop_tells = refl
 
 -- the server ends the connection, or it breaks, or no answer comes: the debt comes back, and why it closed is told
-end_tells : told checked (outside options checked (line 400)) ≡ Settled 1 7 Ready ∷ Closed 1 (Ended 400) ∷ []
+end_tells : outputs checked (outside options checked (line 400)) ≡ Settled 1 7 Ready ∷ Closed 1 (Ended 400) ∷ []
 unfolding after story
 end_tells = refl
 
-break_tells : told checked (outside options checked Broke) ≡ Settled 1 7 Ready ∷ Closed 1 Broken ∷ []
+break_tells : outputs checked (outside options checked Broke) ≡ Settled 1 7 Ready ∷ Closed 1 Broken ∷ []
 unfolding after story
 break_tells = refl
 
-timeout_tells : told checked (outside options (outside options checked (Tick 60)) (Tick 360))
+timeout_tells : outputs checked (outside options (outside options checked (Tick 60)) (Tick 360))
     ≡ Settled 1 7 Ready ∷ Closed 1 Timeout ∷ []
 unfolding after story
 timeout_tells = refl
@@ -194,7 +194,7 @@ module _ (conf : PeerConf) (choice : Choice) where
     conns = (4, fresh_conn 0) ∷ [];
     connected = 4;
   })
-  connect_takes = record { rank = 0; here = refl; fits = omega arith; told_is = refl; changed = refl }
+  connect_takes = record { rank = 0; here = refl; fits = omega arith; outputs_are = refl; changed = refl }
 
   connect_refused : RefusesStep (Connect (codes "q")) life NoPeer life
   connect_refused = inl (inr (refl, (inl (refl, refl), refl)))

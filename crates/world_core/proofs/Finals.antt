@@ -46,17 +46,17 @@ use Rattle.world_core.specs.Laws.Comes.{No_step, Step_taken, Step_refused}
 use Rattle.world_core.specs.Runs.{RefusesStep, Takes}
 use Rattle.world_core.specs.Safe.{IsSafe}
 use Rattle.world_core.specs.Sound.{IsSoundConn, IsSoundLife}
-use Rattle.world_core.specs.Told.{Said}
+use Rattle.world_core.specs.Output.{Said}
 use Rattle.world_core.specs.declared.fault.Fault.{Fault}
 use Rattle.world_core.specs.declared.step.Step.{Step}
 use Rattle.world_core.specs.declared.step.Step.TheVariants.{Hand, Tick}
-use Rattle.world_core.specs.declared.told.Handed.{Handed as Handover}
+use Rattle.world_core.specs.declared.output.Handed.{Handed as Handover}
 use Rattle.world_core.proofs.Connecting.{at_last}
 use Rattle.world_core.proofs.Growing.{Grew, accepted_offered, ends_grew, grew_outside, grew_same, grew_then}
 use Rattle.world_core.proofs.Holding.{contains_first, contains_more}
 use Rattle.world_core.proofs.Joining.{conn_there, put_other}
 use Rattle.world_core.proofs.Lifting.{get_apart, get_set}
-use Rattle.world_core.proofs.Pure.{front_all}
+use Rattle.world_core.proofs.Pure.{prefix_all}
 use Rattle.world_core.proofs.Recovering.{comes_safe, comes_sound, contains_taken}
 use Rattle.world_core.proofs.Traversal.{Passage, WentOn, events_all, refuses_make, takes_make}
 use Rattle.world_core.proofs.Walking.{Keeper, OnTape, events_keep}
@@ -74,7 +74,7 @@ contains_either : {A : Type 0} (xs ys : List A) (x : A) → Contains (xs ++ ys) 
 contains_either [] ys x has = inr has
 contains_either (y ∷ xs) ys x (zero, below, is) = inl (zero, omega arith, is)
 contains_either (y ∷ xs) ys x (suc k, below, is) = elim (contains_either xs ys x (k, omega (arith, below), is)) [
-  | inl front ↦ inl (contains_more xs y x front)
+  | inl prefix ↦ inl (contains_more xs y x prefix)
   | inr behind ↦ inr behind
 ]
 
@@ -166,7 +166,7 @@ module _ (V : Says) where
     conf,
     λ number code has. elim (contains_either was.tape.history.notes more (Final number code)
         (subst (λ (notes : List Note). Contains notes (Final number code)) is has)) [
-          | inl front ↦ inl front
+          | inl prefix ↦ inl prefix
           | inr behind ↦ inr (each number code behind)
         ],
   )
@@ -626,7 +626,7 @@ module _ (O : Owned) (id : ℕ) (conn : ConnPast) (life later : Life) (f : WentO
       subst (Rights O life) (sym f.changed) (record {
         right = events_keep (rightly (HasCome behind)) life.past f.past _ f.settles
             (right_settles (HasCome behind) conn.rank id life.now f.done
-            (front_all (IsRight (HasCome behind) conn.rank) f.done f.left
+            (prefix_all (IsRight (HasCome behind) conn.rank) f.done f.left
             (subst (AllByRecursion (IsRight (HasCome behind) conn.rank)) f.split
             (unsettled_all (IsRight (HasCome behind) conn.rank) its_options conn right))));
         owned = put_owned O life.conns id f.next owned (λ ticket debt is.
@@ -655,12 +655,12 @@ grown_owned O id conn new rank grew one ticket debt is =
     (one ticket debt (sym (ap (λ (l : List Owing). slice_get l ticket) grew.same) ∙ is))
 
 -- connections are told the moment, and none comes or goes
-ticks_numbers : (begun : Life) (count : ℕ) (told : List Said) (later : Life) → TicksEach begun count told later
+ticks_numbers : (begun : Life) (count : ℕ) (outputs : List Said) (later : Life) → TicksEach begun count outputs later
     → ids_of later.conns ≡ ids_of begun.conns
 ticks_numbers begun _ _ _ NoneTicked = refl
-ticks_numbers begun _ _ _ (OneTicked count told more mid later id conn peer ticks here at follows) =
+ticks_numbers begun _ _ _ (OneTicked count outputs more mid later id conn peer ticks here at follows) =
     ap (λ (l : Life). ids_of l.conns) follows.changed ∙ ids_put mid.conns id _
-    ∙ ticks_numbers begun count told mid ticks
+    ∙ ticks_numbers begun count outputs mid ticks
 
 -- ---- steps
 
@@ -749,14 +749,14 @@ module _ (O : Owned) where
       record { right = rights.right; owned = rights.owned }
 
   -- a connection was told the moment, and went on
-  ticks_right : (now : ℕ) (begun mid later : Life) (count : ℕ) (told : List Said) (id : ℕ) (conn : ConnPast)
+  ticks_right : (now : ℕ) (begun mid later : Life) (count : ℕ) (outputs : List Said) (id : ℕ) (conn : ConnPast)
       (peer : PeerPast)
-      → TicksEach begun count told mid → MakesRight (Tick now) begun mid
+      → TicksEach begun count outputs mid → MakesRight (Tick now) begun mid
       → slice_get mid.conns count ≡ Some (id, conn)
       → WentOn id (ticked mid.now peer conn) mid later → MakesRight (Tick now) begun later
-  ticks_right now begun mid later count told id conn peer before makes here went owes rising owned =
+  ticks_right now begun mid later count outputs id conn peer before makes here went owes rising owned =
       let rights = makes owes rising owned in
-      let numbers = ticks_numbers begun count told mid before in
+      let numbers = ticks_numbers begun count outputs mid before in
       let is = conn_there mid.conns (subst IsStrictlyIncreasing (sym numbers) rising) count id conn here in
       let options = options_of peer.conf in
       let new = ticked mid.now peer conn in
@@ -838,15 +838,15 @@ module _ (law : VerdictsAreRight) (own : EndsAreOwn) where
   -- the step was taken, and told this, or refused, and told nothing
   abbrev IsNext : Step → Life → List (List Said) → Life → Type 0
   IsNext step life more later =
-      ((told : List Said) × (more ≡ told ∷ []) × Takes step life told later)
+      ((outputs : List Said) × (more ≡ outputs ∷ []) × Takes step life outputs later)
       ⊎ ((fault : Fault) × (more ≡ []) × RefusesStep step life fault later)
 
   comes_next : (begun : Life) (steps : List Step) (step : Step) (lines more : List (List Said)) (mid later : Life)
       → Comes begun steps lines mid → IsNext step mid more later → IsSafe later.past → IsSoundLife later
       → Comes begun (steps ++ step ∷ []) (lines ++ more) later
-  comes_next begun steps step lines more mid later comes (inl (told, is, takes)) safe sound =
+  comes_next begun steps step lines more mid later comes (inl (outputs, is, takes)) safe sound =
       subst (λ (l : List (List Said)). Comes begun (steps ++ step ∷ []) (lines ++ l) later) (sym is)
-      (Step_taken steps step lines told mid later comes takes safe sound)
+      (Step_taken steps step lines outputs mid later comes takes safe sound)
   comes_next begun steps step lines more mid later comes (inr (fault, is, refuses)) safe sound =
       subst (λ (l : List (List Said)). Comes begun (steps ++ step ∷ []) (lines ++ l) later) (sym is)
       (subst (λ (l : List (List Said)). Comes begun (steps ++ step ∷ []) l later) (sym (append-nil lines))
@@ -966,8 +966,8 @@ module _ (law : VerdictsAreRight) (own : EndsAreOwn) where
     })
 
     next_right : IsNext step life more later → AllOwned OwnedNow life.conns → Rights OwnedNow life later
-    next_right (inl (told, is, takes)) owned =
-        takes_make (passage_right OwnedNow) step life told later takes owes_now rising owned
+    next_right (inl (outputs, is, takes)) owned =
+        takes_make (passage_right OwnedNow) step life outputs later takes owes_now rising owned
     next_right (inr (fault, is, refuses)) owned =
         refuses_make (passage_right OwnedNow) step life fault later refuses owes_now rising owned
 
@@ -993,8 +993,8 @@ module _ (law : VerdictsAreRight) (own : EndsAreOwn) where
         owned = λ id conn here ticket debt has.
             inr (record { conn = conn; is = here; its = refl; ticket = ticket; accepts = has });
       }
-  comes_right begun _ _ _ (Step_taken steps step lines told life later comes takes safe sound) =
-      run_goes begun steps step lines (told ∷ []) life later comes (inl (told, refl, takes)) safe sound
+  comes_right begun _ _ _ (Step_taken steps step lines outputs life later comes takes safe sound) =
+      run_goes begun steps step lines (outputs ∷ []) life later comes (inl (outputs, refl, takes)) safe sound
       (comes_right begun steps lines life comes)
   comes_right begun _ _ _ (Step_refused steps step lines fault life later comes refuses safe sound) =
       subst (λ (l : List (List Said)). RunRight begun (steps ++ step ∷ []) l later) (append-nil lines)

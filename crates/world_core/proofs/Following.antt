@@ -9,11 +9,11 @@ use Rattle.world_core.specs.Past.{ConnPast, PeerPast, options_of}
 use Rattle.world_core.specs.Exchange.{all_out, one_out, unsettled}
 use Rattle.world_core.specs.Pairs.{FollowedNot, Next, PairStands, SettledAll, SettledNone, SettledNot, SettledOne}
 use Rattle.world_core.specs.Pairs.{SettledSome, Start, StopsHere, settled_said}
-use Rattle.world_core.specs.Told.{Said, said_of}
+use Rattle.world_core.specs.Output.{Said, said_of}
 use Rattle.world_core.specs.declared.connection.Connection.{Connection}
 use Rattle.world_core.specs.declared.fault.Fault.{Fault}
 use Rattle.world_core.specs.declared.peer.Peer.{Peer}
-use Rattle.world_core.specs.declared.told.Told.{Told}
+use Rattle.world_core.specs.declared.output.Output.{Output}
 use Rattle.world_core.proofs.Settling.{conf_settled}
 
 out_more : (done : List Outcome) (outcome : Outcome) (conn : ConnPast)
@@ -31,23 +31,23 @@ said_same id now one other outcome same = ap (λ (c : PeerConf). said_at c) same
 
 module _ {D : Type 0} {g : Ghosts D} where
   pub settled_start : (id now : ℕ) (conn : ConnPast) (past : PeerPast) (connection : Connection) (peer : Peer D g)
-      (told : List Told)
-      → PairStands id conn past connection peer → SettledSome id now conn past told [] past connection peer told
-  settled_start id now conn past connection peer told pair = record {
+      (outputs : List Output)
+      → PairStands id conn past connection peer → SettledSome id now conn past outputs [] past connection peer outputs
+  settled_start id now conn past connection peer outputs pair = record {
     split = refl;
     settles = Start;
     same_conf = refl;
-    told_is = sym (append-nil (map said_of told));
+    outputs_are = sym (append-nil (map said_of outputs));
     stand = pair;
   }
 
-  module _ (id now : ℕ) (conn : ConnPast) (past : PeerPast) (was : List Told) (done : List Outcome)
+  module _ (id now : ℕ) (conn : ConnPast) (past : PeerPast) (was : List Output) (done : List Outcome)
       (mid : PeerPast) where
-    pub settled_more : (old_c new_c : Connection) (old new : Peer D g) (told more : List Told)
-        → SettledSome id now conn past was done mid old_c old told
-        → SettledOne id now (all_out done conn) mid told new_c new more
+    pub settled_more : (old_c new_c : Connection) (old new : Peer D g) (outputs more : List Output)
+        → SettledSome id now conn past was done mid old_c old outputs
+        → SettledOne id now (all_out done conn) mid outputs new_c new more
         → (done' : List Outcome) × (later : PeerPast) × SettledSome id now conn past was done' later new_c new more
-    settled_more old_c new_c old new told more some one =
+    settled_more old_c new_c old new outputs more some one =
         let o = one.outcome in
         let one_more = out_more done o conn in
         let next = subst (λ (c : PeerConf). unsettled (options_of c) (all_out done conn)
@@ -59,7 +59,7 @@ module _ {D : Type 0} {g : Ghosts D} where
                 ∙ ap (λ (k : ConnPast). (done ++ o ∷ []) ++ unsettled (options_of past.conf) k) (sym one_more)));
             settles = Next done o mid one.later some.settles one.settles;
             same_conf = ap (λ (p : PeerPast). p.conf) one.settles.changed ∙ (conf_settled now o mid ∙ some.same_conf);
-            told_is = one.told_is ∙ (ap (λ l. l ++ settled_said id now mid o ∷ []) some.told_is
+            outputs_are = one.outputs_are ∙ (ap (λ l. l ++ settled_said id now mid o ∷ []) some.outputs_are
                 ∙ (append_assoc (map said_of was) _ _ ∙ ap (λ l. map said_of was ++ l)
                 (ap (λ said. map (settled_said id now past) done ++ said ∷ [])
                 (said_same id now mid past o some.same_conf)
@@ -68,11 +68,11 @@ module _ {D : Type 0} {g : Ghosts D} where
           },
         )
 
-    pub settled_all : (old_c new_c : Connection) (old new : Peer D g) (told more : List Told)
-        → SettledSome id now conn past was done mid old_c old told
-        → SettledNone id (all_out done conn) mid told new_c new more
+    pub settled_all : (old_c new_c : Connection) (old new : Peer D g) (outputs more : List Output)
+        → SettledSome id now conn past was done mid old_c old outputs
+        → SettledNone id (all_out done conn) mid outputs new_c new more
         → SettledAll id now conn past was new_c new more
-    settled_all old_c new_c old new told more some none =
+    settled_all old_c new_c old new outputs more some none =
         let left = subst (λ (c : PeerConf). unsettled (options_of c) (all_out done conn) ≡ [])
         some.same_conf none.none in
         let all : unsettled (options_of past.conf) conn ≡ done =
@@ -84,16 +84,16 @@ module _ {D : Type 0} {g : Ghosts D} where
                 split = some.split;
                 settles = some.settles;
                 same_conf = some.same_conf;
-                told_is = none.told_is ∙ (append-nil (map said_of told) ∙ some.told_is);
+                outputs_are = none.outputs_are ∙ (append-nil (map said_of outputs) ∙ some.outputs_are);
                 stand = none.stand;
               });
         }
 
-    pub settled_refused : (old_c new_c : Connection) (old new : Peer D g) (told : List Told) (fault : Fault)
-        → SettledSome id now conn past was done mid old_c old told
+    pub settled_refused : (old_c new_c : Connection) (old new : Peer D g) (outputs : List Output) (fault : Fault)
+        → SettledSome id now conn past was done mid old_c old outputs
         → SettledNot id now (all_out done conn) mid fault new_c new
         → FollowedNot id now conn past fault new_c new
-    settled_refused old_c new_c old new told fault some not = record {
+    settled_refused old_c new_c old new outputs fault some not = record {
       later_conn = not.later_conn;
       later = mid;
       follows = record {

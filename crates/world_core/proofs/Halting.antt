@@ -9,7 +9,7 @@ use Rattle.recovery.specs.Image.{Log}
 use Rattle.recovery.specs.Leaving.{EachLedger, HasLedger, left_by}
 use Rattle.recovery.specs.LeavingLaws.{EachLedger-weaker, left_leaves}
 use Rattle.recovery.specs.Notes.{History}
-use Rattle.recovery.specs.Words.{log_of, told_of}
+use Rattle.recovery.specs.Words.{log_of, faults_of}
 use Rattle.world_core.specs.Past.{Past, PeerPast, TapePast, mark_at}
 use Rattle.world_core.specs.Safe.{HasAcknowledged, IsSafe, KeepsLines, KeepsNotes}
 use Rattle.world_core.specs.Halts.{AtRest, ByChoice, Manner, left, left_peer, left_tape}
@@ -21,7 +21,7 @@ use Rattle.world_core.specs.declared.peer.Peer.{Peer}
 use Rattle.world_core.specs.declared.peer.StoppedPeer.{StoppedPeer}
 use Rattle.world_core.specs.declared.stations.Stations.{Stations}
 use Rattle.world_core.specs.declared.stop.StopDisk.{StopDisk}
-use Rattle.world_core.proofs.Sound.{each_front, safe_of}
+use Rattle.world_core.proofs.Sound.{each_prefix, safe_of}
 use Rattle.world_core.proofs.Zips.{zip_push, zip_through, zip_first}
 use Rattle.peer_queue.specs.Words.{tape_of}
 
@@ -61,7 +61,7 @@ left_sound manner past sound = record {
 pub lines_left : (manner : Manner) (h : History) (peers : List PeerPast) (state : State) → KeepsLines h peers state
     → KeepsLines h (map (left_peer manner) peers) state
 lines_left manner h peers state keeps =
-    record { front = keeps.front; lines = all_left manner state.mark peers keeps.lines }
+    record { prefix = keeps.prefix; lines = all_left manner state.mark peers keeps.lines }
 
 -- ---- at rest
 
@@ -86,16 +86,16 @@ module _ {D : Type 0} {g : Ghosts D} where
   pub peer_halted : (past : PeerPast) (peer : Peer D g) (stopped : StoppedPeer) → PeerStands past peer
       → stopped.conf ≡ peer.conf
       → (happened stopped.disks.0, happened stopped.disks.1) ≡ log_of (tape_of peer.station)
-      → (all_faults stopped.disks.0, all_faults stopped.disks.1) ≡ told_of (tape_of peer.station)
+      → (all_faults stopped.disks.0, all_faults stopped.disks.1) ≡ faults_of (tape_of peer.station)
       → StoppedStands (left_peer AtRest past) stopped
-  peer_halted past peer stopped stands conf log told = record {
+  peer_halted past peer stopped stands conf log faults_are = record {
     conf = conf ∙ stands.conf;
     disks = record {
       log = log ∙ stands.tape.log;
-      faults = told ∙ stands.tape.faults;
+      faults = faults_are ∙ stands.tape.faults;
       works = refl;
       legal = stands.tape.stands.are_legal;
-      images = each_front past (tape_of peer.station) stands.tape;
+      images = each_prefix past (tape_of peer.station) stands.tape;
     };
   }
 
@@ -103,12 +103,12 @@ module _ {D : Type 0} {g : Ghosts D} where
       → Stands stations past
       → AllZip StoppedStands (map (left_peer AtRest) past.peers) peers
       → (happened disks.0, happened disks.1) ≡ log_of stations.intake
-      → (all_faults disks.0, all_faults disks.1) ≡ told_of stations.intake → TapesStop (left AtRest past) peers disks
-  tapes_halted past stations peers disks stands all log told = record {
+      → (all_faults disks.0, all_faults disks.1) ≡ faults_of stations.intake → TapesStop (left AtRest past) peers disks
+  tapes_halted past stations peers disks stands all log faults_are = record {
     peers = all;
     intake = record {
       log = log ∙ stands.intake.log;
-      faults = told ∙ stands.intake.faults;
+      faults = faults_are ∙ stands.intake.faults;
       works = refl;
       legal = stands.intake.stands.are_legal;
       images = EachLedger-weaker (KeepsLines past.intake.history past.peers)

@@ -7,7 +7,7 @@ use Rattle.std.proofs.lemmas.Bool.{cases_eq}
 use Rattle.disk_model.specs.declared.Disk.{Ghosts}
 use Rattle.feed_conf.specs.declared.conf.PeerConf.{PeerConf}
 use Rattle.ledger_core.specs.State.{Owing, State}
-use Rattle.recovery.specs.Words.{IsBroken, OneHasRisen, told_of}
+use Rattle.recovery.specs.Words.{IsBroken, OneHasRisen, faults_of}
 use Rattle.recovery.specs.declared.fault.TapeFault.TheVariants.{Broken as BrokenTape, Disk}
 use Rattle.conn_core.specs.History.{Event as Happening, Offered, after, reason}
 use Rattle.conn_core.specs.Stands.{StandsFor as ConnStands, ready_of}
@@ -29,15 +29,15 @@ use Rattle.world_core.specs.Pairs.{ClaimsAt, Followed, FollowedNot, GivesBackAt,
 use Rattle.world_core.specs.Pairs.{HandedOver, HandsOverAt, None_at, No_room_at, PairStands, Shut_at, Taken_at}
 use Rattle.world_core.specs.Sound.{numbers_at}
 use Rattle.world_core.specs.Stands.{HoldsTranscript, PeerStands, TapeStands, WaitsWith}
-use Rattle.world_core.specs.Told.{Handed as SaidHanded, Said, said_of}
+use Rattle.world_core.specs.Output.{Handed as SaidHanded, Said, said_of}
 use Rattle.world_core.specs.declared.connection.Connection.{Connection}
 use Rattle.world_core.specs.declared.fault.Fault.{Fault}
 use Rattle.world_core.specs.declared.fault.Fault.TheVariants.{NoMemory as NoStepMemory, Tape as TapeRefusal}
 use Rattle.world_core.specs.declared.peer.Peer.{Peer}
-use Rattle.world_core.specs.declared.told.Handed.{Handed as Handover}
-use Rattle.world_core.specs.declared.told.Told.{Told}
-use Rattle.world_core.specs.declared.told.Told.TheVariants.{Handed as ToldHanded}
-use Rattle.world_core.specs.declared.told.Handed.TheVariants.{Busy, Closed, Debt, Nothing}
+use Rattle.world_core.specs.declared.output.Handed.{Handed as Handover}
+use Rattle.world_core.specs.declared.output.Output.{Output}
+use Rattle.world_core.specs.declared.output.Output.TheVariants.{Handed as OutputHanded}
+use Rattle.world_core.specs.declared.output.Handed.TheVariants.{Busy, Closed, Debt, Nothing}
 use Rattle.world_core.proofs.Balance.{more_numbers}
 use Rattle.world_core.proofs.Breaking.{open_told}
 use Rattle.world_core.proofs.Holding.{moved_here, moved_other}
@@ -110,13 +110,13 @@ module _ {D : Type 0} {g : Ghosts D} where
       tied = record { held = pair.tied.held; once = pair.tied.once };
     }
 
-    refused_claim : (fault : StationFault) (told : Fault) → told ≡ fault_of_station fault
+    refused_claim : (fault : StationFault) (outputs : Fault) → outputs ≡ fault_of_station fault
         → ((fault ≡ Broken) ↔ IsBroken (tape_of old.station))
         → (fault ≢ Broken → IsSome (least_candidate now (places_of old.station)))
-        → (fault ≡ TapeRefused Disk → OneHasRisen (told_of (tape_of old.station)) (told_of (tape_of new.station)))
+        → (fault ≡ TapeRefused Disk → OneHasRisen (faults_of (tape_of old.station)) (faults_of (tape_of new.station)))
         → IsClaimFault fault
-        → RefusesClaim now past told tape_read
-    refused_claim fault told e broken some cause kind = (
+        → RefusesClaim now past outputs tape_read
+    refused_claim fault outputs e broken some cause kind = (
       why fault e broken some cause kind,
       (read_tape past.tape (tape_of old.station) (tape_of new.station) pair.stands.tape reads.tape).0,
     )
@@ -126,13 +126,14 @@ module _ {D : Type 0} {g : Ghosts D} where
         there f not s = some_there (least_candidate now past.places)
             (subst (λ (p : Places). IsSome (least_candidate now p)) pair.stands.places (s not))
 
-        why : (f : StationFault) → told ≡ fault_of_station f → ((f ≡ Broken) ↔ IsBroken (tape_of old.station))
+        why : (f : StationFault) → outputs ≡ fault_of_station f → ((f ≡ Broken) ↔ IsBroken (tape_of old.station))
             → (f ≢ Broken → IsSome (least_candidate now (places_of old.station)))
-            → (f ≡ TapeRefused Disk → OneHasRisen (told_of (tape_of old.station)) (told_of (tape_of new.station)))
+            → (f ≡ TapeRefused Disk → OneHasRisen (faults_of (tape_of old.station)) (faults_of (tape_of new.station)))
             → IsClaimFault f
-            → ((told ≡ TapeRefusal BrokenTape) × (past.tape.broken ≡ true))
+            → ((outputs ≡ TapeRefusal BrokenTape) × (past.tape.broken ≡ true))
             ⊎ ((past.tape.broken ≡ false) × ((number : ℕ) × (least_candidate now past.places ≡ Some number))
-            × ((told ≡ NoStepMemory) ⊎ ((told ≡ TapeRefusal Disk) × OneHasRisen past.tape.faults tape_read.faults)))
+            × ((outputs ≡ NoStepMemory) ⊎ ((outputs ≡ TapeRefusal Disk)
+            × OneHasRisen past.tape.faults tape_read.faults)))
         why NotHeld e b s c k = absurd k
         why Broken e b s c k = inl (e, tape_broken past.tape (tape_of old.station) pair.stands.tape (b.0 refl))
         why (TapeRefused f) e b s c k = inr (
@@ -142,7 +143,7 @@ module _ {D : Type 0} {g : Ghosts D} where
           there (TapeRefused f) (λ is. cc) s,
           inr (
             e ∙ ap (λ t. fault_of_station (TapeRefused t)) k,
-            subst (λ (n : ℕ × ℕ). OneHasRisen n (told_of (tape_of new.station))) pair.stands.tape.faults
+            subst (λ (n : ℕ × ℕ). OneHasRisen n (faults_of (tape_of new.station))) pair.stands.tape.faults
                 (c (ap TapeRefused k)),
           ),
         )
@@ -153,15 +154,15 @@ module _ {D : Type 0} {g : Ghosts D} where
           inl e,
         )
 
-    pub claim_refused : (fault : StationFault) (told : Fault) → told ≡ fault_of_station fault
+    pub claim_refused : (fault : StationFault) (outputs : Fault) → outputs ≡ fault_of_station fault
         → ((fault ≡ Broken) ↔ IsBroken (tape_of old.station))
         → (fault ≢ Broken → IsSome (least_candidate now (places_of old.station)))
-        → (fault ≡ TapeRefused Disk → OneHasRisen (told_of (tape_of old.station)) (told_of (tape_of new.station)))
+        → (fault ≡ TapeRefused Disk → OneHasRisen (faults_of (tape_of old.station)) (faults_of (tape_of new.station)))
         → IsClaimFault fault
-        → places_of new.station ≡ places_of old.station → HandedNot id now conn past told connection new
-    claim_refused fault told e broken some cause kind places = record {
+        → places_of new.station ≡ places_of old.station → HandedNot id now conn past outputs connection new
+    claim_refused fault outputs e broken some cause kind places = record {
       later = with_tape past tape_read;
-      why = inl (tape_read, refused_claim fault told e broken some cause kind, refl);
+      why = inl (tape_read, refused_claim fault outputs e broken some cause kind, refl);
       stand = pair_read places;
     }
 
@@ -333,10 +334,10 @@ module _ {D : Type 0} {g : Ghosts D} where
               stand = pair_back;
             }
 
-        pub gave_back_memory : (told : Fault) → told ≡ NoStepMemory
+        pub gave_back_memory : (outputs : Fault) → outputs ≡ NoStepMemory
             → ready_of (options_of past.conf) conn.transcript ≡ Yes
-            → HandedNot id now conn past told new_c last
-        gave_back_memory told e ready =
+            → HandedNot id now conn past outputs new_c last
+        gave_back_memory outputs e ready =
             record { later = returned; why = inr (e, ready, (debt, gives_back)); stand = pair_back }
 
 -- what is told of none, and of one
@@ -370,10 +371,10 @@ module _ {D : Type 0} {g : Ghosts D} (id now : ℕ) (conn : ConnPast) (past : Pe
   hand_memory fault c peer is pair =
       record { later_conn = conn; later = past; why = inl (is, refl, refl); stand = pair }
 
-  pub hand_not : (fault told : Fault) (c : Connection) (peer : Peer D g) → told ≡ fault
+  pub hand_not : (fault outputs : Fault) (c : Connection) (peer : Peer D g) → outputs ≡ fault
       → HandedNot id now conn past fault c peer
-      → HandedOnNot id now conn past told c peer
-  hand_not fault told c peer same is =
+      → HandedOnNot id now conn past outputs c peer
+  hand_not fault outputs c peer same is =
       subst (λ (f : Fault). HandedOnNot id now conn past f c peer) (sym same)
       (record { later_conn = conn; later = is.later; why = inr (inl (is.why, refl)); stand = is.stand })
 
@@ -388,12 +389,12 @@ module _ {D : Type 0} {g : Ghosts D} (id now : ℕ) (conn : ConnPast) (past : Pe
         ∙ ap (λ (conf : PeerConf). is_none (reason (options_of conf) conn.transcript))
         (sym (hands_conf id now conn past handed over.transcript over.later over.hands))
 
-    pub hand_on : (before mid told : List Told) (cxn : ℕ) (what : Handover) (c : Connection) (peer : Peer D g)
+    pub hand_on : (before mid outputs : List Output) (cxn : ℕ) (what : Handover) (c : Connection) (peer : Peer D g)
         → what ≡ handed
-        → mid ≡ before ++ ToldHanded cxn what ∷ [] → cxn ≡ mid_c.conn.id.0
-        → Followed id now conn.transcript (with_transcript conn over.transcript) over.later mid c peer told
-        → HandedOn id now conn past before c peer told
-    hand_on before mid told cxn what c peer same is own followed = record {
+        → mid ≡ before ++ OutputHanded cxn what ∷ [] → cxn ≡ mid_c.conn.id.0
+        → Followed id now conn.transcript (with_transcript conn over.transcript) over.later mid c peer outputs
+        → HandedOn id now conn past before c peer outputs
+    hand_on before mid outputs cxn what c peer same is own followed = record {
       handed = handed;
       transcript = over.transcript;
       mid = over.later;
@@ -402,11 +403,11 @@ module _ {D : Type 0} {g : Ghosts D} (id now : ℕ) (conn : ConnPast) (past : Pe
       later_conn = followed.later_conn;
       later = followed.later;
       follows = followed.follows;
-      told_is = tells_both before mid told (SaidHanded id handed ∷ []) followed.said
-          (tells_push before before mid (ToldHanded cxn what) refl is
+      outputs_are = tells_both before mid outputs (SaidHanded id handed ∷ []) followed.said
+          (tells_push before before mid (OutputHanded cxn what) refl is
           ∙ ap (λ (said : Said). map said_of before ++ said ∷ [])
           (ap (λ (n : ℕ). SaidHanded n what) (own ∙ over.stand.id_is) ∙ ap (λ (h : Handover). SaidHanded id h) same))
-          followed.told_is;
+          followed.outputs_are;
       stand = followed.stand;
     }
 

@@ -35,13 +35,13 @@ use Rattle.world_core.specs.Stepped.{Did, Failed, Took, TookNot}
 use Rattle.world_core.specs.Safe.{KeepsNotes}
 use Rattle.world_core.specs.Steps.{RefusesImport, TakesImport}
 use Rattle.world_core.specs.Tapes.{RefusesClose, RefusesFlush, RefusesNote, RefusesOwe}
-use Rattle.world_core.specs.Told.{Imported as SaidImported, said_of}
+use Rattle.world_core.specs.Output.{Imported as SaidImported, said_of}
 use Rattle.world_core.specs.declared.fault.Fault.{Fault}
 use Rattle.world_core.specs.declared.fault.Fault.TheVariants.{NoMemory, NoPeer, Tape}
 use Rattle.world_core.specs.declared.peer.Peer.{Peer}
 use Rattle.world_core.specs.declared.stations.Stations.{Stations}
-use Rattle.world_core.specs.declared.told.Told.{Told}
-use Rattle.world_core.specs.declared.told.Told.TheVariants.{Imported as ToldImported}
+use Rattle.world_core.specs.declared.output.Output.{Output}
+use Rattle.world_core.specs.declared.output.Output.TheVariants.{Imported as OutputImported}
 use Rattle.world_core.proofs.Chains.{did_none, did_one, did_then, failed_before, failed_one, failed_then}
 use Rattle.world_core.proofs.Lifting.{get_set, with_same}
 use Rattle.world_core.proofs.Pure.{drop_push}
@@ -215,7 +215,7 @@ module _ {D : Type 0} {g : Ghosts D} where
       let is = only r.peer r.tape (broken_there past rank broken r.peer r.here) r.refused in
       record {
         broken = broken;
-        told = is.0;
+        fault_is = is.0;
         stands = subst (Stands stations) (r.changed
             ∙ ap (λ (t : TapePast). with_peer past rank (with_tape r.peer t)) is.1 ∙ with_same past rank r.peer r.here)
             failed.stands;
@@ -230,13 +230,13 @@ module _ {D : Type 0} {g : Ghosts D} where
         → (RefusesAt R rank past (Tape Broken) past → Refuses event past (Tape Broken) past)
         → R peer_here (Tape Broken) peer_here.tape → (behind : List Event) → Failed past (event ∷ behind) fault stations
     first_fails event R refuses refused behind =
-        subst (λ (f : Fault). Failed past (event ∷ behind) f stations) (sym broke.told) (record {
+        subst (λ (f : Fault). Failed past (event ∷ behind) f stations) (sym broke.fault_is) (record {
           later = past;
           fails = record {
             count = 0;
             mid = past;
             event = event;
-            front = Start;
+            prefix = Start;
             here = refl;
             refused = refuses (record {
               peer = peer_here;
@@ -350,7 +350,7 @@ module _ {D : Type 0} {g : Ghosts D} where
           ∙ with_same past rank r.peer r.here in
           inl (record {
             broken = (r.peer, r.here, broken.1);
-            told = broken.0;
+            fault_is = broken.0;
             stands = subst (Stands new) is failed.stands;
           })
       by_fault fault failed (inr (inl long)) = not_spilled fault failed long.1
@@ -585,8 +585,8 @@ module _ {D : Type 0} {g : Ghosts D} where
 
   pub import_absent : (name text : List ℕ) (past : Past) (fault : Fault) (stations : Stations D g) → fault ≡ NoPeer
       → rank_of past name ≡ None → Stands stations past → TookNot (RefusesImport name text) past fault stations
-  import_absent name text past fault stations told none stands =
-      record { later = past; refuses = inl (told, none, refl); stands = stands }
+  import_absent name text past fault stations outputs none stands =
+      record { later = past; refuses = inl (outputs, none, refl); stands = stands }
 
   pub import_memory : (name text : List ℕ) (past : Past) (rank : ℕ) (fault : Fault) (stations : Stations D g)
       → rank_of past name ≡ Some rank → fault ≡ NoMemory → Stands stations past
@@ -655,12 +655,12 @@ module _ (name text : List ℕ) (past : Past) (rank : ℕ) (named : rank_of past
           (failed_then past each.events (close_events rank each.now_pending) fault mid new each.done.did
           (tells each.done.did.later source_here each.now_pending each.now_mark each.done.did.stands each.done.at)))
 
-      pub import_took : (own : List ℕ) (closed : ℕ) (told : List Told) → own ≡ name
-          → told ≡ ToldImported own closed count ∷ []
+      pub import_took : (own : List ℕ) (closed : ℕ) (outputs : List Output) → own ≡ name
+          → outputs ≡ OutputImported own closed count ∷ []
           → ((p : Past) (source pending mark : ℕ) → Stands mid p → IsAt p rank source pending mark
           → (closed ≡ source) × Did p (close_events rank pending) new)
-          → Took (TakesImport name text) past told new
-      import_took own closed told is tells closes =
+          → Took (TakesImport name text) past outputs new
+      import_took own closed outputs is tells closes =
           let closed_so = closes each.done.did.later source_here each.now_pending each.now_mark each.done.did.stands
           each.done.at in
           let whole = subst (λ (es : List Event). Did past es new) (sym each.split)

@@ -53,7 +53,7 @@ pub tape_same : (was now : TapePast) → now.history ≡ was.history → StaysAc
 tape_same was now same = record {
   base = ap (λ (h : History). h.base) same;
   more = [];
-  front = ap (λ (h : History). take h.kept h.notes) same
+  prefix = ap (λ (h : History). take h.kept h.notes) same
       ∙ sym (append-nil (take was.history.kept was.history.notes));
 }
 
@@ -62,14 +62,14 @@ tape_noted : (was now : TapePast) (notes : List Note) → now.history ≡ noted_
 tape_noted was now notes is = record {
   base = ap (λ (h : History). h.base) is;
   more = _;
-  front = ap (λ (h : History). take h.kept h.notes) is ∙ take_less was.history.kept was.history.notes notes;
+  prefix = ap (λ (h : History). take h.kept h.notes) is ∙ take_less was.history.kept was.history.notes notes;
 }
 
 tape_flushed : (was now : TapePast) → now.history ≡ flushed was.history → StaysAcknowledged was now
 tape_flushed was now is = record {
   base = ap (λ (h : History). h.base) is;
   more = _;
-  front = ap (λ (h : History). take h.kept h.notes) is ∙ take-length was.history.notes
+  prefix = ap (λ (h : History). take h.kept h.notes) is ∙ take-length was.history.notes
       ∙ sym (take-append-drop was.history.kept was.history.notes);
 }
 
@@ -78,7 +78,7 @@ tape_opened : (was now : TapePast) (count : ℕ) → was.history.kept ≤ count
 tape_opened was now count enough is = record {
   base = ap (λ (h : History). h.base) is;
   more = _;
-  front = ap (λ (h : History). take h.kept h.notes) is ∙ take_twice count was.history.notes
+  prefix = ap (λ (h : History). take h.kept h.notes) is ∙ take_twice count was.history.notes
       ∙ take_up was.history.kept count was.history.notes enough;
 }
 
@@ -87,7 +87,7 @@ tape_then : (was mid now : TapePast) → StaysAcknowledged was mid → StaysAckn
 tape_then was mid now first second = record {
   base = second.base ∙ first.base;
   more = first.more ++ second.more;
-  front = second.front ∙ ap (λ l. l ++ second.more) first.front
+  prefix = second.prefix ∙ ap (λ l. l ++ second.more) first.prefix
       ∙ append_assoc (take was.history.kept was.history.notes) first.more second.more;
 }
 

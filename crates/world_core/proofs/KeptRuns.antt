@@ -6,7 +6,7 @@ use Rattle.world_core.specs.Past.{Life, Past, PeerPast, with_tape}
 use Rattle.world_core.specs.Runs.{Runs}
 use Rattle.world_core.specs.Sound.{names_of}
 use Rattle.world_core.specs.Stands.{PeerStands, StageStands, StoppedStands, WorldStands}
-use Rattle.world_core.specs.Told.{Said}
+use Rattle.world_core.specs.Output.{Said}
 use Rattle.world_core.specs.Turn.{names_at}
 use Rattle.world_core.specs.declared.peer.Peer.{Peer}
 use Rattle.world_core.specs.declared.peer.StoppedPeer.{StoppedPeer}

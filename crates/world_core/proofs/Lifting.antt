@@ -11,7 +11,7 @@ use Rattle.ledger_core.specs.declared.note.Note.{Note}
 use Rattle.ledger_core.specs.declared.note.Note.TheVariants.{Drop, Final}
 use Rattle.ledger_core.specs.State.{Owing, State, after}
 use Rattle.recovery.specs.Image.{Log}
-use Rattle.recovery.specs.Leaving.{EachLedger, IsFront, pending_notes}
+use Rattle.recovery.specs.Leaving.{EachLedger, IsPrefix, pending_notes}
 use Rattle.recovery.specs.LeavingLaws.{EachLedger-weaker}
 use Rattle.recovery.specs.Notes.{AreLegal, History, noted}
 use Rattle.conn_core.specs.declared.outcome.Outcome.{Outcome}
@@ -63,7 +63,7 @@ pub record PeerKeeps (id : ℕ) (was now : PeerPast) : Type 0 where
   pub log : now.tape.log ≡ was.tape.log
   pub within : was.tape.history.kept ≤ length was.tape.history.notes
       → now.tape.history.kept ≤ length now.tape.history.notes
-  pub front : was.tape.history.kept ≤ length was.tape.history.notes → (state : State) → KeepsNotes was state
+  pub prefix : was.tape.history.kept ≤ length was.tape.history.notes → (state : State) → KeepsNotes was state
       → KeepsNotes now state
   pub acknowledged : was.tape.history.kept ≤ length was.tape.history.notes → (mark : ℕ) → HasAcknowledged mark was
       → HasAcknowledged mark now
@@ -76,7 +76,7 @@ keeps_same id was = record {
   parted = refl;
   log = refl;
   within = λ w. w;
-  front = λ w state keeps. keeps;
+  prefix = λ w state keeps. keeps;
   acknowledged = λ w mark has. has;
   others = λ other number apart. (λ is. is, λ is. is);
 }
@@ -87,7 +87,7 @@ keeps_then id was mid now one two = record {
   parted = two.parted ∙ one.parted;
   log = two.log ∙ one.log;
   within = λ w. two.within (one.within w);
-  front = λ w state keeps. two.front (one.within w) state (one.front w state keeps);
+  prefix = λ w state keeps. two.prefix (one.within w) state (one.prefix w state keeps);
   acknowledged = λ w mark has. two.acknowledged (one.within w) mark (one.acknowledged w mark has);
   others = λ other number apart. (
     λ is. (one.others other number apart).0 ((two.others other number apart).0 is),
@@ -96,16 +96,16 @@ keeps_then id was mid now one two = record {
 }
 
 -- one note more
-front_noted : (h : History) (note : Note) (state : State) → IsFront h state → IsFront (noted h note) state
-front_noted h note state front =
-    let same : take front.count (h.notes ++ note ∷ []) ≡ take front.count h.notes =
-    take_left h.notes (note ∷ []) front.count front.within in
+prefix_noted : (h : History) (note : Note) (state : State) → IsPrefix h state → IsPrefix (noted h note) state
+prefix_noted h note state prefix =
+    let same : take prefix.count (h.notes ++ note ∷ []) ≡ take prefix.count h.notes =
+    take_left h.notes (note ∷ []) prefix.count prefix.within in
     record {
-      count = front.count;
-      enough = front.enough;
-      within = omega (arith, front.within, length-append h.notes (note ∷ []));
-      legal = subst (AreLegal h.base) (sym same) front.legal;
-      is = front.is ∙ ap (after h.base) (sym same);
+      count = prefix.count;
+      enough = prefix.enough;
+      within = omega (arith, prefix.within, length-append h.notes (note ∷ []));
+      legal = subst (AreLegal h.base) (sym same) prefix.legal;
+      is = prefix.is ∙ ap (after h.base) (sym same);
     }
 
 -- where only one number moves, which this connection held or holds, what others hold stays
@@ -157,7 +157,7 @@ settled_keeps s id n was held = record {
   parted = same_parted s;
   log = same_log s;
   within = λ w. still_within s w;
-  front = λ w state keeps. still_front s state keeps;
+  prefix = λ w state keeps. still_prefix s state keeps;
   acknowledged = λ w mark has. still_above s w mark has;
   others = λ other number apart.
       others_stay was.places (settled_as s n was).places id n other number apart
@@ -184,11 +184,11 @@ settled_keeps s id n was held = record {
     still_within (Later moment) w = w
     still_within Back w = w
 
-    still_front : (s : Settled) (state : State) → KeepsNotes was state → KeepsNotes (settled_as s n was) state
-    still_front (Answered code) state keeps = front_noted was.tape.history (Final n code) state keeps
-    still_front (Dropped cause) state keeps = front_noted was.tape.history (Drop n cause) state keeps
-    still_front (Later moment) state keeps = keeps
-    still_front Back state keeps = keeps
+    still_prefix : (s : Settled) (state : State) → KeepsNotes was state → KeepsNotes (settled_as s n was) state
+    still_prefix (Answered code) state keeps = prefix_noted was.tape.history (Final n code) state keeps
+    still_prefix (Dropped cause) state keeps = prefix_noted was.tape.history (Drop n cause) state keeps
+    still_prefix (Later moment) state keeps = keeps
+    still_prefix Back state keeps = keeps
 
     still_above : (s : Settled) → was.tape.history.kept ≤ length was.tape.history.notes → (mark : ℕ)
         → HasAcknowledged mark was
@@ -215,7 +215,7 @@ keeps_read id was tape places reads others =
       parted = refl;
       log = ap (λ (t : TapePast). t.log) reads.all;
       within = λ w. subst (λ (h : History). h.kept ≤ length h.notes) (sym same) w;
-      front = λ w state keeps. subst (λ (h : History). IsFront h state) (sym same) keeps;
+      prefix = λ w state keeps. subst (λ (h : History). IsPrefix h state) (sym same) keeps;
       acknowledged = λ w mark has. subst (λ (h : History). AllByRecursion (IsAbove mark) (pending_notes h)) (sym same)
           has;
       others = others;
@@ -249,13 +249,13 @@ module _ (past : Past) (rank id : ℕ) (was now : PeerPast) (here : slice_get pa
   safe_with safe = record {
     peers = all_set (λ (peer : PeerPast). EachLedger (KeepsNotes peer) peer.tape.log) past.peers rank now safe.peers
         (subst (λ (log : Log). EachLedger (KeepsNotes now) log) (sym keeps.log)
-        (EachLedger-weaker (KeepsNotes was) (KeepsNotes now) (keeps.front within) was.tape.log
+        (EachLedger-weaker (KeepsNotes was) (KeepsNotes now) (keeps.prefix within) was.tape.log
         (all_at (λ (peer : PeerPast). EachLedger (KeepsNotes peer) peer.tape.log) past.peers rank was safe.peers
         here)));
     intake = EachLedger-weaker (KeepsLines past.intake.history past.peers)
         (KeepsLines past.intake.history (set past.peers rank now))
         (λ state lines. record {
-          front = lines.front;
+          prefix = lines.prefix;
           lines = all_set (HasAcknowledged state.mark) past.peers rank now lines.lines
               (keeps.acknowledged within state.mark
               (all_at (HasAcknowledged state.mark) past.peers rank was lines.lines here));
@@ -369,7 +369,7 @@ module _ (past : Past) (rank id : ℕ) (was : PeerPast) (here : slice_get past.p
   pub leads_settled : (now : ℕ) (outcomes : List Outcome) (later : PeerPast) → AllSettleAt id now was outcomes later
       → Leads past rank id was later (settle_events rank id now outcomes)
   leads_settled now _ _ NoneSettled = leads_nowhere
-  leads_settled now _ _ (NextSettled outcomes outcome mid later front one) =
+  leads_settled now _ _ (NextSettled outcomes outcome mid later prefix one) =
       subst (Leads past rank id was later) (sym (map_push (λ (o : Outcome). Settles rank id now o) outcomes outcome))
-      (leads_settle now (settle_events rank id now outcomes) mid later outcome (leads_settled now outcomes mid front)
+      (leads_settle now (settle_events rank id now outcomes) mid later outcome (leads_settled now outcomes mid prefix)
       one)

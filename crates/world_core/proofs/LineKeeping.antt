@@ -8,7 +8,7 @@ use Rattle.std.proofs.Math.ListN.{set}
 use Rattle.std.proofs.lemmas.Option.{slice_get-get_or}
 use Rattle.ledger_core.specs.State.{State}
 use Rattle.peer_queue.specs.declared.limits.Owed.TheVariants.{New, Already}
-use Rattle.recovery.specs.Leaving.{IsFront}
+use Rattle.recovery.specs.Leaving.{IsPrefix}
 use Rattle.recovery.specs.LeavingLaws.{EachLedger-weaker, LedgersLeave-weaker}
 use Rattle.world_core.specs.Past.{Life, Past, PeerPast, mark_at, with_last, with_past}
 use Rattle.world_core.specs.Events.{AllDo, Does, Event, Owes, owed_as, owing_as}
@@ -17,11 +17,11 @@ use Rattle.world_core.specs.Laws.{Comes, IsRecovered, OverRuns, StillOwes}
 use Rattle.world_core.specs.Laws.Comes.{No_step, Step_taken, Step_refused}
 use Rattle.world_core.specs.LineLaws.{LinesAreKept, LinesAreKeptWithin, LinesAreReadAgain, MadeDebt, OwesOrEnded}
 use Rattle.world_core.specs.LineLaws.{WasBad, WasRead, new_to, read_at, told_new}
-use Rattle.world_core.specs.Moments.{StaysFront}
+use Rattle.world_core.specs.Moments.{StaysPrefix}
 use Rattle.world_core.specs.Runs.{Takes}
 use Rattle.world_core.specs.Safe.{IsSafe}
 use Rattle.world_core.specs.Steps.{Good, IsReading, NotGood, Reading, TakesReading, is_named, owed_there, owes_from}
-use Rattle.world_core.specs.Told.{Said}
+use Rattle.world_core.specs.Output.{Said}
 use Rattle.world_core.specs.declared.step.Step.{Step}
 use Rattle.world_core.specs.declared.step.Step.TheVariants.{Line}
 use Rattle.world_core.proofs.Acknowledged.{lines_stand}
@@ -50,7 +50,7 @@ stands xs x (i, below, is) = (i, slice_get-get_or xs i x below ∙ ap Some is)
 begun_safe : (begun later : Life) (steps : List Step) (lines : List (List Said)) → Comes begun steps lines later
     → IsSafe begun.past
 begun_safe begun _ _ _ (No_step safe sound) = safe
-begun_safe begun _ _ _ (Step_taken steps step lines told life later comes takes safe sound) =
+begun_safe begun _ _ _ (Step_taken steps step lines outputs life later comes takes safe sound) =
     begun_safe begun life steps lines comes
 begun_safe begun _ _ _ (Step_refused steps step lines fault life later comes refuses safe sound) =
     begun_safe begun life steps lines comes
@@ -58,7 +58,7 @@ begun_safe begun _ _ _ (Step_refused steps step lines fault life later comes ref
 -- its debt is owed after the first of the notes that its peer has now, or has ended
 debt_kept : (past : Past) (rank number : ℕ) (token id : List ℕ) (now : PeerPast) → IsSafe past
     → (made : MadeDebt past rank number token id) → StillOwes made.peer now
-    → (state : State) → IsFront now.tape.history state → OwesOrEnded now number token id state
+    → (state : State) → IsPrefix now.tape.history state → OwesOrEnded now number token id state
 debt_kept past rank number token id now safe made owes =
     let note = stands made.peer.tape.history.notes _ made.noted in
     owes.owed note.0 number token id note.1
@@ -68,18 +68,18 @@ pub lines_kept : OverRuns LinesAreKept
 lines_kept = λ begun later steps lines comes. λ rank number token id now made here.
     let is = zip_both IsRecovered begun.past.peers later.past.peers rank made.peer now
     (recover_all begun later steps lines comes) made.here here in
-    EachLedger-weaker (IsFront now.tape.history) (OwesOrEnded now number token id)
+    EachLedger-weaker (IsPrefix now.tape.history) (OwesOrEnded now number token id)
     (debt_kept begun.past rank number token id now (begun_safe begun later steps lines comes) made is.owes)
-    now.tape.log is.front
+    now.tape.log is.prefix
 
 pub lines_kept_within : LinesAreKeptWithin
 lines_kept_within = λ begun life steps lines comes step was now way rank number token id old new made here there.
     let is = moments_recovered begun life steps lines comes step was now way in
-    LedgersLeave-weaker (IsFront old.tape.history) (OwesOrEnded old number token id)
+    LedgersLeave-weaker (IsPrefix old.tape.history) (OwesOrEnded old number token id)
     (debt_kept begun.past rank number token id old (begun_safe begun life steps lines comes) made
     (zip_both StillOwes begun.past.peers was.peers rank made.peer old is.owes made.here here))
     old.tape.log new.tape.log
-    (zip_both StaysFront was.peers now.peers rank old new is.fronts here there)
+    (zip_both StaysPrefix was.peers now.peers rank old new is.prefixes here there)
 
 -- ---- events from the first on
 
@@ -102,24 +102,24 @@ first_done begun _ _ event rest (Next [] last past later does one safe) is =
 first_done begun _ _ event rest (Next (x ∷ xs) last past later does one safe) is =
     let same : x ∷ xs ≡ event ∷ xs = cc in
     let others : xs ++ last ∷ [] ≡ rest = cc in
-    let front = first_done begun past (x ∷ xs) event xs does same in (
-      front.0,
-      front.1,
-      subst (λ (es : List Event). AllDo front.0 es later) others (Next xs last past later front.2 one safe),
+    let prefix = first_done begun past (x ∷ xs) event xs does same in (
+      prefix.0,
+      prefix.1,
+      subst (λ (es : List Event). AllDo prefix.0 es later) others (Next xs last past later prefix.2 one safe),
     )
 
 -- ---- a line that is read
 
 -- what stands behind so many peers, and another in its place
-get_here : (front peers : List PeerPast) (peer : PeerPast)
-    → slice_get (front ++ peer ∷ peers) (length front) ≡ Some peer
+get_here : (prefix peers : List PeerPast) (peer : PeerPast)
+    → slice_get (prefix ++ peer ∷ peers) (length prefix) ≡ Some peer
 get_here [] peers peer = refl
-get_here (x ∷ front) peers peer = get_here front peers peer
+get_here (x ∷ prefix) peers peer = get_here prefix peers peer
 
-set_here : (front peers : List PeerPast) (peer new : PeerPast)
-    → set (front ++ peer ∷ peers) (length front) new ≡ front ++ new ∷ peers
+set_here : (prefix peers : List PeerPast) (peer new : PeerPast)
+    → set (prefix ++ peer ∷ peers) (length prefix) new ≡ prefix ++ new ∷ peers
 set_here [] peers peer new = refl
-set_here (x ∷ front) peers peer new = ap (λ l. x ∷ l) (set_here front peers peer new)
+set_here (x ∷ prefix) peers peer new = ap (λ l. x ∷ l) (set_here prefix peers peer new)
 
 -- these peers stand in all tapes, and else it is as it was
 abbrev with_peers : Past → List PeerPast → Past
@@ -127,17 +127,17 @@ with_peers past peers = record past { peers = peers }
 
 module _ (token id : List ℕ) (named : List (List ℕ)) where
   -- the event at a peer that the line names
-  owed_here : (front peers : List PeerPast) (peer : PeerPast) (past mid : Past)
-      → Does (Owes (length front) token id) (with_peers past (front ++ peer ∷ peers)) mid
-      → mid ≡ with_peers past (front
+  owed_here : (prefix peers : List PeerPast) (peer : PeerPast) (past mid : Past)
+      → Does (Owes (length prefix) token id) (with_peers past (prefix ++ peer ∷ peers)) mid
+      → mid ≡ with_peers past (prefix
       ++ owing_as (owed_as (past.last + 1) peer) (past.last + 1) token id peer ∷ peers)
-  owed_here front peers peer past mid does =
-      let both : Some does.peer ≡ Some peer = sym does.here ∙ get_here front peers peer in
+  owed_here prefix peers peer past mid does =
+      let both : Some does.peer ≡ Some peer = sym does.here ∙ get_here prefix peers peer in
       let same : does.peer ≡ peer = cc in
       does.changed
-      ∙ ap (λ (p : PeerPast). with_peers past (set (front ++ peer ∷ peers) (length front)
+      ∙ ap (λ (p : PeerPast). with_peers past (set (prefix ++ peer ∷ peers) (length prefix)
       (owing_as (owed_as (past.last + 1) p) (past.last + 1) token id p))) same
-      ∙ ap (with_peers past) (set_here front peers peer _)
+      ∙ ap (with_peers past) (set_here prefix peers peer _)
 
   abbrev read_as : (number : ℕ) (peer : PeerPast) (b c : Bool) → PeerPast
   read_as number peer b c = if b && c then owing_as New number token id peer else peer
@@ -148,54 +148,54 @@ module _ (token id : List ℕ) (named : List (List ℕ)) where
   owing_is number peer false = refl
 
   -- once the peers in front have read the line, and this one has become another, those behind read it
-  abbrev Behind : (front peers : List PeerPast) (past later : Past) → PeerPast → Type 0
-  Behind front peers past later new = AllDo (with_peers past ((front ++ new ∷ []) ++ peers))
-      (owes_from (length (front ++ new ∷ [])) token id named peers) later
-      → later ≡ with_peers past ((front ++ new ∷ []) ++ map (read_at (past.last + 1) token id named) peers)
+  abbrev Behind : (prefix peers : List PeerPast) (past later : Past) → PeerPast → Type 0
+  Behind prefix peers past later new = AllDo (with_peers past ((prefix ++ new ∷ []) ++ peers))
+      (owes_from (length (prefix ++ new ∷ [])) token id named peers) later
+      → later ≡ with_peers past ((prefix ++ new ∷ []) ++ map (read_at (past.last + 1) token id named) peers)
 
   -- the line at each peer behind these
-  pub all_read : (front peers : List PeerPast) (past later : Past)
-      → AllDo (with_peers past (front ++ peers)) (owes_from (length front) token id named peers) later
-      → later ≡ with_peers past (front ++ map (read_at (past.last + 1) token id named) peers)
-  all_read front [] past later does = none_done _ later [] does refl
-  all_read front (peer ∷ peers) past later does =
-      by (is_named named peer) (λ new more. all_read (front ++ new ∷ []) peers past later more) does
+  pub all_read : (prefix peers : List PeerPast) (past later : Past)
+      → AllDo (with_peers past (prefix ++ peers)) (owes_from (length prefix) token id named peers) later
+      → later ≡ with_peers past (prefix ++ map (read_at (past.last + 1) token id named) peers)
+  all_read prefix [] past later does = none_done _ later [] does refl
+  all_read prefix (peer ∷ peers) past later does =
+      by (is_named named peer) (λ new more. all_read (prefix ++ new ∷ []) peers past later more) does
     where
-      behind : (new : PeerPast) → Behind front peers past later new
-          → AllDo (with_peers past (front ++ new ∷ peers)) (owes_from (length front + 1) token id named peers) later
-          → later ≡ with_peers past (front ++ new ∷ map (read_at (past.last + 1) token id named) peers)
+      behind : (new : PeerPast) → Behind prefix peers past later new
+          → AllDo (with_peers past (prefix ++ new ∷ peers)) (owes_from (length prefix + 1) token id named peers) later
+          → later ≡ with_peers past (prefix ++ new ∷ map (read_at (past.last + 1) token id named) peers)
       behind new rest more =
-          rest (subst (λ (n : ℕ). AllDo (with_peers past ((front ++ new ∷ []) ++ peers))
-          (owes_from n token id named peers) later) (length_more front new)
+          rest (subst (λ (n : ℕ). AllDo (with_peers past ((prefix ++ new ∷ []) ++ peers))
+          (owes_from n token id named peers) later) (length_more prefix new)
           (subst (λ (ps : List PeerPast). AllDo (with_peers past ps)
-          (owes_from (length front + 1) token id named peers) later)
-          (sym (append_assoc front (new ∷ []) peers)) more))
-          ∙ ap (with_peers past) (append_assoc front (new ∷ []) (map (read_at (past.last + 1) token id named) peers))
+          (owes_from (length prefix + 1) token id named peers) later)
+          (sym (append_assoc prefix (new ∷ []) peers)) more))
+          ∙ ap (with_peers past) (append_assoc prefix (new ∷ []) (map (read_at (past.last + 1) token id named) peers))
 
-      by : (b : Bool) → ((new : PeerPast) → Behind front peers past later new)
-          → AllDo (with_peers past (front ++ peer ∷ peers))
-          (if b then Owes (length front) token id ∷ owes_from (length front + 1) token id named peers
-          else owes_from (length front + 1) token id named peers) later
-          → later ≡ with_peers past (front
+      by : (b : Bool) → ((new : PeerPast) → Behind prefix peers past later new)
+          → AllDo (with_peers past (prefix ++ peer ∷ peers))
+          (if b then Owes (length prefix) token id ∷ owes_from (length prefix + 1) token id named peers
+          else owes_from (length prefix + 1) token id named peers) later
+          → later ≡ with_peers past (prefix
           ++ read_as (past.last + 1) peer b (nat_lt (mark_at peer.tape) (past.last + 1))
           ∷ map (read_at (past.last + 1) token id named) peers)
       by true rest all =
           let new = read_as (past.last + 1) peer true (nat_lt (mark_at peer.tape) (past.last + 1)) in
-          let first = first_done _ later _ (Owes (length front) token id) _ all refl in
-          let mid = owed_here front peers peer past first.0 first.1 in
+          let first = first_done _ later _ (Owes (length prefix) token id) _ all refl in
+          let mid = owed_here prefix peers peer past first.0 first.1 in
           behind new (rest new)
-          (subst (λ (p : PeerPast). AllDo (with_peers past (front ++ p ∷ peers))
-          (owes_from (length front + 1) token id named peers) later)
+          (subst (λ (p : PeerPast). AllDo (with_peers past (prefix ++ p ∷ peers))
+          (owes_from (length prefix + 1) token id named peers) later)
           (owing_is (past.last + 1) peer (nat_lt (mark_at peer.tape) (past.last + 1)))
-          (subst (λ (p : Past). AllDo p (owes_from (length front + 1) token id named peers) later) mid first.2))
+          (subst (λ (p : Past). AllDo p (owes_from (length prefix + 1) token id named peers) later) mid first.2))
       by false rest all = behind peer (rest peer) all
 
 -- it is told as new at exactly the peers to which it is
-told_is : (number : ℕ) (named : List (List ℕ)) (peers : List PeerPast)
+outputs_are : (number : ℕ) (named : List (List ℕ)) (peers : List PeerPast)
     → told_new (owed_there number named peers) ≡ new_to number named peers
-told_is number named [] = refl
-told_is number named (peer ∷ peers) =
-    by (is_named named peer) (nat_lt (mark_at peer.tape) number) (told_is number named peers)
+outputs_are number named [] = refl
+outputs_are number named (peer ∷ peers) =
+    by (is_named named peer) (nat_lt (mark_at peer.tape) number) (outputs_are number named peers)
   where
     by : (b c : Bool) → told_new (owed_there number named peers) ≡ new_to number named peers
         → told_new (if b then (peer.conf.name, if c then New else Already) ∷ owed_there number named peers
@@ -206,33 +206,33 @@ told_is number named (peer ∷ peers) =
     by false true is = is
     by false false is = is
 
-read_again : (life : Life) (told : List Said) (later : Life) (past : Past) (text : Vec ℕ)
+read_again : (life : Life) (outputs : List Said) (later : Life) (past : Past) (text : Vec ℕ)
     → later ≡ with_past life past → (reading : Reading) → IsReading text.items reading
-    → TakesReading reading life.past told past
-    → WasRead (life.past.last + 1) text.items life told later ⊎ WasBad (life.past.last + 1) life told later
-read_again life told later past text changed (Good token id named) reads (said, (mid, does, is)) = inl (record {
+    → TakesReading reading life.past outputs past
+    → WasRead (life.past.last + 1) text.items life outputs later ⊎ WasBad (life.past.last + 1) life outputs later
+read_again life outputs later past text changed (Good token id named) reads (said, (mid, does, is)) = inl (record {
   token = token;
   id = id;
   named = named;
   reads = reads;
   answers = owed_there (life.past.last + 1) named life.past.peers;
   tells = said;
-  new = told_is (life.past.last + 1) named life.past.peers;
+  new = outputs_are (life.past.last + 1) named life.past.peers;
   changed = changed ∙ ap (with_past life)
       (is ∙ ap (λ (p : Past). with_last p (life.past.last + 1))
       (all_read token id named [] life.past.peers life.past mid does));
 })
-read_again life told later past text changed (NotGood fault) reads (said, is) = inr (record {
+read_again life outputs later past text changed (NotGood fault) reads (said, is) = inr (record {
   fault = fault;
   tells = said;
   changed = changed ∙ ap (with_past life) is;
 })
 
-took_line : (life later : Life) (told : List Said) (text : Vec ℕ) → Takes (Line text) life told later
-    → WasRead (life.past.last + 1) text.items life told later ⊎ WasBad (life.past.last + 1) life told later
-took_line life later told text (inl (runs, (past, line, changed))) =
-    read_again life told later past text changed line.reading line.reads line.takes
-took_line life later told text (inr strikes) = absurd strikes.meets.calls
+took_line : (life later : Life) (outputs : List Said) (text : Vec ℕ) → Takes (Line text) life outputs later
+    → WasRead (life.past.last + 1) text.items life outputs later ⊎ WasBad (life.past.last + 1) life outputs later
+took_line life later outputs text (inl (runs, (past, line, changed))) =
+    read_again life outputs later past text changed line.reading line.reads line.takes
+took_line life later outputs text (inr strikes) = absurd strikes.meets.calls
 
 pub lines_read_again : LinesAreReadAgain
 lines_read_again = took_line

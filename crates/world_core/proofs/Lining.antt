@@ -14,19 +14,19 @@ use Rattle.world_core.specs.Stands.{FailedOne, OwedOne, Stands}
 use Rattle.world_core.specs.Stepped.{AreFound, Did, Failed, OwedLine, named_from}
 use Rattle.world_core.specs.declared.fault.Fault.{Fault}
 use Rattle.world_core.specs.declared.stations.Stations.{Stations}
-use Rattle.world_core.specs.declared.told.OwedAt.{OwedAt}
+use Rattle.world_core.specs.declared.output.OwedAt.{OwedAt}
 use Rattle.world_core.proofs.Chains.{did_more, did_none, failed_next}
-use Rattle.world_core.proofs.Naming.{entry_of, named_owes, named_told}
+use Rattle.world_core.proofs.Naming.{entry_of, named_owes, named_outputs}
 
 -- ---- lists
 
-split_at : {A B : Type 0} (f : A → B) (xs : List A) (front : List B) (y : B) (back : List B)
-    → map f xs ≡ front ++ y ∷ back
-    → (x : A) × (slice_get xs (length front) ≡ Some x) × (f x ≡ y)
+split_at : {A B : Type 0} (f : A → B) (xs : List A) (prefix : List B) (y : B) (back : List B)
+    → map f xs ≡ prefix ++ y ∷ back
+    → (x : A) × (slice_get xs (length prefix) ≡ Some x) × (f x ≡ y)
 split_at f [] [] y back is = absurd cc
-split_at f [] (z ∷ front) y back is = absurd cc
+split_at f [] (z ∷ prefix) y back is = absurd cc
 split_at f (x ∷ xs) [] y back is = (x, refl, cc)
-split_at f (x ∷ xs) (z ∷ front) y back is = split_at f xs front y back (tail_of is)
+split_at f (x ∷ xs) (z ∷ prefix) y back is = split_at f xs prefix y back (tail_of is)
   where
     tail_of : {X : Type 0} {a b : X} {rest other : List X} → a ∷ rest ≡ b ∷ other → rest ≡ other
     tail_of same = cc
@@ -54,21 +54,21 @@ get_set_other (x ∷ xs) i zero y below = absurd (omega (arith, below))
 get_set_other (x ∷ xs) zero (suc j) y below = refl
 get_set_other (x ∷ xs) (suc i) (suc j) y below = get_set_other xs i j y (omega (arith, below))
 
-pub split_here : {A : Type 0} (all front iter next : List A) (x : A) → all ≡ front ++ iter → iter ≡ x ∷ next
-    → all ≡ front ++ x ∷ next
-split_here all front iter next x is one = is ∙ ap (λ l. front ++ l) one
+pub split_here : {A : Type 0} (all prefix iter next : List A) (x : A) → all ≡ prefix ++ iter → iter ≡ x ∷ next
+    → all ≡ prefix ++ x ∷ next
+split_here all prefix iter next x is one = is ∙ ap (λ l. prefix ++ l) one
 
-pub split_more : {A : Type 0} (all front iter next : List A) (x : A) → all ≡ front ++ iter → iter ≡ x ∷ next
-    → all ≡ (front ++ x ∷ []) ++ next
-split_more all front iter next x is one =
-    split_here all front iter next x is one ∙ sym (append_assoc front (x ∷ []) next)
+pub split_more : {A : Type 0} (all prefix iter next : List A) (x : A) → all ≡ prefix ++ iter → iter ≡ x ∷ next
+    → all ≡ (prefix ++ x ∷ []) ++ next
+split_more all prefix iter next x is one =
+    split_here all prefix iter next x is one ∙ sym (append_assoc prefix (x ∷ []) next)
 
-pub split_end : {A : Type 0} (all front iter : List A) → all ≡ front ++ iter → iter ≡ [] → all ≡ front
-split_end all front iter is none = is ∙ ap (λ l. front ++ l) none ∙ append-nil front
+pub split_end : {A : Type 0} (all prefix iter : List A) → all ≡ prefix ++ iter → iter ≡ [] → all ≡ prefix
+split_end all prefix iter is none = is ∙ ap (λ l. prefix ++ l) none ∙ append-nil prefix
 
-pub length_more : {A : Type 0} (front : List A) (x : A) → length front + 1 ≡ length (front ++ x ∷ [])
+pub length_more : {A : Type 0} (prefix : List A) (x : A) → length prefix + 1 ≡ length (prefix ++ x ∷ [])
 length_more [] x = refl
-length_more (y ∷ front) x = omega (arith, length_more front x)
+length_more (y ∷ prefix) x = omega (arith, length_more prefix x)
 
 -- ---- the peers that a line names rise by their places
 
@@ -155,86 +155,87 @@ stands_there named peers k entry here =
 abbrev pub owes_at : List ℕ → List ℕ → ℕ × PeerPast → Event
 owes_at token id entry = Owes entry.0 token id
 
-abbrev pub told_of : ℕ → ℕ × PeerPast → List ℕ × Owed
-told_of number entry = (entry.1.conf.name, owed_as number entry.1)
+abbrev pub faults_of : ℕ → ℕ × PeerPast → List ℕ × Owed
+faults_of number entry = (entry.1.conf.name, owed_as number entry.1)
 
 abbrev pub said_at : OwedAt → List ℕ × Owed
 said_at at = (at.name, at.owed)
 
 -- the next of the peers that are named
-next_of : (past : Past) (named : List (List ℕ)) (front : List (ℕ × List ℕ)) (at : ℕ × List ℕ) (back : List (ℕ × List ℕ))
-    → AreFound past named (front ++ at ∷ back)
-    → (e : ℕ × PeerPast) × (slice_get (named_from 0 named past.peers) (length front) ≡ Some e) × (entry_of e ≡ at)
-next_of past named front at back found = split_at entry_of (named_from 0 named past.peers) front at back (sym found)
+next_of : (past : Past) (named : List (List ℕ)) (prefix : List (ℕ × List ℕ)) (at : ℕ × List ℕ) (back : List (ℕ
+    × List ℕ))
+    → AreFound past named (prefix ++ at ∷ back)
+    → (e : ℕ × PeerPast) × (slice_get (named_from 0 named past.peers) (length prefix) ≡ Some e) × (entry_of e ≡ at)
+next_of past named prefix at back found = split_at entry_of (named_from 0 named past.peers) prefix at back (sym found)
 
 module _ {D : Type 0} {g : Ghosts D} where
   -- the line is owed at so many of the peers that it names, from the first on, and those behind are as they were
-  pub record OwedSome (past : Past) (token id : List ℕ) (named : List (List ℕ)) (count : ℕ) (told : List OwedAt)
+  pub record OwedSome (past : Past) (token id : List ℕ) (named : List (List ℕ)) (count : ℕ) (outputs : List OwedAt)
       (stations : Stations D g) : Type 0 where
     pub did : Did past (map (owes_at token id) (take count (named_from 0 named past.peers))) stations
-    pub told_is : map said_at told ≡ map (told_of (past.last + 1)) (take count (named_from 0 named past.peers))
+    pub outputs_are : map said_at outputs ≡ map (faults_of (past.last + 1)) (take count (named_from 0 named past.peers))
     pub same_last : did.later.last ≡ past.last
     pub behind : (rank : ℕ)
         → AllByRecursion (λ (entry : ℕ × PeerPast). entry.0 < rank) (take count (named_from 0 named past.peers))
         → slice_get did.later.peers rank ≡ slice_get past.peers rank
 
-  pub some_none : (past : Past) (token id : List ℕ) (named : List (List ℕ)) (told : List OwedAt)
-      (stations : Stations D g) → told ≡ []
-      → Stands stations past → OwedSome past token id named 0 told stations
-  some_none past token id named told stations none stands =
+  pub some_none : (past : Past) (token id : List ℕ) (named : List (List ℕ)) (outputs : List OwedAt)
+      (stations : Stations D g) → outputs ≡ []
+      → Stands stations past → OwedSome past token id named 0 outputs stations
+  some_none past token id named outputs stations none stands =
       record {
         did = did_none past stations stands;
-        told_is = ap (map said_at) none;
+        outputs_are = ap (map said_at) none;
         same_last = refl;
         behind =
             λ rank all. refl;
       }
 
-  module _ (past : Past) (token id : List ℕ) (named : List (List ℕ)) (front : List (ℕ × List ℕ)) (at : ℕ × List ℕ)
+  module _ (past : Past) (token id : List ℕ) (named : List (List ℕ)) (prefix : List (ℕ × List ℕ)) (at : ℕ × List ℕ)
       (back : List (ℕ × List ℕ))
-      (found : AreFound past named (front ++ at ∷ back)) where
-    pub some_more : (told new_told : List OwedAt) (name : List ℕ) (owed : Owed) (old new : Stations D g)
-        → (so_far : OwedSome past token id named (length front) told old)
+      (found : AreFound past named (prefix ++ at ∷ back)) where
+    pub some_more : (outputs new_told : List OwedAt) (name : List ℕ) (owed : Owed) (old new : Stations D g)
+        → (so_far : OwedSome past token id named (length prefix) outputs old)
         → OwedOne so_far.did.later at.0 token id owed new
-        → name ≡ at.1 → new_told ≡ told ++ record { name = name; owed = owed } ∷ []
-        → OwedSome past token id named (length front + 1) new_told new
-    some_more told new_told name owed old new so_far one is tells =
-        let entry = next_of past named front at back found in
+        → name ≡ at.1 → new_told ≡ outputs ++ record { name = name; owed = owed } ∷ []
+        → OwedSome past token id named (length prefix + 1) new_told new
+    some_more outputs new_told name owed old new so_far one is tells =
+        let entry = next_of past named prefix at back found in
         let next_rank : entry.0.0 ≡ at.0 = ap (λ (e : ℕ × List ℕ). e.0) entry.2 in
-        let longer : take (length front + 1) (named_from 0 named past.peers)
-        ≡ take (length front) (named_from 0 named past.peers) ++ entry.0 ∷ [] =
-        ap (λ (n : ℕ). take n (named_from 0 named past.peers)) (add-one (length front))
-        ∙ take_next (named_from 0 named past.peers) (length front) entry.0 entry.1 in
+        let longer : take (length prefix + 1) (named_from 0 named past.peers)
+        ≡ take (length prefix) (named_from 0 named past.peers) ++ entry.0 ∷ [] =
+        ap (λ (n : ℕ). take n (named_from 0 named past.peers)) (add-one (length prefix))
+        ∙ take_next (named_from 0 named past.peers) (length prefix) entry.0 entry.1 in
         let untouched : slice_get so_far.did.later.peers entry.0.0 ≡ slice_get past.peers entry.0.0 =
-        so_far.behind entry.0.0 (lower_before 0 named past.peers (length front) entry.0 entry.1) in
+        so_far.behind entry.0.0 (lower_before 0 named past.peers (length prefix) entry.0 entry.1) in
         let there : slice_get so_far.did.later.peers at.0 ≡ Some entry.0.1 =
         subst (λ (n : ℕ). slice_get so_far.did.later.peers n ≡ Some entry.0.1) next_rank
-        (untouched ∙ stands_there named past.peers (length front) entry.0 entry.1) in
+        (untouched ∙ stands_there named past.peers (length prefix) entry.0 entry.1) in
         let same : one.peer ≡ entry.0.1 = some_once (sym one.here ∙ there) in
         let answer : owed ≡ owed_as (past.last + 1) entry.0.1 =
         one.owed_is ∙ ap (λ (n : ℕ). owed_as (n + 1) one.peer) so_far.same_last ∙ ap (owed_as (past.last + 1)) same in
         let own : name ≡ entry.0.1.conf.name = is ∙ sym (ap (λ (e : ℕ × List ℕ). e.1) entry.2) in
         record {
-          did = did_more past (map (owes_at token id) (take (length front) (named_from 0 named past.peers)))
-              (map (owes_at token id) (take (length front + 1) (named_from 0 named past.peers))) (Owes at.0 token id)
+          did = did_more past (map (owes_at token id) (take (length prefix) (named_from 0 named past.peers)))
+              (map (owes_at token id) (take (length prefix + 1) (named_from 0 named past.peers))) (Owes at.0 token id)
               old new
               (ap (map (owes_at token id)) longer
-              ∙ map_push (owes_at token id) (take (length front) (named_from 0 named past.peers)) entry.0
-              ∙ ap (λ (n : ℕ). map (owes_at token id) (take (length front) (named_from 0 named past.peers))
+              ∙ map_push (owes_at token id) (take (length prefix) (named_from 0 named past.peers)) entry.0
+              ∙ ap (λ (n : ℕ). map (owes_at token id) (take (length prefix) (named_from 0 named past.peers))
               ++ Owes n token id ∷ []) next_rank)
               so_far.did one.did;
-          told_is = ap (map said_at) tells ∙ map_push said_at told (record { name = name; owed = owed })
-              ∙ ap (λ l. l ++ (name, owed) ∷ []) so_far.told_is
-              ∙ ap (λ (n : List ℕ). map (told_of (past.last + 1))
-              (take (length front) (named_from 0 named past.peers)) ++ (n, owed) ∷ []) own
-              ∙ ap (λ (o : Owed). map (told_of (past.last + 1)) (take (length front) (named_from 0 named past.peers))
+          outputs_are = ap (map said_at) tells ∙ map_push said_at outputs (record { name = name; owed = owed })
+              ∙ ap (λ l. l ++ (name, owed) ∷ []) so_far.outputs_are
+              ∙ ap (λ (n : List ℕ). map (faults_of (past.last + 1))
+              (take (length prefix) (named_from 0 named past.peers)) ++ (n, owed) ∷ []) own
+              ∙ ap (λ (o : Owed). map (faults_of (past.last + 1)) (take (length prefix) (named_from 0 named past.peers))
               ++ (entry.0.1.conf.name, o) ∷ []) answer
-              ∙ sym (ap (map (told_of (past.last + 1))) longer
-              ∙ map_push (told_of (past.last + 1)) (take (length front) (named_from 0 named past.peers)) entry.0);
+              ∙ sym (ap (map (faults_of (past.last + 1))) longer
+              ∙ map_push (faults_of (past.last + 1)) (take (length prefix) (named_from 0 named past.peers)) entry.0);
           same_last = ap (λ (p : Past). p.last) one.did.does.changed ∙ so_far.same_last;
           behind = λ rank all.
               let parts = all_more (λ (e : ℕ × PeerPast). e.0 < rank)
-              (take (length front) (named_from 0 named past.peers)) entry.0
+              (take (length prefix) (named_from 0 named past.peers)) entry.0
               (subst (AllByRecursion (λ (e : ℕ × PeerPast). e.0 < rank)) longer all) in
               ap (λ (p : Past). slice_get p.peers rank) one.did.does.changed
               ∙ get_set_other so_far.did.later.peers at.0 rank _ (subst (λ (n : ℕ). n < rank) next_rank parts.1)
@@ -244,27 +245,27 @@ module _ {D : Type 0} {g : Ghosts D} where
         some_once : {a b : PeerPast} → Some a ≡ Some b → a ≡ b
         some_once same = cc
 
-    pub some_failed : (told : List OwedAt) (fault : Fault) (old new : Stations D g)
-        → (so_far : OwedSome past token id named (length front) told old)
+    pub some_failed : (outputs : List OwedAt) (fault : Fault) (old new : Stations D g)
+        → (so_far : OwedSome past token id named (length prefix) outputs old)
         → FailedOne so_far.did.later (Owes at.0 token id) fault new
         → Failed past (line_events token id named past) fault new
-    some_failed told fault old new so_far one =
-        let entry = next_of past named front at back found in
+    some_failed outputs fault old new so_far one =
+        let entry = next_of past named prefix at back found in
         let next_rank : entry.0.0 ≡ at.0 = ap (λ (e : ℕ × List ℕ). e.0) entry.2 in
         subst (λ (es : List Event). Failed past es fault new)
         (sym (sym (named_owes 0 token id named past.peers)
-        ∙ map_split (owes_at token id) (named_from 0 named past.peers) (length front) entry.0 entry.1))
-        (failed_next past (map (owes_at token id) (take (length front) (named_from 0 named past.peers)))
+        ∙ map_split (owes_at token id) (named_from 0 named past.peers) (length prefix) entry.0 entry.1))
+        (failed_next past (map (owes_at token id) (take (length prefix) (named_from 0 named past.peers)))
         (Owes entry.0.0 token id)
-        (map (owes_at token id) (drop (suc (length front)) (named_from 0 named past.peers))) fault old new so_far.did
+        (map (owes_at token id) (drop (suc (length prefix)) (named_from 0 named past.peers))) fault old new so_far.did
         (subst (λ (n : ℕ). FailedOne so_far.did.later (Owes n token id) fault new) (sym next_rank) one))
 
   -- all of them
   pub some_all : (past : Past) (token id : List ℕ) (named : List (List ℕ)) (found : List (ℕ × List ℕ))
-      (told : List OwedAt) (stations : Stations D g)
-      → AreFound past named found → OwedSome past token id named (length found) told stations
-      → OwedLine past token id named told stations
-  some_all past token id named found told stations is owed =
+      (outputs : List OwedAt) (stations : Stations D g)
+      → AreFound past named found → OwedSome past token id named (length found) outputs stations
+      → OwedLine past token id named outputs stations
+  some_all past token id named found outputs stations is owed =
       let long : length found ≡ length (named_from 0 named past.peers) =
       ap length is ∙ length-map (named_from 0 named past.peers) entry_of in
       let whole : take (length found) (named_from 0 named past.peers) ≡ named_from 0 named past.peers =
@@ -272,6 +273,6 @@ module _ {D : Type 0} {g : Ghosts D} where
       record {
         did = subst (λ (es : List Event). Did past es stations)
             (ap (map (owes_at token id)) whole ∙ named_owes 0 token id named past.peers) owed.did;
-        told_is = owed.told_is ∙ ap (map (told_of (past.last + 1))) whole
-            ∙ named_told 0 (past.last + 1) named past.peers;
+        outputs_are = owed.outputs_are ∙ ap (map (faults_of (past.last + 1))) whole
+            ∙ named_outputs 0 (past.last + 1) named past.peers;
       }

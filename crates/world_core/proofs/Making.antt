@@ -16,7 +16,7 @@ use Rattle.std.proofs.lemmas.Map.Keys.{IsDistinct-IsPermutation, IsDistinct-head
 use Rattle.std.proofs.lemmas.Map.Text.{is_eq-slice_cmp}
 use Rattle.disk_model.specs.Disk.{Event}
 use Rattle.disk_model.specs.Disk.Event.{Made}
-use Rattle.disk_model.specs.InMemory.{events, faults_told}
+use Rattle.disk_model.specs.InMemory.{events, faults_in}
 use Rattle.disk_model.specs.declared.memory.MemDisk.{MemDisk}
 use Rattle.disk_model.specs.declared.Disk.{Ghosts}
 use Rattle.feed_conf.specs.declared.conf.PeerConf.{PeerConf}
@@ -28,7 +28,7 @@ use Rattle.recovery.specs.TapeLaws.{tape_nowhere_damaged, tape_once}
 use Rattle.recovery.specs.Leaving.{broken_of}
 use Rattle.recovery.specs.Notes.{found}
 use Rattle.recovery.specs.Tape.{IsOpenedTape, StandsFor, contents_of}
-use Rattle.recovery.specs.Words.{IsBroken, IsOpenFault, ledger_of, log_of, told_of}
+use Rattle.recovery.specs.Words.{IsBroken, IsOpenFault, ledger_of, log_of, faults_of}
 use Rattle.recovery.specs.declared.fault.TapeFault.{TapeFault}
 use Rattle.recovery.specs.declared.fault.TapeFault.TheVariants.{Damaged, Disk, Broken, TapeFull, GenerationFull}
 use Rattle.recovery.specs.declared.fault.TapeFault.TheVariants.{PendingFull, NoMemory as NoTapeMemory, Note}
@@ -51,7 +51,7 @@ use Rattle.world_core.specs.declared.world.Stage.TheVariants.{Running}
 use Rattle.world_core.specs.declared.world.World.{World}
 use Rattle.world_core.proofs.Acknowledged.{all_at}
 use Rattle.world_core.proofs.Peers.{not_true}
-use Rattle.world_core.proofs.Sound.{each_front, safe_of}
+use Rattle.world_core.proofs.Sound.{each_prefix, safe_of}
 use Rattle.world_core.proofs.Stopping.{tied_none}
 use Rattle.world_core.proofs.Tried.{none_held}
 use Rattle.world_core.proofs.Zips.{zip_push, zip_first}
@@ -135,47 +135,47 @@ nothing_lies = record {
 }
 
 module _ {D : Type 0} {g : Ghosts D} where
-  is_found : (state : State) (tape : OpenTape D g) → StandsFor tape (found state) → told_of tape ≡ (0, 0)
+  is_found : (state : State) (tape : OpenTape D g) → StandsFor tape (found state) → faults_of tape ≡ (0, 0)
       → (IsBroken tape → ⊥) → IsFound state tape
-  is_found state tape stands told works =
-      record { stands = stands; log = refl; faults = told; broken = not_true (broken_of tape) works }
+  is_found state tape stands outputs works =
+      record { stands = stands; log = refl; faults = outputs; broken = not_true (broken_of tape) works }
 
   -- the peer's tape was opened on the given octets
   pub opens_given : (given : GivenPeer) (old : Log) (peer : Peer D g) → old ≡ (Made given.1.items ∷ [], [])
-      → IsOpenedTape old (tape_of peer.station) → told_of (tape_of peer.station) ≡ (0, 0)
+      → IsOpenedTape old (tape_of peer.station) → faults_of (tape_of peer.station) ≡ (0, 0)
       → (IsBroken (tape_of peer.station) → ⊥)
       → places_of peer.station ≡ all_ready (keys (ledger_of (tape_of peer.station)))
       → station_limits peer.station ≡ limits_of given.0 → peer.conf ≡ given.0 → peer.parted ≡ false
       → OpensGiven given peer
-  opens_given given old peer log opened told works ready limits conf parts = record {
+  opens_given given old peer log opened outputs works ready limits conf parts = record {
     state = opened.state;
     was = subst (λ (l : Log). IsTape (contents_of l) opened.state) log opened.was;
     stands = record {
       conf = conf;
       limits = limits;
-      tape = is_found opened.state (tape_of peer.station) opened.stands told works;
+      tape = is_found opened.state (tape_of peer.station) opened.stands outputs works;
       places = ready ∙ ap (λ (state : State). all_ready (keys state)) opened.stands.ledger;
       parted = parts;
     };
   }
 
   -- that of the intake on none
-  pub opens_empty : (old : Log) (tape : OpenTape D g) → old ≡ ([], []) → IsOpenedTape old tape → told_of tape ≡ (0, 0)
+  pub opens_empty : (old : Log) (tape : OpenTape D g) → old ≡ ([], []) → IsOpenedTape old tape → faults_of tape ≡ (0, 0)
       → (IsBroken tape → ⊥) → IsFound start tape
-  opens_empty old tape log opened told works =
+  opens_empty old tape log opened outputs works =
       let there = subst (λ (l : Log). IsTape (contents_of l) opened.state) log opened.was in
       let none : opened.state ≡ start = tape_once ([], []) opened.state start there nothing_lies in
-      subst (λ (state : State). IsFound state tape) none (is_found opened.state tape opened.stands told works)
+      subst (λ (state : State). IsFound state tape) none (is_found opened.state tape opened.stands outputs works)
 
 -- what has happened to a disk in memory is what has happened to the disk over it
 pub happened_as : (disk : StopDisk) (memory : MemDisk) (log : List Event) → beneath disk ≡ memory → events memory ≡ log
     → happened disk ≡ log
 happened_as disk memory log is has = ap events is ∙ has
 
-pub none_told : (disk : StopDisk) (memory : MemDisk) → beneath disk ≡ memory → own_faults disk ≡ 0
-    → faults_told memory ≡ 0 → all_faults disk ≡ 0
-none_told disk memory is own told =
-    let none : faults_told (beneath disk) ≡ 0 = ap faults_told is ∙ told in
+pub no_faults : (disk : StopDisk) (memory : MemDisk) → beneath disk ≡ memory → own_faults disk ≡ 0
+    → faults_in memory ≡ 0 → all_faults disk ≡ 0
+no_faults disk memory is own faults =
+    let none : faults_in (beneath disk) ≡ 0 = ap faults_in is ∙ faults in
     rw (own, none) refl
 
 pub both_are : {A B : Type 0} {one other : A} {this that : B} → one ≡ other → this ≡ that
@@ -207,27 +207,27 @@ module _ {D : Type 0} {g : Ghosts D} where
       given peers all
 
   -- one more was opened
-  pub opens_more : (front : List GivenPeer) (peers new : List (Peer D g)) (given : GivenPeer) (peer : Peer D g)
-      → AllZip OpensGiven front peers → OpensGiven given peer → new ≡ peers ++ peer ∷ []
-      → AllZip OpensGiven (front ++ given ∷ []) new
-  opens_more front peers new given peer all one more =
-      subst (AllZip OpensGiven (front ++ given ∷ [])) (sym more) (zip_push OpensGiven front peers given peer all one)
+  pub opens_more : (prefix : List GivenPeer) (peers new : List (Peer D g)) (given : GivenPeer) (peer : Peer D g)
+      → AllZip OpensGiven prefix peers → OpensGiven given peer → new ≡ peers ++ peer ∷ []
+      → AllZip OpensGiven (prefix ++ given ∷ []) new
+  opens_more prefix peers new given peer all one more =
+      subst (AllZip OpensGiven (prefix ++ given ∷ [])) (sym more) (zip_push OpensGiven prefix peers given peer all one)
 
   -- behind those that were opened comes one that is refused
-  pub stops_for : (given front : List GivenPeer) (peers : List (Peer D g)) (peer : GivenPeer) (fault : TapesFault)
-      → AllZip OpensGiven front peers → front ≡ take (length front) given
-      → slice_get given (length front) ≡ Some peer → RefusesPeer peer fault
+  pub stops_for : (given prefix : List GivenPeer) (peers : List (Peer D g)) (peer : GivenPeer) (fault : TapesFault)
+      → AllZip OpensGiven prefix peers → prefix ≡ take (length prefix) given
+      → slice_get given (length prefix) ≡ Some peer → RefusesPeer peer fault
       → StopsFor given fault
-  stops_for given front peers peer (Tape name fault) all so_far here refused = record {
-    rank = length front;
+  stops_for given prefix peers peer (Tape name fault) all so_far here refused = record {
+    rank = length prefix;
     peer = peer;
     here = here;
     named = refused.0;
     before = subst (AllByRecursion (λ (other : GivenPeer). IsSomeTape (given_octets other))) so_far
-        (are_tapes front peers all);
+        (are_tapes prefix peers all);
     why = refused.1;
   }
-  stops_for given front peers peer NoMemory all so_far here refused = tt
+  stops_for given prefix peers peer NoMemory all so_far here refused = tt
 
 -- the first in order is told
 pub refuses_tapes : (given ordered : List GivenPeer) (fault : TapesFault) → IsPermutation given ordered
@@ -269,7 +269,7 @@ module _ {D : Type 0} {g : Ghosts D} where
                 history = refl;
                 faults = refl;
                 works = refl;
-                safe = each_front past (tape_of peer.station) all.0.stands.tape;
+                safe = each_prefix past (tape_of peer.station) all.0.stands.tape;
               };
               places = refl;
               parted = refl;

@@ -3,7 +3,7 @@ use Rattle.std.proofs.Common.{◌≡◌, ◌⊎◌, ◌+◌, ◌++◌, ℕ, Bool
 use Rattle.std.proofs.Common.{sym, ap, subst, inl, inr}
 use Rattle.std.specs.Prelude.{if◌then◌else◌, nat_lt}
 use Rattle.std.specs.List.{AllByRecursion, AllZip, slice_get}
-use Rattle.recovery.specs.Leaving.{EachLedger, IsFront, LedgersLeave}
+use Rattle.recovery.specs.Leaving.{EachLedger, IsPrefix, LedgersLeave}
 use Rattle.recovery.specs.LeavingLaws.{EachLedger-weaker}
 use Rattle.recovery.specs.Pairs.LeavesPair.{at_start}
 use Rattle.ledger_core.specs.declared.note.Note.TheVariants.{Seen}
@@ -21,7 +21,7 @@ use Rattle.world_core.specs.Events.{claimed_peer, imported_as, owed_as, owing_as
 use Rattle.world_core.specs.Events.AllDo.{Start, Next}
 use Rattle.world_core.specs.Keeping.{PeerStays, PeersStay}
 use Rattle.world_core.specs.Laws.{StillOwes}
-use Rattle.world_core.specs.Moments.{AllMomentsAreRecovered, MayMake, StaysBelow, StaysFront}
+use Rattle.world_core.specs.Moments.{AllMomentsAreRecovered, MayMake, StaysBelow, StaysPrefix}
 use Rattle.world_core.specs.Steps.{begun_at}
 use Rattle.world_core.specs.Tapes.{RefusesFlush, RefusesRotate, noted_at}
 use Rattle.world_core.specs.Tapes.Rotation.{Is_broken, Is_last, Is_long, Fits}
@@ -58,12 +58,12 @@ IsSafePeer peer = EachLedger (KeepsNotes peer) peer.tape.log
 
 -- then so it is at each moment from here to there
 abbrev Leaves : PeerPast → PeerPast → Type 0
-Leaves old new = IsSafePeer old → StaysFront old new
+Leaves old new = IsSafePeer old → StaysPrefix old new
 
 -- nothing has happened to its disks
 same_log : (old new : PeerPast) → new.tape.log ≡ old.tape.log → Leaves old new
 same_log old new same safe =
-    subst (LedgersLeave (IsFront old.tape.history) old.tape.log) (sym same) (at_start safe)
+    subst (LedgersLeave (IsPrefix old.tape.history) old.tape.log) (sym same) (at_start safe)
 
 leaves_self : (peer : PeerPast) → Leaves peer peer
 leaves_self peer = same_log peer peer refl
@@ -293,7 +293,7 @@ safe_begun past safe = record {
   peers = safe_peers past.peers safe.peers;
   intake = EachLedger-weaker (KeepsLines past.intake.history past.peers)
       (KeepsLines past.intake.history (begun_at past).peers)
-      (λ state keeps. record { front = keeps.front; lines = all_begun state.mark past.peers keeps.lines })
+      (λ state keeps. record { prefix = keeps.prefix; lines = all_begun state.mark past.peers keeps.lines })
       past.intake.log safe.intake;
 }
 
@@ -313,12 +313,12 @@ pub moments_recovered : AllMomentsAreRecovered
 moments_recovered = λ begun life steps lines comes step was now way.
     let start = started life.past way.begun (comes_safe begun steps lines life comes)
     (starts step life way.begun way.events way.may) in
-    let safe = safe_behind way.begun was _ way.front start.1 in
+    let safe = safe_behind way.begun was _ way.prefix start.1 in
     record {
-      fronts = zip_with Leaves IsSafePeer StaysFront (λ old new leaves is. leaves is) was.peers now.peers
+      prefixes = zip_with Leaves IsSafePeer StaysPrefix (λ old new leaves is. leaves is) was.peers now.peers
           (event_leaves way.event was now way.makes) safe.peers;
       owes = zip_weaker PeerStays StillOwes still_owes begun.past.peers was.peers
           (stay_then begun.past life.past was (all_stay begun life steps lines comes).peers
-          (stay_then life.past way.begun was start.0 (events_stay way.begun was _ way.front)));
+          (stay_then life.past way.begun was start.0 (events_stay way.begun was _ way.prefix)));
       lines = event_lasts way.event was now way.makes safe.intake;
     }

@@ -91,11 +91,11 @@ named_owes rank token id named (peer ∷ peers) = by (is_named named peer) (name
     by true more = ap (λ l. Owes rank token id ∷ l) more
     by false more = more
 
-pub named_told : (rank number : ℕ) (named : List (List ℕ)) (peers : List PeerPast)
+pub named_outputs : (rank number : ℕ) (named : List (List ℕ)) (peers : List PeerPast)
     → map (λ (entry : ℕ × PeerPast). (entry.1.conf.name, owed_as number entry.1)) (named_from rank named peers)
     ≡ owed_there number named peers
-named_told rank number named [] = refl
-named_told rank number named (peer ∷ peers) = by (is_named named peer) (named_told (rank + 1) number named peers)
+named_outputs rank number named [] = refl
+named_outputs rank number named (peer ∷ peers) = by (is_named named peer) (named_outputs (rank + 1) number named peers)
   where
     by : (b : Bool)
         → map (λ (entry : ℕ × PeerPast). (entry.1.conf.name, owed_as number entry.1))

@@ -4,10 +4,10 @@ use Rattle.disk_model.specs.declared.Disk.{Ghosts}
 use Rattle.ledger_core.specs.State.{State, keys}
 use Rattle.recovery.specs.Image.{EachTape, Log, Survives, TapeLeaves}
 use Rattle.recovery.specs.Leaving.{EachLedger, HasLedger, LedgersLeave, LiesOn, broken_of, ledger_of_first}
-use Rattle.recovery.specs.LeavingLaws.{TapeLeaves-now, found_first, survives_of_front}
+use Rattle.recovery.specs.LeavingLaws.{TapeLeaves-now, found_first, survives_of_prefix}
 use Rattle.recovery.specs.Notes.{AreLegal, recovered}
 use Rattle.recovery.specs.Tape.{IsOpenedTape, Recovers}
-use Rattle.recovery.specs.Words.{IsBroken, IsOpenFault, OneHasRisen, ledger_of, log_of, told_of}
+use Rattle.recovery.specs.Words.{IsBroken, IsOpenFault, OneHasRisen, ledger_of, log_of, faults_of}
 use Rattle.recovery.specs.declared.fault.TapeFault.{TapeFault}
 use Rattle.recovery.specs.declared.fault.TapeFault.TheVariants.{Damaged, Disk, Broken, TapeFull, GenerationFull}
 use Rattle.recovery.specs.declared.fault.TapeFault.TheVariants.{PendingFull, NoMemory, Note}
@@ -28,18 +28,18 @@ use Rattle.world_core.proofs.Peers.{keeps_moments, not_true}
 pub each_there : (past : PeerPast) (log : Log) → log ≡ past.tape.log → EachLedger (KeepsNotes past) past.tape.log
     → EachTape (Survives past.tape.history) log
 each_there past log same images = subst (λ (l : Log). EachTape (Survives past.tape.history) l) (sym same)
-    (λ one other is is'. survives_of_front past.tape.history (one, other) (images one other is is'))
+    (λ one other is is'. survives_of_prefix past.tape.history (one, other) (images one other is is'))
 
 module _ {D : Type 0} {g : Ghosts D} where
-  pub opened_as : (past : PeerPast) (old : Log) (told : ℕ × ℕ) (peer : Peer D g) → old ≡ past.tape.log
-      → told ≡ past.tape.faults
+  pub opened_as : (past : PeerPast) (old : Log) (outputs : ℕ × ℕ) (peer : Peer D g) → old ≡ past.tape.log
+      → outputs ≡ past.tape.faults
       → Recovers past.tape.history old (tape_of peer.station) → IsOpenedTape old (tape_of peer.station)
       → (IsBroken (tape_of peer.station) → ⊥)
-      → told_of (tape_of peer.station) ≡ told
+      → faults_of (tape_of peer.station) ≡ outputs
       → places_of peer.station ≡ all_ready (keys (ledger_of (tape_of peer.station)))
       → station_limits peer.station ≡ limits_of past.conf → peer.conf ≡ past.conf → peer.parted ≡ false
       → OpenedAs past peer
-  opened_as past old told peer log faults recovers opened works quiet ready limits conf parts = record {
+  opened_as past old outputs peer log faults recovers opened works quiet ready limits conf parts = record {
     later = record {
       history = recovered past.tape.history recovers.count;
       log = log_of (tape_of peer.station);
@@ -72,25 +72,26 @@ module _ {D : Type 0} {g : Ghosts D} where
     };
   }
 
-pub refused_why : (Risen : Type 0) (fault : TapeFault) (told : Fault) → told ≡ fault_of fault → IsOpenFault fault
+pub refused_why : (Risen : Type 0) (fault : TapeFault) (outputs : Fault) → outputs ≡ fault_of fault → IsOpenFault fault
     → ((segment at : ℕ) → fault ≡ Damaged segment at → ⊥) → (fault ≡ Disk → Risen)
-    → ((told ≡ TapeTold Disk) × Risen) ⊎ (told ≡ NoStepMemory)
-refused_why Risen (Damaged segment at) told e kind undamaged cause = absurd (undamaged segment at refl)
-refused_why Risen Disk told e kind undamaged cause = inl (e, cause refl)
-refused_why Risen Broken told e kind undamaged cause = absurd kind
-refused_why Risen TapeFull told e kind undamaged cause = absurd kind
-refused_why Risen GenerationFull told e kind undamaged cause = absurd kind
-refused_why Risen PendingFull told e kind undamaged cause = absurd kind
-refused_why Risen NoMemory told e kind undamaged cause = inr e
-refused_why Risen (Note fault) told e kind undamaged cause = absurd kind
+    → ((outputs ≡ TapeTold Disk) × Risen) ⊎ (outputs ≡ NoStepMemory)
+refused_why Risen (Damaged segment at) outputs e kind undamaged cause = absurd (undamaged segment at refl)
+refused_why Risen Disk outputs e kind undamaged cause = inl (e, cause refl)
+refused_why Risen Broken outputs e kind undamaged cause = absurd kind
+refused_why Risen TapeFull outputs e kind undamaged cause = absurd kind
+refused_why Risen GenerationFull outputs e kind undamaged cause = absurd kind
+refused_why Risen PendingFull outputs e kind undamaged cause = absurd kind
+refused_why Risen NoMemory outputs e kind undamaged cause = inr e
+refused_why Risen (Note fault) outputs e kind undamaged cause = absurd kind
 
-pub refused_as : (past : PeerPast) (old : Log) (told : ℕ × ℕ) (peer : StoppedPeer)
-    → AreLegal past.tape.history.base past.tape.history.notes → old ≡ past.tape.log → told ≡ past.tape.faults
+pub refused_as : (past : PeerPast) (old : Log) (outputs : ℕ × ℕ) (peer : StoppedPeer)
+    → AreLegal past.tape.history.base past.tape.history.notes → old ≡ past.tape.log → outputs ≡ past.tape.faults
     → TapeLeaves (Survives past.tape.history) old (happened peer.disks.0, happened peer.disks.1)
     → peer.conf ≡ past.conf → (fault : TapeFault) (said : Fault)
     → said ≡ fault_of fault → IsOpenFault fault → ((segment at : ℕ) → fault ≡ Damaged segment at → ⊥)
-    → (fault ≡ Disk → OneHasRisen told (all_faults peer.disks.0, all_faults peer.disks.1)) → RefusedOpen past said peer
-refused_as past old told peer legal log faults moments conf fault said e kind undamaged cause =
+    → (fault ≡ Disk → OneHasRisen outputs (all_faults peer.disks.0, all_faults peer.disks.1))
+    → RefusedOpen past said peer
+refused_as past old outputs peer legal log faults moments conf fault said e kind undamaged cause =
     let new : Log = (happened peer.disks.0, happened peer.disks.1) in
     let left = keeps_moments past old new moments in
     record {

@@ -8,9 +8,9 @@ use Rattle.std.proofs.lemmas.List.{map-append}
 use Rattle.std.proofs.lemmas.List.Elements.{All-head, All-tail}
 use Rattle.funnel.specs.Line.{without_cr}
 use Rattle.funnel.specs.Stream.{BeginsWithLine, IsUnended}
-use Rattle.world_core.specs.Told.{Output, Said, lines_from, lines_in, said_of}
+use Rattle.world_core.specs.Output.{SentLine, Said, lines_from, lines_in, said_of}
 use Rattle.world_core.specs.Pairs.{Tells}
-use Rattle.world_core.specs.declared.told.Told.{Told}
+use Rattle.world_core.specs.declared.output.Output.{Output}
 
 -- a whole line, and those behind it
 begun : (line before behind : List ℕ) → IsUnended before
@@ -38,12 +38,13 @@ pub no_line : (octets : List ℕ) → IsUnended octets → lines_in octets ≡ [
 no_line octets each = none [] octets each
 
 -- one line more is told, the first of those that are left
-pub tells_line : (id : ℕ) (told new : List Told) (one : Told) (rest line behind : List ℕ) → new ≡ told ++ one ∷ []
-    → said_of one ≡ Output id (without_cr line) → BeginsWithLine rest line behind
-    → map said_of new ++ map (Output id) (lines_in behind) ≡ map said_of told ++ map (Output id) (lines_in rest)
-tells_line id told new one rest line behind is says begins =
-    rw (is, map-append said_of told (one ∷ []), says, first_of_lines rest line behind begins)
-    (append_assoc (map said_of told) (Output id (without_cr line) ∷ []) (map (Output id) (lines_in behind)))
+pub tells_line : (id : ℕ) (outputs new : List Output) (one : Output) (rest line behind : List ℕ) → new ≡ outputs
+    ++ one ∷ []
+    → said_of one ≡ SentLine id (without_cr line) → BeginsWithLine rest line behind
+    → map said_of new ++ map (SentLine id) (lines_in behind) ≡ map said_of outputs ++ map (SentLine id) (lines_in rest)
+tells_line id outputs new one rest line behind is says begins =
+    rw (is, map-append said_of outputs (one ∷ []), says, first_of_lines rest line behind begins)
+    (append_assoc (map said_of outputs) (SentLine id (without_cr line) ∷ []) (map (SentLine id) (lines_in behind)))
 
 pub some_end : (b : Bool) (n end : ℕ) → cond b (Some n) None ≡ Some end → (b ≡ true) × (n ≡ end)
 some_end true n end is = (refl, cc)
@@ -58,10 +59,10 @@ position_within p xs n is =
 -- ---- what is told
 
 -- what is told in two parts
-pub tells_both : (was mid told : List Told) (one other : List Said) → Tells was one mid → Tells mid other told
-    → Tells was (one ++ other) told
-tells_both was mid told one other first second =
+pub tells_both : (was mid outputs : List Output) (one other : List Said) → Tells was one mid → Tells mid other outputs
+    → Tells was (one ++ other) outputs
+tells_both was mid outputs one other first second =
     second ∙ (ap (λ l. l ++ other) first ∙ append_assoc (map said_of was) one other)
 
-pub tells_none : (was told : List Told) → told ≡ was → Tells was [] told
-tells_none was told same = ap (map said_of) same ∙ sym (append-nil (map said_of was))
+pub tells_none : (was outputs : List Output) → outputs ≡ was → Tells was [] outputs
+tells_none was outputs same = ap (map said_of) same ∙ sym (append-nil (map said_of was))

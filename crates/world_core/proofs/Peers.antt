@@ -8,8 +8,8 @@ use Rattle.recovery.specs.DiskLaws.{log-read}
 use Rattle.recovery.specs.Tape.{IsRead, StandsFor}
 use Rattle.recovery.specs.Image.{Log, Survives, TapeLeaves}
 use Rattle.recovery.specs.Leaving.{HasLedger, IsFullBy, LedgersLeave, LiesLeft, broken_of, pending_notes}
-use Rattle.recovery.specs.LeavingLaws.{TapeLeaves-weaker, front_of_survives, full_by, pends_by, same_disks}
-use Rattle.recovery.specs.Words.{IsBroken, IsFull, OneHasRisen, log_of, pending_of, told_of}
+use Rattle.recovery.specs.LeavingLaws.{TapeLeaves-weaker, prefix_of_survives, full_by, pends_by, same_disks}
+use Rattle.recovery.specs.Words.{IsBroken, IsFull, OneHasRisen, log_of, pending_of, faults_of}
 use Rattle.recovery.specs.declared.tape.Tape.{Tape}
 use Rattle.recovery.specs.declared.fault.TapeFault.{TapeFault}
 use Rattle.recovery.specs.declared.fault.TapeFault.TheVariants.{Disk, TapeFull}
@@ -39,7 +39,7 @@ empty (x ∷ l) e = absurd (omega (arith, e))
 pub keeps_moments : (past : PeerPast) (old new : Log) → TapeLeaves (Survives past.tape.history) old new
     → LedgersLeave (KeepsNotes past) old new
 keeps_moments past old new moments =
-    TapeLeaves-weaker (Survives past.tape.history) (HasLedger (KeepsNotes past)) (front_of_survives past.tape.history)
+    TapeLeaves-weaker (Survives past.tape.history) (HasLedger (KeepsNotes past)) (prefix_of_survives past.tape.history)
     old new moments
 
 module _ {D : Type 0} {g : Ghosts D} where
@@ -76,7 +76,7 @@ module _ {D : Type 0} {g : Ghosts D} where
     -- a flush that answered Ok
     pub flushed_as : (IsBroken old → ⊥) → (IsBroken new → ⊥) → (IsFull old → ⊥) → (pending_of old ≡ 0 → new ≡ old)
         → StandsFor new (flushed past.history)
-        → told_of new ≡ told_of old
+        → faults_of new ≡ faults_of old
         → IsFlushed P past (record {
           history = flushed past.history;
           log = log_of new;
@@ -91,7 +91,7 @@ module _ {D : Type 0} {g : Ghosts D} where
           broken =
               false;
         }) new
-    flushed_as worked works fits idle is told = (
+    flushed_as worked works fits idle is outputs = (
       record {
         worked = tape_works past old stands worked;
         fits = λ full. fits (full_there lies past old stands worked full);
@@ -99,18 +99,18 @@ module _ {D : Type 0} {g : Ghosts D} where
         moments = from_past;
         all = refl;
       },
-      record { stands = is; log = refl; faults = told ∙ stands.faults; broken = not_true (broken_of new) works },
+      record { stands = is; log = refl; faults = outputs ∙ stands.faults; broken = not_true (broken_of new) works },
     )
 
     -- a disk told a fault
-    pub broke_as : (IsBroken old → ⊥) → IsBroken new → OneHasRisen (told_of old) (told_of new)
+    pub broke_as : (IsBroken old → ⊥) → IsBroken new → OneHasRisen (faults_of old) (faults_of new)
         → StandsFor new past.history
-        → Breaks P past (record { history = past.history; log = log_of new; faults = told_of new; broken = true })
-        × TapeStands (record { history = past.history; log = log_of new; faults = told_of new; broken = true }) new
+        → Breaks P past (record { history = past.history; log = log_of new; faults = faults_of new; broken = true })
+        × TapeStands (record { history = past.history; log = log_of new; faults = faults_of new; broken = true }) new
     broke_as worked broke risen is = (
       record {
         worked = tape_works past old stands worked;
-        cause = subst (λ (faults : ℕ × ℕ). OneHasRisen faults (told_of new)) stands.faults risen;
+        cause = subst (λ (faults : ℕ × ℕ). OneHasRisen faults (faults_of new)) stands.faults risen;
         moments = from_past;
         all = refl;
       },
@@ -131,7 +131,7 @@ same_truth false false both = refl
 
 -- a tape that was read, as it is now
 abbrev pub read_now : {D : Type 0} {g : Ghosts D} → TapePast → Tape D g → TapePast
-read_now past tape = record past { faults = told_of tape }
+read_now past tape = record past { faults = faults_of tape }
 
 module _ {D : Type 0} {g : Ghosts D} where
   -- it was read
@@ -140,8 +140,8 @@ module _ {D : Type 0} {g : Ghosts D} where
   read_tape past old new stands reads =
       let logs = log-read old new reads stands.stands.honest in (
         record {
-          first = subst (λ (n : ℕ × ℕ). n.0 ≤ (told_of new).0) stands.faults reads.continues.first;
-          second = subst (λ (n : ℕ × ℕ). n.1 ≤ (told_of new).1) stands.faults reads.continues.second;
+          first = subst (λ (n : ℕ × ℕ). n.0 ≤ (faults_of new).0) stands.faults reads.continues.first;
+          second = subst (λ (n : ℕ × ℕ). n.1 ≤ (faults_of new).1) stands.faults reads.continues.second;
           all = refl;
         },
         record {
@@ -187,20 +187,20 @@ module _ {D : Type 0} {g : Ghosts D} where
       λ full. fits (full_there lies past old.tape stands works full),
     )
 
-    pub unflushed_as : (fault : StationFault) (told : Fault) → told ≡ fault_of_station fault
+    pub unflushed_as : (fault : StationFault) (outputs : Fault) → outputs ≡ fault_of_station fault
         → ((fault ≡ Broken) ↔ IsBroken old.tape)
         → ((fault ≡ TapeRefused TapeFull) ↔ ((IsBroken old.tape → ⊥) × IsFull old.tape))
         → (pending_of old.tape ≡ 0 → (IsBroken old.tape → ⊥) → ⊥) → IsFlushFault fault
         → (fault ≢ TapeRefused Disk → IsSame old new) → (fault ≡ TapeRefused Disk → IsBroken new.tape)
-        → (fault ≡ TapeRefused Disk → OneHasRisen (told_of old.tape) (told_of new.tape))
-        → FlushedNot P past told new.tape
-    unflushed_as NotHeld told e broken full idle kind same breaks cause = absurd kind
-    unflushed_as Broken told e broken full idle kind same breaks cause = record {
+        → (fault ≡ TapeRefused Disk → OneHasRisen (faults_of old.tape) (faults_of new.tape))
+        → FlushedNot P past outputs new.tape
+    unflushed_as NotHeld outputs e broken full idle kind same breaks cause = absurd kind
+    unflushed_as Broken outputs e broken full idle kind same breaks cause = record {
       later = past;
       refused = inl (e, tape_broken past old.tape stands (broken.0 refl), refl);
       stands = same_tape past old new stands is (same (λ is. cc));
     }
-    unflushed_as (TapeRefused fault) told e broken full idle kind same breaks cause =
+    unflushed_as (TapeRefused fault) outputs e broken full idle kind same breaks cause =
         let works : IsBroken old.tape → ⊥ = λ b. let never : TapeRefused fault ≡ Broken = broken.1 b in cc in
         elim kind [
           | inl long ↦ record {
@@ -232,7 +232,7 @@ module _ {D : Type 0} {g : Ghosts D} where
       where
         refused_once : {one other : TapeFault} → TapeRefused one ≡ TapeRefused other → one ≡ other
         refused_once same = cc
-    unflushed_as NoMemory told e broken full idle kind same breaks cause =
+    unflushed_as NoMemory outputs e broken full idle kind same breaks cause =
         let works : IsBroken old.tape → ⊥ = λ b. let never : NoMemory ≡ Broken = broken.1 b in cc in
         record {
           later = past;

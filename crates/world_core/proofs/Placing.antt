@@ -15,7 +15,7 @@ use Rattle.world_core.specs.Turn.{Made, Refused, RefusesRest, TakesRest}
 use Rattle.world_core.specs.declared.fault.Fault.{Fault}
 use Rattle.world_core.specs.declared.peer.Peer.{Peer}
 use Rattle.world_core.specs.declared.peer.StoppedPeer.{StoppedPeer}
-use Rattle.world_core.specs.declared.told.Told.{Told}
+use Rattle.world_core.specs.declared.output.Output.{Output}
 use Rattle.world_core.specs.declared.world.Stage.{Stage}
 use Rattle.world_core.specs.declared.world.Stage.TheVariants.{Running, Stopped}
 use Rattle.world_core.specs.declared.world.World.{World}
@@ -109,11 +109,11 @@ armed_world old new life peer call choice rank some stands is stage armed connec
 }
 
 -- a stop at call 0 is one at rest
-pub rested : (peer : Option (List ℕ)) (call : ℕ) (choice : Choice) (life : Life) (told : List Told) (world : World)
+pub rested : (peer : Option (List ℕ)) (call : ℕ) (choice : Choice) (life : Life) (outputs : List Output) (world : World)
     → call ≡ 0
-    → Made TakesRest life told world → Made (TakesStop peer call choice) life told world
-rested peer call choice life told world is made =
-    subst (λ (n : ℕ). Made (TakesStop peer n choice) life told world) (sym is)
+    → Made TakesRest life outputs world → Made (TakesStop peer call choice) life outputs world
+rested peer call choice life outputs world is made =
+    subst (λ (n : ℕ). Made (TakesStop peer n choice) life outputs world) (sym is)
     (record { later = made.later; makes = made.makes; stands = made.stands })
 
 pub rested_not : (peer : Option (List ℕ)) (call : ℕ) (life : Life) (fault : Fault) (world : World) → call ≡ 0

@@ -48,9 +48,9 @@ module _ {A : Type 0} (P : A → Type 0) where
   all_push [] x all one = (one, tt)
   all_push (a ∷ xs) x all one = (all.0, all_push xs x all.1 one)
 
-  pub front_all : (xs ys : List A) → AllByRecursion P (xs ++ ys) → AllByRecursion P xs
-  front_all [] ys all = tt
-  front_all (x ∷ xs) ys all = (all.0, front_all xs ys all.1)
+  pub prefix_all : (xs ys : List A) → AllByRecursion P (xs ++ ys) → AllByRecursion P xs
+  prefix_all [] ys all = tt
+  prefix_all (x ∷ xs) ys all = (all.0, prefix_all xs ys all.1)
 
   pub last_all : (xs : List A) (y : A) → AllByRecursion P (xs ++ y ∷ []) → P y
   last_all [] y all = all.0
@@ -157,7 +157,7 @@ keeps_lines intake peers octets legal has survives =
       state,
       survives.tape,
       record {
-        front = record {
+        prefix = record {
           count = survives.count;
           enough = survives.enough;
           within = survives.within;

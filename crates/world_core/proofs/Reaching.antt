@@ -10,7 +10,7 @@ use Rattle.world_core.specs.Safe.{IsSafe}
 use Rattle.world_core.specs.Events.{AllDo}
 use Rattle.world_core.specs.Exchange.{Follows, FollowsNot, StopsAt, all_out, settle_events, unsettled}
 use Rattle.world_core.specs.Pairs.{AllSettleAt, FollowsAt, FollowsNotAt, StopsHere}
-use Rattle.world_core.specs.Told.{Said}
+use Rattle.world_core.specs.Output.{Said}
 use Rattle.world_core.specs.declared.fault.Fault.{Fault}
 use Rattle.world_core.proofs.Holding.{out_rank}
 use Rattle.world_core.proofs.Lifting.{Leads, PeerKeeps, get_set, keeps_then, leads_settled, safe_with, with_same}
@@ -56,7 +56,7 @@ module _ (life : Life) (rank id : ℕ) (was mid : PeerPast) (here : slice_get li
       here = ap (slice_get before.past.peers) at ∙ mid_here;
       past = with_peer life.past rank later;
       settles = leads (unsettled o m) later is.settles;
-      told_is = is.told_is;
+      outputs_are = is.outputs_are;
       changed = ap (λ (c : ConnPast). with_conn (with_past life (with_peer life.past rank later)) id c) is.changed;
     },
     keeps_then id was mid later keeps (lead (unsettled o m) later is.settles).keeps,

@@ -12,15 +12,15 @@ use Rattle.recovery.specs.declared.tape.Tape.{Tape}
 use Rattle.std.specs.Global.{Vec}
 use Rattle.world_core.specs.Past.{Past, with_last}
 use Rattle.world_core.specs.Steps.{Good, NotGood, RefusesLine, TakesLine, line_events, owed_there}
-use Rattle.world_core.specs.Told.{Bad as SaidBad, Owed as SaidOwed, said_of}
+use Rattle.world_core.specs.Output.{Bad as SaidBad, Owed as SaidOwed, said_of}
 use Rattle.world_core.specs.Stands.{PeerStands, Stands, TapeStands}
 use Rattle.world_core.specs.Stepped.{Failed, OwedLine, Took, TookNot}
 use Rattle.world_core.specs.declared.fault.Fault.{Fault}
 use Rattle.world_core.specs.declared.fault.Fault.TheVariants.{NoMemory}
 use Rattle.world_core.specs.declared.stations.Stations.{Stations}
-use Rattle.world_core.specs.declared.told.OwedAt.{OwedAt}
-use Rattle.world_core.specs.declared.told.Told.{Told}
-use Rattle.world_core.specs.declared.told.Told.TheVariants.{Bad as ToldBad, Owed as ToldOwed}
+use Rattle.world_core.specs.declared.output.OwedAt.{OwedAt}
+use Rattle.world_core.specs.declared.output.Output.{Output}
+use Rattle.world_core.specs.declared.output.Output.TheVariants.{Bad as OutputBad, Owed as OutputOwed}
 use Rattle.world_core.proofs.Sound.{sound_last}
 
 -- the fault that was told is one that the line has
@@ -60,12 +60,12 @@ module _ {D : Type 0} {g : Ghosts D} where
     next : number ≡ past.last + 1
     next = numbered ∙ ap (λ (n : ℕ). n + 1) stands.last
 
-    pub line_good : (token id : List ℕ) (named : List (List ℕ)) (peers : Vec OwedAt) (told : List Told)
+    pub line_good : (token id : List ℕ) (named : List (List ℕ)) (peers : Vec OwedAt) (outputs : List Output)
         (old new : Stations D g)
         → IsFunnelLine text token id named → OwedLine past token id named peers.items old → old.last ≡ first.last
         → WithLast old new number
-        → told ≡ ToldOwed number peers ∷ [] → Took (TakesLine text) past told new
-    line_good token id named peers told old new reads owed kept same tells =
+        → outputs ≡ OutputOwed number peers ∷ [] → Took (TakesLine text) past outputs new
+    line_good token id named peers outputs old new reads owed kept same tells =
         let still : owed.did.later.last ≡ past.last = sym owed.did.stands.last ∙ kept ∙ stands.last in
         record {
           later = with_last owed.did.later (past.last + 1);
@@ -74,7 +74,7 @@ module _ {D : Type 0} {g : Ghosts D} where
             reading = Good token id named;
             reads = reads;
             takes = (
-              ap (map said_of) tells ∙ ap (λ l. SaidOwed number l ∷ []) owed.told_is
+              ap (map said_of) tells ∙ ap (λ l. SaidOwed number l ∷ []) owed.outputs_are
                   ∙ ap (λ (n : ℕ). SaidOwed n (owed_there (past.last + 1) named past.peers) ∷ []) next,
               (owed.did.later, owed.did.does, refl),
             );
@@ -83,10 +83,10 @@ module _ {D : Type 0} {g : Ghosts D} where
               (omega (arith, still)) (omega (arith, next, fits));
         }
 
-    pub line_bad : (fault : LineFault) (told : List Told) (new : Stations D g) → HasFault text fault
+    pub line_bad : (fault : LineFault) (outputs : List Output) (new : Stations D g) → HasFault text fault
         → fault ≢ NoLineMemory → WithLast first new number
-        → told ≡ ToldBad number fault ∷ [] → Took (TakesLine text) past told new
-    line_bad fault told new has other same tells = record {
+        → outputs ≡ OutputBad number fault ∷ [] → Took (TakesLine text) past outputs new
+    line_bad fault outputs new has other same tells = record {
       later = with_last past (past.last + 1);
       takes = record {
         fits = omega (arith, next, fits);
@@ -100,8 +100,8 @@ module _ {D : Type 0} {g : Ghosts D} where
 
     pub line_memory : (fault : Fault) (new : Stations D g) → fault ≡ NoMemory → Stands new past
         → TookNot (RefusesLine text) past fault new
-    line_memory fault new told is =
-        record { later = past; refuses = inr (inl (told, omega (arith, next, fits), refl)); stands = is }
+    line_memory fault new outputs is =
+        record { later = past; refuses = inr (inl (outputs, omega (arith, next, fits), refl)); stands = is }
 
     pub line_failed : (token id : List ℕ) (named : List (List ℕ)) (fault : Fault) (new : Stations D g)
         → IsFunnelLine text token id named

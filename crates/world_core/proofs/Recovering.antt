@@ -12,7 +12,7 @@ use Rattle.ledger_core.specs.WrittenLaws.{whole-step}
 use Rattle.ledger_core.specs.declared.note.Note.{Note}
 use Rattle.ledger_core.specs.declared.note.Note.TheVariants.{Drop, Final, Owe, Seen, Closed}
 use Rattle.peer_queue.specs.Words.{IsEnd}
-use Rattle.recovery.specs.Leaving.{EachLedger, IsFront}
+use Rattle.recovery.specs.Leaving.{EachLedger, IsPrefix}
 use Rattle.recovery.specs.Notes.{AreLegal}
 use Rattle.world_core.specs.Past.{Life, PeerPast}
 use Rattle.world_core.specs.Safe.{IsSafe, KeepsNotes}
@@ -20,7 +20,7 @@ use Rattle.world_core.specs.Laws.{AllAreRecovered, Comes, HasEnded, IsRecovered,
 use Rattle.world_core.specs.Laws.Comes.{No_step, Step_taken, Step_refused}
 use Rattle.world_core.specs.Keeping.{PeerStays}
 use Rattle.world_core.specs.Sound.{IsSoundLife}
-use Rattle.world_core.specs.Told.{Said}
+use Rattle.world_core.specs.Output.{Said}
 use Rattle.world_core.specs.declared.step.Step.{Step}
 use Rattle.world_core.proofs.Chains.{get_left}
 use Rattle.world_core.proofs.Holding.{contains_first, contains_more}
@@ -100,14 +100,14 @@ put_stays : (debts : List Owing) (key : ℕ) (token id : List ℕ) (d : Owing) �
     → Contains (with_debt debts key token id) d
 put_stays debts key token id d there has =
     subst (λ (ds : List Owing). Contains ds d) (sym there.is)
-    (contains_put there.front there.behind (key, (token, id)) d
+    (contains_put there.prefix there.behind (key, (token, id)) d
     (subst (λ (ds : List Owing). Contains ds d) there.was has))
 
 put_owes : (debts : List Owing) (key : ℕ) (token id : List ℕ) → Put debts key token id
     → Contains (with_debt debts key token id) (key, (token, id))
 put_owes debts key token id there =
     subst (λ (ds : List Owing). Contains ds (key, (token, id))) (sym there.is)
-    (contains_here there.front there.behind (key, (token, id)))
+    (contains_here there.prefix there.behind (key, (token, id)))
 
 -- notes behind the first
 legal_behind : (state : State) (note : Note) (notes : List Note) → AreLegal state (note ∷ notes)
@@ -180,36 +180,38 @@ owed_by state (note ∷ notes) (suc index) number token id are here =
 -- ---- a peer
 
 -- what is owed after the first of the notes, or ended by one of those, is owed there or has ended
-at_front : (peer : PeerPast) (state : State) (front : IsFront peer.tape.history state) (number : ℕ) (token id : List ℕ)
-    → Contains (after peer.tape.history.base (take front.count peer.tape.history.notes)).debts (number, (token, id))
-    ⊎ Ends (take front.count peer.tape.history.notes) number
+at_prefix : (peer : PeerPast) (state : State) (prefix : IsPrefix peer.tape.history state) (number : ℕ) (token id :
+    List ℕ)
+    → Contains (after peer.tape.history.base (take prefix.count peer.tape.history.notes)).debts (number, (token, id))
+    ⊎ Ends (take prefix.count peer.tape.history.notes) number
     → Contains state.debts (number, (token, id)) ⊎ HasEnded peer number
-at_front peer state front number token id (inl owed) =
-    inl (subst (λ (s : State). Contains s.debts (number, (token, id))) (sym front.is) owed)
-at_front peer state front number token id (inr ends) =
-    inr (ends.0, contains_taken front.count peer.tape.history.notes ends.0 ends.1, ends.2)
+at_prefix peer state prefix number token id (inl owed) =
+    inl (subst (λ (s : State). Contains s.debts (number, (token, id))) (sym prefix.is) owed)
+at_prefix peer state prefix number token id (inr ends) =
+    inr (ends.0, contains_taken prefix.count peer.tape.history.notes ends.0 ends.1, ends.2)
 
 pub still_owes : (was now : PeerPast) → PeerStays was now → StillOwes was now
 still_owes was now stays = record {
-  owed = λ index number token id here below state front.
+  owed = λ index number token id here below state prefix.
       let note = Owe number token id in
       let first : slice_get (take now.tape.history.kept now.tape.history.notes) index ≡ Some note =
-      subst (λ (notes : List Note). slice_get notes index ≡ Some note) (sym stays.1.front)
+      subst (λ (notes : List Note). slice_get notes index ≡ Some note) (sym stays.1.prefix)
       (get_left (take was.tape.history.kept was.tape.history.notes) stays.1.more index note
       (get_below was.tape.history.kept was.tape.history.notes index note below here)) in
       let there = get_taken now.tape.history.kept now.tape.history.notes index note first in
-      let among = get_below front.count now.tape.history.notes index note (omega (arith, there.0, front.enough))
+      let among = get_below prefix.count now.tape.history.notes index note (omega (arith, there.0, prefix.enough))
       there.1 in
-      at_front now state front number token id
-      (owed_by now.tape.history.base (take front.count now.tape.history.notes) index number token id front.legal among);
-  given = λ number token id has state front.
-      at_front now state front number token id
-      (owed_on now.tape.history.base (take front.count now.tape.history.notes) number token id front.legal
+      at_prefix now state prefix number token id
+      (owed_by now.tape.history.base (take prefix.count now.tape.history.notes) index number token id prefix.legal
+      among);
+  given = λ number token id has state prefix.
+      at_prefix now state prefix number token id
+      (owed_on now.tape.history.base (take prefix.count now.tape.history.notes) number token id prefix.legal
       (subst (λ (base : State). Contains base.debts (number, (token, id))) (sym stays.1.base) has));
 }
 
 recovered : (was now : PeerPast) → PeerStays was now → EachLedger (KeepsNotes now) now.tape.log → IsRecovered was now
-recovered was now stays safe = record { front = safe; owes = still_owes was now stays }
+recovered was now stays safe = record { prefix = safe; owes = still_owes was now stays }
 
 all_recovered : (was now : List PeerPast) → AllZip PeerStays was now
     → AllByRecursion (λ (peer : PeerPast). EachLedger (KeepsNotes peer) peer.tape.log) now → AllZip IsRecovered was now
@@ -223,13 +225,13 @@ all_recovered (a ∷ was) (b ∷ now) stay safe = (recovered a b stay.0 safe.0, 
 pub comes_safe : (begun : Life) (steps : List Step) (lines : List (List Said)) (later : Life)
     → Comes begun steps lines later → IsSafe later.past
 comes_safe begun _ _ _ (No_step safe sound) = safe
-comes_safe begun _ _ _ (Step_taken steps step lines told life later comes takes safe sound) = safe
+comes_safe begun _ _ _ (Step_taken steps step lines outputs life later comes takes safe sound) = safe
 comes_safe begun _ _ _ (Step_refused steps step lines fault life later comes refuses safe sound) = safe
 
 pub comes_sound : (begun : Life) (steps : List Step) (lines : List (List Said)) (later : Life)
     → Comes begun steps lines later → IsSoundLife later
 comes_sound begun _ _ _ (No_step safe sound) = sound
-comes_sound begun _ _ _ (Step_taken steps step lines told life later comes takes safe sound) = sound
+comes_sound begun _ _ _ (Step_taken steps step lines outputs life later comes takes safe sound) = sound
 comes_sound begun _ _ _ (Step_refused steps step lines fault life later comes refuses safe sound) = sound
 
 pub recover_all : OverRuns AllAreRecovered

@@ -15,7 +15,7 @@ use Rattle.world_core.specs.Halts.{AtRest, left, left_peer, restart_events}
 use Rattle.world_core.specs.Opening.{AllOpen, HasNoneHeld, OpensNot}
 use Rattle.world_core.specs.Stands.{DisksStand, PeerStands, StageStands, Stands, StoppedStands, WorldStands, armed_as}
 use Rattle.world_core.specs.Stepped.{opened_said}
-use Rattle.world_core.specs.Told.{Mark, mark_said, said_of}
+use Rattle.world_core.specs.Output.{Mark, mark_said, said_of}
 use Rattle.world_core.specs.Turn.{Awaits, Took, WasHalted, WasNotTaken}
 use Rattle.world_core.specs.declared.fault.Fault.{Fault}
 use Rattle.world_core.specs.declared.fault.Fault.TheVariants.{NoMemory, Running as StillRuns}
@@ -25,7 +25,7 @@ use Rattle.world_core.specs.declared.peer.StoppedPeer.{StoppedPeer}
 use Rattle.world_core.specs.declared.step.Step.TheVariants.{Restart}
 use Rattle.world_core.specs.declared.stations.Stations.{Stations}
 use Rattle.world_core.specs.declared.stop.StopDisk.{StopDisk}
-use Rattle.world_core.specs.declared.told.Told.{Told}
+use Rattle.world_core.specs.declared.output.Output.{Output}
 use Rattle.world_core.specs.declared.world.Stage.{Stage}
 use Rattle.world_core.specs.declared.world.Stage.TheVariants.{Running, Stopped}
 use Rattle.world_core.specs.declared.world.World.{World}
@@ -153,12 +153,12 @@ module _ {D : Type 0} {g : Ghosts D} where
       (keys (Rattle.peer_queue.specs.Words.ledger_of peer.station))) is.conf
       ∙ ap (λ (state : State). Mark past.conf.name state.mark (keys state)) is.tape.stands.ledger) pasts peers all
 
-pub runs_again : (old new : World) (life : Life) (stations : _) (conns : _) (told : List Told) → Awaits old life
+pub runs_again : (old new : World) (life : Life) (stations : _) (conns : _) (outputs : List Output) → Awaits old life
     → life.running ≡ false
     → (opens : AllOpen life.past stations) → new.stage ≡ Running stations conns → conns.items ≡ []
-    → map said_of told ≡ map opened_said stations.peers.items
-    → new.armed ≡ old.armed → new.connected ≡ old.connected → new.now ≡ old.now → Took Restart life told new
-runs_again old new life stations conns told awaits stopped opens is none tells armed connected moment =
+    → map said_of outputs ≡ map opened_said stations.peers.items
+    → new.armed ≡ old.armed → new.connected ≡ old.connected → new.now ≡ old.now → Took Restart life outputs new
+runs_again old new life stations conns outputs awaits stopped opens is none tells armed connected moment =
     let later : Life = record life { past = opens.later; running = true } in
     let free : life.conns ≡ [] = awaits.sound.conns.none stopped in
     record {
@@ -167,7 +167,7 @@ runs_again old new life stations conns told awaits stopped opens is none tells a
         stopped = stopped;
         past = opens.later;
         opens = opens.opens;
-        told_is = tells ∙ marks_said opens.later.peers stations.peers.items opens.stands.peers;
+        outputs_are = tells ∙ marks_said opens.later.peers stations.peers.items opens.stands.peers;
         changed = refl;
       });
       stands = record {

@@ -7,10 +7,10 @@ use Rattle.ledger_core.specs.State.{State}
 use Rattle.recovery.specs.Image.{EachTape, Log, Survives, TapeLeaves}
 use Rattle.recovery.specs.Leaving.{EachLedger, HasLedger, LedgersLeave, LiesOn, broken_of, ledger_of_first}
 use Rattle.recovery.specs.LeavingLaws.{EachLedger-weaker, TapeLeaves-now, TapeLeaves-weaker, found_first}
-use Rattle.recovery.specs.LeavingLaws.{survives_of_front}
+use Rattle.recovery.specs.LeavingLaws.{survives_of_prefix}
 use Rattle.recovery.specs.Notes.{AreLegal, recovered}
 use Rattle.recovery.specs.Tape.{IsOpenedTape, Recovers}
-use Rattle.recovery.specs.Words.{IsBroken, IsOpenFault, OneHasRisen, ledger_of, log_of, told_of}
+use Rattle.recovery.specs.Words.{IsBroken, IsOpenFault, OneHasRisen, ledger_of, log_of, faults_of}
 use Rattle.recovery.specs.declared.fault.TapeFault.{TapeFault}
 use Rattle.recovery.specs.declared.fault.TapeFault.TheVariants.{Damaged, Disk}
 use Rattle.world_core.specs.Past.{Past, PeerPast, TapePast, mark_at, with_intake}
@@ -61,8 +61,8 @@ pub closes : (past : Past) (halt : Halt) (stopped : List StoppedPeer) (disks : S
     → HasHalted past halt stopped []
     → DisksStand (KeepsLines past.intake.history past.peers) past.intake disks → OpensNot past halt stopped disks
 closes past halt stopped disks t stands =
-    let all : t.under_way.peers ≡ t.front =
-    t.all ∙ ap (λ l. t.front ++ l) (none_stay t.behind t.stay) ∙ append-nil t.front in
+    let all : t.under_way.peers ≡ t.prefix =
+    t.all ∙ ap (λ l. t.prefix ++ l) (none_stay t.behind t.stay) ∙ append-nil t.prefix in
     record {
       under_way = t.under_way;
       fails = t.fails;
@@ -77,29 +77,30 @@ closes past halt stopped disks t stands =
 
 -- ---- all peers are open
 
-module _ (past : Past) (front : List PeerPast) (sound : IsSound (with_peers past front))
+module _ (past : Past) (prefix : List PeerPast) (sound : IsSound (with_peers past prefix))
     (legal : AreLegal past.intake.history.base past.intake.history.notes) (old new : Log) (log : old ≡ past.intake.log)
     (moments : TapeLeaves (Survives past.intake.history) old new) where
   -- what a stop leaves of the intake's disks in its opening
-  leaves : LedgersLeave (KeepsLines past.intake.history front) past.intake.log new
-  leaves = subst (λ (l : Log). LedgersLeave (KeepsLines past.intake.history front) l new) log
-      (TapeLeaves-weaker (Survives past.intake.history) (HasLedger (KeepsLines past.intake.history front))
-      (λ octets. keeps_lines past.intake.history front octets legal sound.acknowledged) old new moments)
+  leaves : LedgersLeave (KeepsLines past.intake.history prefix) past.intake.log new
+  leaves = subst (λ (l : Log). LedgersLeave (KeepsLines past.intake.history prefix) l new) log
+      (TapeLeaves-weaker (Survives past.intake.history) (HasLedger (KeepsLines past.intake.history prefix))
+      (λ octets. keeps_lines past.intake.history prefix octets legal sound.acknowledged) old new moments)
 
-  leaves_now : EachLedger (KeepsLines past.intake.history front) new
-  leaves_now = TapeLeaves-now (HasLedger (KeepsLines past.intake.history front)) past.intake.log new leaves
+  leaves_now : EachLedger (KeepsLines past.intake.history prefix) new
+  leaves_now = TapeLeaves-now (HasLedger (KeepsLines past.intake.history prefix)) past.intake.log new leaves
 
 module _ {D : Type 0} {g : Ghosts D} where
-  opened_intake : (past : Past) (front : List PeerPast) (opened : List (Peer D g)) (stations : Stations D g) (old : Log)
-      → AllDo past (each_rank Opens (length past.peers)) (with_peers past front) → AllZip PeerStands front opened
-      → IsSound (with_peers past front) → AllByRecursion HasNoneHeld front
+  opened_intake : (past : Past) (prefix : List PeerPast) (opened : List (Peer D g)) (stations : Stations D g) (old :
+      Log)
+      → AllDo past (each_rank Opens (length past.peers)) (with_peers past prefix) → AllZip PeerStands prefix opened
+      → IsSound (with_peers past prefix) → AllByRecursion HasNoneHeld prefix
       → AreLegal past.intake.history.base past.intake.history.notes → old ≡ past.intake.log
       → Recovers past.intake.history old stations.intake → IsOpenedTape old stations.intake
       → (IsBroken stations.intake → ⊥)
-      → told_of stations.intake ≡ past.intake.faults → stations.peers.items ≡ opened
+      → faults_of stations.intake ≡ past.intake.faults → stations.peers.items ≡ opened
       → stations.last ≡ (ledger_of stations.intake).mark
       → stations.begun ≡ None → stations.last < 2 ^ 64 → AllOpen past stations
-  opened_intake past front opened stations old did all sound free legal log recovers is works told peers last begun
+  opened_intake past prefix opened stations old did all sound free legal log recovers is works faults_are peers last begun
       fits =
       let h = past.intake.history in
       let tape : TapePast = record {
@@ -109,15 +110,15 @@ module _ {D : Type 0} {g : Ghosts D} where
             past.intake.faults;
         broken = false;
       } in
-      let later : Past = record { peers = front; intake = tape; last = mark_at tape; begun = None } in
+      let later : Past = record { peers = prefix; intake = tape; last = mark_at tape; begun = None } in
       let mark : stations.last ≡ mark_at tape = last ∙ ap (λ (state : State). state.mark) recovers.stands.ledger in
       let below : mark_at tape ≤ mark_at past.intake = take_mark h.base h.notes recovers.count legal.legal in
       let stands : Stands stations later = record {
-        peers = subst (λ (ps : List (Peer D g)). AllZip PeerStands front ps) (sym peers) all;
+        peers = subst (λ (ps : List (Peer D g)). AllZip PeerStands prefix ps) (sym peers) all;
         intake = record {
           stands = recovers.stands;
           log = refl;
-          faults = told;
+          faults = faults_are;
           broken =
               not_true (broken_of stations.intake) works;
         };
@@ -128,14 +129,14 @@ module _ {D : Type 0} {g : Ghosts D} where
           fits = subst (λ (n : ℕ). n < 2 ^ 64) mark fits;
           marked = omega arith;
           acknowledged = all_weaker (HasAcknowledged (mark_at past.intake)) (HasAcknowledged (mark_at tape))
-              (acknowledged_less (mark_at tape) (mark_at past.intake) below) front sound.acknowledged;
+              (acknowledged_less (mark_at tape) (mark_at past.intake) below) prefix sound.acknowledged;
           kept = λ number e. absurd cc;
           parted = λ number e. absurd cc;
         };
       } in
       record {
         later = later;
-        opens = Next (each_rank Opens (length past.peers)) OpensIntake (with_peers past front) later did
+        opens = Next (each_rank Opens (length past.peers)) OpensIntake (with_peers past prefix) later did
             (record {
               tape = tape;
               opens = record {
@@ -144,7 +145,7 @@ module _ {D : Type 0} {g : Ghosts D} where
                 within = recovers.within;
                 found = subst (λ (l : Log). LiesOn l (ledger_of_first h recovers.count)) log
                     (found_first stations.intake h old is recovers);
-                moments = leaves past front sound legal old (log_of stations.intake) log recovers.moments;
+                moments = leaves past prefix sound legal old (log_of stations.intake) log recovers.moments;
                 all = refl;
               };
               changed = refl;
@@ -154,45 +155,47 @@ module _ {D : Type 0} {g : Ghosts D} where
       }
 
   -- what a list of peers that is behind none is
-  all_front : (past : Past) (opened : List (Peer D g)) (t : HasOpened past opened []) → t.front ++ t.behind ≡ t.front
-  all_front past opened t = ap (λ l. t.front ++ l) (none_stay t.behind t.stay) ∙ append-nil t.front
+  all_prefix : (past : Past) (opened : List (Peer D g)) (t : HasOpened past opened []) → t.prefix ++ t.behind ≡ t.prefix
+  all_prefix past opened t = ap (λ l. t.prefix ++ l) (none_stay t.behind t.stay) ∙ append-nil t.prefix
 
   all_did : (past : Past) (opened : List (Peer D g)) (t : HasOpened past opened [])
-      → AllDo past (each_rank Opens (length past.peers)) (with_peers past t.front)
+      → AllDo past (each_rank Opens (length past.peers)) (with_peers past t.prefix)
   all_did past opened t =
-      let count : length t.front ≡ length past.peers = ap length (sym (all_front past opened t)) ∙ t.count in
-      subst (λ (n : ℕ). AllDo past (each_rank Opens n) (with_peers past t.front)) count
-      (subst (λ (ps : List PeerPast). AllDo past (each_rank Opens (length t.front)) (with_peers past ps))
-      (all_front past opened t) t.opens)
+      let count : length t.prefix ≡ length past.peers = ap length (sym (all_prefix past opened t)) ∙ t.count in
+      subst (λ (n : ℕ). AllDo past (each_rank Opens n) (with_peers past t.prefix)) count
+      (subst (λ (ps : List PeerPast). AllDo past (each_rank Opens (length t.prefix)) (with_peers past ps))
+      (all_prefix past opened t) t.opens)
 
   pub opens_intake : (past : Past) (opened : List (Peer D g)) (stations : Stations D g) (old : Log)
       → HasOpened past opened []
       → AreLegal past.intake.history.base past.intake.history.notes → old ≡ past.intake.log
       → Recovers past.intake.history old stations.intake → IsOpenedTape old stations.intake
       → (IsBroken stations.intake → ⊥)
-      → told_of stations.intake ≡ past.intake.faults → stations.peers.items ≡ opened
+      → faults_of stations.intake ≡ past.intake.faults → stations.peers.items ≡ opened
       → stations.last ≡ (ledger_of stations.intake).mark
       → stations.begun ≡ None → stations.last < 2 ^ 64 → AllOpen past stations
   opens_intake past opened stations old t =
-      opened_intake past t.front opened stations old (all_did past opened t) t.stand
-      (subst (λ (ps : List PeerPast). IsSound (with_peers past ps)) (all_front past opened t) t.sound) t.free
+      opened_intake past t.prefix opened stations old (all_did past opened t) t.stand
+      (subst (λ (ps : List PeerPast). IsSound (with_peers past ps)) (all_prefix past opened t) t.sound) t.free
 
-  pub refuses_intake : (past : Past) (opened : List (Peer D g)) (old : Log) (told : ℕ × ℕ) (halted : List StoppedPeer)
+  pub refuses_intake : (past : Past) (opened : List (Peer D g)) (old : Log) (counts : ℕ
+      × ℕ) (halted : List StoppedPeer)
       (disks : StopDisk × StopDisk)
       (fault : TapeFault) (said : Fault) → HasOpened past opened []
       → AreLegal past.intake.history.base past.intake.history.notes
-      → old ≡ past.intake.log → told ≡ past.intake.faults
+      → old ≡ past.intake.log → counts ≡ past.intake.faults
       → ((pasts : List PeerPast) → AllZip PeerStands pasts opened
       → AllZip StoppedStands (map (left_peer AtRest) pasts) halted)
       → TapeLeaves (Survives past.intake.history) old (happened disks.0, happened disks.1)
       → said ≡ fault_of fault → IsOpenFault fault → ((segment at : ℕ) → fault ≡ Damaged segment at → ⊥)
-      → (fault ≡ Disk → OneHasRisen told (all_faults disks.0, all_faults disks.1))
+      → (fault ≡ Disk → OneHasRisen counts (all_faults disks.0, all_faults disks.1))
       → OpensNot past (record { rank = None; fault = said }) halted disks
-  refuses_intake past opened old told halted disks fault said t legal log faults halts moments e kind undamaged cause =
-      let front = t.front in
+  refuses_intake past opened old counts halted disks fault said t legal log faults halts moments e kind undamaged
+      cause =
+      let prefix = t.prefix in
       let new : Log = (happened disks.0, happened disks.1) in
-      let sound = subst (λ (ps : List PeerPast). IsSound (with_peers past ps)) (all_front past opened t) t.sound in
-      let safe = subst (λ (ps : List PeerPast). IsSafe (with_peers past ps)) (all_front past opened t) t.safe in
+      let sound = subst (λ (ps : List PeerPast). IsSound (with_peers past ps)) (all_prefix past opened t) t.sound in
+      let safe = subst (λ (ps : List PeerPast). IsSafe (with_peers past ps)) (all_prefix past opened t) t.safe in
       let tape : TapePast = record {
         history = past.intake.history;
         log = new;
@@ -200,18 +203,18 @@ module _ {D : Type 0} {g : Ghosts D} where
             (all_faults disks.0, all_faults disks.1);
         broken = false;
       } in
-      let under_way : Past = with_intake (with_peers past front) tape in
+      let under_way : Past = with_intake (with_peers past prefix) tape in
       let n = length past.peers in
       let is_safe : IsSafe under_way =
-      record { peers = safe.peers; intake = leaves_now past front sound legal old new log moments } in
+      record { peers = safe.peers; intake = leaves_now past prefix sound legal old new log moments } in
       record {
         under_way = under_way;
         fails = record {
           fails = record {
             count = n;
-            mid = with_peers past front;
+            mid = with_peers past prefix;
             event = OpensIntake;
-            front = subst (λ (events : List Event). AllDo past events (with_peers past front))
+            prefix = subst (λ (events : List Event). AllDo past events (with_peers past prefix))
                 (sym (take_places Opens n n (OpensIntake ∷ []) (omega arith)))
                 (all_did past opened t);
             here = subst (λ (m : ℕ). slice_get (each_rank Opens n ++ OpensIntake ∷ []) m ≡ Some OpensIntake)
@@ -222,7 +225,7 @@ module _ {D : Type 0} {g : Ghosts D} where
                 why = refused_why _ fault said e kind undamaged
                     (λ is. subst (λ (f : ℕ × ℕ). OneHasRisen f (all_faults disks.0, all_faults disks.1)) faults
                     (cause is));
-                moments = leaves past front sound legal old new log moments;
+                moments = leaves past prefix sound legal old new log moments;
                 all = refl;
               };
               changed = refl;
@@ -232,18 +235,18 @@ module _ {D : Type 0} {g : Ghosts D} where
           at = refl;
         };
         stop = record {
-          peers = halts front t.stand;
+          peers = halts prefix t.stand;
           intake = record {
             log = refl;
             faults = refl;
             works = refl;
             legal = legal;
-            images = EachLedger-weaker (KeepsLines past.intake.history front)
-                (KeepsLines past.intake.history (map (left_peer AtRest) front))
-                (lines_left AtRest past.intake.history front) new is_safe.intake;
+            images = EachLedger-weaker (KeepsLines past.intake.history prefix)
+                (KeepsLines past.intake.history (map (left_peer AtRest) prefix))
+                (lines_left AtRest past.intake.history prefix) new is_safe.intake;
           };
           begun = refl;
-          sound = left_sound AtRest under_way (sound_intake (with_peers past front) tape sound refl);
+          sound = left_sound AtRest under_way (sound_intake (with_peers past prefix) tape sound refl);
         };
       }
 
@@ -260,7 +263,7 @@ pub intake_there : (past : Past) (disks : StopDisk × StopDisk)
 intake_there past disks stands = subst (λ (l : Log). EachTape (Survives past.intake.history) l) (sym stands.log)
     (λ one other is is'.
     let has = stands.images one other is is' in
-    survives_of_front past.intake.history (one, other) (has.0, has.1, has.2.front))
+    survives_of_prefix past.intake.history (one, other) (has.0, has.1, has.2.prefix))
 
 module _ {D : Type 0} {g : Ghosts D} where
   pub tries_some : (past : Past) (opened : List (Peer D g)) (stopped rest : List StoppedPeer) (refused : Option Halt)
@@ -287,7 +290,7 @@ module _ {D : Type 0} {g : Ghosts D} where
   tried_none past opened stopped peers rest disks none empty is stop = (
     none_of stopped empty,
     record {
-      front = [];
+      prefix = [];
       behind = past.peers;
       opens = Start;
       stand = subst (λ (ps : List (Peer D g)). AllZip PeerStands [] ps) (sym (none_of opened none)) tt;

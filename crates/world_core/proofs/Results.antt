@@ -26,7 +26,7 @@ module _ {T E : Type 0} where
 
 -- a refusal that is told by one error, at a call that answered an error, and at one that answered none
 pub at_err : {T E : Type 0} {x e : E} {Q : Type 0} → ◌≡◌ {A = Result T E} (Err x) (Err e) ↔ Q → (x ≡ e) ↔ Q
-at_err told = ((λ same. told.0 (ap Err same)), λ q. let is = told.1 q in cc)
+at_err outputs = ((λ same. outputs.0 (ap Err same)), λ q. let is = outputs.1 q in cc)
 
 pub at_ok : {T E : Type 0} {v : T} {e : E} {Q : Type 0} → ◌≡◌ {A = Result T E} (Ok v) (Err e) ↔ Q → Q → ⊥
-at_ok told q = let never = told.1 q in cc
+at_ok outputs q = let never = outputs.1 q in cc

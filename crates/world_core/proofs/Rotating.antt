@@ -8,7 +8,7 @@ use Rattle.recovery.specs.Image.{Log}
 use Rattle.recovery.specs.Notes.{flushed, most_pending, noted_all}
 use Rattle.recovery.specs.Tape.{IsRead as IsTapeRead, StandsFor}
 use Rattle.recovery.specs.Words.{IsBroken, OneHasRisen, RotatesTooLong, disks_of, generation_of, ledger_of, log_of}
-use Rattle.recovery.specs.Words.{pending_of, told_of}
+use Rattle.recovery.specs.Words.{pending_of, faults_of}
 use Rattle.recovery.specs.declared.tape.Tape.{Tape}
 use Rattle.recovery.specs.declared.fault.TapeFault.{TapeFault}
 use Rattle.recovery.specs.declared.fault.TapeFault.TheVariants.{Disk, TapeFull, GenerationFull}
@@ -67,7 +67,7 @@ module _ {D : Type 0} {g : Ghosts D} where
     pub rotated_as : (generation : ℕ) → (IsBroken old → ⊥) → (IsBroken new → ⊥) → generation_of old ≢ 2 ^ 64 - 1
         → (RotatesTooLong old → ⊥)
         → generation ≡ generation_of old + 1 → generation_of new ≡ generation → StandsFor new (flushed past.history)
-        → told_of new ≡ told_of old
+        → faults_of new ≡ faults_of old
         → IsRotated P generation past
         (record { history = flushed past.history; log = log_of new; faults = past.faults; broken = false })
         × TapeStands (record {
@@ -77,11 +77,12 @@ module _ {D : Type 0} {g : Ghosts D} where
           broken =
               false;
         }) new
-    rotated_as generation worked works greater fits next now is told =
+    rotated_as generation worked works greater fits next now is outputs =
         let rotated : TapePast =
         record { history = flushed past.history; log = log_of new; faults = past.faults; broken = false } in
         let later : TapeStands rotated new =
-        record { stands = is; log = refl; faults = told ∙ stands.faults; broken = not_true (broken_of new) works } in (
+        record { stands = is; log = refl; faults = outputs ∙ stands.faults; broken = not_true (broken_of new) works }
+        in (
           record {
             before = generation_of old;
             fits = may_rotate lies past old stands worked greater fits;
@@ -97,11 +98,11 @@ module _ {D : Type 0} {g : Ghosts D} where
       → Type 0) (past : TapePast) (old new : Station D g) (stands : TapeStands past old.tape)
       (moments : LedgersLeave P (log_of old.tape) (log_of new.tape)) (is : StandsFor new.tape past.history) where
     -- it was refused, and what it writes anew was read
-    read_not : (told : Fault) (rotation : Rotation) → ComesTo past (generation_of old.tape) rotation
+    read_not : (outputs : Fault) (rotation : Rotation) → ComesTo past (generation_of old.tape) rotation
         → IsTapeRead old.tape new.tape
-        → (IsReadTape past (read_now past new.tape) → RefusesAs P rotation past told (read_now past new.tape))
-        → RotatedNot P past told new.tape
-    read_not told rotation comes same refuses =
+        → (IsReadTape past (read_now past new.tape) → RefusesAs P rotation past outputs (read_now past new.tape))
+        → RotatedNot P past outputs new.tape
+    read_not outputs rotation comes same refuses =
         let read = read_tape past old.tape new.tape stands same in
         record {
           later = read_now past new.tape;
@@ -109,29 +110,32 @@ module _ {D : Type 0} {g : Ghosts D} where
           stands = read.1;
         }
 
-    pub unrotated_as : (fault : StationFault) (told : Fault) → told ≡ fault_of_station fault
+    pub unrotated_as : (fault : StationFault) (outputs : Fault) → outputs ≡ fault_of_station fault
         → ((fault ≡ Broken) ↔ IsBroken old.tape)
         → ((fault ≡ TapeRefused GenerationFull) ↔ ((IsBroken old.tape → ⊥) × (generation_of old.tape ≡ 2 ^ 64 - 1)))
         → ((fault ≡ TapeRefused TapeFull)
         ↔ ((IsBroken old.tape → ⊥) × (generation_of old.tape ≢ 2 ^ 64 - 1) × RotatesTooLong old.tape))
         → IsRotateFault fault → (fault ≢ TapeRefused Disk → IsTapeRead old.tape new.tape)
         → (fault ≡ TapeRefused Disk → IsBroken new.tape)
-        → (fault ≡ TapeRefused Disk → OneHasRisen (told_of old.tape) (told_of new.tape))
-        → RotatedNot P past told new.tape
-    unrotated_as NotHeld told e broken greatest full kind same breaks cause = absurd kind
-    unrotated_as Broken told e broken greatest full kind same breaks cause =
-        read_not told Is_broken (tape_broken past old.tape stands (broken.0 refl)) (same (λ is. cc)) (λ read. (e, read))
-    unrotated_as (TapeRefused fault) told e broken greatest full kind same breaks cause =
+        → (fault ≡ TapeRefused Disk → OneHasRisen (faults_of old.tape) (faults_of new.tape))
+        → RotatedNot P past outputs new.tape
+    unrotated_as NotHeld outputs e broken greatest full kind same breaks cause = absurd kind
+    unrotated_as Broken outputs e broken greatest full kind same breaks cause =
+        read_not outputs Is_broken (tape_broken past old.tape stands (broken.0 refl)) (same (λ is. cc)) (λ read. (
+          e,
+          read,
+        ))
+    unrotated_as (TapeRefused fault) outputs e broken greatest full kind same breaks cause =
         let works : IsBroken old.tape → ⊥ = λ b. let never : TapeRefused fault ≡ Broken = broken.1 b in cc in
         elim kind [
           | inl last ↦
-              read_not told Is_last
+              read_not outputs Is_last
               (lives_by lies past old.tape stands works, (greatest.0 (ap TapeRefused last)).1)
               (same (λ never. let clash : GenerationFull ≡ Disk = sym last ∙ refused_once never in cc))
               (λ read. (as_told last, read))
           | inr (inl long) ↦
               let at_last = full.0 (ap TapeRefused long) in
-              read_not told Is_long (is_long lies past old.tape stands works at_last.1 at_last.2)
+              read_not outputs Is_long (is_long lies past old.tape stands works at_last.1 at_last.2)
               (same (λ never. let clash : TapeFull ≡ Disk = sym long ∙ refused_once never in cc))
               (λ read. (as_told long, read))
           | inr (inr disk) ↦
@@ -153,13 +157,13 @@ module _ {D : Type 0} {g : Ghosts D} where
         refused_once : {one other : TapeFault} → TapeRefused one ≡ TapeRefused other → one ≡ other
         refused_once same = cc
 
-        as_told : {other : TapeFault} → fault ≡ other → told ≡ fault_of_station (TapeRefused other)
+        as_told : {other : TapeFault} → fault ≡ other → outputs ≡ fault_of_station (TapeRefused other)
         as_told same = e ∙ ap (λ f. fault_of_station (TapeRefused f)) same
-    unrotated_as NoMemory told e broken greatest full kind same breaks cause =
+    unrotated_as NoMemory outputs e broken greatest full kind same breaks cause =
         let works : IsBroken old.tape → ⊥ = λ b. let never : NoMemory ≡ Broken = broken.1 b in cc in
         let greater : generation_of old.tape ≢ 2 ^ 64 - 1 = λ at_last.
         let never : NoMemory ≡ TapeRefused GenerationFull = greatest.1 (works, at_last) in cc in
-        read_not told Fits (may_rotate lies past old.tape stands works greater
+        read_not outputs Fits (may_rotate lies past old.tape stands works greater
         (λ long. let never : NoMemory ≡ TapeRefused TapeFull = full.1 (works, greater, long) in cc))
         (same (λ is. cc)) (λ read. inl (e, read))
 

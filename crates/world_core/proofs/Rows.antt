@@ -25,11 +25,11 @@ use Rattle.world_core.specs.Halts.{AtRest, ByChoice, armed_with, halted, left, r
 use Rattle.world_core.specs.Imports.{Good, count_new, import_events}
 use Rattle.world_core.specs.Laws.{IsAcknowledgedLine}
 use Rattle.world_core.specs.LineLaws.{MadeDebt, OwesOrEnded, new_to, read_by, told_new}
-use Rattle.world_core.specs.Moments.{IsUnderWay, MayMake, StaysFront}
+use Rattle.world_core.specs.Moments.{IsUnderWay, MayMake, StaysPrefix}
 use Rattle.world_core.specs.Safe.{IsSafe}
 use Rattle.world_core.specs.Tapes.{noted_at}
 use Rattle.world_core.specs.Steps.{begun_at, flush_events, is_named, line_events, owed_there}
-use Rattle.world_core.specs.Told.{Mark, Owed, Said, lines_in, mark_said}
+use Rattle.world_core.specs.Output.{Mark, Owed, Said, lines_in, mark_said}
 use Rattle.world_core.specs.declared.fault.Fault.TheVariants.{Tape}
 use Rattle.world_core.specs.declared.step.Step.TheVariants.{Part, Rotate}
 
@@ -196,7 +196,7 @@ module _ (conf : PeerConf) where
     events = Parts 0 ∷ [];
     may = (refl, refl, (0, refl, refl));
     count = 0;
-    front = Start;
+    prefix = Start;
     event = Parts 0;
     here = refl;
     makes = inr (
@@ -212,7 +212,7 @@ module _ (conf : PeerConf) where
   }
 
   -- whose peer keeps its notes, and owes what it owed
-  part_within : IsSafe broken_life.past → AllZip StaysFront broken_life.past.peers broken_life.past.peers
+  part_within : IsSafe broken_life.past → AllZip StaysPrefix broken_life.past.peers broken_life.past.peers
   part_within safe = (at_start safe.peers.0, tt)
 
   -- a rotation may answer any generation

@@ -6,11 +6,11 @@ use Rattle.world_core.specs.Past.{Life}
 use Rattle.world_core.specs.Safe.{IsSafe}
 use Rattle.world_core.specs.Runs.{Runs, Start, Next}
 use Rattle.world_core.specs.Stands.{Ran, StageStands, WasRefused, WorldStands}
-use Rattle.world_core.specs.Told.{Said, said_by, said_of}
+use Rattle.world_core.specs.Output.{Said, said_by, said_of}
 use Rattle.world_core.specs.Turn.{Took, WasNotTaken}
 use Rattle.world_core.specs.declared.fault.WorldFault.{WorldFault}
 use Rattle.world_core.specs.declared.step.Step.{Step}
-use Rattle.world_core.specs.declared.told.Told.{Told}
+use Rattle.world_core.specs.declared.output.Output.{Output}
 use Rattle.world_core.specs.declared.world.Stage.{Stage}
 use Rattle.world_core.specs.declared.world.Stage.TheVariants.{Running, Stopped}
 use Rattle.world_core.specs.declared.world.World.{World}
@@ -25,7 +25,7 @@ stage_safe life (Stopped peers intake) stands = safe_stopped life.past peers.ite
 pub world_safe : (world : World) (life : Life) → WorldStands world life → IsSafe life.past
 world_safe world life stands = stage_safe life world.stage stands.stage
 
-pub ran_none : (steps : List Step) (life : Life) (lines : List (Vec Told)) (world : World) → steps ≡ [] → lines ≡ []
+pub ran_none : (steps : List Step) (life : Life) (lines : List (Vec Output)) (world : World) → steps ≡ [] → lines ≡ []
     → WorldStands world life
     → Ran steps life (said_by lines) world
 ran_none steps life lines world none empty stands = record {
@@ -36,22 +36,23 @@ ran_none steps life lines world none empty stands = record {
   stands = stands;
 }
 
-said_push : (lines : List (Vec Told)) (told : Vec Told)
-    → said_by (lines ++ told ∷ []) ≡ said_by lines ++ map said_of told.items ∷ []
-said_push [] told = refl
-said_push (line ∷ lines) told = ap (λ l. map said_of line.items ∷ l) (said_push lines told)
+said_push : (lines : List (Vec Output)) (outputs : Vec Output)
+    → said_by (lines ++ outputs ∷ []) ≡ said_by lines ++ map said_of outputs.items ∷ []
+said_push [] outputs = refl
+said_push (line ∷ lines) outputs = ap (λ l. map said_of line.items ∷ l) (said_push lines outputs)
 
-pub ran_more : (steps all : List Step) (step : Step) (life : Life) (lines now : List (Vec Told)) (told : Vec Told)
+pub ran_more : (steps all : List Step) (step : Step) (life : Life) (lines now : List (Vec Output)) (outputs : Vec
+    Output)
     (world later : World)
-    → all ≡ steps ++ step ∷ [] → now ≡ lines ++ told ∷ [] → (ran : Ran steps life (said_by lines) world)
-    → Took step ran.later told.items later
+    → all ≡ steps ++ step ∷ [] → now ≡ lines ++ outputs ∷ [] → (ran : Ran steps life (said_by lines) world)
+    → Took step ran.later outputs.items later
     → Ran all life (said_by now) later
-ran_more steps all step life lines now told world later is more ran took = record {
+ran_more steps all step life lines now outputs world later is more ran took = record {
   later = took.later;
   runs = subst (λ (s : List Step). Runs life s (said_by now) took.later) (sym is)
       (subst (λ (l : List (List Said)). Runs life (steps ++ step ∷ []) l took.later)
-      (sym (ap said_by more ∙ said_push lines told))
-      (Next steps step (said_by lines) (map said_of told.items) ran.later took.later ran.runs took.takes
+      (sym (ap said_by more ∙ said_push lines outputs))
+      (Next steps step (said_by lines) (map said_of outputs.items) ran.later took.later ran.runs took.takes
       (world_safe later took.later took.stands) took.stands.sound));
   stands = took.stands;
 }

@@ -29,12 +29,12 @@ use Rattle.world_core.specs.Fault.{fault_of_station}
 use Rattle.world_core.specs.Pairs.{IsTied, PairStands, SettledNot, SettledOne, TakesNext, Tells}
 use Rattle.world_core.specs.Sound.{numbers_at}
 use Rattle.world_core.specs.Stands.{HoldsTranscript, PeerStands, TapeStands, WaitsWith}
-use Rattle.world_core.specs.Told.{said_of}
+use Rattle.world_core.specs.Output.{said_of}
 use Rattle.world_core.specs.declared.connection.Connection.{Connection}
 use Rattle.world_core.specs.declared.fault.Fault.{Fault}
 use Rattle.world_core.specs.declared.peer.Peer.{Peer}
-use Rattle.world_core.specs.declared.told.Told.{Told}
-use Rattle.world_core.specs.declared.told.Told.TheVariants.{Settled as ToldSettled}
+use Rattle.world_core.specs.declared.output.Output.{Output}
+use Rattle.world_core.specs.declared.output.Output.TheVariants.{Settled as OutputSettled}
 use Rattle.world_core.proofs.Holding.{contains_first, first_apart, gone_none, gone_other, held_less, moved_here}
 use Rattle.world_core.proofs.Holding.{moved_other, next_gone, numbers_gone, numbers_wait, others_apart, outcomes_out}
 use Rattle.world_core.proofs.Owing.{no_room_here, noted_tape, room_here, same_peer}
@@ -42,10 +42,10 @@ use Rattle.world_core.proofs.Peers.{tape_broken, tape_works}
 
 -- ---- what is told
 
-pub tells_push : (was mid told : List Told) (more : Told) → mid ≡ was → told ≡ mid ++ more ∷ []
-    → Tells was (said_of more ∷ []) told
-tells_push was mid told more same is =
-    ap (map said_of) (is ∙ ap (λ (l : List Told). l ++ more ∷ []) same) ∙ map_push said_of was more
+pub tells_push : (was mid outputs : List Output) (more : Output) → mid ≡ was → outputs ≡ mid ++ more ∷ []
+    → Tells was (said_of more ∷ []) outputs
+tells_push was mid outputs more same is =
+    ap (map said_of) (is ∙ ap (λ (l : List Output). l ++ more ∷ []) same) ∙ map_push said_of was more
 
 -- ---- the peer
 
@@ -128,7 +128,7 @@ module _ {D : Type 0} {g : Ghosts D} where
   -- ---- the next outcome was settled
 
   pub settled_one : (id now : ℕ) (conn : ConnPast) (past : PeerPast) (before after : Connection) (old new : Peer D g)
-      (was mid told : List Told)
+      (was mid outputs : List Output)
       (outcome : Outcome) (cxn number : ℕ) (told_so : Settled) → PairStands id conn past before old
       → TakesNext (options_of past.conf) conn (Some outcome) after
       → after.waiting ≡ None → after.rank ≡ before.rank → after.conn.id ≡ before.conn.id → cxn ≡ id
@@ -138,9 +138,9 @@ module _ {D : Type 0} {g : Ghosts D} where
       → (IsEnded (settled_by (station_limits old.station) now outcome)
       → IsHeldBy (places_of old.station) cxn (key_in outcome)
       → pending_of (tape_of old.station) ≢ most_pending) → new.conf ≡ old.conf → new.parted ≡ old.parted → mid ≡ was
-      → told ≡ mid ++ ToldSettled cxn number told_so ∷ []
-      → SettledOne id now conn past was after new told
-  settled_one id now conn past before after old new was mid told outcome cxn number told_so pair takes waits rank
+      → outputs ≡ mid ++ OutputSettled cxn number told_so ∷ []
+      → SettledOne id now conn past was after new outputs
+  settled_one id now conn past before after old new was mid outputs outcome cxn number told_so pair takes waits rank
       same_id own n_is so finishes works room conf parts
       same is =
       let options = options_of past.conf in
@@ -171,7 +171,7 @@ module _ {D : Type 0} {g : Ghosts D} where
               (was_held (settled_by (station_limits old.station) now outcome) cxn n old.station new.station finishes));
           changed = refl;
         };
-        told_is = tells_push was mid told (ToldSettled cxn number told_so) same is
+        outputs_are = tells_push was mid outputs (OutputSettled cxn number told_so) same is
             ∙ ap (λ said. map said_of was ++ said ∷ []) (rw (own, n_is, so, by) refl);
         stand = record {
           id_is = ap (λ i. i.0) same_id ∙ pair.id_is;
@@ -190,17 +190,17 @@ module _ {D : Type 0} {g : Ghosts D} where
 
   -- ---- it was refused
 
-  refused_end : (past : PeerPast) (old : Peer D g) (s : Settled) (fault : StationFault) (told : Fault)
+  refused_end : (past : PeerPast) (old : Peer D g) (s : Settled) (fault : StationFault) (outputs : Fault)
       → TapeStands past.tape (tape_of old.station)
-      → told ≡ fault_of_station fault → ((fault ≡ Broken) ↔ IsBroken (tape_of old.station)) → (fault ≡ NotHeld → ⊥)
+      → outputs ≡ fault_of_station fault → ((fault ≡ Broken) ↔ IsBroken (tape_of old.station)) → (fault ≡ NotHeld → ⊥)
       → (fault ≡ TapeRefused PendingFull → IsEnded s × (pending_of (tape_of old.station) ≡ most_pending))
       → ((IsBroken (tape_of old.station) → ⊥) → IsEnded s → pending_of (tape_of old.station) ≡ most_pending
       → fault ≡ TapeRefused PendingFull)
-      → (fault ≡ NoMemory → IsEnded s) → IsEndFault fault → RefusesEnd s past.tape told
-  refused_end past old s NotHeld told stands e broken held full never_full memory kind = absurd (held refl)
-  refused_end past old s Broken told stands e broken held full never_full memory kind =
+      → (fault ≡ NoMemory → IsEnded s) → IsEndFault fault → RefusesEnd s past.tape outputs
+  refused_end past old s NotHeld outputs stands e broken held full never_full memory kind = absurd (held refl)
+  refused_end past old s Broken outputs stands e broken held full never_full memory kind =
       inl (e, tape_broken past.tape (tape_of old.station) stands (broken.0 refl))
-  refused_end past old s (TapeRefused fault) told stands e broken held full never_full memory kind =
+  refused_end past old s (TapeRefused fault) outputs stands e broken held full never_full memory kind =
       let works : IsBroken (tape_of old.station) → ⊥ = λ b. let never : TapeRefused fault ≡ Broken = broken.1 b in cc in
       let is = full (ap TapeRefused kind) in
       inr (
@@ -211,7 +211,7 @@ module _ {D : Type 0} {g : Ghosts D} where
           no_room_here past.tape (tape_of old.station) stands works is.1,
         )),
       )
-  refused_end past old s NoMemory told stands e broken held full never_full memory kind =
+  refused_end past old s NoMemory outputs stands e broken held full never_full memory kind =
       let works : IsBroken (tape_of old.station) → ⊥ = λ b. let never : NoMemory ≡ Broken = broken.1 b in cc in
       inr (
         memory refl,
@@ -224,7 +224,7 @@ module _ {D : Type 0} {g : Ghosts D} where
       )
 
   pub settled_not : (id now : ℕ) (conn : ConnPast) (past : PeerPast) (before after : Connection) (old new : Peer D g)
-      (outcome back : Outcome) (cxn : ℕ) (fault : StationFault) (told : Fault) → PairStands id conn past before old
+      (outcome back : Outcome) (cxn : ℕ) (fault : StationFault) (outputs : Fault) → PairStands id conn past before old
       → TakesNext (options_of past.conf) conn (Some outcome) after
       → after.waiting ≡ Some back → back ≡ outcome → after.rank ≡ before.rank → after.conn.id ≡ before.conn.id
       → cxn ≡ id
@@ -234,9 +234,10 @@ module _ {D : Type 0} {g : Ghosts D} where
       → ((fault ≡ TapeRefused PendingFull) ↔ (IsEnded (settled_by (station_limits old.station) now outcome)
       × MeetsFull old.station cxn (key_in outcome)))
       → (fault ≡ NoMemory → IsEnded (settled_by (station_limits old.station) now outcome)) → IsEndFault fault
-      → told ≡ fault_of_station fault → IsSame old.station new.station → new.conf ≡ old.conf → new.parted ≡ old.parted
-      → SettledNot id now conn past told after new
-  settled_not id now conn past before after old new outcome back cxn fault told pair takes waits back_is rank same_id
+      → outputs ≡ fault_of_station fault → IsSame old.station new.station → new.conf ≡ old.conf → new.parted
+      ≡ old.parted
+      → SettledNot id now conn past outputs after new
+  settled_not id now conn past before after old new outcome back cxn fault outputs pair takes waits back_is rank same_id
       own broken not_held full memory kind e same conf
       parts =
       let options = options_of past.conf in
@@ -257,7 +258,7 @@ module _ {D : Type 0} {g : Ghosts D} where
           outcome,
           unsettled options (one_out conn),
           next,
-          refused_end past old (settling past now outcome) fault told pair.stands.tape e broken
+          refused_end past old (settling past now outcome) fault outputs pair.stands.tape e broken
               (λ is. (not_held.0 is).1 held)
               (λ is. (subst IsEnded by (full.0 is).0, (full.0 is).1.2))
               (λ works ends most. full.1 (subst IsEnded (sym by) ends, (works, held, most)))

@@ -10,7 +10,7 @@ use Rattle.peer_queue.specs.declared.limits.Owed.{Owed}
 use Rattle.peer_queue.specs.declared.limits.Owed.TheVariants.{New, Already}
 use Rattle.recovery.specs.Image.{EachTape, Log, Survives}
 use Rattle.recovery.specs.Leaving.{EachLedger, pending_notes}
-use Rattle.recovery.specs.LeavingLaws.{front_of_survives}
+use Rattle.recovery.specs.LeavingLaws.{prefix_of_survives}
 use Rattle.recovery.specs.Notes.{History, flushed}
 use Rattle.recovery.specs.declared.tape.Tape.{Tape}
 use Rattle.world_core.specs.Past.{Past, PeerPast, TapePast, mark_at, with_intake, with_last, with_peer, with_tape}
@@ -206,15 +206,15 @@ module _ {D : Type 0} {g : Ghosts D} where
   each_survives past tape stands =
       subst (λ (log : Log). EachTape (Survives past.history) log) stands.log stands.stands.images
 
-  pub each_front : (past : PeerPast) (tape : Tape D g) → TapeStands past.tape tape
+  pub each_prefix : (past : PeerPast) (tape : Tape D g) → TapeStands past.tape tape
       → EachLedger (KeepsNotes past) past.tape.log
-  each_front past tape stands = λ one other is is'.
-      front_of_survives past.tape.history (one, other) (each_survives past.tape tape stands one other is is')
+  each_prefix past tape stands = λ one other is is'.
+      prefix_of_survives past.tape.history (one, other) (each_survives past.tape tape stands one other is is')
 
   pub safe_of : (stations : Stations D g) (past : Past) → Stands stations past → IsSafe past
   safe_of stations past stands = record {
     peers = zip_first PeerStands (λ (peer : PeerPast). EachLedger (KeepsNotes peer) peer.tape.log)
-        (λ past peer is. each_front past (tape_of peer.station) is.tape) past.peers stations.peers.items stands.peers;
+        (λ past peer is. each_prefix past (tape_of peer.station) is.tape) past.peers stations.peers.items stands.peers;
     intake = λ one other is is'.
         keeps_lines past.intake.history past.peers (one, other) stands.intake.stands.are_legal stands.sound.acknowledged
         (each_survives past.intake stations.intake stands.intake one other is is');

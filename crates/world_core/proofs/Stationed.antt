@@ -213,8 +213,8 @@ module _ {D : Type 0} {g : Ghosts D} where
           → ((p : PeerPast) → PeerStands p was → IfOk r (λ owed.
           OwedTo (owed_as (old.last + 1)) (λ (q : PeerPast). old.last + 1) token id p owed peer))
           → IfOk r (λ owed. OwedOne past rank token id owed new)
-      did_owe r tells = if_ok_map r _ _ (tells here.0 here.2) (λ owed told.
-          let is = subst (λ (n : ℕ). OwedTo (owed_as n) (λ (q : PeerPast). n) token id here.0 owed peer) next told in
+      did_owe r tells = if_ok_map r _ _ (tells here.0 here.2) (λ owed outputs.
+          let is = subst (λ (n : ℕ). OwedTo (owed_as n) (λ (q : PeerPast). n) token id here.0 owed peer) next outputs in
           record {
             peer = here.0;
             here = here.1;
@@ -227,6 +227,7 @@ module _ {D : Type 0} {g : Ghosts D} where
           → ((p : PeerPast) → PeerStands p was → IfErr r (λ fault.
           OwedNot (owed_as (old.last + 1)) (λ (q : PeerPast). old.last + 1) token id p fault peer))
           → IfErr r (λ fault. FailedOne past (Owes rank token id) fault new)
-      failed_owe r tells = if_err_map r _ _ (tells here.0 here.2) (λ fault told.
-          let is = subst (λ (n : ℕ). OwedNot (owed_as n) (λ (q : PeerPast). n) token id here.0 fault peer) next told in
+      failed_owe r tells = if_err_map r _ _ (tells here.0 here.2) (λ fault outputs.
+          let is = subst (λ (n : ℕ). OwedNot (owed_as n) (λ (q : PeerPast). n) token id here.0 fault peer) next
+          outputs in
           failed (Owes rank token id) _ (λ f later refused. refused) fault here.0.tape is.refused refl is.stands)

@@ -11,7 +11,7 @@ use Rattle.std.proofs.lemmas.List.{length-map, length-set, take_all}
 use Rattle.disk_model.specs.declared.Disk.{Ghosts}
 use Rattle.recovery.specs.Words.{ledger_of}
 use Rattle.world_core.specs.Past.{Past, PeerPast, TapePast, mark_at, rank_of}
-use Rattle.world_core.specs.Told.{Rotated as SaidRotated, Shed as SaidShed, Taken as SaidTaken, said_of}
+use Rattle.world_core.specs.Output.{Rotated as SaidRotated, Shed as SaidShed, Taken as SaidTaken, said_of}
 use Rattle.recovery.specs.declared.fault.TapeFault.TheVariants.{Disk}
 use Rattle.world_core.specs.Tapes.{RefusesNote}
 use Rattle.world_core.specs.Events.{Acknowledges, Event, Fails, Parts, Refuses, Rotates, Sees, Sheds, calls_disk}
@@ -26,9 +26,9 @@ use Rattle.world_core.specs.declared.fault.Fault.TheVariants.{NoMemory, NoPeer, 
 use Rattle.world_core.specs.declared.fault.Halt.{Halt}
 use Rattle.world_core.specs.declared.peer.Peer.{Peer}
 use Rattle.world_core.specs.declared.stations.Stations.{Stations}
-use Rattle.world_core.specs.declared.told.Told.{Told}
-use Rattle.world_core.specs.declared.told.Told.TheVariants.{Rotated as ToldRotated, Shed as ToldShed}
-use Rattle.world_core.specs.declared.told.Told.TheVariants.{Taken as ToldTaken}
+use Rattle.world_core.specs.declared.output.Output.{Output}
+use Rattle.world_core.specs.declared.output.Output.TheVariants.{Rotated as OutputRotated, Shed as OutputShed}
+use Rattle.world_core.specs.declared.output.Output.TheVariants.{Taken as OutputTaken}
 use Rattle.world_core.proofs.Chains.{did_more, did_none, did_one, did_then, each_more, each_split, failed_before}
 use Rattle.world_core.proofs.Chains.{failed_next, failed_one, failed_then}
 use Rattle.world_core.proofs.Seeing.{mark_is}
@@ -39,15 +39,16 @@ pub pushed : {A : Type 0} (old new : List A) (x : A) → new ≡ old ++ x ∷ []
 pushed old new x more none = more ∙ ap (λ l. l ++ x ∷ []) none
 
 -- what is told of a shedding, and of a rotation
-pub shed_said : (name own : List ℕ) (numbers : Vec ℕ) (told : List Told) → own ≡ name → told ≡ ToldShed own numbers ∷ []
-    → map said_of told ≡ SaidShed name numbers.items ∷ []
-shed_said name own numbers told is tells =
+pub shed_said : (name own : List ℕ) (numbers : Vec ℕ) (outputs : List Output) → own ≡ name → outputs
+    ≡ OutputShed own numbers ∷ []
+    → map said_of outputs ≡ SaidShed name numbers.items ∷ []
+shed_said name own numbers outputs is tells =
     ap (map said_of) tells ∙ ap (λ (n : List ℕ). SaidShed n numbers.items ∷ []) is
 
-pub rotate_said : (name own : List ℕ) (generation : ℕ) (told : List Told) → own ≡ name
-    → told ≡ ToldRotated own generation ∷ []
-    → map said_of told ≡ SaidRotated name generation ∷ []
-rotate_said name own generation told is tells =
+pub rotate_said : (name own : List ℕ) (generation : ℕ) (outputs : List Output) → own ≡ name
+    → outputs ≡ OutputRotated own generation ∷ []
+    → map said_of outputs ≡ SaidRotated name generation ∷ []
+rotate_said name own generation outputs is tells =
     ap (map said_of) tells ∙ ap (λ (n : List ℕ). SaidRotated n generation ∷ []) is
 
 -- ---- all are flushed
@@ -165,23 +166,24 @@ module _ {D : Type 0} {g : Ghosts D} where
   pub unready : (past : Past) (stations : Stations D g) (fault : Fault) → fault ≡ NotFlushed
       → ((number : ℕ) → IsSealable past number → ⊥)
       → Stands stations past → TookNot RefusesSeal past fault stations
-  unready past stations fault told none stands =
-      record { later = past; refuses = inl (told, none, refl); stands = stands }
+  unready past stations fault outputs none stands =
+      record { later = past; refuses = inl (outputs, none, refl); stands = stands }
 
   -- the mark that is told is that of the intake's tape
-  marked : (past : Past) (stations : Stations D g) (mark : ℕ) (told : List Told) → Stands stations past
+  marked : (past : Past) (stations : Stations D g) (mark : ℕ) (outputs : List Output) → Stands stations past
       → mark ≡ (ledger_of stations.intake).mark
-      → told ≡ ToldTaken mark ∷ [] → map said_of told ≡ SaidTaken (mark_at past.intake) ∷ []
-  marked past stations mark told stands is tells =
+      → outputs ≡ OutputTaken mark ∷ [] → map said_of outputs ≡ SaidTaken (mark_at past.intake) ∷ []
+  marked past stations mark outputs stands is tells =
       ap (map said_of) tells ∙ ap (λ (m : ℕ). SaidTaken m ∷ []) (is ∙ mark_is past.intake stations.intake stands.intake)
 
-  pub seal_took : (past : Past) (number mark : ℕ) (told : List Told) (stations : Stations D g) → IsSealable past number
+  pub seal_took : (past : Past) (number mark : ℕ) (outputs : List Output) (stations : Stations D g)
+      → IsSealable past number
       → (did : Did past (seal_events number) stations) → mark ≡ (ledger_of stations.intake).mark
-      → told ≡ ToldTaken mark ∷ []
-      → Took TakesSeal past told stations
-  seal_took past number mark told stations sealable did is tells = record {
+      → outputs ≡ OutputTaken mark ∷ []
+      → Took TakesSeal past outputs stations
+  seal_took past number mark outputs stations sealable did is tells = record {
     later = did.later;
-    takes = (number, sealable, did.does, marked did.later stations mark told did.stands is tells);
+    takes = (number, sealable, did.does, marked did.later stations mark outputs did.stands is tells);
     stands = did.stands;
   }
 
@@ -250,16 +252,16 @@ module _ {D : Type 0} {g : Ghosts D} where
           disk = λ disk. record { fails = all.failed.fails; at = all.at disk };
         }
 
-    pub flush_took : (mark : ℕ) (told : List Told) → Did each.did.later (seal_events number) new
+    pub flush_took : (mark : ℕ) (outputs : List Output) → Did each.did.later (seal_events number) new
         → mark ≡ (ledger_of new.intake).mark
-        → told ≡ ToldTaken mark ∷ [] → Took TakesFlush past told new
-    flush_took mark told did marks tells =
+        → outputs ≡ OutputTaken mark ∷ [] → Took TakesFlush past outputs new
+    flush_took mark outputs did marks tells =
         let whole = subst (λ (es : List Event). Did (begun_at past) es new) (flush_is past number is)
         (did_then (begun_at past) (each_rank Parts (length (begun_at past).peers)) (seal_events number) old new
         each.did did) in
         record {
           later = whole.later;
-          takes = (whole.does, marked whole.later new mark told whole.stands marks tells);
+          takes = (whole.does, marked whole.later new mark outputs whole.stands marks tells);
           stands = whole.stands;
         }
 
@@ -286,23 +288,23 @@ module _ {D : Type 0} {g : Ghosts D} where
       stations.peers.items) n)
       (Some (prefix_len (λ (peer : Peer D g). not (bytes_eq peer.conf.name name)) stations.peers.items)) None) long
 
-  module _ (name : List ℕ) (past : Past) (fault : Fault) (stations : Stations D g) (told : fault ≡ NoPeer)
+  module _ (name : List ℕ) (past : Past) (fault : Fault) (stations : Stations D g) (outputs : fault ≡ NoPeer)
       (none : rank_of past name ≡ None)
       (stands : Stands stations past) where
     pub part_absent : TookNot (RefusesPart name) past fault stations
-    part_absent = record { later = past; refuses = inl (told, none, refl); stands = stands }
+    part_absent = record { later = past; refuses = inl (outputs, none, refl); stands = stands }
 
     pub shed_absent : TookNot (RefusesShed name) past fault stations
-    shed_absent = record { later = past; refuses = inl (told, none, refl); stands = stands }
+    shed_absent = record { later = past; refuses = inl (outputs, none, refl); stands = stands }
 
     pub rotate_absent : TookNot (RefusesRotation name) past fault stations
-    rotate_absent = record { later = past; refuses = inl (told, none, refl); stands = stands }
+    rotate_absent = record { later = past; refuses = inl (outputs, none, refl); stands = stands }
 
   module _ (name : List ℕ) (past : Past) (rank : ℕ) (here : rank_of past name ≡ Some rank)
       (stations : Stations D g) where
-    pub part_took : (told : List Told) → told ≡ [] → DidOne past (Parts rank) stations
-        → Took (TakesPart name) past told stations
-    part_took told none one =
+    pub part_took : (outputs : List Output) → outputs ≡ [] → DidOne past (Parts rank) stations
+        → Took (TakesPart name) past outputs stations
+    part_took outputs none one =
         let did = did_one past (Parts rank) stations one in
         record { later = did.later; takes = (rank, here, did.does, ap (map said_of) none); stands = did.stands }
 
@@ -312,10 +314,10 @@ module _ {D : Type 0} {g : Ghosts D} where
         let failed = failed_one past (Parts rank) fault stations one in
         record { later = failed.later; refuses = inr (rank, here, failed.fails); stands = failed.stands }
 
-    pub shed_took : (told : List Told) (numbers : List ℕ) → map said_of told ≡ SaidShed name numbers ∷ []
+    pub shed_took : (outputs : List Output) (numbers : List ℕ) → map said_of outputs ≡ SaidShed name numbers ∷ []
         → DidOne past (Sheds rank numbers) stations
-        → Took (TakesShed name) past told stations
-    shed_took told numbers is one =
+        → Took (TakesShed name) past outputs stations
+    shed_took outputs numbers is one =
         let did = did_one past (Sheds rank numbers) stations one in
         record { later = did.later; takes = (rank, numbers, here, did.does, is); stands = did.stands }
 
@@ -330,9 +332,9 @@ module _ {D : Type 0} {g : Ghosts D} where
     shed_memory fault memory stands =
         record { later = past; refuses = inr (rank, here, inl (memory, refl)); stands = stands }
 
-    pub rotate_took : (told : List Told) (generation : ℕ) → map said_of told ≡ SaidRotated name generation ∷ []
-        → DidOne past (Rotates rank generation) stations → Took (TakesRotate name) past told stations
-    rotate_took told generation is one =
+    pub rotate_took : (outputs : List Output) (generation : ℕ) → map said_of outputs ≡ SaidRotated name generation ∷ []
+        → DidOne past (Rotates rank generation) stations → Took (TakesRotate name) past outputs stations
+    rotate_took outputs generation is one =
         let did = did_one past (Rotates rank generation) stations one in
         record { later = did.later; takes = (rank, generation, here, did.does, is); stands = did.stands }
 

@@ -21,7 +21,7 @@ use Rattle.world_core.specs.Sound.{AreTied, HasNumber, IsSoundConn, numbers_at}
 use Rattle.world_core.specs.Stands.{ConnectionStands, HoldsTranscript, StageStands, Stands, WaitsWith, WorldStands}
 use Rattle.world_core.specs.Stands.{armed_as}
 use Rattle.world_core.specs.Stepped.{HaltedAs, Took as TookTapes, TookNot}
-use Rattle.world_core.specs.Told.{Said, said_of}
+use Rattle.world_core.specs.Output.{Said, said_of}
 use Rattle.world_core.specs.Turn.{DiskFails, GoesOn, Made, Refused, Took, WasHalted, WasNotTaken, WasStruck}
 use Rattle.world_core.specs.Turn.{WasStruckUntold}
 use Rattle.world_core.specs.declared.connection.Connection.{Connection}
@@ -32,7 +32,7 @@ use Rattle.world_core.specs.declared.step.Step.{Step}
 use Rattle.world_core.specs.declared.step.Step.TheVariants.{Begin, Flush, Import, Part, Rotate, Seal}
 use Rattle.world_core.specs.declared.stop.StopDisk.{StopDisk}
 use Rattle.world_core.specs.declared.stations.Stations.{Stations}
-use Rattle.world_core.specs.declared.told.Told.{Told}
+use Rattle.world_core.specs.declared.output.Output.{Output}
 use Rattle.world_core.specs.declared.world.Arming.{Arming}
 use Rattle.world_core.specs.declared.world.Stage.{Stage}
 use Rattle.world_core.specs.declared.world.Stage.TheVariants.{Running}
@@ -157,10 +157,10 @@ runs_there world life stations conns stands is =
     let here : StageStands life (Running stations conns) = subst (λ (s : Stage). StageStands life s) is stands.stage in
     (here.0, here.1)
 
-pub took_does : (step : Step) (life later : Life) (told : List Told) (world : World)
-    → Does step life (map said_of told) later → WorldStands world later
-    → Took step life told world
-took_does step life later told world does stands = record { later = later; takes = inl does; stands = stands }
+pub took_does : (step : Step) (life later : Life) (outputs : List Output) (world : World)
+    → Does step life (map said_of outputs) later → WorldStands world later
+    → Took step life outputs world
+took_does step life later outputs world does stands = record { later = later; takes = inl does; stands = stands }
 
 pub not_taken : (step : Step) (life later : Life) (fault : Fault) (world : World) → Refuses step life fault later
     → WorldStands world later
@@ -192,7 +192,7 @@ meets step life halt under_way arming armed is at fails =
       count = one.count;
       mid = one.mid;
       event = one.event;
-      front = one.front;
+      prefix = one.prefix;
       here = one.here;
       at_tape = fails.fails.at ∙ ap (λ (o : Option ℕ). Some o) (sym at);
       met = subst (λ (f : Fault). RefusesEvent one.event one.mid f under_way) is one.refused;
@@ -207,16 +207,16 @@ module _ (step : Step) (life : Life) (halt : Halt) (old : World) (was : WasHalte
       (sym (goes_armed life was.under_way was.now was.goes_on)
       ∙ armed_is old.armed arming was.now.armed armed was.stands.armed) is at (was.disk is)
 
-  pub struck : (told : List Told) (new : World) → WasStruck life was.under_way arming.choice told new
-      → Took step life told new
-  struck told new strikes = record {
+  pub struck : (outputs : List Output) (new : World) → WasStruck life was.under_way arming.choice outputs new
+      → Took step life outputs new
+  struck outputs new strikes = record {
     later = halted (ByChoice arming.choice) was.under_way life;
     takes = inr (record {
       stop = armed_as arming;
       under_way = was.under_way;
       meets = there;
-      told_is =
-          strikes.told_is;
+      outputs_are =
+          strikes.outputs_are;
       changed = refl;
     });
     stands = strikes.stands;
@@ -258,15 +258,15 @@ module _ (old new : World) (life : Life) (stations now : Stations StopDisk _) (c
   later_stands : (past : Past) → Stands now past → AllHold life.past past → WorldStands new (with_past life past)
   later_stands past on all = stands_on old new life past stations now conns stands was is on all armed connected moment
 
-  pub took_tapes : (step : Step) (T : Past → List Said → Past → Type 0) (told : List Told)
-      → ((told : List Said) (later : Life) → OnTapes T life told later → Does step life told later)
-      → ((past later : Past) (told : List Said) → T past told later → AllHold past later)
-      → (Stands stations life.past → TookTapes T life.past told now) → Took step life told new
-  took_tapes step T told does holds took =
+  pub took_tapes : (step : Step) (T : Past → List Said → Past → Type 0) (outputs : List Output)
+      → ((outputs : List Said) (later : Life) → OnTapes T life outputs later → Does step life outputs later)
+      → ((past later : Past) (outputs : List Said) → T past outputs later → AllHold past later)
+      → (Stands stations life.past → TookTapes T life.past outputs now) → Took step life outputs new
+  took_tapes step T outputs does holds took =
       let t = took on_now in
-      took_does step life (with_past life t.later) told new
-      (does (map said_of told) (with_past life t.later) (runs_now, (t.later, t.takes, refl)))
-      (later_stands t.later t.stands (holds life.past t.later (map said_of told) t.takes))
+      took_does step life (with_past life t.later) outputs new
+      (does (map said_of outputs) (with_past life t.later) (runs_now, (t.later, t.takes, refl)))
+      (later_stands t.later t.stands (holds life.past t.later (map said_of outputs) t.takes))
 
   pub took_not : (step : Step) (R : Past → Fault → Past → Type 0) (fault : Fault)
       → ((later : Life) → RefusesTapes R life fault later → Refuses step life fault later)
@@ -298,10 +298,10 @@ module _ (old new : World) (life : Life) (stations now : Stations StopDisk _) (c
       }
 
   -- a number was kept
-  pub began : (told : List Told) → told ≡ [] → (Stands stations life.past → Stands now (begun_at life.past))
-      → Took Begin life told new
-  began told none begins =
-      took_does Begin life (with_past life (begun_at life.past)) told new
+  pub began : (outputs : List Output) → outputs ≡ [] → (Stands stations life.past → Stands now (begun_at life.past))
+      → Took Begin life outputs new
+  began outputs none begins =
+      took_does Begin life (with_past life (begun_at life.past)) outputs new
       (runs_now, (begun_at life.past, (ap (map said_of) none, refl), refl))
       (later_stands (begun_at life.past) (begins on_now) (holds_begin life.past))
 
@@ -424,11 +424,13 @@ seal_fails life halt later at runs (inr (number, may, inr fails)) disk = record 
 
 -- ---- a step that meets no stop
 
-pub made_took : (step : Step) (T : Life → List Said → Life → Type 0) (life : Life) (told : List Told) (world : World)
-    → ((told : List Said) (later : Life) → T life told later → Does step life told later) → Made T life told world
-    → Took step life told world
-made_took step T life told world does made =
-    took_does step life made.later told world (does (map said_of told) made.later made.makes) made.stands
+pub made_took : (step : Step) (T : Life → List Said → Life → Type 0) (life : Life) (outputs : List Output) (world :
+    World)
+    → ((outputs : List Said) (later : Life) → T life outputs later → Does step life outputs later)
+    → Made T life outputs world
+    → Took step life outputs world
+made_took step T life outputs world does made =
+    took_does step life made.later outputs world (does (map said_of outputs) made.later made.makes) made.stands
 
 pub refused_not : (step : Step) (R : Life → Fault → Life → Type 0) (life : Life) (world : World)
     → ((fault : Fault) (later : Life) → R life fault later → Refuses step life fault later) → (fault : Fault)
@@ -438,10 +440,10 @@ refused_not step R life world refuses fault refused =
     not_taken step life refused.later fault world (refuses fault refused.later refused.refuses) refused.stands
 
 -- the step is this one
-pub as_step : (step other : Step) (r : Result (Unit {0}) Fault) (life : Life) (told : List Told) (world : World)
+pub as_step : (step other : Step) (r : Result (Unit {0}) Fault) (life : Life) (outputs : List Output) (world : World)
     → step ≡ other
-    → OnOk r (Took other life told world) → OnOk r (Took step life told world)
-as_step step other r life told world is took = subst (λ (s : Step). OnOk r (Took s life told world)) (sym is) took
+    → OnOk r (Took other life outputs world) → OnOk r (Took step life outputs world)
+as_step step other r life outputs world is took = subst (λ (s : Step). OnOk r (Took s life outputs world)) (sym is) took
 
 pub as_step_not : (step other : Step) (r : Result (Unit {0}) Fault) (life : Life) (world : World) → step ≡ other
     → IfErr r (λ (fault : Fault). WasNotTaken other life fault world)

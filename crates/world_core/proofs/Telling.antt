@@ -13,12 +13,12 @@ use Rattle.world_core.specs.Past.{ConnPast, PeerPast, options_of}
 use Rattle.world_core.specs.Exchange.{followed_up, told_out, unsettled}
 use Rattle.world_core.specs.Pairs.{Followed, FollowedNot, SettledAll, Tells, settled_said}
 use Rattle.world_core.specs.Stands.{HoldsTranscript}
-use Rattle.world_core.specs.Told.{Output, closed_said, lines_in, need_said}
+use Rattle.world_core.specs.Output.{SentLine, closed_said, lines_in, need_said}
 use Rattle.world_core.specs.declared.connection.Connection.{Connection}
 use Rattle.world_core.specs.declared.fault.Fault.{Fault}
 use Rattle.world_core.specs.declared.fault.Fault.TheVariants.{NoMemory}
 use Rattle.world_core.specs.declared.peer.Peer.{Peer}
-use Rattle.world_core.specs.declared.told.Told.{Told}
+use Rattle.world_core.specs.declared.output.Output.{Output}
 use Rattle.world_core.proofs.Balance.{GoesOn, goes_noted}
 use Rattle.world_core.proofs.Outputs.{tells_both}
 use Rattle.world_core.proofs.Pairing.{pair_on}
@@ -38,8 +38,8 @@ unfolding ConnStands
 left_same options conn unread h stands = left_step (is_some (reason options h)) conn unread stands.1
 
 module _ {D : Type 0} {g : Ghosts D} where
-  module _ (id now : ℕ) (conn : ConnPast) (past : PeerPast) (before : List Told) (mid_c : Connection)
-      (peer : Peer D g) (one : List Told)
+  module _ (id now : ℕ) (conn : ConnPast) (past : PeerPast) (before : List Output) (mid_c : Connection)
+      (peer : Peer D g) (one : List Output)
       (all : SettledAll id now conn past before mid_c peer one) where
     abbrev out : ConnPast
     out = told_out (options_of past.conf) conn
@@ -63,7 +63,7 @@ module _ {D : Type 0} {g : Ghosts D} where
       stand = all.some.stand;
     }
 
-    pub followed : (was : List Happening) (new_c : Connection) (two three told : List Told) (cxn count : ℕ)
+    pub followed : (was : List Happening) (new_c : Connection) (two three outputs : List Output) (cxn count : ℕ)
         (was_open : Bool)
         (sending : List ℕ) (wanted : Option ℕ) (closed : Option Reason) → cxn ≡ mid_c.conn.id.0
         → ((o : Options) (unread : List ℕ) (h : List Happening) → ConnStands o mid_c.conn unread h
@@ -71,14 +71,14 @@ module _ {D : Type 0} {g : Ghosts D} where
         → ((o : Options) (unread : List ℕ) (h : List Happening) → ConnStands o mid_c.conn unread h → wanted ≡ need o h)
         → ((o : Options) (unread : List ℕ) (h : List Happening) → ConnStands o mid_c.conn unread h
         → closed ≡ reason o h)
-        → Tells one (map (Output cxn) (lines_in sending)) two → Tells two (need_said cxn wanted) three
-        → ((w : Option Reason) → was_open ≡ is_none w → Tells three (closed_said cxn w closed) told)
+        → Tells one (map (SentLine cxn) (lines_in sending)) two → Tells two (need_said cxn wanted) three
+        → ((w : Option Reason) → was_open ≡ is_none w → Tells three (closed_said cxn w closed) outputs)
         → was_open ≡ is_none (reason (options_of past.conf) was) → count ≡ length sending
         → new_c.rank ≡ mid_c.rank → new_c.waiting ≡ mid_c.waiting → new_c.conn.id ≡ mid_c.conn.id
         → ((o : Options) (unread : List ℕ) (h : List Happening) → ConnStands o mid_c.conn unread h
         → ConnStands o new_c.conn unread (noted o h (Sent count)))
-        → Followed id now was conn past before new_c peer told
-    followed was new_c two three told cxn count was_open sending wanted closed own sends needs closes outputs needed
+        → Followed id now was conn past before new_c peer outputs
+    followed was new_c two three outputs cxn count was_open sending wanted closed own sends needs closes outputs needed
         says was_is count_is rank waits same_id sent =
         let o = options_of past.conf in
         let h = out.transcript in
@@ -93,20 +93,20 @@ module _ {D : Type 0} {g : Ghosts D} where
         (sent o out.unread h stands_out)) in
         record {
           said = map (settled_said id now past) (unsettled o conn)
-              ++ (map (Output id) (lines_in (output o h))
+              ++ (map (SentLine id) (lines_in (output o h))
               ++ (need_said id (need o h) ++ closed_said id (reason o was) (reason o h)));
           later_conn = followed_up o conn;
           later = all.later;
-          follows = record { settles = all.some.settles; told_is = refl; changed = refl };
-          told_is = tells_both before one told _ _ all.some.told_is (tells_both one two told _ _
-              (subst (λ (l : List ℕ). Tells one (map (Output id) (lines_in l)) two) sending_is
-              (subst (λ (n : ℕ). Tells one (map (Output n) (lines_in sending)) two) own_id outputs))
-              (tells_both two three told _ _
+          follows = record { settles = all.some.settles; outputs_are = refl; changed = refl };
+          outputs_are = tells_both before one outputs _ _ all.some.outputs_are (tells_both one two outputs _ _
+              (subst (λ (l : List ℕ). Tells one (map (SentLine id) (lines_in l)) two) sending_is
+              (subst (λ (n : ℕ). Tells one (map (SentLine n) (lines_in sending)) two) own_id outputs))
+              (tells_both two three outputs _ _
               (subst (λ (w : Option ℕ). Tells two (need_said id w) three) (needs o out.unread h stands_out)
               (subst (λ (n : ℕ). Tells two (need_said n wanted) three) own_id needed))
-              (subst (λ (r : Option Reason). Tells three (closed_said id (reason o was) r) told)
+              (subst (λ (r : Option Reason). Tells three (closed_said id (reason o was) r) outputs)
               (closes o out.unread h stands_out)
-              (subst (λ (n : ℕ). Tells three (closed_said n (reason o was) closed) told) own_id
+              (subst (λ (n : ℕ). Tells three (closed_said n (reason o was) closed) outputs) own_id
               (says (reason o was) was_is)))));
           stand = pair_on id out (followed_up o conn) all.later mid_c new_c peer all.some.stand refl refl
               (subst (λ (x : Options). GoesOn x h (followed_up o conn).transcript) (sym same)

@@ -24,12 +24,12 @@ use Rattle.world_core.specs.Laws.{Comes}
 use Rattle.world_core.specs.Laws.Comes.{No_step, Step_taken, Step_refused}
 use Rattle.world_core.specs.Runs.{Does, Refuses as RefusesAny, RefusesConn, RefusesStep, RefusesTapes, RefusesWorld}
 use Rattle.world_core.specs.Runs.{Takes}
-use Rattle.world_core.specs.Told.{Said}
+use Rattle.world_core.specs.Output.{Said}
 use Rattle.world_core.specs.declared.fault.Fault.{Fault}
 use Rattle.world_core.specs.declared.step.Step.{Step}
 use Rattle.world_core.specs.declared.step.Step.TheVariants.{Line, Flush, Begin, Part, Seal, Connect, Hand, Bytes}
 use Rattle.world_core.specs.declared.step.Step.TheVariants.{Article, Break, Tick, Shed, Import, Rotate, Stop, Restart}
-use Rattle.world_core.specs.declared.told.Handed.{Handed as Handover}
+use Rattle.world_core.specs.declared.output.Handed.{Handed as Handover}
 use Rattle.world_core.proofs.Growing.{Grew, grew_broken, grew_by, grew_outside, grew_received, grew_same, grew_sent}
 use Rattle.world_core.proofs.Growing.{grew_stopped}
 use Rattle.world_core.proofs.Holding.{out_rank}
@@ -55,9 +55,9 @@ pub record WentOn (id : ℕ) (conn : ConnPast) (life later : Life) : Type 0 wher
   pub changed : later ≡ with_conn (with_past life past) id next
 
 -- where what follows has come about
-followed : (id : ℕ) (was : List Happening) (conn : ConnPast) (life later : Life) (told : List Said)
-    → Follows id was conn life told later → WentOn id conn life later
-followed id was conn life later told f =
+followed : (id : ℕ) (was : List Happening) (conn : ConnPast) (life later : Life) (outputs : List Said)
+    → Follows id was conn life outputs later → WentOn id conn life later
+followed id was conn life later outputs f =
     let o = options_of f.peer.conf in
     record {
       peer = f.peer;
@@ -117,9 +117,9 @@ pub record Passage : Type 1 where
       → MAKES (Hand id) life later
   pub moves : (now : ℕ) (life later : Life) → MAKES (Tick now) (at_moment now life) later
       → MAKES (Tick now) life later
-  pub ticks : (now : ℕ) (begun mid later : Life) (count : ℕ) (told : List Said) (id : ℕ) (conn : ConnPast)
+  pub ticks : (now : ℕ) (begun mid later : Life) (count : ℕ) (outputs : List Said) (id : ℕ) (conn : ConnPast)
       (peer : PeerPast)
-      → TicksEach begun count told mid → MAKES (Tick now) begun mid
+      → TicksEach begun count outputs mid → MAKES (Tick now) begun mid
       → slice_get mid.conns count ≡ Some (id, conn)
       → WentOn id (ticked mid.now peer conn) mid later → MAKES (Tick now) begun later
 
@@ -163,75 +163,75 @@ module _ (passage : Passage) where
       hands id conn peer handed h past life later is over
       (handing_keeps id life.now conn peer life.past handed h past over is.peer_is) went
 
-  ticks_make : (now : ℕ) (begun : Life) (count : ℕ) (told : List Said) (later : Life)
-      → TicksEach begun count told later → MAKES (Tick now) begun later
+  ticks_make : (now : ℕ) (begun : Life) (count : ℕ) (outputs : List Said) (later : Life)
+      → TicksEach begun count outputs later → MAKES (Tick now) begun later
   ticks_make now begun _ _ _ NoneTicked = same_life (Tick now) begun begun refl
-  ticks_make now begun _ _ _ (OneTicked count told more mid later id conn peer before here at follows) =
-      ticks now begun mid later count told id conn peer before (ticks_make now begun count told mid before) here
+  ticks_make now begun _ _ _ (OneTicked count outputs more mid later id conn peer before here at follows) =
+      ticks now begun mid later count outputs id conn peer before (ticks_make now begun count outputs mid before) here
       (followed id conn.transcript _ mid later more follows)
 
   -- ---- a step that is taken
 
-  stop_makes : (peer : Option (List ℕ)) (call : ℕ) (choice : Choice) (step : Step) (life : Life) (told : List Said)
+  stop_makes : (peer : Option (List ℕ)) (call : ℕ) (choice : Choice) (step : Step) (life : Life) (outputs : List Said)
       (later : Life)
-      → TakesStop peer call choice life told later → MAKES step life later
-  stop_makes peer zero choice step life told later (runs, said, changed) =
+      → TakesStop peer call choice life outputs later → MAKES step life later
+  stop_makes peer zero choice step life outputs later (runs, said, changed) =
       halts step life later
       (subst (λ (l : Life). tapes.KEEPS life.past l.past) (sym changed) (keeps_left AtRest life.past))
       (ap (λ (l : Life). l.conns) changed)
-  stop_makes peer (suc calls) choice step life told later (rank, is, said, changed) =
+  stop_makes peer (suc calls) choice step life outputs later (rank, is, said, changed) =
       same_past step life later (ap (λ (l : Life). l.past) changed) (ap (λ (l : Life). l.conns) changed)
 
-  step_makes : (step : Step) (life : Life) (told : List Said) (later : Life) → Does step life told later
+  step_makes : (step : Step) (life : Life) (outputs : List Said) (later : Life) → Does step life outputs later
       → MAKES step life later
-  step_makes (Line text) life told later (runs, (past, takes, changed)) =
-      on_past _ life later past (line_keeps tapes text.items life.past past told takes) changed
-  step_makes Flush life told later (runs, (past, takes, changed)) =
-      on_past _ life later past (flush_keeps tapes life.past past told takes) changed
-  step_makes Begin life told later (runs, (past, (said, is), changed)) =
+  step_makes (Line text) life outputs later (runs, (past, takes, changed)) =
+      on_past _ life later past (line_keeps tapes text.items life.past past outputs takes) changed
+  step_makes Flush life outputs later (runs, (past, takes, changed)) =
+      on_past _ life later past (flush_keeps tapes life.past past outputs takes) changed
+  step_makes Begin life outputs later (runs, (past, (said, is), changed)) =
       on_past _ life later past (subst (tapes.KEEPS life.past) (sym is) (tapes.keeps_begun life.past)) changed
-  step_makes (Part name) life told later (runs, (past, takes, changed)) =
-      on_past _ life later past (part_keeps tapes name life.past past told takes) changed
-  step_makes Seal life told later (runs, (past, takes, changed)) =
-      on_past _ life later past (seal_keeps tapes life.past past told takes) changed
-  step_makes (Connect name) life told later (runs, t) =
+  step_makes (Part name) life outputs later (runs, (past, takes, changed)) =
+      on_past _ life later past (part_keeps tapes name life.past past outputs takes) changed
+  step_makes Seal life outputs later (runs, (past, takes, changed)) =
+      on_past _ life later past (seal_keeps tapes life.past past outputs takes) changed
+  step_makes (Connect name) life outputs later (runs, t) =
       connects _ life later (life.connected + 1) t.rank (ap (λ (l : Life). l.past) t.changed)
       (ap (λ (l : Life). l.conns) t.changed)
-  step_makes (Hand id) life told later (runs, t) =
+  step_makes (Hand id) life outputs later (runs, t) =
       hand_makes id life t.conn t.peer t.handed t.transcript t.past later t.is t.hands
       (followed id t.conn.transcript _ (with_past life t.past) later t.behind t.follows)
-  step_makes (Bytes id octets) life told later (runs, t) =
+  step_makes (Bytes id octets) life outputs later (runs, t) =
       goes_on _ id t.conn (record t.conn { unread = t.left; transcript = t.transcript }) t.peer life later
       t.is refl (grew_received (options_of t.peer.conf) _ t.left t.conn.transcript t.transcript t.receives)
-      (followed id t.conn.transcript _ life later told t.follows)
-  step_makes (Article id found) life told later (runs, t) =
+      (followed id t.conn.transcript _ life later outputs t.follows)
+  step_makes (Article id found) life outputs later (runs, t) =
       let o = options_of t.peer.conf in
       goes_on _ id t.conn (with_transcript t.conn (after o t.conn.transcript (Handed t.number t.handing))) t.peer life
       later t.is refl (grew_by o t.conn.transcript (Handed t.number t.handing) refl)
-      (followed id t.conn.transcript _ life later told t.follows)
-  step_makes (Break id) life told later (runs, t) =
+      (followed id t.conn.transcript _ life later outputs t.follows)
+  step_makes (Break id) life outputs later (runs, t) =
       let o = options_of t.peer.conf in
       goes_on _ id t.conn (broken_off t.peer t.conn) t.peer life later t.is refl
-      (grew_outside o t.conn.transcript Broke refl) (followed id t.conn.transcript _ life later told t.follows)
-  step_makes (Tick now) life told later (runs, takes) =
-      moves now life later (ticks_make now (at_moment now life) _ told later takes)
-  step_makes (Shed name) life told later (runs, (past, takes, changed)) =
-      on_past _ life later past (shed_keeps tapes name life.past past told takes) changed
-  step_makes (Rotate name) life told later (runs, (past, takes, changed)) =
-      on_past _ life later past (rotate_keeps tapes name life.past past told takes) changed
-  step_makes (Import name text) life told later (runs, (past, takes, changed)) =
-      on_past _ life later past (import_keeps tapes name text.items life.past past told takes) changed
-  step_makes (Stop peer call choice) life told later takes = stop_makes peer call choice _ life told later takes
-  step_makes Restart life told later t =
+      (grew_outside o t.conn.transcript Broke refl) (followed id t.conn.transcript _ life later outputs t.follows)
+  step_makes (Tick now) life outputs later (runs, takes) =
+      moves now life later (ticks_make now (at_moment now life) _ outputs later takes)
+  step_makes (Shed name) life outputs later (runs, (past, takes, changed)) =
+      on_past _ life later past (shed_keeps tapes name life.past past outputs takes) changed
+  step_makes (Rotate name) life outputs later (runs, (past, takes, changed)) =
+      on_past _ life later past (rotate_keeps tapes name life.past past outputs takes) changed
+  step_makes (Import name text) life outputs later (runs, (past, takes, changed)) =
+      on_past _ life later past (import_keeps tapes name text.items life.past past outputs takes) changed
+  step_makes (Stop peer call choice) life outputs later takes = stop_makes peer call choice _ life outputs later takes
+  step_makes Restart life outputs later t =
       changes _ life later (subst (λ (l : Life). tapes.KEEPS life.past l.past) (sym t.changed)
       (restart_keeps tapes on_opens on_intake keeps_left life.past t.past t.opens))
       (ap (λ (l : Life). l.conns) t.changed)
 
-  pub takes_make : (step : Step) (life : Life) (told : List Said) (later : Life) → Takes step life told later
+  pub takes_make : (step : Step) (life : Life) (outputs : List Said) (later : Life) → Takes step life outputs later
       → MAKES step life later
-  takes_make step life told later (inl does) = step_makes step life told later does
-  takes_make step life told later (inr strikes) =
-      halts step life later (strikes_keep tapes on_opens on_intake keeps_left step life told later strikes)
+  takes_make step life outputs later (inl does) = step_makes step life outputs later does
+  takes_make step life outputs later (inr strikes) =
+      halts step life later (strikes_keep tapes on_opens on_intake keeps_left step life outputs later strikes)
       (ap (λ (l : Life). l.conns) strikes.changed)
 
   -- ---- a step that is refused
@@ -316,8 +316,8 @@ module _ (passage : Passage) where
   tick_refused : (now : ℕ) (life : Life) (fault : Fault) (later : Life) → RefusesTick now life fault later
       → MAKES (Tick now) life later
   tick_refused now life fault later r =
-      moves now life later (ticks now (at_moment now life) r.mid later r.count r.told r.id r.conn r.peer r.front
-      (ticks_make now (at_moment now life) r.count r.told r.mid r.front) r.next
+      moves now life later (ticks now (at_moment now life) r.mid later r.count r.outputs r.id r.conn r.peer r.prefix
+      (ticks_make now (at_moment now life) r.count r.outputs r.mid r.prefix) r.next
       (not_followed r.id _ r.mid fault later r.follows))
 
   stop_refused : (peer : Option (List ℕ)) (call : ℕ) (step : Step) (life : Life) (fault : Fault) (later : Life)
@@ -413,7 +413,7 @@ module _ (keeper : Keeper) (any : (event : Event) → keeper.ON event)
         keeper.joined life.past past later.past keeps
         (went_keeps id (with_transcript conn h) (with_past life past) later went);
     moves = λ now life later keeps. keeps;
-    ticks = λ now begun mid later count told id conn peer before keeps here went.
+    ticks = λ now begun mid later count outputs id conn peer before keeps here went.
         keeper.joined begun.past mid.past later.past keeps
         (went_keeps id (ticked mid.now peer conn) mid later went);
   }
@@ -421,16 +421,16 @@ module _ (keeper : Keeper) (any : (event : Event) → keeper.ON event)
   pub runs_all : (was : Life) (steps : List Step) (lines : List (List Said)) (later : Life)
       → Runs was steps lines later → keeper.KEEPS was.past later.past
   runs_all was _ _ _ (NoStep safe sound) = keeper.alike was.past was.past refl
-  runs_all was _ _ _ (OneStep steps step lines told life later runs takes safe sound) =
+  runs_all was _ _ _ (OneStep steps step lines outputs life later runs takes safe sound) =
       keeper.joined was.past life.past later.past (runs_all was steps lines life runs)
-      (takes_make over_tapes step life told later takes)
+      (takes_make over_tapes step life outputs later takes)
 
   pub comes_all : (was : Life) (steps : List Step) (lines : List (List Said)) (later : Life)
       → Comes was steps lines later → keeper.KEEPS was.past later.past
   comes_all was _ _ _ (No_step safe sound) = keeper.alike was.past was.past refl
-  comes_all was _ _ _ (Step_taken steps step lines told life later comes takes safe sound) =
+  comes_all was _ _ _ (Step_taken steps step lines outputs life later comes takes safe sound) =
       keeper.joined was.past life.past later.past (comes_all was steps lines life comes)
-      (takes_make over_tapes step life told later takes)
+      (takes_make over_tapes step life outputs later takes)
   comes_all was _ _ _ (Step_refused steps step lines fault life later comes refuses safe sound) =
       keeper.joined was.past life.past later.past (comes_all was steps lines life comes)
       (refuses_make over_tapes step life fault later refuses)

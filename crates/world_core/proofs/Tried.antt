@@ -20,7 +20,7 @@ use Rattle.world_core.specs.declared.peer.Peer.{Peer}
 use Rattle.world_core.specs.declared.peer.StoppedPeer.{StoppedPeer}
 use Rattle.world_core.specs.declared.fault.Halt.{Halt}
 use Rattle.world_core.proofs.Pure.{all_push}
-use Rattle.world_core.proofs.Sound.{each_front, sound_same}
+use Rattle.world_core.proofs.Sound.{each_prefix, sound_same}
 use Rattle.world_core.proofs.Trying.{get_at, get_rank, has_opened, length_push, length_set, safe_put, set_at}
 use Rattle.world_core.proofs.Trying.{sound_opened, take_places}
 use Rattle.world_core.proofs.Zips.{zip_length, zip_push}
@@ -53,111 +53,112 @@ stays_stopped past peer stands = record {
   };
 }
 
-some_at : (front behind : List PeerPast) (p : PeerPast) (count : ℕ) → length (front ++ p ∷ behind) ≡ count
-    → length front < count
-some_at front behind p count is =
-    let both = length-append front (p ∷ behind) in
+some_at : (prefix behind : List PeerPast) (p : PeerPast) (count : ℕ) → length (prefix ++ p ∷ behind) ≡ count
+    → length prefix < count
+some_at prefix behind p count is =
+    let both = length-append prefix (p ∷ behind) in
     omega (arith, both, is)
 
-module _ {D : Type 0} {g : Ghosts D} (past : Past) (front behind : List PeerPast) (p : PeerPast)
+module _ {D : Type 0} {g : Ghosts D} (past : Past) (prefix behind : List PeerPast) (p : PeerPast)
     (opened : List (Peer D g)) (rest : List StoppedPeer)
-    (opens : AllDo past (each_rank Opens (length front)) (with_peers past (front ++ p ∷ behind)))
-    (stand : AllZip PeerStands front opened)
-    (stay : AllZip StoppedStands behind rest) (sound : IsSound (with_peers past (front ++ p ∷ behind)))
-    (safe : IsSafe (with_peers past (front ++ p ∷ behind))) (count : length (front ++ p ∷ behind)
+    (opens : AllDo past (each_rank Opens (length prefix)) (with_peers past (prefix ++ p ∷ behind)))
+    (stand : AllZip PeerStands prefix opened)
+    (stay : AllZip StoppedStands behind rest) (sound : IsSound (with_peers past (prefix ++ p ∷ behind)))
+    (safe : IsSafe (with_peers past (prefix ++ p ∷ behind))) (count : length (prefix ++ p ∷ behind)
     ≡ length past.peers) where
   abbrev mid : Past
-  mid = with_peers past (front ++ p ∷ behind)
+  mid = with_peers past (prefix ++ p ∷ behind)
 
-  here : slice_get mid.peers (length front) ≡ Some p
-  here = get_at front p behind
+  here : slice_get mid.peers (length prefix) ≡ Some p
+  here = get_at prefix p behind
 
-  changed : (q : PeerPast) → with_peer mid (length front) q ≡ with_peers past ((front ++ q ∷ []) ++ behind)
-  changed q = ap (with_peers past) (set_at front p q behind)
+  changed : (q : PeerPast) → with_peer mid (length prefix) q ≡ with_peers past ((prefix ++ q ∷ []) ++ behind)
+  changed q = ap (with_peers past) (set_at prefix p q behind)
 
-  pub opens_one : (peer : Peer D g) → AllByRecursion HasNoneHeld front → OpenedAs p peer
+  pub opens_one : (peer : Peer D g) → AllByRecursion HasNoneHeld prefix → OpenedAs p peer
       → HasOpened past (opened ++ peer ∷ []) rest
   opens_one peer free is =
       let q = opened_peer p is.later in
       let history = ap (λ (t : TapePast). t.history) is.opens.all in
-      let is_safe : IsSafe (with_peers past ((front ++ q ∷ []) ++ behind)) =
+      let is_safe : IsSafe (with_peers past ((prefix ++ q ∷ []) ++ behind)) =
       subst IsSafe (changed q)
-      (safe_put mid (length front) p q safe here (each_front q (tape_of peer.station) is.stands.tape)
+      (safe_put mid (length prefix) p q safe here (each_prefix q (tape_of peer.station) is.stands.tape)
       (λ mark _. has_opened mark p is.later is.opens.count history)) in
       record {
-        front = front ++ q ∷ [];
+        prefix = prefix ++ q ∷ [];
         behind = behind;
-        opens = subst (λ (n : ℕ). AllDo past (each_rank Opens n) (with_peers past ((front ++ q ∷ []) ++ behind)))
-            (sym (length_push front q))
-            (Next (each_rank Opens (length front)) (Opens (length front)) mid
-            (with_peers past ((front ++ q ∷ []) ++ behind)) opens
+        opens = subst (λ (n : ℕ). AllDo past (each_rank Opens n) (with_peers past ((prefix ++ q ∷ []) ++ behind)))
+            (sym (length_push prefix q))
+            (Next (each_rank Opens (length prefix)) (Opens (length prefix)) mid
+            (with_peers past ((prefix ++ q ∷ []) ++ behind)) opens
             (record { peer = p; tape = is.later; here = here; opens = is.opens; changed = sym (changed q) }) is_safe);
-        stand = zip_push PeerStands front opened q peer stand is.stands;
+        stand = zip_push PeerStands prefix opened q peer stand is.stands;
         stay = stay;
         sound = subst IsSound (changed q)
-            (sound_opened mid (length front) p is.later is.opens.count sound here history);
+            (sound_opened mid (length prefix) p is.later is.opens.count sound here history);
         safe = is_safe;
-        free = all_push HasNoneHeld front q free (opened_free p is.later);
-        count = ap length (sym (set_at front p q behind)) ∙ length_set (front ++ p ∷ behind) (length front) q ∙ count;
+        free = all_push HasNoneHeld prefix q free (opened_free p is.later);
+        count = ap length (sym (set_at prefix p q behind)) ∙ length_set (prefix ++ p ∷ behind) (length prefix) q
+            ∙ count;
       }
 
   pub refuses_one : (fault : Fault) (back : StoppedPeer) (halted : List StoppedPeer)
-      → AllZip StoppedStands (map (left_peer AtRest) front) halted
+      → AllZip StoppedStands (map (left_peer AtRest) prefix) halted
       → RefusedOpen p fault back
-      → HasHalted past (record { rank = Some (length front); fault = fault }) (halted ++ back ∷ []) rest
+      → HasHalted past (record { rank = Some (length prefix); fault = fault }) (halted ++ back ∷ []) rest
   refuses_one fault back halted all is =
       let q = with_tape p is.later in
       let history = ap (λ (t : TapePast). t.history) is.refused.all in
-      let within = some_at front behind p (length past.peers) count in
-      let is_safe : IsSafe (with_peer mid (length front) q) =
-      safe_put mid (length front) p q safe here is.stands.disks.images
+      let within = some_at prefix behind p (length past.peers) count in
+      let is_safe : IsSafe (with_peer mid (length prefix) q) =
+      safe_put mid (length prefix) p q safe here is.stands.disks.images
       (λ mark has. subst (λ h. AllByRecursion (IsAbove mark) (pending_notes h)) (sym history) has) in
       record {
-        under_way = with_peer mid (length front) q;
-        front = front ++ q ∷ [];
+        under_way = with_peer mid (length prefix) q;
+        prefix = prefix ++ q ∷ [];
         behind = behind;
-        all = set_at front p q behind;
+        all = set_at prefix p q behind;
         fails = record {
           fails = record {
-            count = length front;
+            count = length prefix;
             mid = mid;
-            event = Opens (length front);
-            front = subst (λ (events : List Event). AllDo past events mid)
-                (sym (take_places Opens (length past.peers) (length front) (OpensIntake ∷ [])
+            event = Opens (length prefix);
+            prefix = subst (λ (events : List Event). AllDo past events mid)
+                (sym (take_places Opens (length past.peers) (length prefix) (OpensIntake ∷ [])
                 (omega (arith, within)))) opens;
-            here = get_rank Opens (length past.peers) (length front) (OpensIntake ∷ []) within;
+            here = get_rank Opens (length past.peers) (length prefix) (OpensIntake ∷ []) within;
             refused = record { peer = p; tape = is.later; here = here; refused = is.refused; changed = refl };
             safe = is_safe;
           };
           at = refl;
         };
         stand = subst (λ (ps : List PeerPast). AllZip StoppedStands ps (halted ++ back ∷ []))
-            (sym (map_push (left_peer AtRest) front q))
-            (zip_push StoppedStands (map (left_peer AtRest) front) halted (left_peer AtRest q) back all
+            (sym (map_push (left_peer AtRest) prefix q))
+            (zip_push StoppedStands (map (left_peer AtRest) prefix) halted (left_peer AtRest q) back all
             (stays_stopped q back is.stands));
         stay = stay;
-        sound = sound_same mid (length front) p is.later sound here history;
+        sound = sound_same mid (length prefix) p is.later sound here history;
         intake = refl;
       }
 
 -- ---- what was tried so far
 
 halted_more : (past : Past) (halt : Halt) (stopped rest : List StoppedPeer) (peer : StoppedPeer) (under_way : Past)
-    (front behind : List PeerPast)
-    → under_way.peers ≡ front ++ behind → FailsAt past (restart_events past) halt under_way
-    → AllZip StoppedStands (map (left_peer AtRest) front) stopped → AllZip StoppedStands behind (peer ∷ rest)
+    (prefix behind : List PeerPast)
+    → under_way.peers ≡ prefix ++ behind → FailsAt past (restart_events past) halt under_way
+    → AllZip StoppedStands (map (left_peer AtRest) prefix) stopped → AllZip StoppedStands behind (peer ∷ rest)
     → IsSound under_way
     → under_way.intake ≡ past.intake → HasHalted past halt (stopped ++ peer ∷ []) rest
-halted_more past halt stopped rest peer under_way front [] all fails stand stay sound intake = absurd stay
-halted_more past halt stopped rest peer under_way front (p ∷ behind) all fails stand stay sound intake = record {
+halted_more past halt stopped rest peer under_way prefix [] all fails stand stay sound intake = absurd stay
+halted_more past halt stopped rest peer under_way prefix (p ∷ behind) all fails stand stay sound intake = record {
   under_way = under_way;
-  front = front ++ p ∷ [];
+  prefix = prefix ++ p ∷ [];
   behind = behind;
-  all = all ∙ sym (append_assoc front (p ∷ []) behind);
+  all = all ∙ sym (append_assoc prefix (p ∷ []) behind);
   fails = fails;
   stand = subst (λ (ps : List PeerPast). AllZip StoppedStands ps (stopped ++ peer ∷ []))
-      (sym (map_push (left_peer AtRest) front p))
-      (zip_push StoppedStands (map (left_peer AtRest) front) stopped (left_peer AtRest p) peer stand
+      (sym (map_push (left_peer AtRest) prefix p))
+      (zip_push StoppedStands (map (left_peer AtRest) prefix) stopped (left_peer AtRest p) peer stand
       (stays_stopped p peer stay.0));
   stay = stay.1;
   sound = sound;
@@ -166,35 +167,35 @@ halted_more past halt stopped rest peer under_way front (p ∷ behind) all fails
 
 module _ {D : Type 0} {g : Ghosts D} where
   opens_more : (past : Past) (opened : List (Peer D g)) (rest : List StoppedPeer) (stopped : StoppedPeer)
-      (peer : Peer D g) (front behind : List PeerPast)
-      → AllDo past (each_rank Opens (length front)) (with_peers past (front ++ behind))
-      → AllZip PeerStands front opened
-      → AllZip StoppedStands behind (stopped ∷ rest) → IsSound (with_peers past (front ++ behind))
-      → IsSafe (with_peers past (front ++ behind))
-      → length (front ++ behind) ≡ length past.peers → AllByRecursion HasNoneHeld front
+      (peer : Peer D g) (prefix behind : List PeerPast)
+      → AllDo past (each_rank Opens (length prefix)) (with_peers past (prefix ++ behind))
+      → AllZip PeerStands prefix opened
+      → AllZip StoppedStands behind (stopped ∷ rest) → IsSound (with_peers past (prefix ++ behind))
+      → IsSafe (with_peers past (prefix ++ behind))
+      → length (prefix ++ behind) ≡ length past.peers → AllByRecursion HasNoneHeld prefix
       → ((p : PeerPast) → StoppedStands p stopped → OpenedAs p peer) → HasOpened past (opened ++ peer ∷ []) rest
-  opens_more past opened rest stopped peer front [] opens stand stay sound safe count free is = absurd stay
-  opens_more past opened rest stopped peer front (p ∷ behind) opens stand stay sound safe count free is =
-      opens_one past front behind p opened rest opens stand stay.1 sound safe count peer free (is p stay.0)
+  opens_more past opened rest stopped peer prefix [] opens stand stay sound safe count free is = absurd stay
+  opens_more past opened rest stopped peer prefix (p ∷ behind) opens stand stay sound safe count free is =
+      opens_one past prefix behind p opened rest opens stand stay.1 sound safe count peer free (is p stay.0)
 
   refuses_more : (past : Past) (opened : List (Peer D g)) (rest : List StoppedPeer) (stopped back : StoppedPeer)
       (fault : Fault) (halted : List StoppedPeer)
-      (front behind : List PeerPast)
-      → AllDo past (each_rank Opens (length front)) (with_peers past (front ++ behind))
-      → AllZip PeerStands front opened
-      → AllZip StoppedStands behind (stopped ∷ rest) → IsSound (with_peers past (front ++ behind))
-      → IsSafe (with_peers past (front ++ behind))
-      → length (front ++ behind) ≡ length past.peers
+      (prefix behind : List PeerPast)
+      → AllDo past (each_rank Opens (length prefix)) (with_peers past (prefix ++ behind))
+      → AllZip PeerStands prefix opened
+      → AllZip StoppedStands behind (stopped ∷ rest) → IsSound (with_peers past (prefix ++ behind))
+      → IsSafe (with_peers past (prefix ++ behind))
+      → length (prefix ++ behind) ≡ length past.peers
       → ((pasts : List PeerPast) → AllZip PeerStands pasts opened
       → AllZip StoppedStands (map (left_peer AtRest) pasts) halted)
       → ((p : PeerPast) → StoppedStands p stopped → RefusedOpen p fault back)
-      → HasHalted past (record { rank = Some (length front); fault = fault }) (halted ++ back ∷ []) rest
-  refuses_more past opened rest stopped back fault halted front [] opens stand stay sound safe count halts is =
+      → HasHalted past (record { rank = Some (length prefix); fault = fault }) (halted ++ back ∷ []) rest
+  refuses_more past opened rest stopped back fault halted prefix [] opens stand stay sound safe count halts is =
       absurd stay
-  refuses_more past opened rest stopped back fault halted front (p ∷ behind) opens stand stay sound safe count halts
+  refuses_more past opened rest stopped back fault halted prefix (p ∷ behind) opens stand stay sound safe count halts
       is =
-      refuses_one past front behind p opened rest opens stand stay.1 sound safe count fault back halted
-      (halts front stand) (is p stay.0)
+      refuses_one past prefix behind p opened rest opens stand stay.1 sound safe count fault back halted
+      (halts prefix stand) (is p stay.0)
 
   pub tried_behind : (past : Past) (opened : List (Peer D g)) (stopped now : List StoppedPeer) (refused : Option Halt)
       (peer : StoppedPeer)
@@ -204,7 +205,7 @@ module _ {D : Type 0} {g : Ghosts D} where
   tried_behind past opened stopped now None peer rest some is tries = cc
   tried_behind past opened stopped now (Some halt) peer rest some is tries =
       subst (λ (l : List StoppedPeer). HasHalted past halt l rest) (sym is)
-      (halted_more past halt stopped rest peer tries.under_way tries.front tries.behind tries.all tries.fails
+      (halted_more past halt stopped rest peer tries.under_way tries.prefix tries.behind tries.all tries.fails
       tries.stand tries.stay tries.sound tries.intake)
 
   pub tried_open : (past : Past) (opened now : List (Peer D g)) (all : List StoppedPeer) (refused : Option Halt)
@@ -215,29 +216,29 @@ module _ {D : Type 0} {g : Ghosts D} where
   tried_open past opened now all None stopped peer rest none is (empty, t) opens = (
     empty,
     subst (λ (l : List (Peer D g)). HasOpened past l rest) (sym is)
-        (opens_more past opened rest stopped peer t.front t.behind t.opens t.stand t.stay t.sound t.safe t.count
+        (opens_more past opened rest stopped peer t.prefix t.behind t.opens t.stand t.stay t.sound t.safe t.count
         t.free opens),
   )
   tried_open past opened now all (Some halt) stopped peer rest none is tries opens = absurd cc
 
   pub tried_refused : (past : Past) (opened now : List (Peer D g)) (all halted behind : List StoppedPeer)
-      (refused told : Option Halt) (stopped back : StoppedPeer)
+      (refused outputs : Option Halt) (stopped back : StoppedPeer)
       (fault : Fault) (rest : List StoppedPeer) → is_some refused ≡ false → behind ≡ halted ++ back ∷ []
-      → told ≡ Some (record { rank = Some (length opened); fault = fault })
+      → outputs ≡ Some (record { rank = Some (length opened); fault = fault })
       → ((pasts : List PeerPast) → AllZip PeerStands pasts opened
       → AllZip StoppedStands (map (left_peer AtRest) pasts) halted)
       → HasTried past opened all refused (stopped ∷ rest)
       → ((p : PeerPast) → StoppedStands p stopped → RefusedOpen p fault back)
-      → HasTried past now behind told rest
-  tried_refused past opened now all halted behind None told stopped back fault rest none is same halts (empty, t)
+      → HasTried past now behind outputs rest
+  tried_refused past opened now all halted behind None outputs stopped back fault rest none is same halts (empty, t)
       refuses =
-      let many = zip_length PeerStands t.front opened t.stand in
-      let told_is : told ≡ Some (record { rank = Some (length t.front); fault = fault }) =
+      let many = zip_length PeerStands t.prefix opened t.stand in
+      let outputs_are : outputs ≡ Some (record { rank = Some (length t.prefix); fault = fault }) =
       same ∙ ap (λ (n : ℕ). Some (record { rank = Some n; fault = fault })) (sym many) in
-      subst (λ (o : Option Halt). HasTried past now behind o rest) (sym told_is)
+      subst (λ (o : Option Halt). HasTried past now behind o rest) (sym outputs_are)
       (subst (λ (l : List StoppedPeer).
-      HasHalted past (record { rank = Some (length t.front); fault = fault }) l rest) (sym is)
-      (refuses_more past opened rest stopped back fault halted t.front t.behind t.opens t.stand t.stay t.sound t.safe
+      HasHalted past (record { rank = Some (length t.prefix); fault = fault }) l rest) (sym is)
+      (refuses_more past opened rest stopped back fault halted t.prefix t.behind t.opens t.stand t.stay t.sound t.safe
       t.count halts refuses))
-  tried_refused past opened now all halted behind (Some halt) told stopped back fault rest none is same halts tries
+  tried_refused past opened now all halted behind (Some halt) outputs stopped back fault rest none is same halts tries
       refuses = absurd cc

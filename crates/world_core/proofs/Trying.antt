@@ -19,23 +19,23 @@ use Rattle.world_core.proofs.Sound.{names_set}
 -- ---- lists
 
 module _ {A : Type 0} where
-  pub set_at : (front : List A) (x y : A) (behind : List A)
-      → set (front ++ x ∷ behind) (length front) y ≡ (front ++ y ∷ []) ++ behind
+  pub set_at : (prefix : List A) (x y : A) (behind : List A)
+      → set (prefix ++ x ∷ behind) (length prefix) y ≡ (prefix ++ y ∷ []) ++ behind
   set_at [] x y behind = refl
-  set_at (a ∷ front) x y behind = ap (λ (l : List A). a ∷ l) (set_at front x y behind)
+  set_at (a ∷ prefix) x y behind = ap (λ (l : List A). a ∷ l) (set_at prefix x y behind)
 
   pub length_set : (xs : List A) (i : ℕ) (x : A) → length (set xs i x) ≡ length xs
   length_set [] i x = refl
   length_set (a ∷ xs) zero x = refl
   length_set (a ∷ xs) (suc i) x = ap (λ (n : ℕ). suc n) (length_set xs i x)
 
-  pub get_at : (front : List A) (x : A) (behind : List A) → slice_get (front ++ x ∷ behind) (length front) ≡ Some x
+  pub get_at : (prefix : List A) (x : A) (behind : List A) → slice_get (prefix ++ x ∷ behind) (length prefix) ≡ Some x
   get_at [] x behind = refl
-  get_at (a ∷ front) x behind = get_at front x behind
+  get_at (a ∷ prefix) x behind = get_at prefix x behind
 
-  pub length_push : (front : List A) (x : A) → length (front ++ x ∷ []) ≡ suc (length front)
+  pub length_push : (prefix : List A) (x : A) → length (prefix ++ x ∷ []) ≡ suc (length prefix)
   length_push [] x = refl
-  length_push (a ∷ front) x = ap (λ (n : ℕ). suc n) (length_push front x)
+  length_push (a ∷ prefix) x = ap (λ (n : ℕ). suc n) (length_push prefix x)
 
   drop_taken : (n : ℕ) (xs : List A) → drop n (take n xs) ≡ []
   drop_taken zero xs = refl
@@ -49,30 +49,30 @@ long event zero = refl
 long event (suc n) = length_push (each_rank event n) (event n) ∙ ap (λ (m : ℕ). suc m) (long event n)
 
 -- those up to a rank are the first of them
-front_of : (event : ℕ → Event) (n k : ℕ) (behind : List Event) → k ≤ n
+prefix_of : (event : ℕ → Event) (n k : ℕ) (behind : List Event) → k ≤ n
     → (rest : List Event) × (each_rank event n ++ behind ≡ each_rank event k ++ rest)
-front_of event zero k behind within =
+prefix_of event zero k behind within =
     let none : k ≡ 0 = omega (arith, within) in
     (behind, sym (ap (λ (m : ℕ). each_rank event m ++ behind) none))
-front_of event (suc n) k behind within = elim (cases_lt n k) [
+prefix_of event (suc n) k behind within = elim (cases_lt n k) [
   | inl less ↦
       let all : k ≡ suc n = omega (arith, within, less) in
       (behind, sym (ap (λ (m : ℕ). each_rank event m ++ behind) all))
   | inr more ↦
-      let first = front_of event n k (event n ∷ behind) more in
+      let first = prefix_of event n k (event n ∷ behind) more in
       (first.0, append_assoc (each_rank event n) (event n ∷ []) behind ∙ first.1)
 ]
 
 pub take_places : (event : ℕ → Event) (n k : ℕ) (behind : List Event) → k ≤ n
     → take k (each_rank event n ++ behind) ≡ each_rank event k
 take_places event n k behind within =
-    let first = front_of event n k behind within in
+    let first = prefix_of event n k behind within in
     ap (λ (l : List Event). take k l) first.1 ∙ take_at (each_rank event k) first.0 k (long event k)
 
 pub get_rank : (event : ℕ → Event) (n k : ℕ) (behind : List Event) → k < n
     → slice_get (each_rank event n ++ behind) k ≡ Some (event k)
 get_rank event n k behind within =
-    let first = front_of event n (suc k) behind (omega (arith, within)) in
+    let first = prefix_of event n (suc k) behind (omega (arith, within)) in
     let is : each_rank event n ++ behind ≡ each_rank event k ++ event k ∷ first.0 =
     first.1 ∙ append_assoc (each_rank event k) (event k ∷ []) first.0 in
     ap (λ (l : List Event). slice_get l k) is
@@ -91,7 +91,7 @@ safe_put past rank was now safe here each has = record {
   intake = EachLedger-weaker (KeepsLines past.intake.history past.peers)
       (KeepsLines past.intake.history (set past.peers rank now))
       (λ state keeps. record {
-        front = keeps.front;
+        prefix = keeps.prefix;
         lines = all_set (HasAcknowledged state.mark) past.peers rank now keeps.lines
             (has state.mark (all_at (HasAcknowledged state.mark) past.peers rank was keeps.lines here));
       }) past.intake.log safe.intake;

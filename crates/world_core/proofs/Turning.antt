@@ -9,12 +9,12 @@ use Rattle.world_core.specs.Joined.{AreRunning, MadeOn, RefusedOn, TicksNot, Tic
 use Rattle.world_core.specs.Runs.{OnWorld, RefusesWorld}
 use Rattle.world_core.specs.Sound.{HasNumber}
 use Rattle.world_core.specs.Stands.{StageStands, WorldStands, armed_as}
-use Rattle.world_core.specs.Told.{Said, said_of}
+use Rattle.world_core.specs.Output.{Said, said_of}
 use Rattle.world_core.specs.Turn.{Made, Refused}
 use Rattle.world_core.specs.declared.connection.Connection.{Connection}
 use Rattle.world_core.specs.declared.fault.Fault.{Fault}
 use Rattle.world_core.specs.declared.stations.Stations.{Stations}
-use Rattle.world_core.specs.declared.told.Told.{Told}
+use Rattle.world_core.specs.declared.output.Output.{Output}
 use Rattle.world_core.specs.declared.world.Stage.{Stage}
 use Rattle.world_core.specs.declared.world.Stage.TheVariants.{Running}
 use Rattle.world_core.specs.declared.world.World.{World}
@@ -29,15 +29,15 @@ running_of world life stations conns is stands =
 
 pub made_world : (T : Life → List Said → Life → Type 0) (connected : ℕ) (life : Life) (new : World) (stations : _)
     (conns : Vec Connection Global)
-    (before told : List Told) → life.running ≡ true → before ≡ [] → new.stage ≡ Running stations conns
+    (before outputs : List Output) → life.running ≡ true → before ≡ [] → new.stage ≡ Running stations conns
     → option_map armed_as new.armed ≡ life.armed → new.connected ≡ connected → new.now ≡ life.now
-    → MadeOn T connected life before told stations conns.items → Made (OnWorld T) life told new
-made_world T connected life new stations conns before told running none stage armed same now made = record {
+    → MadeOn T connected life before outputs stations conns.items → Made (OnWorld T) life outputs new
+made_world T connected life new stations conns before outputs running none stage armed same now made = record {
   later = made.later;
   makes = (
     running,
     subst (λ (said : List Said). T life said made.later)
-        (sym (made.told_is ∙ ap (λ (l : List Told). map said_of l ++ made.said) none)) made.makes,
+        (sym (made.outputs_are ∙ ap (λ (l : List Output). map said_of l ++ made.said) none)) made.makes,
   );
   stands = record {
     stage = subst (λ (s : Stage). StageStands made.later s) (sym stage) (
@@ -74,13 +74,13 @@ refused_world R life new fault stations conns running stage armed same now refus
 }
 
 -- the same of a fault that is told on
-pub refused_as : (R : Life → Fault → Life → Type 0) (life : Life) (new : World) (told fault : Fault) (stations : _)
+pub refused_as : (R : Life → Fault → Life → Type 0) (life : Life) (new : World) (outputs fault : Fault) (stations : _)
     (conns : Vec Connection Global)
     → life.running ≡ true → new.stage ≡ Running stations conns → option_map armed_as new.armed ≡ life.armed
     → new.connected ≡ life.connected
-    → new.now ≡ life.now → told ≡ fault → RefusedOn R life fault stations conns.items
-    → Refused (RefusesWorld R) life told new
-refused_as R life new told fault stations conns running stage armed same now is refused =
+    → new.now ≡ life.now → outputs ≡ fault → RefusedOn R life fault stations conns.items
+    → Refused (RefusesWorld R) life outputs new
+refused_as R life new outputs fault stations conns running stage armed same now is refused =
     subst (λ (f : Fault). Refused (RefusesWorld R) life f new) (sym is)
     (refused_world R life new fault stations conns running stage armed same now refused)
 
@@ -109,10 +109,10 @@ running_at now life stations cs running = record {
   };
 }
 
-pub ticked_world : (now : ℕ) (life : Life) (told : List Told) (new : World)
-    → Made (OnWorld (TicksSome (length life.conns))) (at_moment now life) told new
-    → Made (OnWorld (TakesTick now)) life told new
-ticked_world now life told new made = record { later = made.later; makes = made.makes; stands = made.stands }
+pub ticked_world : (now : ℕ) (life : Life) (outputs : List Output) (new : World)
+    → Made (OnWorld (TicksSome (length life.conns))) (at_moment now life) outputs new
+    → Made (OnWorld (TakesTick now)) life outputs new
+ticked_world now life outputs new made = record { later = made.later; makes = made.makes; stands = made.stands }
 
 pub unticked_world : (now : ℕ) (life : Life) (fault : Fault) (new : World) → life.running ≡ true
     → Refused (RefusesWorld TicksNot) (at_moment now life) fault new
@@ -127,12 +127,12 @@ unticked_world now life fault new running refused =
       not.0,
       record {
         count = not.1.count;
-        told = not.1.told;
+        outputs = not.1.outputs;
         mid = not.1.mid;
         id = not.1.fails.id;
         conn = not.1.fails.conn;
         peer = not.1.fails.peer;
-        front = not.1.front;
+        prefix = not.1.prefix;
         next = not.1.fails.next;
         here = not.1.fails.here;
         follows = not.1.fails.follows;

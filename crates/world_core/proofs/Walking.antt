@@ -17,12 +17,12 @@ use Rattle.world_core.specs.Steps.{Good, NotGood, Reading, RefusesFlushing, Refu
 use Rattle.world_core.specs.Steps.{RefusesRotation, RefusesSeal, RefusesShed, TakesFlush, TakesImport, TakesLine}
 use Rattle.world_core.specs.Steps.{TakesPart, TakesReading, TakesRotate, TakesSeal, TakesShed, begun_at, flush_events}
 use Rattle.world_core.specs.Steps.{is_named, owes_from, seal_events}
-use Rattle.world_core.specs.Told.{Said}
+use Rattle.world_core.specs.Output.{Said}
 use Rattle.world_core.specs.declared.fault.Fault.{Fault}
 use Rattle.world_core.specs.declared.step.Step.{Step}
 use Rattle.world_core.specs.declared.step.Step.TheVariants.{Flush, Import, Part, Restart, Rotate, Seal}
 use Rattle.world_core.proofs.ImportEvents.{all_import}
-use Rattle.world_core.proofs.Pure.{all_weaker, both_all, first_all, front_all, last_all}
+use Rattle.world_core.proofs.Pure.{all_weaker, both_all, first_all, prefix_all, last_all}
 use Rattle.world_core.proofs.Shedding.{same_rotated}
 use Rattle.world_core.proofs.Stationed.{same_history}
 
@@ -153,13 +153,13 @@ module _ (keeper : Keeper) where
       → KEEPS was later
   events_keep was _ _ Start on = alike was was refl
   events_keep was later _ (Next events event past _ does one safe) on =
-      joined was past later (events_keep was past events does (front_all ON events (event ∷ []) on))
+      joined was past later (events_keep was past events does (prefix_all ON events (event ∷ []) on))
       (event_does event (last_all ON events event on) past later one)
 
   pub fails_keep : (was later : Past) (events : List Event) (fault : Fault) → AllByRecursion ON events
       → Fails was events fault later → KEEPS was later
   fails_keep was later events fault on fails =
-      joined was fails.mid later (events_keep was fails.mid _ fails.front (first_all ON fails.count events on))
+      joined was fails.mid later (events_keep was fails.mid _ fails.prefix (first_all ON fails.count events on))
       (refused_keeps fails.event fails.mid later fault fails.refused)
 
   tape_events : (was later : Past) (events : List Event) → AllDo was events later → AllByRecursion OnTape events
@@ -173,17 +173,18 @@ module _ (keeper : Keeper) where
 
   -- ---- steps on tapes
 
-  reading_keeps : (reading : Reading) (past later : Past) (told : List Said) → TakesReading reading past told later
+  reading_keeps : (reading : Reading) (past later : Past) (outputs : List Said)
+      → TakesReading reading past outputs later
       → KEEPS past later
-  reading_keeps (Good token id named) past later told (said, (mid, does, changed)) =
+  reading_keeps (Good token id named) past later outputs (said, (mid, does, changed)) =
       joined past mid later (tape_events past mid _ does (owes_on 0 token id named past.peers))
       (alike mid later (ap (λ (p : Past). p.peers) changed))
-  reading_keeps (NotGood fault) past later told (said, changed) =
+  reading_keeps (NotGood fault) past later outputs (said, changed) =
       alike past later (ap (λ (p : Past). p.peers) changed)
 
-  pub line_keeps : (text : List ℕ) (past later : Past) (told : List Said) → TakesLine text past told later
+  pub line_keeps : (text : List ℕ) (past later : Past) (outputs : List Said) → TakesLine text past outputs later
       → KEEPS past later
-  line_keeps text past later told takes = reading_keeps takes.reading past later told takes.takes
+  line_keeps text past later outputs takes = reading_keeps takes.reading past later outputs takes.takes
 
   pub line_refused : (text : List ℕ) (past later : Past) (fault : Fault) → RefusesLine text past fault later
       → KEEPS past later
@@ -192,25 +193,25 @@ module _ (keeper : Keeper) where
   line_refused text past later fault (inr (inr (fits, (token, id, named, reads, fails)))) =
       tape_fails past later _ fault (owes_on 0 token id named past.peers) fails
 
-  pub part_keeps : (name : List ℕ) (past later : Past) (told : List Said) → TakesPart name past told later
+  pub part_keeps : (name : List ℕ) (past later : Past) (outputs : List Said) → TakesPart name past outputs later
       → KEEPS past later
-  part_keeps name past later told (rank, here, does, said) = tape_events past later _ does (tt, tt)
+  part_keeps name past later outputs (rank, here, does, said) = tape_events past later _ does (tt, tt)
 
   pub part_refused : (name : List ℕ) (past later : Past) (fault : Fault) → RefusesPart name past fault later
       → KEEPS past later
   part_refused name past later fault (inl none) = same_keeps past later none.2
   part_refused name past later fault (inr (rank, here, fails)) = tape_fails past later _ fault (tt, tt) fails
 
-  pub seal_keeps : (past later : Past) (told : List Said) → TakesSeal past told later → KEEPS past later
-  seal_keeps past later told (number, may, does, said) = tape_events past later _ does (tt, (tt, tt))
+  pub seal_keeps : (past later : Past) (outputs : List Said) → TakesSeal past outputs later → KEEPS past later
+  seal_keeps past later outputs (number, may, does, said) = tape_events past later _ does (tt, (tt, tt))
 
   pub seal_refused : (past later : Past) (fault : Fault) → RefusesSeal past fault later → KEEPS past later
   seal_refused past later fault (inl none) = same_keeps past later none.2
   seal_refused past later fault (inr (number, may, inl memory)) = same_keeps past later memory.1
   seal_refused past later fault (inr (number, may, inr fails)) = tape_fails past later _ fault (tt, (tt, tt)) fails
 
-  pub flush_keeps : (past later : Past) (told : List Said) → TakesFlush past told later → KEEPS past later
-  flush_keeps past later told (does, said) =
+  pub flush_keeps : (past later : Past) (outputs : List Said) → TakesFlush past outputs later → KEEPS past later
+  flush_keeps past later outputs (does, said) =
       joined past (begun_at past) later (keeps_begun past) (tape_events (begun_at past) later _ does (flush_on past))
 
   pub flush_refused : (past later : Past) (fault : Fault) → RefusesFlushing past fault later → KEEPS past later
@@ -219,9 +220,9 @@ module _ (keeper : Keeper) where
       joined past (begun_at past) later (keeps_begun past)
       (tape_fails (begun_at past) later _ fault (flush_on past) fails)
 
-  pub shed_keeps : (name : List ℕ) (past later : Past) (told : List Said) → TakesShed name past told later
+  pub shed_keeps : (name : List ℕ) (past later : Past) (outputs : List Said) → TakesShed name past outputs later
       → KEEPS past later
-  shed_keeps name past later told (rank, numbers, here, does, said) = tape_events past later _ does (tt, tt)
+  shed_keeps name past later outputs (rank, numbers, here, does, said) = tape_events past later _ does (tt, tt)
 
   pub shed_refused : (name : List ℕ) (past later : Past) (fault : Fault) → RefusesShed name past fault later
       → KEEPS past later
@@ -229,9 +230,9 @@ module _ (keeper : Keeper) where
   shed_refused name past later fault (inr (rank, here, inl memory)) = same_keeps past later memory.1
   shed_refused name past later fault (inr (rank, here, inr fails)) = tape_fails past later _ fault (tt, tt) fails
 
-  pub rotate_keeps : (name : List ℕ) (past later : Past) (told : List Said) → TakesRotate name past told later
+  pub rotate_keeps : (name : List ℕ) (past later : Past) (outputs : List Said) → TakesRotate name past outputs later
       → KEEPS past later
-  rotate_keeps name past later told (rank, generation, here, does, said) = tape_events past later _ does (tt, tt)
+  rotate_keeps name past later outputs (rank, generation, here, does, said) = tape_events past later _ does (tt, tt)
 
   pub rotate_refused : (name : List ℕ) (past later : Past) (fault : Fault) → RefusesRotation name past fault later
       → KEEPS past later
@@ -239,9 +240,9 @@ module _ (keeper : Keeper) where
   rotate_refused name past later fault (inr (rank, here, inl memory)) = same_keeps past later memory.1
   rotate_refused name past later fault (inr (rank, here, inr fails)) = tape_fails past later _ fault (tt, tt) fails
 
-  pub import_keeps : (name text : List ℕ) (past later : Past) (told : List Said)
-      → TakesImport name text past told later → KEEPS past later
-  import_keeps name text past later told (events, is, does, said) =
+  pub import_keeps : (name text : List ℕ) (past later : Past) (outputs : List Said)
+      → TakesImport name text past outputs later → KEEPS past later
+  import_keeps name text past later outputs (events, is, does, said) =
       tape_events past later events does (import_on name text past events is)
 
   pub import_refused : (name text : List ℕ) (past later : Past) (fault : Fault)
@@ -301,7 +302,7 @@ module _ (keeper : Keeper) where
         let calls = calls_keep step life meets.begun meets.events meets.calls in
         joined life.past meets.mid under_way
         (joined life.past meets.begun meets.mid calls.0
-        (events_keep meets.begun meets.mid _ meets.front (first_all ON meets.count meets.events calls.1)))
+        (events_keep meets.begun meets.mid _ meets.prefix (first_all ON meets.count meets.events calls.1)))
         (refused_keeps meets.event meets.mid under_way _ meets.met)
 
     halted_keeps : (manner : Manner) (under_way : Past) (life later : Life) → KEEPS life.past under_way
@@ -310,9 +311,10 @@ module _ (keeper : Keeper) where
         subst (λ (l : Life). KEEPS life.past l.past) (sym changed)
         (joined life.past under_way (left manner under_way) keeps (keeps_left manner under_way))
 
-    pub strikes_keep : (step : Step) (life : Life) (told : List Said) (later : Life) → Strikes step life told later
+    pub strikes_keep : (step : Step) (life : Life) (outputs : List Said) (later : Life)
+        → Strikes step life outputs later
         → KEEPS life.past later.past
-    strikes_keep step life told later strikes =
+    strikes_keep step life outputs later strikes =
         halted_keeps (ByChoice strikes.stop.choice) strikes.under_way life later
         (meets_keeps step life strikes.stop strikes.under_way strikes.meets) strikes.changed
 

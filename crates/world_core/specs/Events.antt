@@ -355,7 +355,7 @@ pub record Fails (begun : Past) (events : List Event) (fault : Fault) (later : P
   pub count : ℕ
   pub mid : Past
   pub event : Event
-  pub front : AllDo begun (take count events) mid
+  pub prefix : AllDo begun (take count events) mid
   pub here : slice_get events count ≡ Some event
   pub refused : Refuses event mid fault later
   pub safe : IsSafe later

@@ -20,11 +20,11 @@ use Rattle.world_core.specs.Past.{ConnPast, Life, Past, PeerPast, TapePast, conn
 use Rattle.world_core.specs.Past.{with_conn, with_past, with_peer, with_tape}
 use Rattle.world_core.specs.Events.{AllDo, Claims, Event, Fails, IsCandidate, Refuses, Returns, Settles}
 use Rattle.world_core.specs.Tapes.{IsReadTape}
-use Rattle.world_core.specs.Told.{Connected, Handed, Output, Said, Settled, closed_said, lines_in, need_said}
+use Rattle.world_core.specs.Output.{Connected, Handed, SentLine, Said, Settled, closed_said, lines_in, need_said}
 use Rattle.world_core.specs.declared.fault.Fault.{Fault}
 use Rattle.world_core.specs.declared.fault.Fault.TheVariants.{CountFull, NoConnection, NoMemory, NoPeer, NotNeeded}
-use Rattle.world_core.specs.declared.told.Handed.{Handed as Handover}
-use Rattle.world_core.specs.declared.told.Handed.TheVariants.{Busy, Closed, Debt, Nothing}
+use Rattle.world_core.specs.declared.output.Handed.{Handed as Handover}
+use Rattle.world_core.specs.declared.output.Handed.TheVariants.{Busy, Closed, Debt, Nothing}
 
 -- ---- what follows a step on a connection
 
@@ -77,18 +77,18 @@ settle_events rank id now outcomes = map (λ (outcome : Outcome). Settles rank i
 abbrev pub exchange_said : Limits → Options → (id now : ℕ) → (was : List Happening) → ConnPast → List Said
 exchange_said limits options id now was conn =
     map (λ (outcome : Outcome). Settled id (key_in outcome) (settled_by limits now outcome)) (unsettled options conn)
-    ++ (map (Output id) (lines_in (output options (told_out options conn).transcript))
+    ++ (map (SentLine id) (lines_in (output options (told_out options conn).transcript))
     ++ (need_said id (need options (told_out options conn).transcript)
     ++ closed_said id (reason options was) (reason options (told_out options conn).transcript)))
 
 -- The connection is this now, and had that transcript before the step: what follows has come about, and is told.
-pub record Follows (id : ℕ) (was : List Happening) (conn : ConnPast) (life : Life) (told : List Said) (later : Life) :
+pub record Follows (id : ℕ) (was : List Happening) (conn : ConnPast) (life : Life) (outputs : List Said) (later : Life) :
     Type 0 where
   pub peer : PeerPast
   pub here : slice_get life.past.peers conn.rank ≡ Some peer
   pub past : Past
   pub settles : AllDo life.past (settle_events conn.rank id life.now (unsettled (options_of peer.conf) conn)) past
-  pub told_is : told ≡ exchange_said (limits_of peer.conf) (options_of peer.conf) id life.now was conn
+  pub outputs_are : outputs ≡ exchange_said (limits_of peer.conf) (options_of peer.conf) id life.now was conn
   pub changed : later ≡ with_conn (with_past life past) id (followed_up (options_of peer.conf) conn)
 
 -- Why no outcome of these goes to the peer at this rank any more, and what this makes of the connection: memory is
@@ -118,11 +118,11 @@ pub record FollowsNot (id : ℕ) (conn : ConnPast) (life : Life) (fault : Fault)
 abbrev pub fresh_conn : ℕ → ConnPast
 fresh_conn rank = record { rank = rank; unread = []; transcript = []; settled = 0 }
 
-pub record TakesConnect (name : List ℕ) (life : Life) (told : List Said) (later : Life) : Type 0 where
+pub record TakesConnect (name : List ℕ) (life : Life) (outputs : List Said) (later : Life) : Type 0 where
   pub rank : ℕ
   pub here : rank_of life.past name ≡ Some rank
   pub fits : life.connected + 1 < 2 ^ 64
-  pub told_is : told ≡ Connected (life.connected + 1) name ∷ []
+  pub outputs_are : outputs ≡ Connected (life.connected + 1) name ∷ []
   pub changed : later ≡ record life {
     conns = life.conns ++ (life.connected + 1, fresh_conn rank) ∷ [];
     connected = life.connected + 1;
@@ -165,7 +165,7 @@ pub record IsConn (id : ℕ) (life : Life) (conn : ConnPast) (peer : PeerPast) :
   pub conn_is : conn_at life.conns id ≡ Some conn
   pub peer_is : slice_get life.past.peers conn.rank ≡ Some peer
 
-pub record TakesHand (id : ℕ) (life : Life) (told : List Said) (later : Life) : Type 0 where
+pub record TakesHand (id : ℕ) (life : Life) (outputs : List Said) (later : Life) : Type 0 where
   pub conn : ConnPast
   pub peer : PeerPast
   pub is : IsConn id life conn peer
@@ -175,7 +175,7 @@ pub record TakesHand (id : ℕ) (life : Life) (told : List Said) (later : Life) 
   pub hands : HandsOver id life.now conn peer life.past handed transcript past
   pub behind : List Said
   pub follows : Follows id conn.transcript (with_transcript conn transcript) (with_past life past) behind later
-  pub told_is : told ≡ Handed id handed ∷ behind
+  pub outputs_are : outputs ≡ Handed id handed ∷ behind
 
 -- Memory was refused for what it tells; or the claim was; or the offer was refused memory, and the debt is given
 -- back; or what follows was refused.
@@ -193,14 +193,14 @@ FailsToHand id life conn peer fault later =
 
 -- ---- octets come in
 
-pub record TakesBytes (id : ℕ) (octets : List ℕ) (life : Life) (told : List Said) (later : Life) : Type 0 where
+pub record TakesBytes (id : ℕ) (octets : List ℕ) (life : Life) (outputs : List Said) (later : Life) : Type 0 where
   pub conn : ConnPast
   pub peer : PeerPast
   pub is : IsConn id life conn peer
   pub transcript : List Happening
   pub left : List ℕ
   pub receives : Receives (options_of peer.conf) (conn.unread ++ octets) conn.transcript transcript left
-  pub follows : Follows id conn.transcript (record conn { unread = left; transcript = transcript }) life told later
+  pub follows : Follows id conn.transcript (record conn { unread = left; transcript = transcript }) life outputs later
 
 -- Memory was refused to the reader: some of the whole replies were taken, and the connection is broken, of which no
 -- outcome is taken; or what follows was refused.
@@ -215,7 +215,7 @@ FailsToRead id octets life conn peer fault later =
 
 -- ---- an article is handed in
 
-pub record TakesArticle (id : ℕ) (found : Found) (life : Life) (told : List Said) (later : Life) : Type 0 where
+pub record TakesArticle (id : ℕ) (found : Found) (life : Life) (outputs : List Said) (later : Life) : Type 0 where
   pub conn : ConnPast
   pub peer : PeerPast
   pub is : IsConn id life conn peer
@@ -224,7 +224,7 @@ pub record TakesArticle (id : ℕ) (found : Found) (life : Life) (told : List Sa
   pub wanted : need (options_of peer.conf) conn.transcript ≡ Some number
   pub handed : IsHandedAs found handing
   pub follows : Follows id conn.transcript
-      (with_transcript conn (after (options_of peer.conf) conn.transcript (HandedIn number handing))) life told later
+      (with_transcript conn (after (options_of peer.conf) conn.transcript (HandedIn number handing))) life outputs later
 
 abbrev pub FailsToSupply : ℕ → Found → Life → ConnPast → PeerPast → Fault → Life → Type 0
 FailsToSupply id found life conn peer fault later =
@@ -242,11 +242,11 @@ abbrev pub broken_off : PeerPast → ConnPast → ConnPast
 broken_off peer conn =
     record conn { unread = []; transcript = outside (options_of peer.conf) conn.transcript Broke }
 
-pub record TakesBreak (id : ℕ) (life : Life) (told : List Said) (later : Life) : Type 0 where
+pub record TakesBreak (id : ℕ) (life : Life) (outputs : List Said) (later : Life) : Type 0 where
   pub conn : ConnPast
   pub peer : PeerPast
   pub is : IsConn id life conn peer
-  pub follows : Follows id conn.transcript (broken_off peer conn) life told later
+  pub follows : Follows id conn.transcript (broken_off peer conn) life outputs later
 
 abbrev pub FailsToBreak : ℕ → Life → ConnPast → PeerPast → Fault → Life → Type 0
 FailsToBreak id life conn peer fault later = FollowsNot id (broken_off peer conn) life fault later
@@ -275,24 +275,24 @@ ticked now peer conn = record conn {
 -- turn
 pub data TicksEach (begun : Life) : ℕ → List Said → Life → Type 0 where
   Start : TicksEach begun 0 [] begun
-  Next : (count : ℕ) (told more : List Said) (mid later : Life) (id : ℕ) (conn : ConnPast) (peer : PeerPast)
-      → TicksEach begun count told mid → slice_get mid.conns count ≡ Some (id, conn)
+  Next : (count : ℕ) (outputs more : List Said) (mid later : Life) (id : ℕ) (conn : ConnPast) (peer : PeerPast)
+      → TicksEach begun count outputs mid → slice_get mid.conns count ≡ Some (id, conn)
       → slice_get mid.past.peers conn.rank ≡ Some peer
       → Follows id conn.transcript (ticked mid.now peer conn) mid more later
-      → TicksEach begun (count + 1) (told ++ more) later
+      → TicksEach begun (count + 1) (outputs ++ more) later
 
 abbrev pub TakesTick : ℕ → Life → List Said → Life → Type 0
-TakesTick now life told later = TicksEach (at_moment now life) (length life.conns) told later
+TakesTick now life outputs later = TicksEach (at_moment now life) (length life.conns) outputs later
 
 -- so many were, and what follows was refused of the next
 pub record RefusesTick (now : ℕ) (life : Life) (fault : Fault) (later : Life) : Type 0 where
   pub count : ℕ
-  pub told : List Said
+  pub outputs : List Said
   pub mid : Life
   pub id : ℕ
   pub conn : ConnPast
   pub peer : PeerPast
-  pub front : TicksEach (at_moment now life) count told mid
+  pub prefix : TicksEach (at_moment now life) count outputs mid
   pub next : slice_get mid.conns count ≡ Some (id, conn)
   pub here : slice_get mid.past.peers conn.rank ≡ Some peer
   pub follows : FollowsNot id (ticked mid.now peer conn) mid fault later

@@ -11,7 +11,7 @@ use Rattle.world_core.specs.Events.{AllDo, Event, Fails, Opens, OpensIntake, Par
 use Rattle.world_core.specs.Events.{each_rank}
 use Rattle.world_core.specs.Imports.{IsImport}
 use Rattle.world_core.specs.Steps.{IsSealable, begun_at, flush_events, seal_events}
-use Rattle.world_core.specs.Told.{Said, Stopped, mark_said}
+use Rattle.world_core.specs.Output.{Said, Stopped, mark_said}
 use Rattle.world_core.specs.declared.fault.Fault.{Fault}
 use Rattle.world_core.specs.declared.fault.Fault.TheVariants.{NoMemory, NoPeer, Running, Stopped as HasStopped, Tape}
 use Rattle.world_core.specs.declared.step.Step.{Step}
@@ -72,10 +72,10 @@ armed_with stop life = record life { armed = Some stop }
 
 -- at call 0 all stops at rest; else a stop is armed
 abbrev pub TakesStop : Option (List ℕ) → ℕ → Choice → Life → List Said → Life → Type 0
-TakesStop peer zero choice life told later =
-    (life.running ≡ true) × (told ≡ Stopped ∷ []) × (later ≡ halted AtRest life.past life)
-TakesStop peer (suc calls) choice life told later =
-    (rank : Option ℕ) × IsTapeOf life.past peer rank × (told ≡ [])
+TakesStop peer zero choice life outputs later =
+    (life.running ≡ true) × (outputs ≡ Stopped ∷ []) × (later ≡ halted AtRest life.past life)
+TakesStop peer (suc calls) choice life outputs later =
+    (rank : Option ℕ) × IsTapeOf life.past peer rank × (outputs ≡ [])
     × (later ≡ armed_with (record { rank = rank; call = suc calls; choice = choice }) life)
 
 -- all has stopped before, or there is no memory; or no peer has the name
@@ -91,11 +91,11 @@ RefusesStop peer (suc calls) life fault later =
 abbrev pub restart_events : Past → List Event
 restart_events past = each_rank Opens (length past.peers) ++ OpensIntake ∷ []
 
-pub record TakesRestart (life : Life) (told : List Said) (later : Life) : Type 0 where
+pub record TakesRestart (life : Life) (outputs : List Said) (later : Life) : Type 0 where
   pub stopped : life.running ≡ false
   pub past : Past
   pub opens : AllDo life.past (restart_events life.past) past
-  pub told_is : told ≡ map mark_said past.peers
+  pub outputs_are : outputs ≡ map mark_said past.peers
   pub changed : later ≡ record life { past = past; running = true }
 
 -- an opening was refused, those before it stand; or memory was, behind any of them
@@ -154,18 +154,18 @@ pub record Meets (step : Step) (life : Life) (stop : Armed) (under_way : Past) :
   pub count : ℕ
   pub mid : Past
   pub event : Event
-  pub front : AllDo begun (take count events) mid
+  pub prefix : AllDo begun (take count events) mid
   pub here : slice_get events count ≡ Some event
   pub at_tape : calls_disk event ≡ Some stop.rank
   pub met : Refuses event mid (Tape Disk) under_way
   pub before : IsSafe under_way
 
 -- then each disk, also of the tapes that were at rest, is left by the stop's choice, and the step tells that alone
-pub record Strikes (step : Step) (life : Life) (told : List Said) (later : Life) : Type 0 where
+pub record Strikes (step : Step) (life : Life) (outputs : List Said) (later : Life) : Type 0 where
   pub stop : Armed
   pub under_way : Past
   pub meets : Meets step life stop under_way
-  pub told_is : told ≡ Stopped ∷ []
+  pub outputs_are : outputs ≡ Stopped ∷ []
   pub changed : later ≡ halted (ByChoice stop.choice) under_way life
 
 -- or, where there is no memory for what the choice leaves, all has stopped as at rest

@@ -67,7 +67,7 @@ module _ {D : Type 0} {g : Ghosts D} where
   -- or nothing was, since its tape is broken
   pub record BrokeAt (past : Past) (rank : ℕ) (fault : Fault) (stations : Stations D g) : Type 0 where
     pub broken : IsBrokenAt past rank
-    pub told : fault ≡ Tape Broken
+    pub fault_is : fault ≡ Tape Broken
     pub stands : Stands stations past
 
   -- there is room, unless its tape is broken

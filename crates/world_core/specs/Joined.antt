@@ -7,11 +7,11 @@ use Rattle.world_core.specs.Exchange.{Follows, FollowsNot, RefusesOn, TicksEach,
 use Rattle.world_core.specs.Pairs.{Tells}
 use Rattle.world_core.specs.Sound.{AreTied}
 use Rattle.world_core.specs.Stands.{ConnectionStands, Stands}
-use Rattle.world_core.specs.Told.{Said}
+use Rattle.world_core.specs.Output.{Said}
 use Rattle.world_core.specs.declared.connection.Connection.{Connection}
 use Rattle.world_core.specs.declared.fault.Fault.{Fault}
 use Rattle.world_core.specs.declared.stations.Stations.{Stations}
-use Rattle.world_core.specs.declared.told.Told.{Told}
+use Rattle.world_core.specs.declared.output.Output.{Output}
 
 -- a step on the connection of this number is refused so
 abbrev pub RefusesAct : ℕ → (Life → ConnPast → PeerPast → Fault → Life → Type 0) → Life → Fault → Life → Type 0
@@ -26,16 +26,16 @@ FoundConn life id (Some at) =
 
 -- so many connections were told the moment
 abbrev pub TicksSome : ℕ → Life → List Said → Life → Type 0
-TicksSome count life told later = TicksEach life count told later
+TicksSome count life outputs later = TicksEach life count outputs later
 
 -- the connection that stands there was
-pub record TicksOne (index : ℕ) (life : Life) (told : List Said) (later : Life) : Type 0 where
+pub record TicksOne (index : ℕ) (life : Life) (outputs : List Said) (later : Life) : Type 0 where
   pub id : ℕ
   pub conn : ConnPast
   pub peer : PeerPast
   pub next : slice_get life.conns index ≡ Some (id, conn)
   pub here : slice_get life.past.peers conn.rank ≡ Some peer
-  pub follows : Follows id conn.transcript (ticked life.now peer conn) life told later
+  pub follows : Follows id conn.transcript (ticked life.now peer conn) life outputs later
 
 -- what follows of that was refused
 pub record TicksOneNot (index : ℕ) (life : Life) (fault : Fault) (later : Life) : Type 0 where
@@ -49,9 +49,9 @@ pub record TicksOneNot (index : ℕ) (life : Life) (fault : Fault) (later : Life
 -- so many were, and what follows was refused of the next
 pub record TicksNot (life : Life) (fault : Fault) (later : Life) : Type 0 where
   pub count : ℕ
-  pub told : List Said
+  pub outputs : List Said
   pub mid : Life
-  pub front : TicksEach life count told mid
+  pub prefix : TicksEach life count outputs mid
   pub fails : TicksOneNot count mid fault later
 
 module _ {D : Type 0} {g : Ghosts D} where
@@ -63,12 +63,12 @@ module _ {D : Type 0} {g : Ghosts D} where
     pub tied : AreTied life
 
   -- a step makes this of the world, of whose connections this is the last number, and tells this
-  pub record MadeOn (T : Life → List Said → Life → Type 0) (connected : ℕ) (life : Life) (before told : List Told)
+  pub record MadeOn (T : Life → List Said → Life → Type 0) (connected : ℕ) (life : Life) (before outputs : List Output)
       (stations : Stations D g) (connections : List Connection) : Type 0 where
     pub later : Life
     pub said : List Said
     pub makes : T life said later
-    pub told_is : Tells before said told
+    pub outputs_are : Tells before said outputs
     pub stand : AreRunning later stations connections
     pub armed : later.armed ≡ life.armed
     pub connected_is : later.connected ≡ connected

@@ -5,7 +5,7 @@ use Rattle.ledger_core.specs.State.{Owing, State}
 use Rattle.ledger_core.specs.declared.note.FinalCode.{FinalCode}
 use Rattle.ledger_core.specs.declared.note.Note.{Note}
 use Rattle.ledger_core.specs.declared.note.Note.TheVariants.{Final, Owe}
-use Rattle.recovery.specs.Leaving.{EachLedger, IsFront, MayLeave}
+use Rattle.recovery.specs.Leaving.{EachLedger, IsPrefix, MayLeave}
 use Rattle.conn_core.specs.History.{End, accepted, ends}
 use Rattle.conn_core.specs.Stands.{Arises}
 use Rattle.conn_core.specs.declared.outcome.Outcome.TheVariants.{Final as FinalOutcome}
@@ -18,7 +18,7 @@ use Rattle.world_core.specs.Exchange.{IsConn}
 use Rattle.world_core.specs.Runs.{RefusesStep, Takes}
 use Rattle.world_core.specs.Safe.{IsSafe}
 use Rattle.world_core.specs.Sound.{IsSoundLife}
-use Rattle.world_core.specs.Told.{Said}
+use Rattle.world_core.specs.Output.{Said}
 use Rattle.world_core.specs.declared.fault.Fault.{Fault}
 use Rattle.world_core.specs.declared.step.Step.{Step}
 use Rattle.world_core.specs.declared.step.Step.TheVariants.{Hand}
@@ -28,10 +28,10 @@ use Rattle.world_core.specs.declared.step.Step.TheVariants.{Hand}
 -- world is sound, and whatever a stop leaves is safe.
 pub data Comes (begun : Life) : List Step → List (List Said) → Life → Type 0 where
   No_step : IsSafe begun.past → IsSoundLife begun → Comes begun [] [] begun
-  Step_taken : (steps : List Step) (step : Step) (lines : List (List Said)) (told : List Said) (life later : Life)
+  Step_taken : (steps : List Step) (step : Step) (lines : List (List Said)) (outputs : List Said) (life later : Life)
       → Comes begun steps lines life
-      → Takes step life told later → IsSafe later.past → IsSoundLife later
-      → Comes begun (steps ++ step ∷ []) (lines ++ told ∷ []) later
+      → Takes step life outputs later → IsSafe later.past → IsSoundLife later
+      → Comes begun (steps ++ step ∷ []) (lines ++ outputs ∷ []) later
   Step_refused : (steps : List Step) (step : Step) (lines : List (List Said)) (fault : Fault) (life later : Life)
       → Comes begun steps lines life
       → RefusesStep step life fault later → IsSafe later.past → IsSoundLife later
@@ -48,7 +48,7 @@ OverRuns R = (begun later : Life) (steps : List Step) (lines : List (List Said))
 pub record StaysAcknowledged (was now : TapePast) : Type 0 where
   pub base : now.history.base ≡ was.history.base
   pub more : List Note
-  pub front : take now.history.kept now.history.notes ≡ take was.history.kept was.history.notes ++ more
+  pub prefix : take now.history.kept now.history.notes ≡ take was.history.kept was.history.notes ++ more
 
 pub record AllStayAcknowledged (begun later : Life) : Type 0 where
   pub peers : AllZip (λ (was now : PeerPast). (now.conf ≡ was.conf) × StaysAcknowledged was.tape now.tape)
@@ -147,16 +147,16 @@ HasEnded peer number = (note : Note) × Contains peer.tape.history.notes note ×
 pub record StillOwes (was now : PeerPast) : Type 0 where
   pub owed : (index number : ℕ) (token id : List ℕ)
       → slice_get was.tape.history.notes index ≡ Some (Owe number token id)
-      → index < was.tape.history.kept → (state : State) → IsFront now.tape.history state
+      → index < was.tape.history.kept → (state : State) → IsPrefix now.tape.history state
       → Contains state.debts (number, (token, id)) ⊎ HasEnded now number
   pub given : (number : ℕ) (token id : List ℕ) → Contains was.tape.history.base.debts (number, (token, id))
-      → (state : State) → IsFront now.tape.history state
+      → (state : State) → IsPrefix now.tape.history state
       → Contains state.debts (number, (token, id)) ⊎ HasEnded now number
 
 -- Whatever a stop may leave of the peer's tape is a tape, that of the first of its notes, every acknowledged one among
 -- them; and there each debt that was acknowledged is owed still, or has ended.
 pub record IsRecovered (was now : PeerPast) : Type 0 where
-  pub front : EachLedger (IsFront now.tape.history) now.tape.log
+  pub prefix : EachLedger (IsPrefix now.tape.history) now.tape.log
   pub owes : StillOwes was now
 
 abbrev pub AllAreRecovered : Life → Life → Type 0

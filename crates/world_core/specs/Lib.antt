@@ -1,6 +1,6 @@
 pub mod Past
 pub mod Safe
-pub mod Told
+pub mod Output
 pub mod Tapes
 pub mod Events
 pub mod Imports

@@ -16,7 +16,7 @@ use Rattle.world_core.specs.Laws.{Comes, HasEnded, IsAcknowledgedLine}
 use Rattle.world_core.specs.Moments.{IsUnderWay}
 use Rattle.world_core.specs.Runs.{Takes}
 use Rattle.world_core.specs.Steps.{is_named}
-use Rattle.world_core.specs.Told.{Bad, Owed, Said}
+use Rattle.world_core.specs.Output.{Bad, Owed, Said}
 use Rattle.world_core.specs.declared.step.Step.{Step}
 use Rattle.world_core.specs.declared.step.Step.TheVariants.{Line}
 
@@ -62,8 +62,8 @@ new_to number named (peer ∷ peers) =
 -- the names at which `new` is told
 abbrev pub told_new : List (List ℕ × Answer) → List (List ℕ)
 told_new [] = []
-told_new ((name, New) ∷ told) = name ∷ told_new told
-told_new ((name, Already) ∷ told) = told_new told
+told_new ((name, New) ∷ outputs) = name ∷ told_new outputs
+told_new ((name, Already) ∷ outputs) = told_new outputs
 
 -- what it makes of a peer: a note more and a debt that is ready, or nothing
 abbrev pub read_at : ℕ → List ℕ → List ℕ → List (List ℕ) → PeerPast → PeerPast
@@ -79,22 +79,22 @@ read_by number token id named past = record past {
 
 -- A good line was read under this number: `new` is told of exactly those peers that it names whose mark is below the
 -- number, each of which owes it now, and nothing changes at the others.
-pub record WasRead (number : ℕ) (text : List ℕ) (life : Life) (told : List Said) (later : Life) : Type 0 where
+pub record WasRead (number : ℕ) (text : List ℕ) (life : Life) (outputs : List Said) (later : Life) : Type 0 where
   pub token : List ℕ
   pub id : List ℕ
   pub named : List (List ℕ)
   pub reads : IsFunnelLine text token id named
   pub answers : List (List ℕ × Answer)
-  pub tells : told ≡ Owed number answers ∷ []
+  pub tells : outputs ≡ Owed number answers ∷ []
   pub new : told_new answers ≡ new_to number named life.past.peers
   pub changed : later ≡ with_past life (read_by number token id named life.past)
 
 -- A line that is not good changes nothing at any peer.
-pub record WasBad (number : ℕ) (life : Life) (told : List Said) (later : Life) : Type 0 where
+pub record WasBad (number : ℕ) (life : Life) (outputs : List Said) (later : Life) : Type 0 where
   pub fault : LineFault
-  pub tells : told ≡ Bad number fault ∷ []
+  pub tells : outputs ≡ Bad number fault ∷ []
   pub changed : later ≡ with_past life (with_last life.past number)
 
 abbrev pub LinesAreReadAgain : Type 0
-LinesAreReadAgain = (life later : Life) (told : List Said) (text : Vec ℕ) → Takes (Line text) life told later
-    → WasRead (life.past.last + 1) text.items life told later ⊎ WasBad (life.past.last + 1) life told later
+LinesAreReadAgain = (life later : Life) (outputs : List Said) (text : Vec ℕ) → Takes (Line text) life outputs later
+    → WasRead (life.past.last + 1) text.items life outputs later ⊎ WasBad (life.past.last + 1) life outputs later

@@ -11,10 +11,10 @@ use Rattle.peer_queue.specs.declared.limits.Owed.{Owed as Answer}
 use Rattle.peer_queue.specs.declared.limits.Owed.TheVariants.{New, Already}
 use Rattle.peer_queue.specs.declared.settled.Settled.{Settled as Settling}
 use Rattle.peer_queue.specs.declared.settled.Settled.TheVariants.{Answered, Dropped, Later, Ready}
-use Rattle.world_core.specs.Told.{Bad, Closed, Connected, Handed, Imported, Mark, Need, Output, Owed, Rotated, Said}
-use Rattle.world_core.specs.Told.{Settled, Shed, Stopped, Taken}
-use Rattle.world_core.specs.declared.told.Handed.{Handed as Handover}
-use Rattle.world_core.specs.declared.told.Handed.TheVariants.{Busy, Closed as HasClosed, Debt, Nothing}
+use Rattle.world_core.specs.Output.{Bad, Closed, Connected, Handed, Imported, Mark, Need, SentLine, Owed, Rotated, Said}
+use Rattle.world_core.specs.Output.{Settled, Shed, Stopped, Taken}
+use Rattle.world_core.specs.declared.output.Handed.{Handed as Handover}
+use Rattle.world_core.specs.declared.output.Handed.TheVariants.{Busy, Closed as HasClosed, Debt, Nothing}
 
 -- a peer that a line names
 abbrev pub owed_text : List ℕ × Answer → List ℕ
@@ -51,22 +51,22 @@ keys_text [] = codes " -"
 keys_text (key ∷ rest) = flat_map (λ (k : ℕ). 32 ∷ key_text k) (key ∷ rest)
 
 -- what is told, without its LF; a connection is told as c and its number
-abbrev pub told_text : Said → List ℕ
-told_text (Owed number peers) = decimal number ++ flat_map owed_text peers
-told_text (Bad number fault) = decimal number ++ codes " bad " ++ line_fault_name fault
-told_text (Taken mark) = codes "taken " ++ decimal mark
-told_text (Connected connection name) = 99 ∷ decimal connection ++ 32 ∷ name
-told_text (Handed connection handed) = 99 ∷ decimal connection ++ handed_text handed
-told_text (Settled connection key settled) = 99 ∷ decimal connection ++ settled_text key settled
-told_text (Output connection line) = 99 ∷ decimal connection ++ 62 ∷ line
-told_text (Need connection key) = 99 ∷ decimal connection ++ codes " need " ++ key_text key
-told_text (Closed connection reason) = 99 ∷ decimal connection ++ codes " closed " ++ reason_text reason
-told_text (Shed name keys) = name ++ codes " shed" ++ keys_text keys
-told_text (Rotated name generation) = name ++ codes " rotated " ++ decimal generation
-told_text (Imported name source new) = name ++ codes " imported " ++ decimal source ++ 32 ∷ decimal new
-told_text Stopped = codes "stopped"
-told_text (Mark name mark owes) = name ++ codes " mark " ++ decimal mark ++ codes " owes" ++ keys_text owes
+abbrev pub output_text : Said → List ℕ
+output_text (Owed number peers) = decimal number ++ flat_map owed_text peers
+output_text (Bad number fault) = decimal number ++ codes " bad " ++ line_fault_name fault
+output_text (Taken mark) = codes "taken " ++ decimal mark
+output_text (Connected connection name) = 99 ∷ decimal connection ++ 32 ∷ name
+output_text (Handed connection handed) = 99 ∷ decimal connection ++ handed_text handed
+output_text (Settled connection key settled) = 99 ∷ decimal connection ++ settled_text key settled
+output_text (SentLine connection line) = 99 ∷ decimal connection ++ 62 ∷ line
+output_text (Need connection key) = 99 ∷ decimal connection ++ codes " need " ++ key_text key
+output_text (Closed connection reason) = 99 ∷ decimal connection ++ codes " closed " ++ reason_text reason
+output_text (Shed name keys) = name ++ codes " shed" ++ keys_text keys
+output_text (Rotated name generation) = name ++ codes " rotated " ++ decimal generation
+output_text (Imported name source new) = name ++ codes " imported " ++ decimal source ++ 32 ∷ decimal new
+output_text Stopped = codes "stopped"
+output_text (Mark name mark owes) = name ++ codes " mark " ++ decimal mark ++ codes " owes" ++ keys_text owes
 
 -- the line of what is told
 abbrev pub line_text : Said → List ℕ
-line_text said = told_text said ++ 10 ∷ []
+line_text said = output_text said ++ 10 ∷ []

@@ -3,14 +3,14 @@ use Rattle.std.specs.Prelude.{◌≡◌, ◌⊎◌, ℕ, true, Some, List, [], �
 use Rattle.std.specs.List.{AllZip}
 use Rattle.disk_model.specs.declared.choice.Choice.{Choice}
 use Rattle.recovery.specs.Image.{Log}
-use Rattle.recovery.specs.Leaving.{IsFront, LedgersLeave, left_by}
+use Rattle.recovery.specs.Leaving.{IsPrefix, LedgersLeave, left_by}
 use Rattle.world_core.specs.Past.{Life, Past, PeerPast, rank_of}
 use Rattle.world_core.specs.Events.{AllDo, Does, Event, Refuses, Rotates}
 use Rattle.world_core.specs.Halts.{CallsDisks}
 use Rattle.world_core.specs.Laws.{Comes, StillOwes}
 use Rattle.world_core.specs.Runs.{RefusesStep, Takes}
 use Rattle.world_core.specs.Safe.{KeepsLines}
-use Rattle.world_core.specs.Told.{Said}
+use Rattle.world_core.specs.Output.{Said}
 use Rattle.world_core.specs.declared.fault.Fault.{Fault}
 use Rattle.world_core.specs.declared.step.Step.{Step}
 use Rattle.world_core.specs.declared.step.Step.TheVariants.{Rotate}
@@ -29,15 +29,15 @@ pub record IsUnderWay (step : Step) (life : Life) (was now : Past) : Type 0 wher
   pub events : List Event
   pub may : MayMake step life begun events
   pub count : ℕ
-  pub front : AllDo begun (take count events) was
+  pub prefix : AllDo begun (take count events) was
   pub event : Event
   pub here : slice_get events count ≡ Some event
   pub makes : Does event was now ⊎ ((fault : Fault) × Refuses event was fault now)
 
 -- At each moment from the first of these to the second, whatever a stop may leave of a peer's tape is a tape, that of
 -- the first of the notes that it had before, every acknowledged one among them.
-abbrev pub StaysFront : PeerPast → PeerPast → Type 0
-StaysFront old new = LedgersLeave (IsFront old.tape.history) old.tape.log new.tape.log
+abbrev pub StaysPrefix : PeerPast → PeerPast → Type 0
+StaysPrefix old new = LedgersLeave (IsPrefix old.tape.history) old.tape.log new.tape.log
 
 -- so it is of the intake's tape; and each note that a line up to its mark made is acknowledged at its peer
 abbrev pub StaysBelow : Past → Past → Type 0
@@ -47,7 +47,7 @@ StaysBelow was now =
 -- So it is of every tape while an event makes these tapes of those; and there each debt that was acknowledged in the
 -- world that was begun with is owed still, or has ended.
 pub record AreRecoveredWithin (begun was now : Past) : Type 0 where
-  pub fronts : AllZip StaysFront was.peers now.peers
+  pub prefixes : AllZip StaysPrefix was.peers now.peers
   pub owes : AllZip StillOwes begun.peers was.peers
   pub lines : StaysBelow was now
 
@@ -62,7 +62,7 @@ AllMomentsAreRecovered = (begun life : Life) (steps : List Step) (lines : List (
 -- the step was taken, or refused
 abbrev pub Ended : Step → Life → Life → Type 0
 Ended step life later =
-    ((told : List Said) × Takes step life told later) ⊎ ((fault : Fault) × RefusesStep step life fault later)
+    ((outputs : List Said) × Takes step life outputs later) ⊎ ((fault : Fault) × RefusesStep step life fault later)
 
 -- this has happened to the disks of the peer at this rank
 abbrev pub HasLog : Past → ℕ → Log → Type 0

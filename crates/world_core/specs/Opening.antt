@@ -41,11 +41,11 @@ pub record OpensNot (past : Past) (halt : Halt) (stopped : List StoppedPeer) (di
 -- behind, of which these are left.
 pub record HasHalted (past : Past) (halt : Halt) (stopped rest : List StoppedPeer) : Type 0 where
   pub under_way : Past
-  pub front : List PeerPast
+  pub prefix : List PeerPast
   pub behind : List PeerPast
-  pub all : under_way.peers ≡ front ++ behind
+  pub all : under_way.peers ≡ prefix ++ behind
   pub fails : FailsAt past (restart_events past) halt under_way
-  pub stand : AllZip StoppedStands (map (left_peer AtRest) front) stopped
+  pub stand : AllZip StoppedStands (map (left_peer AtRest) prefix) stopped
   pub stay : AllZip StoppedStands behind rest
   pub sound : IsSound under_way
   pub intake : under_way.intake ≡ past.intake
@@ -60,15 +60,15 @@ module _ {D : Type 0} {g : Ghosts D} where
 
   -- so many peers were opened, and these are left
   pub record HasOpened (past : Past) (opened : List (Peer D g)) (rest : List StoppedPeer) : Type 0 where
-    pub front : List PeerPast
+    pub prefix : List PeerPast
     pub behind : List PeerPast
-    pub opens : AllDo past (each_rank Opens (length front)) (with_peers past (front ++ behind))
-    pub stand : AllZip PeerStands front opened
+    pub opens : AllDo past (each_rank Opens (length prefix)) (with_peers past (prefix ++ behind))
+    pub stand : AllZip PeerStands prefix opened
     pub stay : AllZip StoppedStands behind rest
-    pub sound : IsSound (with_peers past (front ++ behind))
-    pub safe : IsSafe (with_peers past (front ++ behind))
-    pub free : AllByRecursion HasNoneHeld front
-    pub count : length (front ++ behind) ≡ length past.peers
+    pub sound : IsSound (with_peers past (prefix ++ behind))
+    pub safe : IsSafe (with_peers past (prefix ++ behind))
+    pub free : AllByRecursion HasNoneHeld prefix
+    pub count : length (prefix ++ behind) ≡ length past.peers
 
   abbrev pub HasTried : Past → List (Peer D g) → List StoppedPeer → Option Halt → List StoppedPeer → Type 0
   HasTried past opened stopped None rest = (stopped ≡ []) × HasOpened past opened rest

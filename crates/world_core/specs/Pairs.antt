@@ -23,14 +23,14 @@ use Rattle.world_core.specs.Exchange.{all_out, exchange_said, followed_up, one_o
 use Rattle.world_core.specs.Exchange.{with_transcript}
 use Rattle.world_core.specs.Sound.{numbers_at}
 use Rattle.world_core.specs.Stands.{HoldsTranscript, PeerStands, WaitsWith}
-use Rattle.world_core.specs.Told.{Handed as SaidHanded, Said, Settled, said_of}
+use Rattle.world_core.specs.Output.{Handed as SaidHanded, Said, Settled, said_of}
 use Rattle.world_core.specs.declared.connection.Connection.{Connection}
 use Rattle.world_core.specs.declared.fault.Fault.{Fault}
 use Rattle.world_core.specs.declared.fault.Fault.TheVariants.{NoMemory, NotNeeded}
 use Rattle.world_core.specs.declared.peer.Peer.{Peer}
-use Rattle.world_core.specs.declared.told.Handed.{Handed as Handover}
-use Rattle.world_core.specs.declared.told.Handed.TheVariants.{Busy, Closed, Debt, Nothing}
-use Rattle.world_core.specs.declared.told.Told.{Told}
+use Rattle.world_core.specs.declared.output.Handed.{Handed as Handover}
+use Rattle.world_core.specs.declared.output.Handed.TheVariants.{Busy, Closed, Debt, Nothing}
+use Rattle.world_core.specs.declared.output.Output.{Output}
 
 -- ---- a peer
 
@@ -109,7 +109,7 @@ FailsToOfferAt id now conn peer fault later =
 pub record FollowsAt (id now : ℕ) (was : List Happening) (conn : ConnPast) (past : PeerPast) (said : List Said)
     (later_conn : ConnPast) (later : PeerPast) : Type 0 where
   pub settles : AllSettleAt id now past (unsettled (options_of past.conf) conn) later
-  pub told_is : said ≡ exchange_said (limits_of past.conf) (options_of past.conf) id now was conn
+  pub outputs_are : said ≡ exchange_said (limits_of past.conf) (options_of past.conf) id now was conn
   pub changed : later_conn ≡ followed_up (options_of past.conf) conn
 
 -- Why no outcome of these goes to the peer any more, and what this makes of the connection: memory was refused; or the
@@ -153,8 +153,8 @@ TakesNext options past (Some outcome) connection =
     × ConnStands options connection.conn past.unread (out_to (past.settled + 1) past.transcript)
 
 -- more is told
-abbrev pub Tells : List Told → List Said → List Told → Type 0
-Tells was said told = map said_of told ≡ map said_of was ++ said
+abbrev pub Tells : List Output → List Said → List Output → Type 0
+Tells was said outputs = map said_of outputs ≡ map said_of was ++ said
 
 module _ {D : Type 0} {g : Ghosts D} where
   -- a connection of this number and its peer stand for these, and are tied
@@ -168,27 +168,28 @@ module _ {D : Type 0} {g : Ghosts D} where
     pub tied : IsTied id conn past
 
   -- the next outcome went to the peer, and was told
-  pub record SettledOne (id now : ℕ) (conn : ConnPast) (past : PeerPast) (was : List Told) (connection : Connection)
-      (peer : Peer D g) (told : List Told) : Type 0 where
+  pub record SettledOne (id now : ℕ) (conn : ConnPast) (past : PeerPast) (was : List Output) (connection : Connection)
+      (peer : Peer D g) (outputs : List Output) : Type 0 where
     pub outcome : Outcome
     pub next : unsettled (options_of past.conf) conn
         ≡ outcome ∷ unsettled (options_of past.conf) (one_out conn)
     pub later : PeerPast
     pub settles : SettlesAt id now outcome past later
-    pub told_is : Tells was (settled_said id now past outcome ∷ []) told
+    pub outputs_are : Tells was (settled_said id now past outcome ∷ []) outputs
     pub stand : PairStands id (one_out conn) later connection peer
 
   -- there was none
-  pub record SettledNone (id : ℕ) (conn : ConnPast) (past : PeerPast) (was : List Told) (connection : Connection)
-      (peer : Peer D g) (told : List Told) : Type 0 where
+  pub record SettledNone (id : ℕ) (conn : ConnPast) (past : PeerPast) (was : List Output) (connection : Connection)
+      (peer : Peer D g) (outputs : List Output) : Type 0 where
     pub none : unsettled (options_of past.conf) conn ≡ []
-    pub told_is : Tells was [] told
+    pub outputs_are : Tells was [] outputs
     pub stand : PairStands id conn past connection peer
 
-  abbrev pub SettledNext : (more : Bool) → (id now : ℕ) → ConnPast → PeerPast → List Told → Connection → Peer D g
-      → List Told → Type 0
-  SettledNext true id now conn past was connection peer told = SettledOne id now conn past was connection peer told
-  SettledNext false id now conn past was connection peer told = SettledNone id conn past was connection peer told
+  abbrev pub SettledNext : (more : Bool) → (id now : ℕ) → ConnPast → PeerPast → List Output → Connection → Peer D g
+      → List Output → Type 0
+  SettledNext true id now conn past was connection peer outputs = SettledOne id now conn past was connection peer
+      outputs
+  SettledNext false id now conn past was connection peer outputs = SettledNone id conn past was connection peer outputs
 
   -- it was refused
   pub record SettledNot (id now : ℕ) (conn : ConnPast) (past : PeerPast) (fault : Fault) (connection : Connection)
@@ -198,29 +199,29 @@ module _ {D : Type 0} {g : Ghosts D} where
     pub stand : PairStands id later_conn past connection peer
 
   -- so many outcomes, from the first on, went to the peer and were told
-  pub record SettledSome (id now : ℕ) (conn : ConnPast) (past : PeerPast) (was : List Told) (done : List Outcome)
+  pub record SettledSome (id now : ℕ) (conn : ConnPast) (past : PeerPast) (was : List Output) (done : List Outcome)
       (later : PeerPast)
-      (connection : Connection) (peer : Peer D g) (told : List Told) : Type 0 where
+      (connection : Connection) (peer : Peer D g) (outputs : List Output) : Type 0 where
     pub split : unsettled (options_of past.conf) conn ≡ done ++ unsettled (options_of past.conf) (all_out done conn)
     pub settles : AllSettleAt id now past done later
     pub same_conf : later.conf ≡ past.conf
-    pub told_is : Tells was (map (settled_said id now past) done) told
+    pub outputs_are : Tells was (map (settled_said id now past) done) outputs
     pub stand : PairStands id (all_out done conn) later connection peer
 
   -- all did, and none waits
-  pub record SettledAll (id now : ℕ) (conn : ConnPast) (past : PeerPast) (was : List Told) (connection : Connection)
-      (peer : Peer D g) (told : List Told) : Type 0 where
+  pub record SettledAll (id now : ℕ) (conn : ConnPast) (past : PeerPast) (was : List Output) (connection : Connection)
+      (peer : Peer D g) (outputs : List Output) : Type 0 where
     pub later : PeerPast
-    pub some : SettledSome id now conn past was (unsettled (options_of past.conf) conn) later connection peer told
+    pub some : SettledSome id now conn past was (unsettled (options_of past.conf) conn) later connection peer outputs
 
   -- what follows has come about, and was told
-  pub record Followed (id now : ℕ) (was : List Happening) (conn : ConnPast) (past : PeerPast) (before : List Told)
-      (connection : Connection) (peer : Peer D g) (told : List Told) : Type 0 where
+  pub record Followed (id now : ℕ) (was : List Happening) (conn : ConnPast) (past : PeerPast) (before : List Output)
+      (connection : Connection) (peer : Peer D g) (outputs : List Output) : Type 0 where
     pub said : List Said
     pub later_conn : ConnPast
     pub later : PeerPast
     pub follows : FollowsAt id now was conn past said later_conn later
-    pub told_is : Tells before said told
+    pub outputs_are : Tells before said outputs
     pub stand : PairStands id later_conn later connection peer
 
   -- it was refused
@@ -247,8 +248,8 @@ module _ {D : Type 0} {g : Ghosts D} where
     pub stand : PairStands id conn later connection peer
 
   -- it was, and what follows has come about, and was told
-  pub record HandedOn (id now : ℕ) (conn : ConnPast) (past : PeerPast) (before : List Told) (connection : Connection)
-      (peer : Peer D g) (told : List Told) : Type 0 where
+  pub record HandedOn (id now : ℕ) (conn : ConnPast) (past : PeerPast) (before : List Output) (connection : Connection)
+      (peer : Peer D g) (outputs : List Output) : Type 0 where
     pub handed : Handover
     pub transcript : List Happening
     pub mid : PeerPast
@@ -257,7 +258,7 @@ module _ {D : Type 0} {g : Ghosts D} where
     pub later_conn : ConnPast
     pub later : PeerPast
     pub follows : FollowsAt id now conn.transcript (with_transcript conn transcript) mid said later_conn later
-    pub told_is : Tells before (SaidHanded id handed ∷ said) told
+    pub outputs_are : Tells before (SaidHanded id handed ∷ said) outputs
     pub stand : PairStands id later_conn later connection peer
 
   pub record HandedOnNot (id now : ℕ) (conn : ConnPast) (past : PeerPast) (fault : Fault) (connection : Connection)
@@ -269,13 +270,13 @@ module _ {D : Type 0} {g : Ghosts D} where
 
   -- ---- octets come in
 
-  pub record Received (octets : List ℕ) (id now : ℕ) (conn : ConnPast) (past : PeerPast) (before : List Told)
-      (connection : Connection) (peer : Peer D g) (told : List Told) : Type 0 where
+  pub record Received (octets : List ℕ) (id now : ℕ) (conn : ConnPast) (past : PeerPast) (before : List Output)
+      (connection : Connection) (peer : Peer D g) (outputs : List Output) : Type 0 where
     pub transcript : List Happening
     pub left : List ℕ
     pub receives : Receives (options_of past.conf) (conn.unread ++ octets) conn.transcript transcript left
     pub followed : Followed id now conn.transcript
-        (record conn { unread = left; transcript = transcript }) past before connection peer told
+        (record conn { unread = left; transcript = transcript }) past before connection peer outputs
 
   -- memory was refused to the reader, and the connection is broken; or what follows was refused
   abbrev pub ReceivedNot : List ℕ → (id now : ℕ) → ConnPast → PeerPast → Fault → Connection → Peer D g → Type 0
@@ -290,15 +291,15 @@ module _ {D : Type 0} {g : Ghosts D} where
 
   -- ---- an article is handed in
 
-  pub record Supplied (found : Found) (id now : ℕ) (conn : ConnPast) (past : PeerPast) (before : List Told)
-      (connection : Connection) (peer : Peer D g) (told : List Told) : Type 0 where
+  pub record Supplied (found : Found) (id now : ℕ) (conn : ConnPast) (past : PeerPast) (before : List Output)
+      (connection : Connection) (peer : Peer D g) (outputs : List Output) : Type 0 where
     pub number : ℕ
     pub handing : Handing
     pub wanted : need (options_of past.conf) conn.transcript ≡ Some number
     pub handed : IsHandedAs found handing
     pub followed : Followed id now conn.transcript
         (with_transcript conn (after (options_of past.conf) conn.transcript (HandedIn number handing))) past before
-        connection peer told
+        connection peer outputs
 
   -- none is wanted; or memory is refused; or what follows was
   abbrev pub SuppliedNot : Found → (id now : ℕ) → ConnPast → PeerPast → Fault → Connection → Peer D g → Type 0

@@ -11,7 +11,7 @@ use Rattle.world_core.specs.Exchange.{RefusesTick}
 use Rattle.world_core.specs.Exchange.{TakesArticle, TakesBreak, TakesBytes, TakesConnect, TakesHand, TakesTick}
 use Rattle.world_core.specs.Halts.{RefusesRestart, RefusesStop, Strikes, StrikesUntold, TakesRestart, TakesStop}
 use Rattle.world_core.specs.Sound.{IsSoundLife}
-use Rattle.world_core.specs.Told.{Said}
+use Rattle.world_core.specs.Output.{Said}
 use Rattle.world_core.specs.declared.fault.Fault.{Fault}
 use Rattle.world_core.specs.declared.fault.Fault.TheVariants.{Stopped}
 use Rattle.world_core.specs.declared.step.Step.{Step}
@@ -21,35 +21,35 @@ use Rattle.world_core.specs.declared.step.Step.TheVariants.{Rotate, Stop, Restar
 
 -- the world runs, and the step makes this of all tapes; all else stays
 abbrev pub OnTapes : (Past → List Said → Past → Type 0) → Life → List Said → Life → Type 0
-OnTapes T life told later =
-    (life.running ≡ true) × ((past : Past) × T life.past told past × (later ≡ with_past life past))
+OnTapes T life outputs later =
+    (life.running ≡ true) × ((past : Past) × T life.past outputs past × (later ≡ with_past life past))
 
 -- the world runs, and the step makes this of it
 abbrev pub OnWorld : (Life → List Said → Life → Type 0) → Life → List Said → Life → Type 0
-OnWorld T life told later = (life.running ≡ true) × T life told later
+OnWorld T life outputs later = (life.running ≡ true) × T life outputs later
 
 -- what a step makes of a world, and tells, where no stop is met
 abbrev pub Does : Step → Life → List Said → Life → Type 0
-Does (Line text) life told later = OnTapes (TakesLine text.items) life told later
-Does Flush life told later = OnTapes TakesFlush life told later
-Does Begin life told later = OnTapes TakesBegin life told later
-Does (Part name) life told later = OnTapes (TakesPart name) life told later
-Does Seal life told later = OnTapes TakesSeal life told later
-Does (Connect name) life told later = OnWorld (TakesConnect name) life told later
-Does (Hand id) life told later = OnWorld (TakesHand id) life told later
-Does (Bytes id octets) life told later = OnWorld (TakesBytes id octets.items) life told later
-Does (Article id found) life told later = OnWorld (TakesArticle id found) life told later
-Does (Break id) life told later = OnWorld (TakesBreak id) life told later
-Does (Tick now) life told later = OnWorld (TakesTick now) life told later
-Does (Shed name) life told later = OnTapes (TakesShed name) life told later
-Does (Rotate name) life told later = OnTapes (TakesRotate name) life told later
-Does (Import name text) life told later = OnTapes (TakesImport name text.items) life told later
-Does (Stop peer call choice) life told later = TakesStop peer call choice life told later
-Does Restart life told later = TakesRestart life told later
+Does (Line text) life outputs later = OnTapes (TakesLine text.items) life outputs later
+Does Flush life outputs later = OnTapes TakesFlush life outputs later
+Does Begin life outputs later = OnTapes TakesBegin life outputs later
+Does (Part name) life outputs later = OnTapes (TakesPart name) life outputs later
+Does Seal life outputs later = OnTapes TakesSeal life outputs later
+Does (Connect name) life outputs later = OnWorld (TakesConnect name) life outputs later
+Does (Hand id) life outputs later = OnWorld (TakesHand id) life outputs later
+Does (Bytes id octets) life outputs later = OnWorld (TakesBytes id octets.items) life outputs later
+Does (Article id found) life outputs later = OnWorld (TakesArticle id found) life outputs later
+Does (Break id) life outputs later = OnWorld (TakesBreak id) life outputs later
+Does (Tick now) life outputs later = OnWorld (TakesTick now) life outputs later
+Does (Shed name) life outputs later = OnTapes (TakesShed name) life outputs later
+Does (Rotate name) life outputs later = OnTapes (TakesRotate name) life outputs later
+Does (Import name text) life outputs later = OnTapes (TakesImport name text.items) life outputs later
+Does (Stop peer call choice) life outputs later = TakesStop peer call choice life outputs later
+Does Restart life outputs later = TakesRestart life outputs later
 
 -- what a step makes of a world, and tells: what it does, or a stop that is met in it
 abbrev pub Takes : Step → Life → List Said → Life → Type 0
-Takes step life told later = Does step life told later ⊎ Strikes step life told later
+Takes step life outputs later = Does step life outputs later ⊎ Strikes step life outputs later
 
 -- ---- refusals
 
@@ -98,7 +98,7 @@ RefusesStep step life fault later = Refuses step life fault later ⊎ StrikesUnt
 -- and whatever a stop leaves is safe, as it is after each event in a step, and at each moment within an event.
 pub data Runs (begun : Life) : List Step → List (List Said) → Life → Type 0 where
   Start : IsSafe begun.past → IsSoundLife begun → Runs begun [] [] begun
-  Next : (steps : List Step) (step : Step) (lines : List (List Said)) (told : List Said) (life later : Life)
+  Next : (steps : List Step) (step : Step) (lines : List (List Said)) (outputs : List Said) (life later : Life)
       → Runs begun steps lines life
-      → Takes step life told later → IsSafe later.past → IsSoundLife later
-      → Runs begun (steps ++ step ∷ []) (lines ++ told ∷ []) later
+      → Takes step life outputs later → IsSafe later.past → IsSoundLife later
+      → Runs begun (steps ++ step ∷ []) (lines ++ outputs ∷ []) later

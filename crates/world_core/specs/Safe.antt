@@ -4,7 +4,7 @@ use Rattle.std.specs.List.{AllByRecursion}
 use Rattle.ledger_core.specs.declared.note.Note.{Note}
 use Rattle.ledger_core.specs.declared.note.Note.TheVariants.{Owe, Final, Drop, Seen, Closed}
 use Rattle.ledger_core.specs.State.{State}
-use Rattle.recovery.specs.Leaving.{EachLedger, IsFront, pending_notes}
+use Rattle.recovery.specs.Leaving.{EachLedger, IsPrefix, pending_notes}
 use Rattle.recovery.specs.Notes.{History}
 use Rattle.world_core.specs.Past.{Past, PeerPast}
 
@@ -22,12 +22,12 @@ HasAcknowledged mark peer = AllByRecursion (IsAbove mark) (pending_notes peer.ta
 
 -- a peer's tape is that of the first of its notes, every acknowledged one among them
 abbrev pub KeepsNotes : PeerPast → State → Type 0
-KeepsNotes peer state = IsFront peer.tape.history state
+KeepsNotes peer state = IsPrefix peer.tape.history state
 
 -- The intake's tape is that of the first of its notes, every acknowledged one among them; and each note that a line
 -- up to its mark made is acknowledged at its peer.
 pub record KeepsLines (intake : History) (peers : List PeerPast) (state : State) : Type 0 where
-  pub front : IsFront intake state
+  pub prefix : IsPrefix intake state
   pub lines : AllByRecursion (HasAcknowledged state.mark) peers
 
 -- so is whatever a stop leaves now of each tape

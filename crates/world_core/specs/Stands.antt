@@ -11,7 +11,7 @@ use Rattle.ledger_core.specs.declared.note.Note.TheVariants.{Owe}
 use Rattle.recovery.specs.Leaving.{EachLedger, broken_of}
 use Rattle.recovery.specs.Notes.{AreLegal, found}
 use Rattle.recovery.specs.Tape.{StandsFor}
-use Rattle.recovery.specs.Words.{log_of, told_of}
+use Rattle.recovery.specs.Words.{log_of, faults_of}
 use Rattle.recovery.specs.declared.fault.TapeFault.TheVariants.{Disk}
 use Rattle.recovery.specs.declared.tape.Tape.{Tape}
 use Rattle.conn_core.specs.History.{outcomes, taken}
@@ -32,7 +32,7 @@ use Rattle.world_core.specs.Events.{shed_peer}
 use Rattle.world_core.specs.Runs.{RefusesStep, Runs}
 use Rattle.world_core.specs.Sound.{IsSound, IsSoundLife}
 use Rattle.world_core.specs.StopDisk.{all_faults, happened}
-use Rattle.world_core.specs.Told.{Said, said_by}
+use Rattle.world_core.specs.Output.{Said, said_by}
 use Rattle.world_core.specs.declared.connection.Connection.{Connection}
 use Rattle.world_core.specs.declared.fault.Fault.{Fault}
 use Rattle.world_core.specs.declared.fault.Fault.TheVariants.{NoMemory, Tape as TapeRefused}
@@ -54,7 +54,7 @@ module _ {D : Type 0} {g : Ghosts D} where
   pub record TapeStands (past : TapePast) (tape : Tape D g) : Type 0 where
     pub stands : StandsFor tape past.history
     pub log : log_of tape ≡ past.log
-    pub faults : told_of tape ≡ past.faults
+    pub faults : faults_of tape ≡ past.faults
     pub broken : broken_of tape ≡ past.broken
 
   pub record PeerStands (past : PeerPast) (peer : Peer D g) : Type 0 where

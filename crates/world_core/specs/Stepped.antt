@@ -12,14 +12,14 @@ use Rattle.world_core.specs.Opening.{FailsAt}
 use Rattle.world_core.specs.Events.{AllDo, Event, Fails, Parts, calls_disk, each_rank}
 use Rattle.world_core.specs.Steps.{is_named, line_events, owed_there}
 use Rattle.world_core.specs.Stands.{Stands}
-use Rattle.world_core.specs.Told.{Mark, Said, said_of}
+use Rattle.world_core.specs.Output.{Mark, Said, said_of}
 use Rattle.world_core.specs.declared.fault.Fault.{Fault}
 use Rattle.world_core.specs.declared.fault.Fault.TheVariants.{Tape}
 use Rattle.world_core.specs.declared.fault.Halt.{Halt}
 use Rattle.world_core.specs.declared.peer.Peer.{Peer}
 use Rattle.world_core.specs.declared.stations.Stations.{Stations}
-use Rattle.world_core.specs.declared.told.OwedAt.{OwedAt}
-use Rattle.world_core.specs.declared.told.Told.{Told}
+use Rattle.world_core.specs.declared.output.OwedAt.{OwedAt}
+use Rattle.world_core.specs.declared.output.Output.{Output}
 
 -- ---- the peers that a line names
 
@@ -76,18 +76,19 @@ module _ {D : Type 0} {g : Ghosts D} where
     pub parted : AllByRecursion (λ (peer : PeerPast). peer.parted ≡ true) (take count did.later.peers)
 
   -- a line is owed at each peer that it names, and this came of it
-  pub record OwedLine (past : Past) (token id : List ℕ) (named : List (List ℕ)) (told : List OwedAt)
+  pub record OwedLine (past : Past) (token id : List ℕ) (named : List (List ℕ)) (outputs : List OwedAt)
       (stations : Stations D g) : Type 0 where
     pub did : Did past (line_events token id named past) stations
-    pub told_is : map (λ (at : OwedAt). (at.name, at.owed)) told ≡ owed_there (past.last + 1) named past.peers
+    pub outputs_are : map (λ (at : OwedAt). (at.name, at.owed)) outputs ≡ owed_there (past.last + 1) named past.peers
 
   -- ---- steps
 
   -- the step was taken, and told this
-  pub record Took (T : Past → List Said → Past → Type 0) (past : Past) (told : List Told) (stations : Stations D g) :
+  pub record Took (T : Past → List Said → Past → Type 0) (past : Past) (outputs : List Output) (stations : Stations D
+      g) :
       Type 0 where
     pub later : Past
-    pub takes : T past (map said_of told) later
+    pub takes : T past (map said_of outputs) later
     pub stands : Stands stations later
 
   -- the step was refused

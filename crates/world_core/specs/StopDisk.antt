@@ -1,7 +1,7 @@
 -- What a call of a disk that may be stopped does (profile).
 use Rattle.std.specs.Prelude.{◌≡◌, ◌⊎◌, ℕ, ◌+◌, ◌-◌, ◌^◌, min, List, ◌∷◌, Result, IsErr}
 use Rattle.disk_model.specs.Disk.{Event}
-use Rattle.disk_model.specs.InMemory.{events, faults_told, IsRefusedWhole}
+use Rattle.disk_model.specs.InMemory.{events, faults_in, IsRefusedWhole}
 use Rattle.disk_model.specs.declared.DiskFault.{DiskFault}
 use Rattle.disk_model.specs.declared.memory.MemDisk.{MemDisk}
 use Rattle.world_core.specs.declared.stop.StopDisk.{StopDisk}
@@ -24,7 +24,7 @@ own_faults disk = disk.faults
 
 -- how many faults it told in all
 abbrev pub all_faults : StopDisk → ℕ
-all_faults disk = min (own_faults disk + faults_told (beneath disk)) (2 ^ 64 - 1)
+all_faults disk = min (own_faults disk + faults_in (beneath disk)) (2 ^ 64 - 1)
 
 -- the call is passed on: it fails only where the disk beneath is refused memory, and then changes nothing
 pub record Passes (old new : StopDisk) (result : Result (Unit {0}) DiskFault) : Type 0 where
@@ -36,7 +36,7 @@ pub record Passes (old new : StopDisk) (result : Result (Unit {0}) DiskFault) : 
 pub record Reaches (event : Event) (old new : StopDisk) (result : Result (Unit {0}) DiskFault) : Type 0 where
   pub fails : IsErr result
   pub reached : (happened new ≡ event ∷ happened old)
-      ⊎ ((happened new ≡ happened old) × (faults_told (beneath new) ≡ min (faults_told (beneath old) + 1) (2 ^ 64 - 1)))
+      ⊎ ((happened new ≡ happened old) × (faults_in (beneath new) ≡ min (faults_in (beneath old) + 1) (2 ^ 64 - 1)))
 
 -- the call fails, and the disk beneath is as it was
 pub record Refuses (old new : StopDisk) (result : Result (Unit {0}) DiskFault) : Type 0 where

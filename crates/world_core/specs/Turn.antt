@@ -9,21 +9,21 @@ use Rattle.world_core.specs.Opening.{FailsAt}
 use Rattle.world_core.specs.Runs.{Does, Refuses, RefusesStep, Takes}
 use Rattle.world_core.specs.Sound.{IsSoundLife}
 use Rattle.world_core.specs.Stands.{WorldStands, armed_as}
-use Rattle.world_core.specs.Told.{Said, Stopped as SaidStopped, said_of}
+use Rattle.world_core.specs.Output.{Said, Stopped as SaidStopped, said_of}
 use Rattle.world_core.specs.declared.fault.Fault.{Fault}
 use Rattle.world_core.specs.declared.fault.Fault.TheVariants.{NoMemory, Stopped as HasStopped, Tape}
 use Rattle.world_core.specs.declared.fault.Halt.{Halt}
 use Rattle.world_core.specs.declared.peer.StoppedPeer.{StoppedPeer}
 use Rattle.world_core.specs.declared.step.Step.{Step}
-use Rattle.world_core.specs.declared.told.Told.{Told}
+use Rattle.world_core.specs.declared.output.Output.{Output}
 use Rattle.world_core.specs.declared.world.Stage.{Stage}
 use Rattle.world_core.specs.declared.world.Stage.TheVariants.{Running, Stopped}
 use Rattle.world_core.specs.declared.world.World.{World}
 
 -- the step was taken, and told this
-pub record Took (step : Step) (life : Life) (told : List Told) (world : World) : Type 0 where
+pub record Took (step : Step) (life : Life) (outputs : List Output) (world : World) : Type 0 where
   pub later : Life
-  pub takes : Takes step life (map said_of told) later
+  pub takes : Takes step life (map said_of outputs) later
   pub stands : WorldStands world later
 
 -- the step was refused
@@ -33,9 +33,9 @@ pub record WasNotTaken (step : Step) (life : Life) (fault : Fault) (world : Worl
   pub stands : WorldStands world later
 
 -- the step was taken, and told this; no stop was met
-pub record Did (step : Step) (life : Life) (told : List Told) (world : World) : Type 0 where
+pub record Did (step : Step) (life : Life) (outputs : List Output) (world : World) : Type 0 where
   pub later : Life
-  pub does : Does step life (map said_of told) later
+  pub does : Does step life (map said_of outputs) later
   pub stands : WorldStands world later
 
 -- the names of a world's peers, in order
@@ -44,10 +44,11 @@ names_at (Running stations connections) = map (λ peer. peer.conf.name) stations
 names_at (Stopped peers intake) = map (λ (peer : StoppedPeer). peer.conf.name) peers.items
 
 -- a step makes this of the world, and tells this
-pub record Made (T : Life → List Said → Life → Type 0) (life : Life) (told : List Told) (world : World) : Type 0 where
-  pub later : Life
-  pub makes : T life (map said_of told) later
-  pub stands : WorldStands world later
+pub record Made (T : Life → List Said → Life → Type 0) (life : Life) (outputs : List Output) (world : World) : Type 0
+  where
+    pub later : Life
+    pub makes : T life (map said_of outputs) later
+    pub stands : WorldStands world later
 
 -- a step is refused so
 pub record Refused (R : Life → Fault → Life → Type 0) (life : Life) (fault : Fault) (world : World) : Type 0 where
@@ -57,7 +58,8 @@ pub record Refused (R : Life → Fault → Life → Type 0) (life : Life) (fault
 
 -- what a stop at rest is, and how it is refused
 abbrev pub TakesRest : Life → List Said → Life → Type 0
-TakesRest life told later = (life.running ≡ true) × (told ≡ SaidStopped ∷ []) × (later ≡ halted AtRest life.past life)
+TakesRest life outputs later = (life.running ≡ true) × (outputs ≡ SaidStopped ∷ []) × (later
+    ≡ halted AtRest life.past life)
 
 abbrev pub RefusesRest : Life → Fault → Life → Type 0
 RefusesRest life fault later =
@@ -88,9 +90,9 @@ pub record WasHalted (step : Step) (life : Life) (halt : Halt) (world : World) :
   pub disk : halt.fault ≡ Tape Disk → DiskFails step life halt under_way
 
 -- a stop was met, and told
-pub record WasStruck (life : Life) (under_way : Past) (choice : Choice) (told : List Told) (world : World) :
+pub record WasStruck (life : Life) (under_way : Past) (choice : Choice) (outputs : List Output) (world : World) :
     Type 0 where
-  pub told_is : map said_of told ≡ SaidStopped ∷ []
+  pub outputs_are : map said_of outputs ≡ SaidStopped ∷ []
   pub stands : WorldStands world (halted (ByChoice choice) under_way life)
 
 -- Or there was no memory for what its choice leaves, and all has stopped as at rest; or none to stop, and the step is

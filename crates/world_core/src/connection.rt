@@ -9,11 +9,11 @@ ghost use Rattle.world_core.specs.Past.{ConnPast, PeerPast, options_of};
 ghost use Rattle.world_core.specs.Exchange.{broken_off, ticked};
 ghost use Rattle.world_core.specs.Pairs.{Tells, left_at};
 ghost use Rattle.world_core.specs.Stands.{WaitsWith};
-ghost use Rattle.world_core.specs.Told.{Output, closed_said, lines_in, need_said};
+ghost use Rattle.world_core.specs.Output.{SentLine, closed_said, lines_in, need_said};
 
 use crate::fault::Fault;
 use crate::peer::Peer;
-use crate::told::{Handed, Told};
+use crate::output::{Handed, Output};
 use article_store::Found;
 use conn_core::{ArticleFault, Conn, CxnId, OfferFault, Options, Outcome, Reason};
 use disk_model::Disk;
@@ -87,19 +87,20 @@ impl Connection {
         &mut self,
         peer: &mut Peer<D>,
         now: u64,
-        told: &mut Vec<Told>,
+        outputs: &mut Vec<Output>,
     ) -> Result<bool, Fault>
         ensures ok { (id : ℕ) (conn : ConnPast) (past : PeerPast)
             → PairStands id conn past self.old peer.old
             → IfOk result (λ more.
-            SettledNext more id now conn past told.old.items self.new peer.new told.new.items) }
+            SettledNext more id now conn past outputs.old.items
+            self.new peer.new outputs.new.items) }
         ensures err { (id : ℕ) (conn : ConnPast) (past : PeerPast)
             → PairStands id conn past self.old peer.old
             → IfErr result (λ fault. SettledNot id now conn past fault self.new peer.new) }
         ensures fewer { IfOk result (λ more.
             more ≡ true → length (left_at self.new) < length (left_at self.old)) }
     {
-        told.reserve(1)?;
+        outputs.reserve(1)?;
         let Some(outcome) = self.next_outcome() else {
             return Ok(false);
         };
@@ -107,7 +108,7 @@ impl Connection {
         let key = key_in(&outcome);
         match peer.station.finish(id, outcome, now) {
             Ok(settled) => {
-                told.push_reserved(Told::Settled {
+                outputs.push_reserved(Output::Settled {
                     connection: id.0,
                     key,
                     settled,
@@ -126,17 +127,17 @@ impl Connection {
         &mut self,
         peer: &mut Peer<D>,
         now: u64,
-        told: &mut Vec<Told>,
+        outputs: &mut Vec<Output>,
     ) -> Result<(), Fault>
         ensures ok { (id : ℕ) (conn : ConnPast) (past : PeerPast)
             → PairStands id conn past self.old peer.old
             → OnOk result
-            (SettledAll id now conn past told.old.items self.new peer.new told.new.items) }
+            (SettledAll id now conn past outputs.old.items self.new peer.new outputs.new.items) }
         ensures err { (id : ℕ) (conn : ConnPast) (past : PeerPast)
             → PairStands id conn past self.old peer.old
             → IfErr result (λ fault. FollowedNot id now conn past fault self.new peer.new) }
     {
-        while self.settle_next(peer, now, told)? {}
+        while self.settle_next(peer, now, outputs)? {}
         Ok(())
     }
 
@@ -145,23 +146,23 @@ impl Connection {
         &mut self,
         peer: &mut Peer<D>,
         now: u64,
-        told: &mut Vec<Told>,
+        outputs: &mut Vec<Output>,
     ) -> Result<(), Fault>
         ensures ok { (id : ℕ) (conn : ConnPast) (past : PeerPast)
             → PairStands id conn past self.old peer.old → OnOk result
-            (HandedOn id now conn past told.old.items self.new peer.new told.new.items) }
+            (HandedOn id now conn past outputs.old.items self.new peer.new outputs.new.items) }
         ensures err { (id : ℕ) (conn : ConnPast) (past : PeerPast)
             → PairStands id conn past self.old peer.old
             → IfErr result (λ fault. HandedOnNot id now conn past fault self.new peer.new) }
     {
-        told.reserve(1)?;
+        outputs.reserve(1)?;
         let was_open = self.conn.closed().is_none();
         let handed = self.offer_next(peer, now)?;
-        told.push_reserved(Told::Handed {
+        outputs.push_reserved(Output::Handed {
             connection: self.conn.id().0,
             handed,
         });
-        self.tell(peer, was_open, now, told)
+        self.tell(peer, was_open, now, outputs)
     }
 
     // Claims the least candidate and offers it. One that is not taken is given back.
@@ -203,19 +204,19 @@ impl Connection {
         peer: &mut Peer<D>,
         octets: &[u8],
         now: u64,
-        told: &mut Vec<Told>,
+        outputs: &mut Vec<Output>,
     ) -> Result<(), Fault>
         ensures ok { (id : ℕ) (conn : ConnPast) (past : PeerPast)
             → PairStands id conn past self.old peer.old → OnOk result
             (Received octets.now id now conn past
-            told.old.items self.new peer.new told.new.items) }
+            outputs.old.items self.new peer.new outputs.new.items) }
         ensures err { (id : ℕ) (conn : ConnPast) (past : PeerPast)
             → PairStands id conn past self.old peer.old → IfErr result
             (λ fault. ReceivedNot octets.now id now conn past fault self.new peer.new) }
     {
         let was_open = self.conn.closed().is_none();
         self.conn.input(octets)?;
-        self.tell(peer, was_open, now, told)
+        self.tell(peer, was_open, now, outputs)
     }
 
     // What was found of the article that is wanted is handed in.
@@ -224,12 +225,12 @@ impl Connection {
         peer: &mut Peer<D>,
         found: &Found,
         now: u64,
-        told: &mut Vec<Told>,
+        outputs: &mut Vec<Output>,
     ) -> Result<(), Fault>
         ensures ok { (id : ℕ) (conn : ConnPast) (past : PeerPast)
             → PairStands id conn past self.old peer.old → OnOk result
             (Supplied found.now id now conn past
-            told.old.items self.new peer.new told.new.items) }
+            outputs.old.items self.new peer.new outputs.new.items) }
         ensures err { (id : ℕ) (conn : ConnPast) (past : PeerPast)
             → PairStands id conn past self.old peer.old → IfErr result
             (λ fault. SuppliedNot found.now id now conn past fault self.new peer.new) }
@@ -240,7 +241,7 @@ impl Connection {
         };
         let found = copy_of(found)?;
         match self.conn.article(key, found) {
-            Ok(()) => self.tell(peer, was_open, now, told),
+            Ok(()) => self.tell(peer, was_open, now, outputs),
             Err((_, ArticleFault::NotNeeded)) => Err(Fault::NotNeeded),
             Err((_, ArticleFault::NoMemory)) => Err(Fault::NoMemory),
         }
@@ -251,12 +252,12 @@ impl Connection {
         &mut self,
         peer: &mut Peer<D>,
         now: u64,
-        told: &mut Vec<Told>,
+        outputs: &mut Vec<Output>,
     ) -> Result<(), Fault>
         ensures ok { (id : ℕ) (conn : ConnPast) (past : PeerPast)
             → PairStands id conn past self.old peer.old → OnOk result
             (Followed id now conn.transcript (ticked now past conn) past
-            told.old.items self.new peer.new told.new.items) }
+            outputs.old.items self.new peer.new outputs.new.items) }
         ensures err { (id : ℕ) (conn : ConnPast) (past : PeerPast)
             → PairStands id conn past self.old peer.old → IfErr result
             (λ fault. FollowedNot id now (ticked now past conn) past fault
@@ -264,7 +265,7 @@ impl Connection {
     {
         let was_open = self.conn.closed().is_none();
         self.conn.tick(now);
-        self.tell(peer, was_open, now, told)
+        self.tell(peer, was_open, now, outputs)
     }
 
     // What follows each step: the outcomes go to the station, the output is told and counts as sent, and what is wanted
@@ -274,21 +275,21 @@ impl Connection {
         peer: &mut Peer<D>,
         was_open: bool,
         now: u64,
-        told: &mut Vec<Told>,
+        outputs: &mut Vec<Output>,
     ) -> Result<(), Fault>
         ensures ok { (id : ℕ) (conn : ConnPast) (past : PeerPast) (was : List Event)
             → PairStands id conn past self.old peer.old
             → was_open ≡ is_none (reason (options_of past.conf) was) → OnOk result
-            (Followed id now was conn past told.old.items self.new peer.new told.new.items) }
+            (Followed id now was conn past outputs.old.items self.new peer.new outputs.new.items) }
         ensures err { (id : ℕ) (conn : ConnPast) (past : PeerPast)
             → PairStands id conn past self.old peer.old
             → IfErr result (λ fault. FollowedNot id now conn past fault self.new peer.new) }
     {
-        self.settle_all(peer, now, told)?;
+        self.settle_all(peer, now, outputs)?;
         let connection = self.conn.id().0;
-        tell_output(told, connection, self.conn.output())?;
-        tell_need(told, connection, self.conn.need())?;
-        tell_closed(told, connection, was_open, self.conn.closed())?;
+        add_sent(outputs, connection, self.conn.output())?;
+        add_need(outputs, connection, self.conn.need())?;
+        add_closed(outputs, connection, was_open, self.conn.closed())?;
         let count = self.conn.output().len();
         self.conn.sent(count);
         Ok(())
@@ -299,19 +300,19 @@ impl Connection {
         &mut self,
         peer: &mut Peer<D>,
         now: u64,
-        told: &mut Vec<Told>,
+        outputs: &mut Vec<Output>,
     ) -> Result<(), Fault>
         ensures ok { (id : ℕ) (conn : ConnPast) (past : PeerPast)
             → PairStands id conn past self.old peer.old → OnOk result
             (Followed id now conn.transcript (broken_off past conn) past
-            told.old.items self.new peer.new told.new.items) }
+            outputs.old.items self.new peer.new outputs.new.items) }
         ensures err { (id : ℕ) (conn : ConnPast) (past : PeerPast)
             → PairStands id conn past self.old peer.old → IfErr result
             (λ fault. FollowedNot id now (broken_off past conn) past fault self.new peer.new) }
     {
         let was_open = self.conn.closed().is_none();
         self.conn.broken();
-        self.tell(peer, was_open, now, told)
+        self.tell(peer, was_open, now, outputs)
     }
 }
 
@@ -341,42 +342,42 @@ fn copy_of(found: &Found) -> Result<Found, AllocError>
 }
 
 // Tells each line of the output.
-fn tell_output(told: &mut Vec<Told>, connection: u64, output: &[u8]) -> Result<(), AllocError>
-    ensures { OnOk result (Tells told.old.items
-        (map (Output connection) (lines_in output.now)) told.new.items) }
+fn add_sent(outputs: &mut Vec<Output>, connection: u64, output: &[u8]) -> Result<(), AllocError>
+    ensures { OnOk result (Tells outputs.old.items
+        (map (SentLine connection) (lines_in output.now)) outputs.new.items) }
 {
-    let alloc = *told.allocator();
+    let alloc = *outputs.allocator();
     let mut rest = output;
     while let Some((line, behind)) = first_line(rest) {
         let line = Vec::from_slice(alloc, without_cr(line))?;
-        told.push(Told::Output { connection, line })?;
+        outputs.push(Output::SentLine { connection, line })?;
         rest = behind;
     }
     Ok(())
 }
 
 // Tells which article is wanted.
-fn tell_need(told: &mut Vec<Told>, connection: u64, need: Option<Key>) -> Result<(), AllocError>
-    ensures { OnOk result (Tells told.old.items (need_said connection need) told.new.items) }
+fn add_need(outputs: &mut Vec<Output>, connection: u64, need: Option<Key>) -> Result<(), AllocError>
+    ensures { OnOk result (Tells outputs.old.items (need_said connection need) outputs.new.items) }
 {
     if let Some(key) = need {
-        told.push(Told::Need { connection, key })?;
+        outputs.push(Output::Need { connection, key })?;
     }
     Ok(())
 }
 
 // Tells why a connection closed, where it was open before.
-fn tell_closed(
-    told: &mut Vec<Told>,
+fn add_closed(
+    outputs: &mut Vec<Output>,
     connection: u64,
     was_open: bool,
     closed: Option<Reason>,
 ) -> Result<(), AllocError>
     ensures { (was : Option Reason) → was_open ≡ is_none was → OnOk result
-        (Tells told.old.items (closed_said connection was closed) told.new.items) }
+        (Tells outputs.old.items (closed_said connection was closed) outputs.new.items) }
 {
     if was_open && let Some(reason) = closed {
-        told.push(Told::Closed { connection, reason })?;
+        outputs.push(Output::Closed { connection, reason })?;
     }
     Ok(())
 }

@@ -11,8 +11,8 @@ ghost use Rattle.world_core.specs.declared.connection.Connection.{Connection};
 
 use crate::connection::Connection;
 use crate::fault::Fault;
+use crate::output::Output;
 use crate::stations::Stations;
-use crate::told::Told;
 use crate::world::{Stage, World};
 use article_store::Found;
 use disk_model::Disk;
@@ -27,7 +27,7 @@ impl World {
     ///
     /// # Errors
     /// `Stopped`; `NoPeer` where none has this name; `CountFull`; `NoMemory`.
-    pub(crate) fn connect(&mut self, name: &PeerName, out: &mut Vec<Told>) -> Result<(), Fault>
+    pub(crate) fn connect(&mut self, name: &PeerName, out: &mut Vec<Output>) -> Result<(), Fault>
         requires { out.old.items ≡ [] }
         ensures ok { (life : Life) → WorldStands self.old life → OnOk result
             (Made (OnWorld (TakesConnect name.now)) life out.new.items self.new) }
@@ -45,7 +45,7 @@ impl World {
     ///
     /// # Errors
     /// `Stopped`; `NoConnection`; `NoMemory`; the station's.
-    pub(crate) fn hand(&mut self, id: u64, out: &mut Vec<Told>) -> Result<(), Fault>
+    pub(crate) fn hand(&mut self, id: u64, out: &mut Vec<Output>) -> Result<(), Fault>
         requires { out.old.items ≡ [] }
         ensures ok { (life : Life) → WorldStands self.old life → OnOk result
             (Made (OnWorld (TakesHand id)) life out.new.items self.new) }
@@ -62,7 +62,12 @@ impl World {
     ///
     /// # Errors
     /// `Stopped`; `NoConnection`; `NoMemory`; the station's.
-    pub(crate) fn bytes(&mut self, id: u64, octets: &[u8], out: &mut Vec<Told>) -> Result<(), Fault>
+    pub(crate) fn bytes(
+        &mut self,
+        id: u64,
+        octets: &[u8],
+        out: &mut Vec<Output>,
+    ) -> Result<(), Fault>
         requires { out.old.items ≡ [] }
         ensures ok { (life : Life) → WorldStands self.old life → OnOk result
             (Made (OnWorld (TakesBytes id octets.now)) life out.new.items self.new) }
@@ -83,7 +88,7 @@ impl World {
         &mut self,
         id: u64,
         found: &Found,
-        out: &mut Vec<Told>,
+        out: &mut Vec<Output>,
     ) -> Result<(), Fault>
         requires { out.old.items ≡ [] }
         ensures ok { (life : Life) → WorldStands self.old life → OnOk result
@@ -101,7 +106,7 @@ impl World {
     ///
     /// # Errors
     /// `Stopped`; `NoConnection`; `NoMemory`; the station's.
-    pub(crate) fn break_off(&mut self, id: u64, out: &mut Vec<Told>) -> Result<(), Fault>
+    pub(crate) fn break_off(&mut self, id: u64, out: &mut Vec<Output>) -> Result<(), Fault>
         requires { out.old.items ≡ [] }
         ensures ok { (life : Life) → WorldStands self.old life → OnOk result
             (Made (OnWorld (TakesBreak id)) life out.new.items self.new) }
@@ -118,7 +123,7 @@ impl World {
     ///
     /// # Errors
     /// `Stopped`; `NoMemory`; the stations'.
-    pub(crate) fn tick(&mut self, now: u64, out: &mut Vec<Told>) -> Result<(), Fault>
+    pub(crate) fn tick(&mut self, now: u64, out: &mut Vec<Output>) -> Result<(), Fault>
         requires { out.old.items ≡ [] }
         ensures ok { (life : Life) → WorldStands self.old life → OnOk result
             (Made (OnWorld (TakesTick now)) life out.new.items self.new) }
@@ -143,11 +148,11 @@ impl<D: Disk> Stations<D> {
         connections: &mut Vec<Connection>,
         last: u64,
         name: &PeerName,
-        told: &mut Vec<Told>,
+        outputs: &mut Vec<Output>,
     ) -> Result<u64, Fault>
         ensures ok { (life : Life) → AreRunning life self.old connections.old.items
             → life.connected ≡ last → IfOk result (λ number.
-            MadeOn (TakesConnect name.now) number life told.old.items told.new.items
+            MadeOn (TakesConnect name.now) number life outputs.old.items outputs.new.items
             self.new connections.new.items) }
         ensures err { (life : Life) → AreRunning life self.old connections.old.items
             → life.connected ≡ last → IfErr result (λ fault.
@@ -159,12 +164,12 @@ impl<D: Disk> Stations<D> {
         let Some(number) = last.checked_add(1) else {
             return Err(Fault::CountFull);
         };
-        told.reserve(1)?;
+        outputs.reserve(1)?;
         connections.reserve(1)?;
         let name = name.clone()?;
         let connection = Connection::new(self.alloc, number, rank, &self.peers[rank].conf)?;
         connections.push_reserved(connection);
-        told.push_reserved(Told::Connected {
+        outputs.push_reserved(Output::Connected {
             connection: number,
             name,
         });
@@ -177,11 +182,11 @@ impl<D: Disk> Stations<D> {
         connections: &mut Vec<Connection>,
         id: u64,
         now: u64,
-        told: &mut Vec<Told>,
+        outputs: &mut Vec<Output>,
     ) -> Result<(), Fault>
         ensures ok { (life : Life) → AreRunning life self.old connections.old.items
             → life.now ≡ now → OnOk result
-            (MadeOn (TakesHand id) life.connected life told.old.items told.new.items
+            (MadeOn (TakesHand id) life.connected life outputs.old.items outputs.new.items
             self.new connections.new.items) }
         ensures err { (life : Life) → AreRunning life self.old connections.old.items
             → life.now ≡ now → IfErr result (λ fault. RefusedOn
@@ -192,7 +197,7 @@ impl<D: Disk> Stations<D> {
         };
         let connection = &mut connections[index];
         let peer = &mut self.peers[rank];
-        connection.hand(peer, now, told)
+        connection.hand(peer, now, outputs)
     }
 
     // These octets come in on this connection.
@@ -202,12 +207,12 @@ impl<D: Disk> Stations<D> {
         id: u64,
         octets: &[u8],
         now: u64,
-        told: &mut Vec<Told>,
+        outputs: &mut Vec<Output>,
     ) -> Result<(), Fault>
         ensures ok { (life : Life) → AreRunning life self.old connections.old.items
             → life.now ≡ now → OnOk result
-            (MadeOn (TakesBytes id octets.now) life.connected life told.old.items
-            told.new.items self.new connections.new.items) }
+            (MadeOn (TakesBytes id octets.now) life.connected life outputs.old.items
+            outputs.new.items self.new connections.new.items) }
         ensures err { (life : Life) → AreRunning life self.old connections.old.items
             → life.now ≡ now → IfErr result (λ fault. RefusedOn
             (RefusesAct id (FailsToRead id octets.now)) life fault
@@ -218,7 +223,7 @@ impl<D: Disk> Stations<D> {
         };
         let connection = &mut connections[index];
         let peer = &mut self.peers[rank];
-        connection.receive(peer, octets, now, told)
+        connection.receive(peer, octets, now, outputs)
     }
 
     // This was found of the article that this connection wants.
@@ -228,12 +233,12 @@ impl<D: Disk> Stations<D> {
         id: u64,
         found: &Found,
         now: u64,
-        told: &mut Vec<Told>,
+        outputs: &mut Vec<Output>,
     ) -> Result<(), Fault>
         ensures ok { (life : Life) → AreRunning life self.old connections.old.items
             → life.now ≡ now → OnOk result
-            (MadeOn (TakesArticle id found.now) life.connected life told.old.items
-            told.new.items self.new connections.new.items) }
+            (MadeOn (TakesArticle id found.now) life.connected life outputs.old.items
+            outputs.new.items self.new connections.new.items) }
         ensures err { (life : Life) → AreRunning life self.old connections.old.items
             → life.now ≡ now → IfErr result (λ fault. RefusedOn
             (RefusesAct id (FailsToSupply id found.now)) life fault
@@ -244,7 +249,7 @@ impl<D: Disk> Stations<D> {
         };
         let connection = &mut connections[index];
         let peer = &mut self.peers[rank];
-        connection.supply(peer, found, now, told)
+        connection.supply(peer, found, now, outputs)
     }
 
     // This connection breaks.
@@ -253,11 +258,11 @@ impl<D: Disk> Stations<D> {
         connections: &mut Vec<Connection>,
         id: u64,
         now: u64,
-        told: &mut Vec<Told>,
+        outputs: &mut Vec<Output>,
     ) -> Result<(), Fault>
         ensures ok { (life : Life) → AreRunning life self.old connections.old.items
             → life.now ≡ now → OnOk result
-            (MadeOn (TakesBreak id) life.connected life told.old.items told.new.items
+            (MadeOn (TakesBreak id) life.connected life outputs.old.items outputs.new.items
             self.new connections.new.items) }
         ensures err { (life : Life) → AreRunning life self.old connections.old.items
             → life.now ≡ now → IfErr result (λ fault. RefusedOn
@@ -268,7 +273,7 @@ impl<D: Disk> Stations<D> {
         };
         let connection = &mut connections[index];
         let peer = &mut self.peers[rank];
-        connection.break_off(peer, now, told)
+        connection.break_off(peer, now, outputs)
     }
 
     // The moment is this for each connection, in the order of their numbers.
@@ -276,18 +281,18 @@ impl<D: Disk> Stations<D> {
         &mut self,
         connections: &mut Vec<Connection>,
         now: u64,
-        told: &mut Vec<Told>,
+        outputs: &mut Vec<Output>,
     ) -> Result<(), Fault>
         ensures ok { (life : Life) → AreRunning life self.old connections.old.items
             → life.now ≡ now → OnOk result
-            (MadeOn (TicksSome (length life.conns)) life.connected life told.old.items
-            told.new.items self.new connections.new.items) }
+            (MadeOn (TicksSome (length life.conns)) life.connected life outputs.old.items
+            outputs.new.items self.new connections.new.items) }
         ensures err { (life : Life) → AreRunning life self.old connections.old.items
             → life.now ≡ now → IfErr result (λ fault. RefusedOn TicksNot life fault
             self.new connections.new.items) }
     {
         for index in 0..connections.len() {
-            self.tick_at(connections, index, now, told)?;
+            self.tick_at(connections, index, now, outputs)?;
         }
         Ok(())
     }
@@ -298,12 +303,12 @@ impl<D: Disk> Stations<D> {
         connections: &mut Vec<Connection>,
         index: usize,
         now: u64,
-        told: &mut Vec<Told>,
+        outputs: &mut Vec<Output>,
     ) -> Result<(), Fault>
         requires { index < vec_len connections.old }
         ensures ok { (life : Life) → AreRunning life self.old connections.old.items
             → life.now ≡ now → OnOk result
-            (MadeOn (TicksOne index) life.connected life told.old.items told.new.items
+            (MadeOn (TicksOne index) life.connected life outputs.old.items outputs.new.items
             self.new connections.new.items) }
         ensures err { (life : Life) → AreRunning life self.old connections.old.items
             → life.now ≡ now → IfErr result (λ fault. RefusedOn (TicksOneNot index) life fault
@@ -316,7 +321,7 @@ impl<D: Disk> Stations<D> {
             return Err(Fault::NoPeer);
         }
         let peer = &mut self.peers[rank];
-        connection.tick(peer, now, told)
+        connection.tick(peer, now, outputs)
     }
 
     // Where the connection of this number stands, and its peer.

@@ -4,7 +4,7 @@ ghost use Rattle.world_core.specs.Fault.{fault_name, fault_of, fault_of_station}
 ghost use Rattle.world_core.specs.declared.fault.Fault.TheVariants.{NoMemory, Tape};
 ghost use Rattle.world_core.specs.declared.fault.TapesFault.TheVariants.{NoMemory as NoTapesMemory};
 
-use crate::told::Told;
+use crate::output::Output;
 use funnel::PeerName;
 use ledger_core::LedgerFault;
 use peer_queue::StationFault;
@@ -112,7 +112,7 @@ pub struct WorldFault {
     /// Why it was refused.
     pub kind: Fault,
     /// What each step before it told.
-    pub lines: Vec<Vec<Told>>,
+    pub lines: Vec<Vec<Output>>,
 }
 
 /// Why no world was made of given tapes.

@@ -4,8 +4,8 @@ ghost use Rattle.world_core.specs.Imports.{HasGood};
 ghost use Rattle.world_core.specs.Importing.{Gains, good_of, one_new};
 
 use crate::fault::Fault;
+use crate::output::Output;
 use crate::stations::Stations;
-use crate::told::Told;
 use disk_model::Disk;
 use funnel::{LineFault, MsgId, PeerName, Token, first_line, read_backlog_line};
 use peer_queue::Owed;
@@ -36,26 +36,27 @@ impl<D: Disk> Stations<D> {
     ///
     /// # Errors
     /// `NoPeer` if none has this name; `NoMemory`; the station's.
-    pub(crate) fn import(&mut self, name: &PeerName, text: &[u8]) -> Result<Vec<Told>, Fault>
+    pub(crate) fn import(&mut self, name: &PeerName, text: &[u8]) -> Result<Vec<Output>, Fault>
         ensures ok { (past : Past) → Stands self.old past
-            → IfOk result (λ told. Took (TakesImport name.now text.now) past told.items self.new) }
+            → IfOk result
+            (λ outputs. Took (TakesImport name.now text.now) past outputs.items self.new) }
         ensures err { (past : Past) → Stands self.old past → IfErr result
             (λ fault. TookNot (RefusesImport name.now text.now) past fault self.new) }
     {
         let Some(rank) = self.rank_of(name) else {
             return Err(Fault::NoPeer);
         };
-        let mut told = Vec::with_capacity(self.alloc, 1)?;
+        let mut outputs = Vec::with_capacity(self.alloc, 1)?;
         let name = name.clone()?;
         let lines = read_lines(self.alloc, text)?;
         let count = self.import_each(rank, &lines)?;
         let source = self.close_all(rank)?;
-        told.push_reserved(Told::Imported {
+        outputs.push_reserved(Output::Imported {
             name,
             source,
             new: count,
         });
-        Ok(told)
+        Ok(outputs)
     }
 
     // Owes each of these lines at the peer of this rank, and tells how many are new.

@@ -3,17 +3,17 @@ ghost use Rattle.std.specs.Prelude.{◌≡◌, [], ◌∷◌, ◌++◌, decimal 
 ghost use Rattle.std.specs.Prelude.{OnOk};
 ghost use Rattle.ledger_core.specs.Keys.{key_text};
 ghost use Rattle.world_core.specs.Lines.{handed_text, keys_text, line_text, owed_text};
-ghost use Rattle.world_core.specs.Lines.{reason_text, settled_text, told_text};
-ghost use Rattle.world_core.specs.Told.{said_of};
-ghost use Rattle.world_core.specs.declared.told.OwedAt.{OwedAt};
+ghost use Rattle.world_core.specs.Lines.{reason_text, settled_text, output_text};
+ghost use Rattle.world_core.specs.Output.{said_of};
+ghost use Rattle.world_core.specs.declared.output.OwedAt.{OwedAt};
 
-use crate::told::{Handed, OwedAt, Told};
+use crate::output::{Handed, Output, OwedAt};
 use conn_core::Reason;
 use ledger_core::Key;
 use peer_queue::{Owed, Settled};
 use std::alloc::{AllocError, Global};
 
-impl Told {
+impl Output {
     /// Its line in the script's format, with its LF.
     ///
     /// # Errors
@@ -22,40 +22,40 @@ impl Told {
         ensures { IfOk result (λ line. line.items ≡ line_text (said_of self.now)) }
     {
         let mut line = Vec::new(alloc);
-        add_told(&mut line, self)?;
+        add_output(&mut line, self)?;
         line.push(b'\n')?;
         Ok(line)
     }
 }
 
 // What is told, without its LF.
-fn add_told(out: &mut Vec<u8>, told: &Told) -> Result<(), AllocError>
-    ensures { OnOk result (out.new.items ≡ out.old.items ++ told_text (said_of told.now)) }
+fn add_output(out: &mut Vec<u8>, outputs: &Output) -> Result<(), AllocError>
+    ensures { OnOk result (out.new.items ≡ out.old.items ++ output_text (said_of outputs.now)) }
 {
-    match told {
-        Told::Owed { number, peers } => {
+    match outputs {
+        Output::Owed { number, peers } => {
             add_number(out, *number)?;
             add_owed(out, peers)
         }
-        Told::Bad { number, fault } => {
+        Output::Bad { number, fault } => {
             add_number(out, *number)?;
             out.extend_from_slice(b" bad ")?;
             out.extend_from_slice(fault.name().as_bytes())
         }
-        Told::Taken { mark } => {
+        Output::Taken { mark } => {
             out.extend_from_slice(b"taken ")?;
             add_number(out, *mark)
         }
-        Told::Connected { connection, name } => {
+        Output::Connected { connection, name } => {
             add_connection(out, *connection)?;
             out.push(b' ')?;
             out.extend_from_slice(name.bytes())
         }
-        Told::Handed { connection, handed } => {
+        Output::Handed { connection, handed } => {
             add_connection(out, *connection)?;
             add_handed(out, *handed)
         }
-        Told::Settled {
+        Output::Settled {
             connection,
             key,
             settled,
@@ -63,40 +63,40 @@ fn add_told(out: &mut Vec<u8>, told: &Told) -> Result<(), AllocError>
             add_connection(out, *connection)?;
             add_settled(out, *key, *settled)
         }
-        Told::Output { connection, line } => {
+        Output::SentLine { connection, line } => {
             add_connection(out, *connection)?;
             out.push(b'>')?;
             out.extend_from_slice(line)
         }
-        Told::Need { connection, key } => {
+        Output::Need { connection, key } => {
             add_connection(out, *connection)?;
             out.extend_from_slice(b" need ")?;
             key.add_text(out)
         }
-        Told::Closed { connection, reason } => {
+        Output::Closed { connection, reason } => {
             add_connection(out, *connection)?;
             out.extend_from_slice(b" closed ")?;
             add_reason(out, *reason)
         }
-        Told::Shed { name, keys } => {
+        Output::Shed { name, keys } => {
             out.extend_from_slice(name.bytes())?;
             out.extend_from_slice(b" shed")?;
             add_keys(out, keys)
         }
-        Told::Rotated { name, generation } => {
+        Output::Rotated { name, generation } => {
             out.extend_from_slice(name.bytes())?;
             out.extend_from_slice(b" rotated ")?;
             add_number(out, *generation)
         }
-        Told::Imported { name, source, new } => {
+        Output::Imported { name, source, new } => {
             out.extend_from_slice(name.bytes())?;
             out.extend_from_slice(b" imported ")?;
             add_number(out, u64::from(*source))?;
             out.push(b' ')?;
             add_number(out, *new)
         }
-        Told::Stopped => out.extend_from_slice(b"stopped"),
-        Told::Mark { name, mark, owes } => {
+        Output::Stopped => out.extend_from_slice(b"stopped"),
+        Output::Mark { name, mark, owes } => {
             out.extend_from_slice(name.bytes())?;
             out.extend_from_slice(b" mark ")?;
             add_number(out, *mark)?;

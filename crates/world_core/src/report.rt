@@ -1,5 +1,5 @@
 // What a run of steps tells.
-use crate::told::Told;
+use crate::output::Output;
 use funnel::PeerName;
 use ledger_core::Totals;
 
@@ -16,7 +16,7 @@ pub struct PeerTotals {
 #[derive(Debug, Drop)]
 pub struct Report {
     /// What each step told, a value for each line.
-    pub lines: Vec<Vec<Told>>,
+    pub lines: Vec<Vec<Output>>,
     /// Each peer's counts, in byte order of their names; none while all is stopped.
     pub totals: Vec<PeerTotals>,
 }

@@ -5,14 +5,14 @@ ghost use Rattle.world_core.specs.Halting.{TapesStop};
 ghost use Rattle.world_core.specs.Opening.{AllOpen, OpensNot};
 ghost use Rattle.world_core.specs.Past.{Past};
 ghost use Rattle.world_core.specs.Stepped.{opened_said};
-ghost use Rattle.world_core.specs.Told.{said_of};
+ghost use Rattle.world_core.specs.Output.{said_of};
 
 use crate::fault::{Fault, Halt};
 use crate::halt::halt_each;
+use crate::output::Output;
 use crate::peer::{Peer, StoppedPeer};
 use crate::stations::Stations;
 use crate::stop::StopDisk;
-use crate::told::Told;
 use crate::world::{Stage, World};
 use recovery::Tape;
 use std::alloc::{AllocError, Global};
@@ -41,7 +41,7 @@ impl World {
     ghost use Rattle.world_core.specs.declared.step.Step.TheVariants.{Restart};
 
     // Opens all tapes, the peers' in byte order of their names and then the intake's, and tells each peer's mark.
-    pub(crate) fn restart(&mut self, out: &mut Vec<Told>) -> Result<(), Fault>
+    pub(crate) fn restart(&mut self, out: &mut Vec<Output>) -> Result<(), Fault>
         requires { out.old.items ≡ [] }
         ensures ok { (life : Life) → WorldStands self.old life
             → OnOk result (Took Restart life out.new.items self.new) }
@@ -72,7 +72,7 @@ impl World {
         &mut self,
         stations: Stations<StopDisk>,
         room: Vec<StoppedPeer>,
-        out: &mut Vec<Told>,
+        out: &mut Vec<Output>,
     ) -> Result<(), Fault>
         requires empty { room.items ≡ [] }
         requires room { vec_len stations.peers ≤ vec_capacity room }
@@ -82,13 +82,13 @@ impl World {
             → AllOpen life.past stations
             → IfErr result (λ fault. WasNotTaken Restart life fault self.new) }
     {
-        let Ok(told) = tell_marks(self.alloc, &stations.peers) else {
+        let Ok(outputs) = tell_marks(self.alloc, &stations.peers) else {
             let (peers, intake) = stations.halt(room);
             self.stage = Stage::Stopped(peers, intake);
             return Err(Fault::NoMemory);
         };
         self.stage = Stage::Running(stations, Vec::new(self.alloc));
-        *out = told;
+        *out = outputs;
         Ok(())
     }
 }
@@ -235,22 +235,22 @@ pub(crate) fn rooms_for(alloc: Global, count: usize) -> Result<Rooms, AllocError
 }
 
 // What is told of these peers, whose tapes were opened.
-fn tell_marks(alloc: Global, peers: &[Peer<StopDisk>]) -> Result<Vec<Told>, AllocError>
-    ensures { IfOk result (λ told. map said_of told.items ≡ map opened_said peers.now) }
+fn tell_marks(alloc: Global, peers: &[Peer<StopDisk>]) -> Result<Vec<Output>, AllocError>
+    ensures { IfOk result (λ outputs. map said_of outputs.items ≡ map opened_said peers.now) }
 {
-    let mut told = Vec::new(alloc);
+    let mut outputs = Vec::new(alloc);
     for peer in peers {
-        told.push(mark_of(peer)?)?;
+        outputs.push(mark_of(peer)?)?;
     }
-    Ok(told)
+    Ok(outputs)
 }
 
 // What is told of a peer whose tape was opened.
-fn mark_of(peer: &Peer<StopDisk>) -> Result<Told, AllocError>
-    ensures { IfOk result (λ told. said_of told ≡ opened_said peer.now) }
+fn mark_of(peer: &Peer<StopDisk>) -> Result<Output, AllocError>
+    ensures { IfOk result (λ outputs. said_of outputs ≡ opened_said peer.now) }
 {
     let name = peer.conf.name.clone()?;
     let mark = peer.station.mark();
     let owes = peer.station.list()?;
-    Ok(Told::Mark { name, mark, owes })
+    Ok(Output::Mark { name, mark, owes })
 }

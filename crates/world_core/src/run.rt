@@ -7,11 +7,11 @@ ghost use Rattle.world_core.specs.declared.report.PeerTotals.{PeerTotals};
 ghost use Rattle.world_core.specs.declared.peer.StoppedPeer.{StoppedPeer};
 
 use crate::fault::{Fault, WorldFault};
+use crate::output::Output;
 use crate::peer::{Peer, StoppedPeer};
 use crate::report::{PeerTotals, Report};
 use crate::step::Step;
 use crate::stop::StopDisk;
-use crate::told::Told;
 use crate::world::{Stage, World};
 use ledger_core::Totals;
 use std::alloc::{AllocError, Global};
@@ -29,7 +29,7 @@ impl World {
     ghost use Rattle.world_core.specs.Past.{Life};
     ghost use Rattle.world_core.specs.Stands.{Ends, Reports, WorldStands, counts_of};
     ghost use Rattle.world_core.specs.Sound.{names_of};
-    ghost use Rattle.world_core.specs.Told.{said_by};
+    ghost use Rattle.world_core.specs.Output.{said_by};
     ghost use Rattle.world_core.specs.Turn.{Took, WasNotTaken, names_at};
 
     /// Takes these steps, one after another, up to the first that is refused, and reports what each told, and each
@@ -55,22 +55,22 @@ impl World {
             });
         };
         for index in 0..steps.len() {
-            let mut told = Vec::new(self.alloc);
-            if let Err(kind) = self.take(&steps[index], &mut told) {
+            let mut outputs = Vec::new(self.alloc);
+            if let Err(kind) = self.take(&steps[index], &mut outputs) {
                 return Err(WorldFault {
                     step: index + 1,
                     kind,
                     lines,
                 });
             }
-            lines.push_reserved(told);
+            lines.push_reserved(outputs);
         }
         let totals = self.counts(totals);
         Ok(Report { lines, totals })
     }
 
     // Room for what so many steps tell, and for each peer's counts.
-    fn room_for(&self, count: usize) -> Result<(Vec<Vec<Told>>, Vec<PeerTotals>), AllocError>
+    fn room_for(&self, count: usize) -> Result<(Vec<Vec<Output>>, Vec<PeerTotals>), AllocError>
         ensures empty { IfOk result (λ room. room.0.items ≡ []) }
         ensures room { IfOk result (λ room. count ≤ vec_capacity room.0) }
         ensures names { IfOk result (λ room. map (λ (peer : PeerTotals). peer.name) room.1.items
@@ -100,7 +100,7 @@ impl World {
     }
 
     // Takes one step: adds what it tells, or tells why it was refused.
-    fn take(&mut self, step: &Step, out: &mut Vec<Told>) -> Result<(), Fault>
+    fn take(&mut self, step: &Step, out: &mut Vec<Output>) -> Result<(), Fault>
         requires { out.old.items ≡ [] }
         ensures ok { (life : Life) → WorldStands self.old life
             → OnOk result (Took step.now life out.new.items self.new) }

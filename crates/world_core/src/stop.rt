@@ -124,7 +124,7 @@ impl StopDisk {
     /// A disk of the tape at this rank.
     pub fn new(disk: MemDisk, rank: usize, trigger: Rc<Cell<Trigger>>) -> Self
         ensures disk { beneath result ≡ disk }
-        ensures told { own_faults result ≡ 0 }
+        ensures faults { own_faults result ≡ 0 }
         ensures rank { rank_at result ≡ rank }
     {
         StopDisk {
@@ -143,7 +143,7 @@ impl StopDisk {
         ensures log { IfOk result
             (λ left. happened left ≡ Made (chosen_image choice (happened self.now)) ∷ []) }
         ensures image { Image (happened self.now) (chosen_image choice (happened self.now)) }
-        ensures told { IfOk result (λ left. all_faults left ≡ 0) }
+        ensures faults { IfOk result (λ left. all_faults left ≡ 0) }
         ensures rank { IfOk result (λ left. rank_at left ≡ rank_at self.now) }
     {
         let disk = self.disk.image(choice)?;
@@ -162,7 +162,7 @@ impl StopDisk {
     // Stops all disks.
     fn stop(&mut self, choice: Choice) -> DiskFault
         ensures disk { beneath self.new ≡ beneath self.old }
-        ensures told { own_faults self.new ≡ min (own_faults self.old + 1) (2 ^ 64 - 1) }
+        ensures faults { own_faults self.new ≡ min (own_faults self.old + 1) (2 ^ 64 - 1) }
     {
         self.trigger.set(Trigger::Met(choice));
         self.refuse()
@@ -171,7 +171,7 @@ impl StopDisk {
     // Tells a fault of its own.
     fn refuse(&mut self) -> DiskFault
         ensures disk { beneath self.new ≡ beneath self.old }
-        ensures told { own_faults self.new ≡ min (own_faults self.old + 1) (2 ^ 64 - 1) }
+        ensures faults { own_faults self.new ≡ min (own_faults self.old + 1) (2 ^ 64 - 1) }
     {
         self.faults = self.faults.saturating_add(1);
         DiskFault
@@ -244,7 +244,7 @@ impl StopDisk {
 
 /// Honest. What has happened to it is what has happened to the disk beneath.
 impl Disk for StopDisk {
-    ghost use Rattle.disk_model.specs.InMemory.{events, held, faults_told};
+    ghost use Rattle.disk_model.specs.InMemory.{events, held, faults_in};
     ghost use Rattle.disk_model.specs.MemoryLaws.{content_among_images};
 
     ghost honest = { λ _. Unit {0} };
@@ -253,7 +253,7 @@ impl Disk for StopDisk {
 
     ghost size = { λ d. length (held d.disk) };
 
-    ghost told = { λ d. min (d.faults + faults_told d.disk) (2 ^ 64 - 1) };
+    ghost faults_of = { λ d. min (d.faults + faults_in d.disk) (2 ^ 64 - 1) };
 
     ghost content_is_image = { λ d _. content_among_images d.disk.moments.items };
 

@@ -6,9 +6,9 @@ ghost use Rattle.world_core.specs.Trigger.{IsMet, armed_at};
 
 use crate::fault::{Fault, Halt};
 use crate::halt::{left_disks, left_each, with_disks};
+use crate::output::Output;
 use crate::peer::StoppedPeer;
 use crate::stop::{Stop, StopDisk, Trigger};
-use crate::told::Told;
 use crate::world::{Arming, Stage, World};
 use disk_model::{Choice, MemDisk};
 use funnel::PeerName;
@@ -30,7 +30,7 @@ impl World {
         peer: &Option<PeerName>,
         call: u64,
         choice: Choice,
-        out: &mut Vec<Told>,
+        out: &mut Vec<Output>,
     ) -> Result<(), Fault>
         requires { out.old.items ≡ [] }
         ensures ok { (life : Life) → WorldStands self.old life
@@ -45,7 +45,7 @@ impl World {
     }
 
     // All stops at rest: what pends is gone, disks stay as they are, connections end, and no stop is armed.
-    fn rest(&mut self, out: &mut Vec<Told>) -> Result<(), Fault>
+    fn rest(&mut self, out: &mut Vec<Output>) -> Result<(), Fault>
         requires { out.old.items ≡ [] }
         ensures ok { (life : Life) → WorldStands self.old life
             → OnOk result (Made TakesRest life out.new.items self.new) }
@@ -57,13 +57,13 @@ impl World {
         }
         out.reserve(1)?;
         self.halt()?;
-        out.push_reserved(Told::Stopped);
+        out.push_reserved(Output::Stopped);
         Ok(())
     }
 
     // What a refused step leaves: where a disk failed at the tape at which a stop is armed, and that was met, all
     // stops.
-    pub(crate) fn settle(&mut self, halt: Halt, out: &mut Vec<Told>) -> Result<(), Fault>
+    pub(crate) fn settle(&mut self, halt: Halt, out: &mut Vec<Output>) -> Result<(), Fault>
         requires { out.old.items ≡ [] }
         ensures ok { (step : Step) (life : Life) → WasHalted step life halt self.old
             → OnOk result (Took step life out.new.items self.new) }
@@ -83,7 +83,7 @@ impl World {
 
     // All stops, and a choice leaves of all disks what it does. Where there is no memory for that all stops as at
     // rest, and where there is none to stop either, the step is refused as it was.
-    fn strike(&mut self, refused: Fault, choice: Choice, out: &mut Vec<Told>) -> Result<(), Fault>
+    fn strike(&mut self, refused: Fault, choice: Choice, out: &mut Vec<Output>) -> Result<(), Fault>
         requires { out.old.items ≡ [] }
         ensures ok { (life now : Life) (under_way : Past) → GoesOn life under_way now
             → WorldStands self.old now
@@ -97,7 +97,7 @@ impl World {
         }
         out.reserve(1)?;
         self.leave(choice)?;
-        out.push_reserved(Told::Stopped);
+        out.push_reserved(Output::Stopped);
         Ok(())
     }
 

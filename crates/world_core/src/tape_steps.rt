@@ -4,8 +4,8 @@ ghost use Rattle.std.specs.Prelude.{List, length, IfErr, IfOk, MatchOption, OnOk
 ghost use Rattle.world_core.specs.declared.fault.Fault.TheVariants.{NoMemory};
 
 use crate::fault::{Fault, Halt};
+use crate::output::{Output, OwedAt};
 use crate::stations::Stations;
-use crate::told::{OwedAt, Told};
 use disk_model::Disk;
 use funnel::{FunnelLine, LineFault, MsgId, PeerName, Token, read_line};
 use ledger_core::Key;
@@ -27,35 +27,35 @@ impl<D: Disk> Stations<D> {
     ///
     /// # Errors
     /// Tried in this order: `CountFull`; `NoMemory`; the stations'.
-    pub(crate) fn line(&mut self, text: &[u8]) -> Result<Vec<Told>, Fault>
+    pub(crate) fn line(&mut self, text: &[u8]) -> Result<Vec<Output>, Fault>
         ensures ok { (past : Past) → Stands self.old past
-            → IfOk result (λ told. Took (TakesLine text.now) past told.items self.new) }
+            → IfOk result (λ outputs. Took (TakesLine text.now) past outputs.items self.new) }
         ensures err { (past : Past) → Stands self.old past
             → IfErr result (λ fault. TookNot (RefusesLine text.now) past fault self.new) }
     {
         let Some(number) = self.last.checked_add(1) else {
             return Err(Fault::CountFull);
         };
-        let mut told = Vec::with_capacity(self.alloc, 1)?;
+        let mut outputs = Vec::with_capacity(self.alloc, 1)?;
         match read_line(self.alloc, text) {
             Ok(line) => {
                 let peers = self.owe(line)?;
-                told.push_reserved(Told::Owed { number, peers });
+                outputs.push_reserved(Output::Owed { number, peers });
             }
             Err(LineFault::NoMemory) => return Err(Fault::NoMemory),
-            Err(fault) => told.push_reserved(Told::Bad { number, fault }),
+            Err(fault) => outputs.push_reserved(Output::Bad { number, fault }),
         }
         self.last = number;
-        Ok(told)
+        Ok(outputs)
     }
 
     /// Flushes the station of this peer.
     ///
     /// # Errors
     /// `NoPeer` where none has this name; the station's.
-    pub(crate) fn part(&mut self, name: &PeerName) -> Result<Vec<Told>, Fault>
+    pub(crate) fn part(&mut self, name: &PeerName) -> Result<Vec<Output>, Fault>
         ensures ok { (past : Past) → Stands self.old past
-            → IfOk result (λ told. Took (TakesPart name.now) past told.items self.new) }
+            → IfOk result (λ outputs. Took (TakesPart name.now) past outputs.items self.new) }
         ensures err { (past : Past) → Stands self.old past
             → IfErr result (λ fault. TookNot (RefusesPart name.now) past fault self.new) }
     {
@@ -70,81 +70,81 @@ impl<D: Disk> Stations<D> {
     ///
     /// # Errors
     /// `NotFlushed` where no number is kept, or some peer was not flushed since; `NoMemory`; the tape's.
-    pub(crate) fn seal(&mut self) -> Result<Vec<Told>, Fault>
+    pub(crate) fn seal(&mut self) -> Result<Vec<Output>, Fault>
         ensures ok { (past : Past) → Stands self.old past
-            → IfOk result (λ told. Took TakesSeal past told.items self.new) }
+            → IfOk result (λ outputs. Took TakesSeal past outputs.items self.new) }
         ensures err { (past : Past) → Stands self.old past
             → IfErr result (λ fault. TookNot RefusesSeal past fault self.new) }
     {
         let Some(number) = self.sealable() else {
             return Err(Fault::NotFlushed);
         };
-        let mut told = Vec::with_capacity(self.alloc, 1)?;
+        let mut outputs = Vec::with_capacity(self.alloc, 1)?;
         self.seal_number(number)?;
         let mark = self.intake.mark();
-        told.push_reserved(Told::Taken { mark });
-        Ok(told)
+        outputs.push_reserved(Output::Taken { mark });
+        Ok(outputs)
     }
 
     /// Keeps the last line's number, flushes each peer in byte order of their names, and seals the number.
     ///
     /// # Errors
     /// `NoMemory`; the stations' and the tape's.
-    pub(crate) fn flush(&mut self) -> Result<Vec<Told>, Halt>
+    pub(crate) fn flush(&mut self) -> Result<Vec<Output>, Halt>
         ensures ok { (past : Past) → Stands self.old past
-            → IfOk result (λ told. Took TakesFlush past told.items self.new) }
+            → IfOk result (λ outputs. Took TakesFlush past outputs.items self.new) }
         ensures err { (past : Past) → Stands self.old past → IfErr result (λ halt.
             HaltedAs RefusesFlushing (begun_at past) (flush_events past) past halt self.new) }
     {
-        let mut told = Vec::with_capacity(self.alloc, 1)?;
+        let mut outputs = Vec::with_capacity(self.alloc, 1)?;
         self.begin();
         self.part_each()?;
         if let Err(fault) = self.seal_number(self.last) {
             return Err(Halt { rank: None, fault });
         }
         let mark = self.intake.mark();
-        told.push_reserved(Told::Taken { mark });
-        Ok(told)
+        outputs.push_reserved(Output::Taken { mark });
+        Ok(outputs)
     }
 
     /// Drops what exceeds the backlog limit of this peer.
     ///
     /// # Errors
     /// `NoPeer` where none has this name; `NoMemory`; the station's.
-    pub(crate) fn shed(&mut self, name: &PeerName) -> Result<Vec<Told>, Fault>
+    pub(crate) fn shed(&mut self, name: &PeerName) -> Result<Vec<Output>, Fault>
         ensures ok { (past : Past) → Stands self.old past
-            → IfOk result (λ told. Took (TakesShed name.now) past told.items self.new) }
+            → IfOk result (λ outputs. Took (TakesShed name.now) past outputs.items self.new) }
         ensures err { (past : Past) → Stands self.old past
             → IfErr result (λ fault. TookNot (RefusesShed name.now) past fault self.new) }
     {
         let Some(rank) = self.rank_of(name) else {
             return Err(Fault::NoPeer);
         };
-        let mut told = Vec::with_capacity(self.alloc, 1)?;
+        let mut outputs = Vec::with_capacity(self.alloc, 1)?;
         let name = name.clone()?;
         let keys = self.shed_at(rank)?;
-        told.push_reserved(Told::Shed { name, keys });
-        Ok(told)
+        outputs.push_reserved(Output::Shed { name, keys });
+        Ok(outputs)
     }
 
     /// Writes anew what this peer is owed.
     ///
     /// # Errors
     /// `NoPeer` where none has this name; `NoMemory`; the station's.
-    pub(crate) fn rotate(&mut self, name: &PeerName) -> Result<Vec<Told>, Fault>
+    pub(crate) fn rotate(&mut self, name: &PeerName) -> Result<Vec<Output>, Fault>
         ensures ok { (past : Past) → Stands self.old past
-            → IfOk result (λ told. Took (TakesRotate name.now) past told.items self.new) }
+            → IfOk result (λ outputs. Took (TakesRotate name.now) past outputs.items self.new) }
         ensures err { (past : Past) → Stands self.old past
             → IfErr result (λ fault. TookNot (RefusesRotation name.now) past fault self.new) }
     {
         let Some(rank) = self.rank_of(name) else {
             return Err(Fault::NoPeer);
         };
-        let mut told = Vec::with_capacity(self.alloc, 1)?;
+        let mut outputs = Vec::with_capacity(self.alloc, 1)?;
         let name = name.clone()?;
         let generation = self.rotate_at(rank)?;
-        told.push_reserved(Told::Rotated { name, generation });
-        Ok(told)
+        outputs.push_reserved(Output::Rotated { name, generation });
+        Ok(outputs)
     }
 
     // Sheds at the peer of this rank.
@@ -203,8 +203,8 @@ impl<D: Disk> Stations<D> {
     // Owes a good line to each peer that it names, in byte order of their names, and tells what came of it.
     fn owe(&mut self, line: FunnelLine) -> Result<Vec<OwedAt>, Fault>
         requires numbered { self.old.last + 1 < 2 ^ 64 }
-        ensures ok { (past : Past) → Stands self.old past → IfOk result (λ told.
-            OwedLine past line.token line.id line.peers.items told.items self.new) }
+        ensures ok { (past : Past) → Stands self.old past → IfOk result (λ outputs.
+            OwedLine past line.token line.id line.peers.items outputs.items self.new) }
         ensures err { (past : Past) → Stands self.old past → IfErr result (λ fault.
             ((fault ≡ NoMemory) × Stands self.new past)
             ⊎ Failed past (line_events line.token line.id line.peers.items past) fault self.new) }
@@ -212,8 +212,8 @@ impl<D: Disk> Stations<D> {
     {
         let FunnelLine { token, id, peers } = line;
         let found = self.find_each(peers)?;
-        let told = Vec::with_capacity(self.alloc, found.len())?;
-        self.owe_each(found, &token, &id, told)
+        let outputs = Vec::with_capacity(self.alloc, found.len())?;
+        self.owe_each(found, &token, &id, outputs)
     }
 
     // Owes a line to the peers at these places, and tells what came of it.
@@ -222,27 +222,27 @@ impl<D: Disk> Stations<D> {
         found: BTreeMap<usize, PeerName>,
         token: &Token,
         id: &MsgId,
-        told: Vec<OwedAt>,
+        outputs: Vec<OwedAt>,
     ) -> Result<Vec<OwedAt>, Fault>
         requires numbered { self.old.last + 1 < 2 ^ 64 }
         requires within { AreWithin (vec_len self.old.peers) found.entries }
-        requires none { told.items ≡ [] }
-        requires room { length found.entries ≤ vec_capacity told }
+        requires none { outputs.items ≡ [] }
+        requires room { length found.entries ≤ vec_capacity outputs }
         ensures ok { (past : Past) (named : List (List ℕ)) → Stands self.old past
             → AreFound past named found.entries
-            → IfOk result (λ told. OwedLine past token.now id.now named told.items self.new) }
+            → IfOk result (λ outputs. OwedLine past token.now id.now named outputs.items self.new) }
         ensures err { (past : Past) (named : List (List ℕ)) → Stands self.old past
             → AreFound past named found.entries
             → IfErr result (λ fault.
             Failed past (line_events token.now id.now named past) fault self.new) }
         ensures last { self.new.last ≡ self.old.last }
     {
-        let mut told = told;
+        let mut outputs = outputs;
         for (rank, name) in found {
             let owed = self.owe_at(rank, token, id)?;
-            told.push_reserved(OwedAt { name, owed });
+            outputs.push_reserved(OwedAt { name, owed });
         }
-        Ok(told)
+        Ok(outputs)
     }
 
     // The places of the peers of these names.

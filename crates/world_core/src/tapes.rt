@@ -2,7 +2,7 @@
 ghost use Rattle.std.specs.Prelude.{◌≡◌, [], IfErr, OnOk};
 
 use crate::fault::{Fault, Halt};
-use crate::told::Told;
+use crate::output::Output;
 use crate::world::{Stage, World};
 use funnel::PeerName;
 
@@ -14,7 +14,7 @@ impl World {
     ghost use Rattle.world_core.specs.declared.step.Step.TheVariants.{Shed};
 
     // Takes a funnel line, without its LF.
-    pub(crate) fn line(&mut self, text: &Vec<u8>, out: &mut Vec<Told>) -> Result<(), Fault>
+    pub(crate) fn line(&mut self, text: &Vec<u8>, out: &mut Vec<Output>) -> Result<(), Fault>
         requires { out.old.items ≡ [] }
         ensures ok { (life : Life) → WorldStands self.old life
             → OnOk result (Took (Line text.now) life out.new.items self.new) }
@@ -29,7 +29,7 @@ impl World {
     }
 
     // Keeps the last line's number.
-    pub(crate) fn begin(&mut self, out: &mut Vec<Told>) -> Result<(), Fault>
+    pub(crate) fn begin(&mut self, out: &mut Vec<Output>) -> Result<(), Fault>
         requires { out.old.items ≡ [] }
         ensures ok { (life : Life) → WorldStands self.old life
             → OnOk result (Took Begin life out.new.items self.new) }
@@ -44,7 +44,7 @@ impl World {
     }
 
     // Flushes the station of this peer.
-    pub(crate) fn part(&mut self, name: &PeerName, out: &mut Vec<Told>) -> Result<(), Fault>
+    pub(crate) fn part(&mut self, name: &PeerName, out: &mut Vec<Output>) -> Result<(), Fault>
         requires { out.old.items ≡ [] }
         ensures ok { (life : Life) → WorldStands self.old life
             → OnOk result (Took (Part name.now) life out.new.items self.new) }
@@ -56,8 +56,8 @@ impl World {
         };
         let rank = stations.rank_of(name);
         match stations.part(name) {
-            Ok(told) => {
-                *out = told;
+            Ok(outputs) => {
+                *out = outputs;
                 Ok(())
             }
             Err(fault) => self.settle(Halt { rank, fault }, out),
@@ -65,7 +65,7 @@ impl World {
     }
 
     // Notes the kept number on the intake's tape, and flushes that.
-    pub(crate) fn seal(&mut self, out: &mut Vec<Told>) -> Result<(), Fault>
+    pub(crate) fn seal(&mut self, out: &mut Vec<Output>) -> Result<(), Fault>
         requires { out.old.items ≡ [] }
         ensures ok { (life : Life) → WorldStands self.old life
             → OnOk result (Took Seal life out.new.items self.new) }
@@ -76,8 +76,8 @@ impl World {
             return Err(Fault::Stopped);
         };
         match stations.seal() {
-            Ok(told) => {
-                *out = told;
+            Ok(outputs) => {
+                *out = outputs;
                 Ok(())
             }
             Err(fault) => self.settle(Halt { rank: None, fault }, out),
@@ -85,7 +85,7 @@ impl World {
     }
 
     // Keeps the last line's number, flushes each peer, and seals the number.
-    pub(crate) fn flush(&mut self, out: &mut Vec<Told>) -> Result<(), Fault>
+    pub(crate) fn flush(&mut self, out: &mut Vec<Output>) -> Result<(), Fault>
         requires { out.old.items ≡ [] }
         ensures ok { (life : Life) → WorldStands self.old life
             → OnOk result (Took Flush life out.new.items self.new) }
@@ -96,8 +96,8 @@ impl World {
             return Err(Fault::Stopped);
         };
         match stations.flush() {
-            Ok(told) => {
-                *out = told;
+            Ok(outputs) => {
+                *out = outputs;
                 Ok(())
             }
             Err(halt) => self.settle(halt, out),
@@ -105,7 +105,7 @@ impl World {
     }
 
     // Drops what exceeds the backlog limit of this peer.
-    pub(crate) fn shed(&mut self, name: &PeerName, out: &mut Vec<Told>) -> Result<(), Fault>
+    pub(crate) fn shed(&mut self, name: &PeerName, out: &mut Vec<Output>) -> Result<(), Fault>
         requires { out.old.items ≡ [] }
         ensures ok { (life : Life) → WorldStands self.old life
             → OnOk result (Took (Shed name.now) life out.new.items self.new) }
@@ -120,7 +120,7 @@ impl World {
     }
 
     // Writes anew what this peer is owed.
-    pub(crate) fn rotate(&mut self, name: &PeerName, out: &mut Vec<Told>) -> Result<(), Fault>
+    pub(crate) fn rotate(&mut self, name: &PeerName, out: &mut Vec<Output>) -> Result<(), Fault>
         requires { out.old.items ≡ [] }
         ensures ok { (life : Life) → WorldStands self.old life
             → OnOk result (Took (Rotate name.now) life out.new.items self.new) }
@@ -132,8 +132,8 @@ impl World {
         };
         let rank = stations.rank_of(name);
         match stations.rotate(name) {
-            Ok(told) => {
-                *out = told;
+            Ok(outputs) => {
+                *out = outputs;
                 Ok(())
             }
             Err(fault) => self.settle(Halt { rank, fault }, out),
@@ -145,7 +145,7 @@ impl World {
         &mut self,
         name: &PeerName,
         text: &Vec<u8>,
-        out: &mut Vec<Told>,
+        out: &mut Vec<Output>,
     ) -> Result<(), Fault>
         requires { out.old.items ≡ [] }
         ensures ok { (life : Life) → WorldStands self.old life
@@ -158,8 +158,8 @@ impl World {
         };
         let rank = stations.rank_of(name);
         match stations.import(name, text) {
-            Ok(told) => {
-                *out = told;
+            Ok(outputs) => {
+                *out = outputs;
                 Ok(())
             }
             Err(fault) => self.settle(Halt { rank, fault }, out),

@@ -1,5 +1,5 @@
 use Rattle.std.proofs.Common.{◌≡◌, ◌+◌, ◌<◌, ℕ, false, ◌∷◌, take, get_or, length, ap, sym, ◌∙◌, subst, arith}
-use Rattle.disk_model.specs.declared.moment.Moment.{Moment}
+use Rattle.disk_model.specs.declared.disk_event.DiskEvent.{DiskEvent}
 use Rattle.disk_model.specs.Choice.{chosen_image, pending}
 use Rattle.disk_model.specs.Memory.{event_of, logged, is_settling}
 use Rattle.disk_model.proofs.Kept.{logged_more, pending_more}
@@ -16,7 +16,7 @@ loop-number-preserved c = λ log none same.
     let is : m ≡ get_or ms i m = c.index-waiting-number.is in
     let more : logged log (take (i + 1) ms) ≡ event_of m ∷ now = logged_more log ms i m inside is in
     let so_far = c.loop-number.invariant log none same in
-    let operation : is_settling m ≡ false = subst (λ (x : Moment). is_settling x ≡ false) (sym is) (c.requires i m inside) in (
+    let operation : is_settling m ≡ false = subst (λ (x : DiskEvent). is_settling x ≡ false) (sym is) (c.requires i m inside) in (
       ap (λ (n : ℕ). n + 1) so_far.0 ∙ sym (pending_more now m operation) ∙ ap pending (sym more),
       c.in_ok-leave.ensures now so_far.0 so_far.1 ∙ ap (chosen_image choice) (sym more),
     )

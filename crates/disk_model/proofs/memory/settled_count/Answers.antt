@@ -1,6 +1,6 @@
 use Rattle.std.proofs.Common.{◌≡◌, ◌+◌, ◌<◌, ℕ, false, [], take, get_or, length, sym, subst, arith}
 use Rattle.std.proofs.lemmas.List.Elements.{AllWithin-more, at_read}
-use Rattle.disk_model.specs.declared.moment.Moment.{Moment}
+use Rattle.disk_model.specs.declared.disk_event.DiskEvent.{DiskEvent}
 use Rattle.disk_model.specs.Memory.{log_of, is_settling, IsSettled}
 use Rattle.disk_model.proofs.Kept.{logged_more, settled_by}
 use Rattle.disk_model.proofs.memory.settled_count.Goals as goal
@@ -13,7 +13,7 @@ loop-i-preserved c =
     let m = c.index-moments-i.result in
     let inside : i < length ms = omega arith in
     let is : m ≡ get_or ms i m = c.index-moments-i.is in
-    let waits = λ (moment : Moment). is_settling moment ≡ false in
+    let waits = λ (moment : DiskEvent). is_settling moment ≡ false in
     elim c.if-is_settling.branch [
       | then-is_settling w ↦
           let settled : IsSettled (log_of (take (i + 1) ms)) =

@@ -2,13 +2,13 @@ use Rattle.std.proofs.Common.{ℕ, List, length, ap, sym, ◌∙◌}
 use Rattle.dot_codec.specs.declared.fault.BlockFault.TheVariants.{Unfinished, BareCr, BareLf, Nul}
 use Rattle.dot_codec.proofs.Faults.{form_has_no_fault, told_first, told_none}
 use Rattle.dot_codec.proofs.Forms.{forms_do_not_begin_another}
-use Rattle.dot_codec.proofs.Counts.{read_front}
+use Rattle.dot_codec.proofs.Counts.{read_prefix}
 use Rattle.dot_codec.proofs.read.from_block.Goals as goal
 
 pub returns-in-Ok-lines_of-clause-read : goal.returns-in-Ok-lines_of-clause-read
 returns-in-Ok-lines_of-clause-read c =
     let read = c.in-Ok.ensures.read in
-    read_front c.args.octets.now c.in-Ok-lines_of.text.items read.0 read.1 read.2 c.in-Ok.size.used read.3 read.4 read.5 (c.in-Ok-lines_of.ensures read.0 read.1 read.2 read.3 read.4)
+    read_prefix c.args.octets.now c.in-Ok-lines_of.text.items read.0 read.1 read.2 c.in-Ok.size.used read.3 read.4 read.5 (c.in-Ok-lines_of.ensures read.0 read.1 read.2 read.3 read.4)
 
 pub returns-in-Ok-lines_of-clause-all : goal.returns-in-Ok-lines_of-clause-all
 returns-in-Ok-lines_of-clause-all c = λ lines form rest is_form is.

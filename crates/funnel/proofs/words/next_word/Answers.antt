@@ -17,10 +17,10 @@ blanks_alone text behind b e test is =
 
 word_first : (text behind word rest : List ℕ) (n : ℕ) (b : Bool) → behind ≡ behind_gap text → b ≡ (length behind == 0) → b ≡ false
     → n ≡ prefix_len is_solid behind → word ≡ take n behind → rest ≡ drop n behind → IsFirstWord text word rest
-word_first text behind word rest n b e test is len front back =
+word_first text behind word rest n b e test is len prefix back =
     let ne = eqb-false (length behind) 0 (sym test ∙ is) in
     let some : 0 < length (behind_gap text) = omega (arith, ap length e, ne) in
-    rw (front, back, len, e) (first_word_of text some)
+    rw (prefix, back, len, e) (first_word_of text some)
 
 pub returns-then-is_empty-clause-word : goal.returns-then-is_empty-clause-word
 returns-then-is_empty-clause-word c =

@@ -14,16 +14,16 @@ loop-note-preserved c =
     let i = c.loop-note.note-index in
     let note = c.note-item.result in
     let inside : i < length notes = omega arith in
-    let front : take (i + 1) notes ≡ take i notes ++ note ∷ [] =
+    let prefix : take (i + 1) notes ≡ take i notes ++ note ∷ [] =
     take_more notes i note inside ∙ ap (λ (n : Note). take i notes ++ n ∷ []) (sym c.note-item.is) in
     let all : together (take (i + 1) notes) ≡ together (take i notes) ++ spelling note =
-    ap together front ∙ (together-append (take i notes) (note ∷ [])
+    ap together prefix ∙ (together-append (take i notes) (note ∷ [])
     ∙ ap (λ (l : List ℕ). together (take i notes) ++ l) (append-nil (spelling note))) in
     let was = c.loop-note.invariant.octets in
     record {
       octets = c.in_ok-push_note.ensures.octets ∙ (ap (λ (l : List ℕ). l ++ spelling note) was
           ∙ (append_assoc c.args.octets.now.items (together (take i notes)) (spelling note)
           ∙ ap (λ (l : List ℕ). c.args.octets.now.items ++ l) (sym all)));
-      notes = subst AreNotes (sym front)
+      notes = subst AreNotes (sym prefix)
           (AreNotes-append (take i notes) (note ∷ []) c.loop-note.invariant.notes (c.in_ok-push_note.ensures.note, tt));
     }

@@ -2,25 +2,25 @@
 use Rattle.std.proofs.Common.{arith, ap, ◌+◌, ◌∙◌}
 use Rattle.std.proofs.lemmas.List.{take_all}
 use Rattle.std.specs.Str.Parse.{digits_value}
-use Rattle.segments.proofs.Digits.{value_front, value_more}
+use Rattle.segments.proofs.Digits.{value_prefix, value_more}
 use Rattle.segments.proofs.name.value_of.Goals as goal
 
 pub returns-in_err-checked_mul : goal.returns-in_err-checked_mul
 returns-in_err-checked_mul c =
     let loop = c.loop-digit in
     let more = value_more c.args.digits.now loop.digit-index c.requires c.loop-digit-test.true in
-    let front = value_front c.args.digits.now (loop.digit-index + 1) in
-    rw c.from_residual.ensures (omega (arith, more, front, loop.invariant.value, c.in_err-checked_mul.ensures))
+    let prefix = value_prefix c.args.digits.now (loop.digit-index + 1) in
+    rw c.from_residual.ensures (omega (arith, more, prefix, loop.invariant.value, c.in_err-checked_mul.ensures))
 
 pub returns-in_err-number : goal.returns-in_err-number
 returns-in_err-number c =
     let loop = c.loop-digit in
     let more = value_more c.args.digits.now loop.digit-index c.requires c.loop-digit-test.true in
-    let front = value_front c.args.digits.now (loop.digit-index + 1) in
+    let prefix = value_prefix c.args.digits.now (loop.digit-index + 1) in
     rw c.from_residual-in_err-number.ensures (omega (
       arith,
       more,
-      front,
+      prefix,
       loop.invariant.value,
       c.in_err-number.ensures,
       c.in_ok-checked_mul.ensures,

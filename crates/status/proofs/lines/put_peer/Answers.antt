@@ -1,10 +1,10 @@
 use Rattle.std.proofs.Common.{ℕ, List, [], ◌∷◌, ◌++◌}
 use Rattle.status.specs.Report.{left, number}
-use Rattle.status.proofs.Parts.{both, front_after, front_before, on_err, on_err_map, on_ok_map}
+use Rattle.status.proofs.Parts.{both, prefix_after, prefix_before, on_err, on_err_map, on_ok_map}
 use Rattle.status.proofs.lines.put_peer.Goals as goal
 
-pub returns-in_err-put_name-clause-front : goal.returns-in_err-put_name-clause-front
-returns-in_err-put_name-clause-front g c =
+pub returns-in_err-put_name-clause-prefix : goal.returns-in_err-put_name-clause-prefix
+returns-in_err-put_name-clause-prefix g c =
     let contents = g.W.Write.contents in
     let peer = c.args.peer.now in
     let rest-5 : List ℕ = 10 ∷ [] in
@@ -14,11 +14,11 @@ returns-in_err-put_name-clause-front g c =
     let rest-1 = number 10 peer.totals.answered ++ rest-2 in
     let rest-0 = number 10 peer.totals.taken ++ rest-1 in
     on_err c.from_residual.result (
-    front_before (contents c.args.out.now) (contents c.put_name.new.out)
-    (left 20 peer.name.now) rest-0 c.in_err-put_name.ensures.front)
+    prefix_before (contents c.args.out.now) (contents c.put_name.new.out)
+    (left 20 peer.name.now) rest-0 c.in_err-put_name.ensures.prefix)
 
-pub returns-in_err-put_number-clause-front : goal.returns-in_err-put_number-clause-front
-returns-in_err-put_number-clause-front g c =
+pub returns-in_err-put_number-clause-prefix : goal.returns-in_err-put_number-clause-prefix
+returns-in_err-put_number-clause-prefix g c =
     let contents = g.W.Write.contents in
     let peer = c.args.peer.now in
     let rest-5 : List ℕ = 10 ∷ [] in
@@ -28,13 +28,13 @@ returns-in_err-put_number-clause-front g c =
     let rest-1 = number 10 peer.totals.answered ++ rest-2 in
     let rest-0 = number 10 peer.totals.taken ++ rest-1 in
     on_err c.from_residual-in_err-put_number.result (
-    front_after (contents c.args.out.now) (contents c.put_name.new.out) (contents c.put_number.new.out)
+    prefix_after (contents c.args.out.now) (contents c.put_name.new.out) (contents c.put_number.new.out)
     (left 20 peer.name.now) rest-0 c.in_ok-put_name.ensures.whole (
-    front_before (contents c.put_name.new.out) (contents c.put_number.new.out)
-    (number 10 peer.totals.taken) rest-1 c.in_err-put_number.ensures.front))
+    prefix_before (contents c.put_name.new.out) (contents c.put_number.new.out)
+    (number 10 peer.totals.taken) rest-1 c.in_err-put_number.ensures.prefix))
 
-pub returns-in_err-put_number-2-clause-front : goal.returns-in_err-put_number-2-clause-front
-returns-in_err-put_number-2-clause-front g c =
+pub returns-in_err-put_number-2-clause-prefix : goal.returns-in_err-put_number-2-clause-prefix
+returns-in_err-put_number-2-clause-prefix g c =
     let contents = g.W.Write.contents in
     let peer = c.args.peer.now in
     let rest-5 : List ℕ = 10 ∷ [] in
@@ -44,15 +44,15 @@ returns-in_err-put_number-2-clause-front g c =
     let rest-1 = number 10 peer.totals.answered ++ rest-2 in
     let rest-0 = number 10 peer.totals.taken ++ rest-1 in
     on_err c.from_residual-in_err-put_number-2.result (
-    front_after (contents c.args.out.now) (contents c.put_name.new.out) (contents c.put_number-2.new.out)
+    prefix_after (contents c.args.out.now) (contents c.put_name.new.out) (contents c.put_number-2.new.out)
     (left 20 peer.name.now) rest-0 c.in_ok-put_name.ensures.whole (
-    front_after (contents c.put_name.new.out) (contents c.put_number.new.out) (contents c.put_number-2.new.out)
+    prefix_after (contents c.put_name.new.out) (contents c.put_number.new.out) (contents c.put_number-2.new.out)
     (number 10 peer.totals.taken) rest-1 c.in_ok-put_number.ensures.whole (
-    front_before (contents c.put_number.new.out) (contents c.put_number-2.new.out)
-    (number 10 peer.totals.answered) rest-2 c.in_err-put_number-2.ensures.front)))
+    prefix_before (contents c.put_number.new.out) (contents c.put_number-2.new.out)
+    (number 10 peer.totals.answered) rest-2 c.in_err-put_number-2.ensures.prefix)))
 
-pub returns-in_err-put_number-3-clause-front : goal.returns-in_err-put_number-3-clause-front
-returns-in_err-put_number-3-clause-front g c =
+pub returns-in_err-put_number-3-clause-prefix : goal.returns-in_err-put_number-3-clause-prefix
+returns-in_err-put_number-3-clause-prefix g c =
     let contents = g.W.Write.contents in
     let peer = c.args.peer.now in
     let rest-5 : List ℕ = 10 ∷ [] in
@@ -62,17 +62,17 @@ returns-in_err-put_number-3-clause-front g c =
     let rest-1 = number 10 peer.totals.answered ++ rest-2 in
     let rest-0 = number 10 peer.totals.taken ++ rest-1 in
     on_err c.from_residual-in_err-put_number-3.result (
-    front_after (contents c.args.out.now) (contents c.put_name.new.out) (contents c.put_number-3.new.out)
+    prefix_after (contents c.args.out.now) (contents c.put_name.new.out) (contents c.put_number-3.new.out)
     (left 20 peer.name.now) rest-0 c.in_ok-put_name.ensures.whole (
-    front_after (contents c.put_name.new.out) (contents c.put_number.new.out) (contents c.put_number-3.new.out)
+    prefix_after (contents c.put_name.new.out) (contents c.put_number.new.out) (contents c.put_number-3.new.out)
     (number 10 peer.totals.taken) rest-1 c.in_ok-put_number.ensures.whole (
-    front_after (contents c.put_number.new.out) (contents c.put_number-2.new.out) (contents c.put_number-3.new.out)
+    prefix_after (contents c.put_number.new.out) (contents c.put_number-2.new.out) (contents c.put_number-3.new.out)
     (number 10 peer.totals.answered) rest-2 c.in_ok-put_number-2.ensures.whole (
-    front_before (contents c.put_number-2.new.out) (contents c.put_number-3.new.out)
-    (number 10 peer.totals.dropped) rest-3 c.in_err-put_number-3.ensures.front))))
+    prefix_before (contents c.put_number-2.new.out) (contents c.put_number-3.new.out)
+    (number 10 peer.totals.dropped) rest-3 c.in_err-put_number-3.ensures.prefix))))
 
-pub returns-in_err-put_number-4-clause-front : goal.returns-in_err-put_number-4-clause-front
-returns-in_err-put_number-4-clause-front g c =
+pub returns-in_err-put_number-4-clause-prefix : goal.returns-in_err-put_number-4-clause-prefix
+returns-in_err-put_number-4-clause-prefix g c =
     let contents = g.W.Write.contents in
     let peer = c.args.peer.now in
     let rest-5 : List ℕ = 10 ∷ [] in
@@ -82,19 +82,19 @@ returns-in_err-put_number-4-clause-front g c =
     let rest-1 = number 10 peer.totals.answered ++ rest-2 in
     let rest-0 = number 10 peer.totals.taken ++ rest-1 in
     on_err c.from_residual-in_err-put_number-4.result (
-    front_after (contents c.args.out.now) (contents c.put_name.new.out) (contents c.put_number-4.new.out)
+    prefix_after (contents c.args.out.now) (contents c.put_name.new.out) (contents c.put_number-4.new.out)
     (left 20 peer.name.now) rest-0 c.in_ok-put_name.ensures.whole (
-    front_after (contents c.put_name.new.out) (contents c.put_number.new.out) (contents c.put_number-4.new.out)
+    prefix_after (contents c.put_name.new.out) (contents c.put_number.new.out) (contents c.put_number-4.new.out)
     (number 10 peer.totals.taken) rest-1 c.in_ok-put_number.ensures.whole (
-    front_after (contents c.put_number.new.out) (contents c.put_number-2.new.out) (contents c.put_number-4.new.out)
+    prefix_after (contents c.put_number.new.out) (contents c.put_number-2.new.out) (contents c.put_number-4.new.out)
     (number 10 peer.totals.answered) rest-2 c.in_ok-put_number-2.ensures.whole (
-    front_after (contents c.put_number-2.new.out) (contents c.put_number-3.new.out) (contents c.put_number-4.new.out)
+    prefix_after (contents c.put_number-2.new.out) (contents c.put_number-3.new.out) (contents c.put_number-4.new.out)
     (number 10 peer.totals.dropped) rest-3 c.in_ok-put_number-3.ensures.whole (
-    front_before (contents c.put_number-3.new.out) (contents c.put_number-4.new.out)
-    (number 10 peer.totals.owed) rest-4 c.in_err-put_number-4.ensures.front)))))
+    prefix_before (contents c.put_number-3.new.out) (contents c.put_number-4.new.out)
+    (number 10 peer.totals.owed) rest-4 c.in_err-put_number-4.ensures.prefix)))))
 
-pub returns-in_err-put_number-5-clause-front : goal.returns-in_err-put_number-5-clause-front
-returns-in_err-put_number-5-clause-front g c =
+pub returns-in_err-put_number-5-clause-prefix : goal.returns-in_err-put_number-5-clause-prefix
+returns-in_err-put_number-5-clause-prefix g c =
     let contents = g.W.Write.contents in
     let peer = c.args.peer.now in
     let rest-5 : List ℕ = 10 ∷ [] in
@@ -104,18 +104,18 @@ returns-in_err-put_number-5-clause-front g c =
     let rest-1 = number 10 peer.totals.answered ++ rest-2 in
     let rest-0 = number 10 peer.totals.taken ++ rest-1 in
     on_err c.from_residual-in_err-put_number-5.result (
-    front_after (contents c.args.out.now) (contents c.put_name.new.out) (contents c.put_number-5.new.out)
+    prefix_after (contents c.args.out.now) (contents c.put_name.new.out) (contents c.put_number-5.new.out)
     (left 20 peer.name.now) rest-0 c.in_ok-put_name.ensures.whole (
-    front_after (contents c.put_name.new.out) (contents c.put_number.new.out) (contents c.put_number-5.new.out)
+    prefix_after (contents c.put_name.new.out) (contents c.put_number.new.out) (contents c.put_number-5.new.out)
     (number 10 peer.totals.taken) rest-1 c.in_ok-put_number.ensures.whole (
-    front_after (contents c.put_number.new.out) (contents c.put_number-2.new.out) (contents c.put_number-5.new.out)
+    prefix_after (contents c.put_number.new.out) (contents c.put_number-2.new.out) (contents c.put_number-5.new.out)
     (number 10 peer.totals.answered) rest-2 c.in_ok-put_number-2.ensures.whole (
-    front_after (contents c.put_number-2.new.out) (contents c.put_number-3.new.out) (contents c.put_number-5.new.out)
+    prefix_after (contents c.put_number-2.new.out) (contents c.put_number-3.new.out) (contents c.put_number-5.new.out)
     (number 10 peer.totals.dropped) rest-3 c.in_ok-put_number-3.ensures.whole (
-    front_after (contents c.put_number-3.new.out) (contents c.put_number-4.new.out) (contents c.put_number-5.new.out)
+    prefix_after (contents c.put_number-3.new.out) (contents c.put_number-4.new.out) (contents c.put_number-5.new.out)
     (number 10 peer.totals.owed) rest-4 c.in_ok-put_number-4.ensures.whole (
-    front_before (contents c.put_number-4.new.out) (contents c.put_number-5.new.out)
-    (number 12 peer.totals.owed_bytes) rest-5 c.in_err-put_number-5.ensures.front))))))
+    prefix_before (contents c.put_number-4.new.out) (contents c.put_number-5.new.out)
+    (number 12 peer.totals.owed_bytes) rest-5 c.in_err-put_number-5.ensures.prefix))))))
 
 pub returns-clause-whole : goal.returns-clause-whole
 returns-clause-whole g c =
@@ -141,8 +141,8 @@ returns-clause-whole g c =
     both (contents c.put_number-4.new.out) (contents c.put_number-5.new.out) (contents c.put.new.out)
     (number 12 peer.totals.owed_bytes) rest-5 c.in_ok-put_number-5.ensures.whole h)))))) c.put.ensures.whole
 
-pub returns-clause-front : goal.returns-clause-front
-returns-clause-front g c =
+pub returns-clause-prefix : goal.returns-clause-prefix
+returns-clause-prefix g c =
     let contents = g.W.Write.contents in
     let peer = c.args.peer.now in
     let rest-5 : List ℕ = 10 ∷ [] in
@@ -152,15 +152,15 @@ returns-clause-front g c =
     let rest-1 = number 10 peer.totals.answered ++ rest-2 in
     let rest-0 = number 10 peer.totals.taken ++ rest-1 in
     on_err_map c.put.result (λ h.
-    front_after (contents c.args.out.now) (contents c.put_name.new.out) (contents c.put.new.out)
+    prefix_after (contents c.args.out.now) (contents c.put_name.new.out) (contents c.put.new.out)
     (left 20 peer.name.now) rest-0 c.in_ok-put_name.ensures.whole (
-    front_after (contents c.put_name.new.out) (contents c.put_number.new.out) (contents c.put.new.out)
+    prefix_after (contents c.put_name.new.out) (contents c.put_number.new.out) (contents c.put.new.out)
     (number 10 peer.totals.taken) rest-1 c.in_ok-put_number.ensures.whole (
-    front_after (contents c.put_number.new.out) (contents c.put_number-2.new.out) (contents c.put.new.out)
+    prefix_after (contents c.put_number.new.out) (contents c.put_number-2.new.out) (contents c.put.new.out)
     (number 10 peer.totals.answered) rest-2 c.in_ok-put_number-2.ensures.whole (
-    front_after (contents c.put_number-2.new.out) (contents c.put_number-3.new.out) (contents c.put.new.out)
+    prefix_after (contents c.put_number-2.new.out) (contents c.put_number-3.new.out) (contents c.put.new.out)
     (number 10 peer.totals.dropped) rest-3 c.in_ok-put_number-3.ensures.whole (
-    front_after (contents c.put_number-3.new.out) (contents c.put_number-4.new.out) (contents c.put.new.out)
+    prefix_after (contents c.put_number-3.new.out) (contents c.put_number-4.new.out) (contents c.put.new.out)
     (number 10 peer.totals.owed) rest-4 c.in_ok-put_number-4.ensures.whole (
-    front_after (contents c.put_number-4.new.out) (contents c.put_number-5.new.out) (contents c.put.new.out)
-    (number 12 peer.totals.owed_bytes) rest-5 c.in_ok-put_number-5.ensures.whole h)))))) c.put.ensures.front
+    prefix_after (contents c.put_number-4.new.out) (contents c.put_number-5.new.out) (contents c.put.new.out)
+    (number 12 peer.totals.owed_bytes) rest-5 c.in_ok-put_number-5.ensures.whole h)))))) c.put.ensures.prefix

@@ -1,15 +1,15 @@
 use Rattle.status.specs.Report.{peer_text}
-use Rattle.status.proofs.Parts.{next_front, next_whole, on_err}
+use Rattle.status.proofs.Parts.{next_prefix, next_whole, on_err}
 use Rattle.status.proofs.lines.put_peers.Goals as goal
 
-pub returns-in_err-put_peer-clause-front : goal.returns-in_err-put_peer-clause-front
-returns-in_err-put_peer-clause-front g c =
+pub returns-in_err-put_peer-clause-prefix : goal.returns-in_err-put_peer-clause-prefix
+returns-in_err-put_peer-clause-prefix g c =
     let contents = g.W.Write.contents in
     on_err c.from_residual.result (
-    next_front (contents c.args.out.now) (contents c.loop-peer.out) (contents c.put_peer.new.out)
+    next_prefix (contents c.args.out.now) (contents c.loop-peer.out) (contents c.put_peer.new.out)
     peer_text c.args.peers.now
     c.loop-peer.peer-index c.peer-item.result c.loop-peer-test.true c.peer-item.is
-    c.loop-peer.invariant c.in_err-put_peer.ensures.front)
+    c.loop-peer.invariant c.in_err-put_peer.ensures.prefix)
 
 pub loop-peer-preserved : goal.loop-peer-preserved
 loop-peer-preserved g c =

@@ -1,12 +1,12 @@
 use Rattle.std.specs.Prelude.{flat_map}
 use Rattle.status.specs.Report.{header, peer_text}
-use Rattle.status.proofs.Parts.{both, front_after, front_before, on_err, on_err_map, on_ok_map}
+use Rattle.status.proofs.Parts.{both, prefix_after, prefix_before, on_err, on_err_map, on_ok_map}
 use Rattle.status.proofs.lines.report.Goals as goal
 
-pub returns-in_err-put-clause-front : goal.returns-in_err-put-clause-front
-returns-in_err-put-clause-front g c =
+pub returns-in_err-put-clause-prefix : goal.returns-in_err-put-clause-prefix
+returns-in_err-put-clause-prefix g c =
     on_err c.from_residual.result (
-    front_before _ _ header (flat_map peer_text c.args.peers.now) c.in_err-put.ensures.front)
+    prefix_before _ _ header (flat_map peer_text c.args.peers.now) c.in_err-put.ensures.prefix)
 
 pub returns-clause-whole : goal.returns-clause-whole
 returns-clause-whole g c =
@@ -16,10 +16,10 @@ returns-clause-whole g c =
     header (flat_map peer_text c.args.peers.now)
     c.in_ok-put.ensures.whole h) c.put_peers.ensures.whole
 
-pub returns-clause-front : goal.returns-clause-front
-returns-clause-front g c =
+pub returns-clause-prefix : goal.returns-clause-prefix
+returns-clause-prefix g c =
     let contents = g.W.Write.contents in
     on_err_map c.put_peers.result (λ h.
-    front_after (contents c.args.out.now) (contents c.put.new.out) (contents c.put_peers.new.out)
+    prefix_after (contents c.args.out.now) (contents c.put.new.out) (contents c.put_peers.new.out)
     header (flat_map peer_text c.args.peers.now)
-    c.in_ok-put.ensures.whole h) c.put_peers.ensures.front
+    c.in_ok-put.ensures.whole h) c.put_peers.ensures.prefix

@@ -1,9 +1,9 @@
-use Rattle.status.proofs.Parts.{leaves_front, leaves_less, on_err}
+use Rattle.status.proofs.Parts.{leaves_prefix, leaves_less, on_err}
 use Rattle.status.proofs.put.put.Goals as goal
 
-pub returns-in_err-count-clause-front : goal.returns-in_err-count-clause-front
-returns-in_err-count-clause-front g c =
-    on_err c.from_residual.result (leaves_front _ _ _ _ _ c.loop.invariant c.in_err-count.ensures.front)
+pub returns-in_err-count-clause-prefix : goal.returns-in_err-count-clause-prefix
+returns-in_err-count-clause-prefix g c =
+    on_err c.from_residual.result (leaves_prefix _ _ _ _ _ c.loop.invariant c.in_err-count.ensures.prefix)
 
 pub loop-preserved : goal.loop-preserved
 loop-preserved g c =

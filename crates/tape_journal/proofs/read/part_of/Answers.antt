@@ -12,10 +12,10 @@ pub returns-in-CutShort-clause-damaged : goal.returns-in-CutShort-clause-damaged
 returns-in-CutShort-clause-damaged g c honest len e told =
     (cc, rw c.in-CutShort.is at (c.in_ok-size.ensures.is honest len))
 
--- a part of a front
-part_front : (xs : List ℕ) (size from most start count : ℕ) → start ≡ min from size → count ≡ min most (size - start)
+-- a part of a prefix
+part_prefix : (xs : List ℕ) (size from most start count : ℕ) → start ≡ min from size → count ≡ min most (size - start)
     → size ≤ length xs → take count (drop start xs) ≡ take most (drop from (take size xs))
-part_front xs size from most start count s c fits =
+part_prefix xs size from most start count s c fits =
     elim (cases_lt from size) [
       | inl before ↦
           let here : start ≡ from = omega (arith, s, before) in
@@ -64,6 +64,6 @@ returns-clause-reads g c honest len =
       payload = take size (drop 5 rest);
       is = record_begins size rest (take size (drop 5 rest)) begins refl
           (omega (arith, fits, length-take size (drop 5 rest)));
-      part_is = is ∙ part_front (drop 5 rest) size c.args.from c.args.most start count
+      part_is = is ∙ part_prefix (drop 5 rest) size c.args.from c.args.most start count
           (omega (arith, c.min-start.ensures)) (omega (arith, c.min-count.ensures)) fits;
     }

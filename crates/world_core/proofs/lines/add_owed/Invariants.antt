@@ -1,6 +1,6 @@
 use Rattle.std.proofs.Common.{◌≡◌, ◌++◌, flat_map, map, take}
 use Rattle.world_core.specs.Lines.{owed_text}
-use Rattle.world_core.specs.declared.told.OwedAt.{OwedAt}
+use Rattle.world_core.specs.declared.output.OwedAt.{OwedAt}
 use Rattle.world_core.proofs.lines.add_owed.Given as goal
 
 -- the peers so far were added

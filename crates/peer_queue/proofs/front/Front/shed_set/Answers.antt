@@ -6,9 +6,9 @@ use Rattle.ledger_core.specs.declared.ledger.Totals.{Totals}
 use Rattle.peer_queue.specs.Place.{unheld}
 use Rattle.peer_queue.specs.Shed.{AreWithin, sized_without}
 use Rattle.peer_queue.specs.Front.{front_shape, places_of}
-use Rattle.peer_queue.proofs.Cuts.{front_cut}
-use Rattle.peer_queue.proofs.Fronts.{at_some}
-use Rattle.peer_queue.proofs.Sheds.{IsFront, front_more, front_none, sized_at, sized_fall, sized_first}
+use Rattle.peer_queue.proofs.Cuts.{prefix_cut}
+use Rattle.peer_queue.proofs.Prefixes.{at_some}
+use Rattle.peer_queue.proofs.Sheds.{IsPrefix, prefix_more, prefix_none, sized_at, sized_fall, sized_first}
 use Rattle.peer_queue.proofs.front.Front.shed_set.Goals as goal
 use Rattle.peer_queue.proofs.front.Front.shed_set.Goals.{in-None-1, in-Some+else-owed-limit}
 use Rattle.peer_queue.proofs.front.Front.shed_set.Goals.{in-Some+then-owed-limit+else-len-room}
@@ -29,9 +29,9 @@ loop-next-init c =
     c.totals-owed.ensures.counts in
     record {
       front =
-          subst (λ (set : List ℕ). IsFront limit (sized_without shape.sizes) places set next owed)
+          subst (λ (set : List ℕ). IsPrefix limit (sized_without shape.sizes) places set next owed)
           (sym c.new-set.ensures.items)
-          (front_none limit (sized_without shape.sizes) places next owed found (counted ∙ sym (sized_first shape)));
+          (prefix_none limit (sized_without shape.sizes) places next owed found (counted ∙ sym (sized_first shape)));
       few = omega (arith, ap (λ (l : List ℕ). length l) c.new-set.ensures.items);
     }
 
@@ -59,15 +59,15 @@ loop-next-preserved c =
     ap (λ (l : List ℕ). length l) c.in_ok-push.ensures.items ∙ length_push set n in
     let rising = c.unheld_from-next.ensures.rising in
     let found = c.next_unheld-next.ensures in
-    let is = subst (λ (o : Option ℕ). IsFront limit (sized_without shape.sizes) places set o owed) c.in-Some.is
+    let is = subst (λ (o : Option ℕ). IsPrefix limit (sized_without shape.sizes) places set o owed) c.in-Some.is
     c.loop-next.invariant.front in
     let fall = c.saturating_sub-owed.ensures ∙ ap (λ (k : ℕ). owed - k) (c.unwrap_or.ensures ∙
     ap (λ (o : Option ℕ). unwrap_or o 0) c.octets.ensures) in
     record {
       front =
-          subst (λ (l : List ℕ). IsFront limit (sized_without shape.sizes) places l next owed')
+          subst (λ (l : List ℕ). IsPrefix limit (sized_without shape.sizes) places l next owed')
           (sym c.in_ok-push.ensures.items)
-          (front_more limit (sized_without shape.sizes) places set n next owed owed' (sized_at shape n) rising is
+          (prefix_more limit (sized_without shape.sizes) places set n next owed owed' (sized_at shape n) rising is
           c.if-owed-limit.true found fall (sized_fall shape places set n rising front.all_placed));
       few = omega (arith, more, c.len.ensures, c.if-len-room.true);
     }
@@ -85,7 +85,7 @@ returns-clause-set c =
       )
     ] in
     let loop = c.loop-next in
-    front_cut front.limits (octets_sized (front_shape front).sizes) (sized_without (front_shape front).sizes)
+    prefix_cut front.limits (octets_sized (front_shape front).sizes) (sized_without (front_shape front).sizes)
     (places_of front)
     loop.set.items loop.next loop.owed c.args.room over loop.invariant.front loop.invariant.few
     (elim c.match-next.branch [

@@ -9,7 +9,7 @@ use Rattle.ledger_core.specs.declared.note.Note.TheVariants.{Drop}
 use Rattle.recovery.specs.Notes.{drops}
 use Rattle.peer_queue.specs.Outbox.{Pends, box_shape, notes_in}
 use Rattle.peer_queue.specs.Shapes.{AllFit, shape_after}
-use Rattle.peer_queue.proofs.Boxes.{done, drops_front, last_unsent, last_unsettled}
+use Rattle.peer_queue.proofs.Boxes.{done, drops_prefix, last_unsent, last_unsettled}
 use Rattle.peer_queue.proofs.outbox.Outbox.drop_all.Goals as goal
 
 pub loop-key-init : goal.loop-key-init
@@ -84,7 +84,7 @@ loop-key-preserved c =
           ∙ (ap (λ (l : List Note). l ++ Drop n cause ∷ []) was.notes
           ∙ (append_assoc (notes_in c.args.self.now) (drops cause (take i ns)) (Drop n cause ∷ [])
           ∙ ap (λ (l : List Note). notes_in c.args.self.now ++ l) (sym
-          (drops_front cause ns i n inside c.key-item.is))));
+          (drops_prefix cause ns i n inside c.key-item.is))));
       lying = took.lying ∙ was.lying;
       sent = took.sent ∙ was.sent;
       settled = took.settled ∙ was.settled;

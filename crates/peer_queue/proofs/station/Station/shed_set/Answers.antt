@@ -6,9 +6,9 @@ use Rattle.ledger_core.specs.declared.ledger.Totals.{Totals}
 use Rattle.peer_queue.specs.Place.{unheld}
 use Rattle.peer_queue.specs.Shed.{IsWithin, owed_without}
 use Rattle.peer_queue.specs.Words.{ledger_of, places_of}
-use Rattle.peer_queue.proofs.Cuts.{front_cut}
-use Rattle.peer_queue.proofs.Fronts.{at_some}
-use Rattle.peer_queue.proofs.Sheds.{IsFront, front_more, front_none, owed_at, owed_fall, owed_first}
+use Rattle.peer_queue.proofs.Cuts.{prefix_cut}
+use Rattle.peer_queue.proofs.Prefixes.{at_some}
+use Rattle.peer_queue.proofs.Sheds.{IsPrefix, prefix_more, prefix_none, owed_at, owed_fall, owed_first}
 use Rattle.peer_queue.proofs.station.Station.shed_set.Goals as goal
 use Rattle.peer_queue.proofs.station.Station.shed_set.Goals.{in-None-1, in-Some+else-owed-limit}
 use Rattle.peer_queue.proofs.station.Station.shed_set.Goals.{in-Some+then-owed-limit+else-len-room}
@@ -27,10 +27,10 @@ loop-next-init g c =
     c.unheld_from-next.ensures.first in
     let counted : owed ≡ owed_bytes state = ap (λ (totals : Totals). totals.owed_bytes) c.totals-owed.ensures.counts in
     record {
-      front =
-          subst (λ (set : List ℕ). IsFront limit (owed_without state) places set next owed)
+      prefix =
+          subst (λ (set : List ℕ). IsPrefix limit (owed_without state) places set next owed)
           (sym c.new-set.ensures.items)
-          (front_none limit (owed_without state) places next owed found (counted ∙ sym (owed_first state)));
+          (prefix_none limit (owed_without state) places next owed found (counted ∙ sym (owed_first state)));
       few = omega (arith, ap (λ (l : List ℕ). length l) c.new-set.ensures.items);
     }
 
@@ -38,7 +38,7 @@ pub loop-next-smaller : goal.loop-next-smaller
 loop-next-smaller g c =
     let U = unheld (places_of c.args.self.now) in
     let set = c.loop-next.set.items in
-    let at = at_some U (length set) c.in-Some.key (sym c.loop-next.invariant.front.next ∙ c.in-Some.is) in
+    let at = at_some U (length set) c.in-Some.key (sym c.loop-next.invariant.prefix.next ∙ c.in-Some.is) in
     let more : length c.push.new.self.items ≡ length set + 1 = ap (λ (l : List ℕ). length l) c.in_ok-push.ensures.items ∙ length_push set c.in-Some.key in
     omega (arith, at.0, more)
 
@@ -57,14 +57,14 @@ loop-next-preserved g c =
     ap (λ (l : List ℕ). length l) c.in_ok-push.ensures.items ∙ length_push set n in
     let rising = c.unheld_from-next.ensures.rising in
     let found = c.next_unheld-next.ensures in
-    let is = subst (λ (o : Option ℕ). IsFront limit (owed_without state) places set o owed) c.in-Some.is
-    c.loop-next.invariant.front in
+    let is = subst (λ (o : Option ℕ). IsPrefix limit (owed_without state) places set o owed) c.in-Some.is
+    c.loop-next.invariant.prefix in
     let fall = c.saturating_sub-owed.ensures ∙ ap (λ (k : ℕ). owed - k) (c.unwrap_or.ensures ∙ ap (λ (o : Option ℕ). unwrap_or o 0) c.octets.ensures.octets) in
     record {
-      front =
-          subst (λ (l : List ℕ). IsFront limit (owed_without state) places l next owed')
+      prefix =
+          subst (λ (l : List ℕ). IsPrefix limit (owed_without state) places l next owed')
           (sym c.in_ok-push.ensures.items)
-          (front_more limit (owed_without state) places set n next owed owed' (owed_at state n) rising is
+          (prefix_more limit (owed_without state) places set n next owed owed' (owed_at state n) rising is
           c.if-owed-limit.true found fall (owed_fall state places set n rising station.all_placed));
       few = omega (arith, more, c.len.ensures, c.if-len-room.true);
     }
@@ -77,8 +77,8 @@ returns-clause-set g c =
       | inr low ↦ omega (arith, low, c.if-owed-self.false, ap (λ (totals : Totals). totals.owed_bytes) c.totals-owed.ensures.counts)
     ] in
     let loop = c.loop-next in
-    front_cut station.limits (owed_bytes (ledger_of station)) (owed_without (ledger_of station)) (places_of station)
-    loop.set.items loop.next loop.owed c.args.room over loop.invariant.front loop.invariant.few
+    prefix_cut station.limits (owed_bytes (ledger_of station)) (owed_without (ledger_of station)) (places_of station)
+    loop.set.items loop.next loop.owed c.args.room over loop.invariant.prefix loop.invariant.few
     (elim c.match-next.branch [
       | in-None-1 w ↦ inl (inl cc)
       | in-Some+else-owed-limit w ↦ inl (inr w.if-owed-limit.false)

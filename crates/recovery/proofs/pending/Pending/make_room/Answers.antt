@@ -17,16 +17,21 @@ set_same : (items old : List (Vec ℕ Global)) (last new : Vec ℕ Global) → i
 set_same items old last new same here octets =
     let within = slice_get_within items (length items - 1) last here in
     let end = ends items (omega (arith, within)) in
-    let place : length items - 1 ≡ length end.front = omega (arith, ap length end.is, last-length end.front end.last) in
+    let place : length items - 1 ≡ length end.prefix = omega (
+      arith,
+      ap length end.is,
+      last-length end.prefix
+          end.last,
+    ) in
     let found : end.last ≡ last =
-    some-apart end.last last (sym (get-last end.front end.last)
-    ∙ (ap (λ (l : List (Vec ℕ Global)). slice_get l (length end.front)) (sym end.is)
+    some-apart end.last last (sym (get-last end.prefix end.last)
+    ∙ (ap (λ (l : List (Vec ℕ Global)). slice_get l (length end.prefix)) (sym end.is)
     ∙ (ap (λ (n : ℕ). slice_get items n) (sym place) ∙ here))) in
     ap (map vec_items) (ap (λ (n : ℕ). slice_set items n new) place
-    ∙ (ap (λ (l : List (Vec ℕ Global)). slice_set l (length end.front) new) end.is ∙ set-last end.front end.last new))
-    ∙ (map-append (λ (v : Vec ℕ Global). v.items) end.front (new ∷ [])
-    ∙ (ap (λ (x : List ℕ). map vec_items end.front ++ x ∷ []) (octets ∙ ap (λ (v : Vec ℕ Global). v.items) (sym found))
-    ∙ (sym (map-append (λ (v : Vec ℕ Global). v.items) end.front (end.last ∷ []))
+    ∙ (ap (λ (l : List (Vec ℕ Global)). slice_set l (length end.prefix) new) end.is ∙ set-last end.prefix end.last new))
+    ∙ (map-append (λ (v : Vec ℕ Global). v.items) end.prefix (new ∷ [])
+    ∙ (ap (λ (x : List ℕ). map vec_items end.prefix ++ x ∷ []) (octets ∙ ap (λ (v : Vec ℕ Global). v.items) (sym found))
+    ∙ (sym (map-append (λ (v : Vec ℕ Global). v.items) end.prefix (end.last ∷ []))
     ∙ ap (map vec_items) (sym end.is ∙ same))))
 
 pub invariant_of-self-in-Some : goal.invariant_of-self-in-Some
@@ -60,13 +65,18 @@ returns-in-Some-clause-room c =
     let items = c.reserve.new.self.items in
     let some : 0 < length items = omega (arith, c.in-Some.ensures.variant.0 refl, c.reserve.new.self.ok.0) in
     let end = ends items some in
-    let place : length items - 1 ≡ length end.front = omega (arith, ap length end.is, last-length end.front end.last) in
+    let place : length items - 1 ≡ length end.prefix = omega (
+      arith,
+      ap length end.is,
+      last-length end.prefix
+          end.last,
+    ) in
     let now : slice_set items (c.reserve.new.self.len - 1) c.reserve-in-Some.new.self
-    ≡ end.front ++ c.reserve-in-Some.new.self ∷ [] =
+    ≡ end.prefix ++ c.reserve-in-Some.new.self ∷ [] =
     ap (λ (n : ℕ). slice_set items (n - 1) c.reserve-in-Some.new.self) c.reserve.new.self.ok.0
     ∙ (ap (λ (n : ℕ). slice_set items n c.reserve-in-Some.new.self) place
-    ∙ (ap (λ (l : List (Vec ℕ Global)). slice_set l (length end.front) c.reserve-in-Some.new.self) end.is
-    ∙ set-last end.front end.last c.reserve-in-Some.new.self)) in
+    ∙ (ap (λ (l : List (Vec ℕ Global)). slice_set l (length end.prefix) c.reserve-in-Some.new.self) end.is
+    ∙ set-last end.prefix end.last c.reserve-in-Some.new.self)) in
     on_ok_weaker c.reserve-in-Some.result
     (λ room. record {
       begin = omega (
@@ -74,11 +84,11 @@ returns-in-Some-clause-room c =
         c.in_ok-reserve.ensures.ok,
         ap length now,
         ap length end.is,
-        last-length end.front end.last,
-        last-length end.front c.reserve-in-Some.new.self,
+        last-length end.prefix end.last,
+        last-length end.prefix c.reserve-in-Some.new.self,
       );
       joins = λ last found.
-          let same = last-set _ end.front c.reserve-in-Some.new.self last now found in
+          let same = last-set _ end.prefix c.reserve-in-Some.new.self last now found in
           omega (
             arith,
             room,

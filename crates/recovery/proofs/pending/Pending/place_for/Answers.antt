@@ -20,19 +20,19 @@ record Same (items : List (Vec ℕ Global)) (octets : List ℕ) : Type 0 where
   end : Ends items
   same : end.last.items ≡ octets
 
-same_last : (items : List (Vec ℕ Global)) (front : List (List ℕ)) (octets : List ℕ)
-    → map vec_items items ≡ front ++ octets ∷ [] → Same items octets
-same_last items front octets split =
+same_last : (items : List (Vec ℕ Global)) (prefix : List (List ℕ)) (octets : List ℕ)
+    → map vec_items items ≡ prefix ++ octets ∷ [] → Same items octets
+same_last items prefix octets split =
     let some : 0 < length items =
     omega (
       arith,
       ap length split,
-      length-append front (octets ∷ []),
+      length-append prefix (octets ∷ []),
       length-map items (λ (v : Vec ℕ Global). v.items),
     ) in
     let end = ends items some in
-    let parts = last-apart (map vec_items end.front) front end.last.items octets
-    (sym (map-append (λ (v : Vec ℕ Global). v.items) end.front (end.last ∷ []))
+    let parts = last-apart (map vec_items end.prefix) prefix end.last.items octets
+    (sym (map-append (λ (v : Vec ℕ Global). v.items) end.prefix (end.last ∷ []))
     ∙ (ap (map vec_items) (sym end.is) ∙ split)) in
     record { end = end; same = parts.1 }
 
@@ -59,8 +59,8 @@ returns-then-not-joins-clause-places c = λ kept new ledger notes note holds end
             length-map items (λ (v : Vec ℕ Global). v.items),
           )) (omega (arith, c.record_behind.ensures, len))
       | inr joins ↦
-          let last = same_last items joins.front (payload_of joins.batch) joins.was in
-          absurd (false≢true ((c.if-not-joins.ensures.joins last.end.front last.end.last last.end.is joins.batch note
+          let last = same_last items joins.prefix (payload_of joins.batch) joins.was in
+          absurd (false≢true ((c.if-not-joins.ensures.joins last.end.prefix last.end.last last.end.is joins.batch note
           joins.is last.same len).1 joins.fits))
     ]
 
@@ -71,8 +71,8 @@ returns-then-not-joins-clause-ends c = λ kept new notes note holds ends_at len 
       | inl begins ↦ ends-begins kept (map vec_items items) new note c.args.next _ begins.0 ends_at.next_is
           (omega (arith, c.record_behind.ensures, len))
       | inr joins ↦
-          let last = same_last items joins.front (payload_of joins.batch) joins.was in
-          absurd (false≢true ((c.if-not-joins.ensures.joins last.end.front last.end.last last.end.is joins.batch note
+          let last = same_last items joins.prefix (payload_of joins.batch) joins.was in
+          absurd (false≢true ((c.if-not-joins.ensures.joins last.end.prefix last.end.last last.end.is joins.batch note
           joins.is last.same len).1 joins.fits))
     ]
 
@@ -83,21 +83,22 @@ returns-clause-places c = λ kept new ledger notes note holds ends_at indexes le
       | inl begins ↦ elim (cases_lt 0 (length items)) [
         | inl some ↦
             let end = ends items some in
-            let last = last_batch end.front end.last holds.batches (ap (map vec_items) (sym end.is) ∙ holds.payloads) in
-            let split : map vec_items items ≡ map vec_items end.front ++ payload_of last.batch ∷ [] =
-            ap (map vec_items) end.is ∙ (map-append (λ (v : Vec ℕ Global). v.items) end.front (end.last ∷ [])
-            ∙ ap (λ (p : List ℕ). map vec_items end.front ++ p ∷ []) last.last_is) in
+            let last = last_batch end.prefix end.last holds.batches (ap (map vec_items) (sym end.is)
+            ∙ holds.payloads) in
+            let split : map vec_items items ≡ map vec_items end.prefix ++ payload_of last.batch ∷ [] =
+            ap (map vec_items) end.is ∙ (map-append (λ (v : Vec ℕ Global). v.items) end.prefix (end.last ∷ [])
+            ∙ ap (λ (p : List ℕ). map vec_items end.prefix ++ p ∷ []) last.last_is) in
             let is = (AreBatches-back last.before (last.batch ∷ []) (subst AreBatches last.is holds.cut.are)).0 in
             absurd (omega (
               arith,
-              begins.1 (map vec_items end.front) last.batch is split,
-              (c.if-not-joins.ensures.joins end.front end.last end.is last.batch note is last.last_is len).0 refl,
+              begins.1 (map vec_items end.prefix) last.batch is split,
+              (c.if-not-joins.ensures.joins end.prefix end.last end.is last.batch note is last.last_is len).0 refl,
             ))
         | inr none ↦ absurd (c.if-not-joins.ensures.none (nil-of items (omega (arith, none))) refl)
       ]
       | inr joins ↦
-          let last = same_last items joins.front (payload_of joins.batch) joins.was in
-          let joined = c.joined-joined.ensures last.end.front last.end.last last.end.is joins.batch note joins.is last.same len in
+          let last = same_last items joins.prefix (payload_of joins.batch) joins.was in
+          let joined = c.joined-joined.ensures last.end.prefix last.end.last last.end.is joins.batch note joins.is last.same len in
           places-joins kept (map vec_items items) new ledger note c.args.last _ _ _ indexes joins ends_at.last_is
           (omega (
             arith,
@@ -106,7 +107,7 @@ returns-clause-places c = λ kept new ledger notes note holds ends_at indexes le
             c.args.self.now.payloads.ok.0,
             length-map items (λ (v : Vec ℕ Global). v.items),
             ap length joins.was,
-            length-append joins.front (payload_of joins.batch ∷ []),
+            length-append joins.prefix (payload_of joins.batch ∷ []),
           ))
           (omega (
             arith,
@@ -127,21 +128,22 @@ returns-clause-ends c = λ kept new notes note holds ends_at len grows.
       | inl begins ↦ elim (cases_lt 0 (length items)) [
         | inl some ↦
             let end = ends items some in
-            let last = last_batch end.front end.last holds.batches (ap (map vec_items) (sym end.is) ∙ holds.payloads) in
-            let split : map vec_items items ≡ map vec_items end.front ++ payload_of last.batch ∷ [] =
-            ap (map vec_items) end.is ∙ (map-append (λ (v : Vec ℕ Global). v.items) end.front (end.last ∷ [])
-            ∙ ap (λ (p : List ℕ). map vec_items end.front ++ p ∷ []) last.last_is) in
+            let last = last_batch end.prefix end.last holds.batches (ap (map vec_items) (sym end.is)
+            ∙ holds.payloads) in
+            let split : map vec_items items ≡ map vec_items end.prefix ++ payload_of last.batch ∷ [] =
+            ap (map vec_items) end.is ∙ (map-append (λ (v : Vec ℕ Global). v.items) end.prefix (end.last ∷ [])
+            ∙ ap (λ (p : List ℕ). map vec_items end.prefix ++ p ∷ []) last.last_is) in
             let is = (AreBatches-back last.before (last.batch ∷ []) (subst AreBatches last.is holds.cut.are)).0 in
             absurd (omega (
               arith,
-              begins.1 (map vec_items end.front) last.batch is split,
-              (c.if-not-joins.ensures.joins end.front end.last end.is last.batch note is last.last_is len).0 refl,
+              begins.1 (map vec_items end.prefix) last.batch is split,
+              (c.if-not-joins.ensures.joins end.prefix end.last end.is last.batch note is last.last_is len).0 refl,
             ))
         | inr none ↦ absurd (c.if-not-joins.ensures.none (nil-of items (omega (arith, none))) refl)
       ]
       | inr joins ↦
-          let last = same_last items joins.front (payload_of joins.batch) joins.was in
-          let joined = c.joined-joined.ensures last.end.front last.end.last last.end.is joins.batch note joins.is last.same len in
+          let last = same_last items joins.prefix (payload_of joins.batch) joins.was in
+          let joined = c.joined-joined.ensures last.end.prefix last.end.last last.end.is joins.batch note joins.is last.same len in
           ends-joins kept (map vec_items items) new note c.args.last _ joins ends_at.last_is
           (omega (arith, c.record_behind-2.ensures, joined))
     ]

@@ -28,20 +28,20 @@ join-requires c =
 pub returns-then-not-joins-clause-holds : goal.returns-then-not-joins-clause-holds
 returns-then-not-joins-clause-holds c = λ notes last holds is spelled.
     pushed-begins c.args.self.now _ notes last c.args.note holds is spelled c.push_reserved.ensures.items
-    (λ front old was batch batch_is octets.
+    (λ prefix old was batch batch_is octets.
     elim (cases_lt longest_batch (length (batch_spelling (batch ++ last ∷ [])))) [
       | inl long ↦ long
-      | inr fits ↦ absurd (false≢true ((c.if-not-joins.ensures.joins front old was batch last batch_is octets
+      | inr fits ↦ absurd (false≢true ((c.if-not-joins.ensures.joins prefix old was batch last batch_is octets
           (c.len.ensures ∙ (c.args.note.ok.0 ∙ ap length spelled))).1 fits))
     ])
 
 pub returns-then-not-joins-clause-grows : goal.returns-then-not-joins-clause-grows
 returns-then-not-joins-clause-grows c = λ notes last holds is spelled.
     inl (begins_so c.args.self.now.payloads.items _ last c.args.note spelled c.push_reserved.ensures.items
-    (λ front old was batch batch_is octets.
+    (λ prefix old was batch batch_is octets.
     elim (cases_lt longest_batch (length (batch_spelling (batch ++ last ∷ [])))) [
       | inl long ↦ long
-      | inr fits ↦ absurd (false≢true ((c.if-not-joins.ensures.joins front old was batch last batch_is octets
+      | inr fits ↦ absurd (false≢true ((c.if-not-joins.ensures.joins prefix old was batch last batch_is octets
           (c.len.ensures ∙ (c.args.note.ok.0 ∙ ap length spelled))).1 fits))
     ]))
 
@@ -56,16 +56,21 @@ invariant_of-self-in-Some c =
     ap (λ (n : ℕ). slice_get items (n - 1)) (sym c.args.self.now.payloads.ok.0) ∙ there in
     let within = slice_get_within items (length items - 1) c.in-Some.payload.now here in
     let end = ends items (omega (arith, within)) in
-    let place : length items - 1 ≡ length end.front = omega (arith, ap length end.is, last-length end.front end.last) in
+    let place : length items - 1 ≡ length end.prefix = omega (
+      arith,
+      ap length end.is,
+      last-length end.prefix
+          end.last,
+    ) in
     let found : end.last ≡ c.in-Some.payload.now =
-    some-apart end.last c.in-Some.payload.now (sym (get-last end.front end.last)
-    ∙ (ap (λ (l : List (Vec ℕ Global)). slice_get l (length end.front)) (sym end.is)
+    some-apart end.last c.in-Some.payload.now (sym (get-last end.prefix end.last)
+    ∙ (ap (λ (l : List (Vec ℕ Global)). slice_get l (length end.prefix)) (sym end.is)
     ∙ (ap (λ (n : ℕ). slice_get items n) (sym place) ∙ here))) in
-    let now : slice_set items (c.args.self.now.payloads.len - 1) c.join.new.payload ≡ end.front ++ c.join.new.payload ∷ [] =
+    let now : slice_set items (c.args.self.now.payloads.len - 1) c.join.new.payload ≡ end.prefix ++ c.join.new.payload ∷ [] =
     ap (λ (n : ℕ). slice_set items (n - 1) c.join.new.payload) c.args.self.now.payloads.ok.0
     ∙ (ap (λ (n : ℕ). slice_set items n c.join.new.payload) place
-    ∙ (ap (λ (l : List (Vec ℕ Global)). slice_set l (length end.front) c.join.new.payload) end.is
-    ∙ set-last end.front end.last c.join.new.payload)) in
+    ∙ (ap (λ (l : List (Vec ℕ Global)). slice_set l (length end.prefix) c.join.new.payload) end.is
+    ∙ set-last end.prefix end.last c.join.new.payload)) in
     let joins = c.if-not-joins.ensures.fits c.in-Some.payload.now here refl in
     record {
       fewer = omega (
@@ -73,10 +78,10 @@ invariant_of-self-in-Some c =
         c.args.self.now.fewer,
         ap length now,
         ap length end.is,
-        last-length end.front end.last,
-        last-length end.front c.join.new.payload,
+        last-length end.prefix end.last,
+        last-length end.prefix c.join.new.payload,
       );
-      fit = fit-set items _ end.front end.last c.join.new.payload longest_batch end.is now
+      fit = fit-set items _ end.prefix end.last c.join.new.payload longest_batch end.is now
           (omega (arith, c.join.ensures.len, joins, c.len.ensures, c.args.note.ok.0, ap length c.deref.ensures.value))
           c.args.self.now.fit;
     }
@@ -92,19 +97,24 @@ returns-in-Some-clause-holds c = λ notes last holds is spelled.
     ap (λ (n : ℕ). slice_get items (n - 1)) (sym c.args.self.now.payloads.ok.0) ∙ there in
     let within = slice_get_within items (length items - 1) c.in-Some.payload.now here in
     let end = ends items (omega (arith, within)) in
-    let place : length items - 1 ≡ length end.front = omega (arith, ap length end.is, last-length end.front end.last) in
+    let place : length items - 1 ≡ length end.prefix = omega (
+      arith,
+      ap length end.is,
+      last-length end.prefix
+          end.last,
+    ) in
     let found : end.last ≡ c.in-Some.payload.now =
-    some-apart end.last c.in-Some.payload.now (sym (get-last end.front end.last)
-    ∙ (ap (λ (l : List (Vec ℕ Global)). slice_get l (length end.front)) (sym end.is)
+    some-apart end.last c.in-Some.payload.now (sym (get-last end.prefix end.last)
+    ∙ (ap (λ (l : List (Vec ℕ Global)). slice_get l (length end.prefix)) (sym end.is)
     ∙ (ap (λ (n : ℕ). slice_get items n) (sym place) ∙ here))) in
-    let now : slice_set items (c.args.self.now.payloads.len - 1) c.join.new.payload ≡ end.front ++ c.join.new.payload ∷ [] =
+    let now : slice_set items (c.args.self.now.payloads.len - 1) c.join.new.payload ≡ end.prefix ++ c.join.new.payload ∷ [] =
     ap (λ (n : ℕ). slice_set items (n - 1) c.join.new.payload) c.args.self.now.payloads.ok.0
     ∙ (ap (λ (n : ℕ). slice_set items n c.join.new.payload) place
-    ∙ (ap (λ (l : List (Vec ℕ Global)). slice_set l (length end.front) c.join.new.payload) end.is
-    ∙ set-last end.front end.last c.join.new.payload)) in
-    pushed-joins c.args.self.now _ notes last end.front end.last c.join.new.payload holds is end.is now
+    ∙ (ap (λ (l : List (Vec ℕ Global)). slice_set l (length end.prefix) c.join.new.payload) end.is
+    ∙ set-last end.prefix end.last c.join.new.payload)) in
+    pushed-joins c.args.self.now _ notes last end.prefix end.last c.join.new.payload holds is end.is now
     (λ batch batch_is octets.
-    let joins = (c.if-not-joins.ensures.joins end.front end.last end.is batch last batch_is octets
+    let joins = (c.if-not-joins.ensures.joins end.prefix end.last end.is batch last batch_is octets
     (c.len.ensures ∙ (c.args.note.ok.0 ∙ ap length spelled))).0 refl in (
       joins,
       c.join.ensures.joined batch last batch_is (ap (λ (v : Vec ℕ Global). v.items) (sym found) ∙ octets)
@@ -122,19 +132,24 @@ returns-in-Some-clause-grows c = λ notes last holds is spelled.
     ap (λ (n : ℕ). slice_get items (n - 1)) (sym c.args.self.now.payloads.ok.0) ∙ there in
     let within = slice_get_within items (length items - 1) c.in-Some.payload.now here in
     let end = ends items (omega (arith, within)) in
-    let place : length items - 1 ≡ length end.front = omega (arith, ap length end.is, last-length end.front end.last) in
+    let place : length items - 1 ≡ length end.prefix = omega (
+      arith,
+      ap length end.is,
+      last-length end.prefix
+          end.last,
+    ) in
     let found : end.last ≡ c.in-Some.payload.now =
-    some-apart end.last c.in-Some.payload.now (sym (get-last end.front end.last)
-    ∙ (ap (λ (l : List (Vec ℕ Global)). slice_get l (length end.front)) (sym end.is)
+    some-apart end.last c.in-Some.payload.now (sym (get-last end.prefix end.last)
+    ∙ (ap (λ (l : List (Vec ℕ Global)). slice_get l (length end.prefix)) (sym end.is)
     ∙ (ap (λ (n : ℕ). slice_get items n) (sym place) ∙ here))) in
-    let now : slice_set items (c.args.self.now.payloads.len - 1) c.join.new.payload ≡ end.front ++ c.join.new.payload ∷ [] =
+    let now : slice_set items (c.args.self.now.payloads.len - 1) c.join.new.payload ≡ end.prefix ++ c.join.new.payload ∷ [] =
     ap (λ (n : ℕ). slice_set items (n - 1) c.join.new.payload) c.args.self.now.payloads.ok.0
     ∙ (ap (λ (n : ℕ). slice_set items n c.join.new.payload) place
-    ∙ (ap (λ (l : List (Vec ℕ Global)). slice_set l (length end.front) c.join.new.payload) end.is
-    ∙ set-last end.front end.last c.join.new.payload)) in
-    inr (joins_so c.args.self.now _ notes last end.front end.last c.join.new.payload holds end.is now
+    ∙ (ap (λ (l : List (Vec ℕ Global)). slice_set l (length end.prefix) c.join.new.payload) end.is
+    ∙ set-last end.prefix end.last c.join.new.payload)) in
+    inr (joins_so c.args.self.now _ notes last end.prefix end.last c.join.new.payload holds end.is now
     (λ batch batch_is octets.
-    let joins = (c.if-not-joins.ensures.joins end.front end.last end.is batch last batch_is octets
+    let joins = (c.if-not-joins.ensures.joins end.prefix end.last end.is batch last batch_is octets
     (c.len.ensures ∙ (c.args.note.ok.0 ∙ ap length spelled))).0 refl in (
       joins,
       c.join.ensures.joined batch last batch_is (ap (λ (v : Vec ℕ Global). v.items) (sym found) ∙ octets)

@@ -52,14 +52,15 @@ returns-clause-ends c = λ kept notes holds at.
     let tail = tail-holds notes holds.batches whole holds.cut holds.payloads in
     let held : Holds c.in_ok-tail.tail tail.last =
     record { batches = tail.batches; cut = tail.cut; payloads = c.in_ok-tail.ensures.payloads ∙ tail.payloads } in
-    let front = take (length whole - 1) whole in
+    let prefix = take (length whole - 1) whole in
     let back = payloads_in c.take_drops.new.self in
-    let grown = c.in_ok-ends.ensures.ends (kept ++ front) tail.last held
-    (subst (λ (l : List (List ℕ)). EndsAt (kept ++ front) l c.args.last c.args.next) (sym c.in_ok-tail.ensures.payloads)
+    let grown = c.in_ok-ends.ensures.ends (kept ++ prefix) tail.last held
+    (subst (λ (l : List (List ℕ)). EndsAt (kept ++ prefix) l c.args.last c.args.next) (sym
+    c.in_ok-tail.ensures.payloads)
     (ends-tail kept whole c.args.last c.args.next at)) in
     subst (λ (l : List (List ℕ)). EndsAt kept l c.in_ok-ends.ends.0 c.in_ok-ends.ends.1)
     (sym c.in_ok-end_with.ensures.payloads)
-    (ends-whole kept front back c.in_ok-ends.ends.0 c.in_ok-ends.ends.1
+    (ends-whole kept prefix back c.in_ok-ends.ends.0 c.in_ok-ends.ends.1
     (λ none. omega (
       arith,
       none,
@@ -78,14 +79,14 @@ returns-clause-indexes c = λ kept before ledger notes holds indexes.
     let tail = tail-holds notes holds.batches whole holds.cut holds.payloads in
     let held : Holds c.in_ok-tail.tail tail.last =
     record { batches = tail.batches; cut = tail.cut; payloads = c.in_ok-tail.ensures.payloads ∙ tail.payloads } in
-    let front = take (length whole - 1) whole in
+    let prefix = take (length whole - 1) whole in
     let back = payloads_in c.take_drops.new.self in
-    let parts : (before ++ front) ++ drop (length whole - 1) whole ≡ before ++ whole =
-    append_assoc before front (drop (length whole - 1) whole)
+    let parts : (before ++ prefix) ++ drop (length whole - 1) whole ≡ before ++ whole =
+    append_assoc before prefix (drop (length whole - 1) whole)
     ∙ ap (λ (l : List (List ℕ)). before ++ l) (take-append-drop (length whole - 1) whole) in
-    let grown = c.in_ok-ends.ensures.indexes kept (before ++ front) ledger tail.last held
-    (subst (λ (l : List (List ℕ)). Indexes kept ((before ++ front) ++ l) ledger) (sym c.in_ok-tail.ensures.payloads)
+    let grown = c.in_ok-ends.ensures.indexes kept (before ++ prefix) ledger tail.last held
+    (subst (λ (l : List (List ℕ)). Indexes kept ((before ++ prefix) ++ l) ledger) (sym c.in_ok-tail.ensures.payloads)
     (subst (λ (l : List (List ℕ)). Indexes kept l ledger) (sym parts) indexes)) in
     subst (λ (l : List (List ℕ)). Indexes kept l ledger)
-    (append_assoc before front back
+    (append_assoc before prefix back
     ∙ ap (λ (l : List (List ℕ)). before ++ l) (sym c.in_ok-end_with.ensures.payloads)) grown

@@ -57,12 +57,12 @@ returns-clause-ends c = λ kept notes holds at.
     long grows
 
 pub returns-clause-indexes : goal.returns-clause-indexes
-returns-clause-indexes c = λ kept front ledger notes holds indexes.
+returns-clause-indexes c = λ kept prefix ledger notes holds indexes.
     let held = holds-same c.args.self.now c.make_room.new.self notes c.make_room.ensures.payloads holds in
     let note = c.args.note.now in
     let grows = c.push.ensures.grows notes note held c.in_ok-octets.ensures.note c.in_ok-octets.ensures.octets in
-    grows-indexes kept front (payloads_in c.make_room.new.self) (payloads_in c.push.new.self) ledger note grows
-    (subst (λ (l : List (List ℕ)). Indexes kept (front ++ l) ledger) (sym c.make_room.ensures.payloads) indexes)
+    grows-indexes kept prefix (payloads_in c.make_room.new.self) (payloads_in c.push.new.self) ledger note grows
+    (subst (λ (l : List (List ℕ)). Indexes kept (prefix ++ l) ledger) (sym c.make_room.ensures.payloads) indexes)
 
 pub returns-clause-more : goal.returns-clause-more
 returns-clause-more c =

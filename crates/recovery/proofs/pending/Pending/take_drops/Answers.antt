@@ -14,7 +14,7 @@ pub loop-key-init : goal.loop-key-init
 loop-key-init c = record {
   holds = λ notes holds. subst (Holds c.args.self.now) (sym (append-nil notes)) holds;
   ends = λ kept notes holds at. at;
-  indexes = λ kept front ledger notes holds indexes. indexes;
+  indexes = λ kept prefix ledger notes holds indexes. indexes;
   notes = tt;
   count = omega arith;
   more = omega arith;
@@ -31,19 +31,19 @@ loop-key-preserved c =
     let took = c.in_ok-ends.ensures in
     let inside : i < length ns = omega arith in
     let is : n ≡ get_or ns i 0 = c.key-item.is ∙ get_or_default ns i n 0 inside in
-    let front : drops cause (take (i + 1) ns) ≡ drops cause (take i ns) ++ Drop n cause ∷ [] =
+    let prefix : drops cause (take (i + 1) ns) ≡ drops cause (take i ns) ++ Drop n cause ∷ [] =
     ap (drops cause) (take_step ns i n inside is) ∙ drops-push cause (take i ns) n in
     record {
       holds = λ notes holds.
           subst (Holds c.take.new.self) (append_assoc notes (drops cause (take i ns)) (Drop n cause ∷ [])
-          ∙ ap (λ (l : List Note). notes ++ l) (sym front))
+          ∙ ap (λ (l : List Note). notes ++ l) (sym prefix))
           (took.holds (notes ++ drops cause (take i ns)) (was.holds notes holds));
       ends = λ kept notes holds at.
           took.ends kept (notes ++ drops cause (take i ns)) (was.holds notes holds) (was.ends kept notes holds at);
       indexes = λ kept behind ledger notes holds indexes.
           took.indexes kept behind ledger (notes ++ drops cause (take i ns)) (was.holds notes holds)
           (was.indexes kept behind ledger notes holds indexes);
-      notes = subst AreNotes (sym front) (AreNotes-append (drops cause (take i ns)) (Drop n cause ∷ []) was.notes
+      notes = subst AreNotes (sym prefix) (AreNotes-append (drops cause (take i ns)) (Drop n cause ∷ []) was.notes
           (took.note, tt));
       count = omega (arith, took.count, was.count);
       more = omega (arith, took.more, was.more);

@@ -12,8 +12,8 @@ invariant-loop-key l = record {
   holds : (notes : List Note) → Holds l.fn.self notes → Holds l.self (notes ++ drops l.cause (take l.key-index l.keys));
   ends : (kept : List (List ℕ)) (notes : List Note) → Holds l.fn.self notes
       → EndsAt kept (payloads_in l.fn.self) l.fn.last l.fn.next → EndsAt kept (payloads_in l.self) l.last l.next;
-  indexes : (kept : ℕ) (front : List (List ℕ)) (ledger : Ledger) (notes : List Note) → Holds l.fn.self notes
-      → Indexes kept (front ++ payloads_in l.fn.self) ledger → Indexes kept (front ++ payloads_in l.self) ledger;
+  indexes : (kept : ℕ) (prefix : List (List ℕ)) (ledger : Ledger) (notes : List Note) → Holds l.fn.self notes
+      → Indexes kept (prefix ++ payloads_in l.fn.self) ledger → Indexes kept (prefix ++ payloads_in l.self) ledger;
   notes : AreNotes (drops l.cause (take l.key-index l.keys));
   count : l.self.count ≡ l.fn.self.count + l.key-index;
   more : length l.fn.self.payloads.items ≤ length l.self.payloads.items;

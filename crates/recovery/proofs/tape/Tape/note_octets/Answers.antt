@@ -10,7 +10,7 @@ use Rattle.disk_model.specs.declared.Disk.{Ghosts}
 use Rattle.ledger_core.specs.declared.spot.Spot.{Spot}
 use Rattle.ledger_core.specs.Base.{owe}
 use Rattle.ledger_core.specs.Batch.{StandsIn, body_of}
-use Rattle.ledger_core.specs.IndexLaws.{stands-behind, stands-front}
+use Rattle.ledger_core.specs.IndexLaws.{stands-behind, stands-prefix}
 use Rattle.ledger_core.specs.Spelling.{spelling}
 use Rattle.ledger_core.specs.Spots.{IsFound, StandsAt}
 use Rattle.ledger_core.specs.State.{Owing}
@@ -27,26 +27,26 @@ use Rattle.recovery.proofs.tape.Tape.note_octets.Goals as goal
 slot_of : (payloads pending : List (List ℕ)) (at slot end : ℕ) (payload : List ℕ) → end ≡ length (records payloads) →
     end ≤ at
     → (stands : StandsAt (length payloads) (payloads ++ pending) at slot payload) → Pends payloads pending
-    stands.front payload slot
+    stands.prefix payload slot
 slot_of payloads pending at slot end payload is behind stands =
-    in_pending payloads pending stands.front stands.behind payload slot stands.split
+    in_pending payloads pending stands.prefix stands.behind payload slot stands.split
     (omega (arith, is, behind, stands.at_is, records-long payloads)) stands.slot_is
 
 -- it is on the tape
 among_of : (payloads pending : List (List ℕ)) (at slot end : ℕ) (payload : List ℕ) → end ≡ length (records payloads) →
     at < end
     → (stands : StandsAt (length payloads) (payloads ++ pending) at slot payload) → end < 2 ^ 64 - 1
-    → Among payloads stands.front payload
+    → Among payloads stands.prefix payload
 among_of payloads pending at slot end payload is before stands fits =
-    on_tape payloads pending stands.front stands.behind payload stands.split
+    on_tape payloads pending stands.prefix stands.behind payload stands.split
     (omega (arith, is, before, stands.at_is, fits, records-long payloads))
 
 place_of : (payloads pending : List (List ℕ)) (at slot end : ℕ) (payload : List ℕ) → end ≡ length (records payloads) →
     at < end
     → (stands : StandsAt (length payloads) (payloads ++ pending) at slot payload) → end < 2 ^ 64 - 1
-    → at ≡ length (records stands.front)
+    → at ≡ length (records stands.prefix)
 place_of payloads pending at slot end payload is before stands fits =
-    omega (arith, is, before, stands.at_is, fits, records-long stands.front)
+    omega (arith, is, before, stands.at_is, fits, records-long stands.prefix)
 
 -- the octets of a payload that are notes are all of it where they are no fewer
 whole-case : (several : Bool) (tag : ℕ) (rest : List ℕ)
@@ -72,10 +72,10 @@ alone part octets same stands =
 
 -- what stands there on the disk
 record OnDisk {D : Type 0} {g : Ghosts D} (tape : Tape D g) (at : ℕ) (payload : List ℕ) : Type 0 where
-  front : List (List ℕ)
+  prefix : List (List ℕ)
   more : List (List ℕ)
-  holds : Holds tape.segments.live (front ++ payload ∷ more)
-  place : at ≡ length (records front)
+  holds : Holds tape.segments.live (prefix ++ payload ∷ more)
+  place : at ≡ length (records prefix)
 
 on_disk : {D : Type 0} {g : Ghosts D} (tape : Tape D g) (payloads : List (List ℕ)) (at slot : ℕ) (payload : List ℕ)
     → Holds tape.segments.live payloads → at < tape.segments.live.end
@@ -85,7 +85,7 @@ on_disk tape payloads at slot payload holds before stands =
     let live = tape.segments.live in
     let among = among_of payloads pending at slot live.end payload holds.end before stands live.fits in
     record {
-      front = stands.front;
+      prefix = stands.prefix;
       more = among.behind;
       holds = subst (Holds live) among.split holds;
       place = place_of payloads pending at slot live.end payload holds.end before stands live.fits;
@@ -136,7 +136,7 @@ returns-then-spot-gt0-clause-note g c = λ h debt stands at.
     (λ v said. said ∙ (ap (λ (n : ℕ). take c.owed_len-len.result (drop (5 + n) found.payload)) c.from.ensures
     ∙ stands-behind found.payload (spelling (owe debt)) c.args.spot.within c.owed_len-len.result long found.inside
     (λ none. omega (arith, none, c.if-spot-gt0.true))))
-    (c.part_of.ensures.part disk.front disk.more found.payload disk.holds disk.place)
+    (c.part_of.ensures.part disk.prefix disk.more found.payload disk.holds disk.place)
 
 pub returns-then-spot-gt0-clause-cause : goal.returns-then-spot-gt0-clause-cause
 returns-then-spot-gt0-clause-cause g c = λ h debt stands at told.
@@ -145,7 +145,7 @@ returns-then-spot-gt0-clause-cause g c = λ h debt stands at told.
     let found = there tape h c.args.key c.args.spot debt stands c.requires.works at w.payloads w.indexed in
     let disk = on_disk tape w.payloads c.args.spot.at c.args.spot.slot found.payload w.holds
     (omega (arith, c.if-spot-end_of.false, c.end_of.ensures)) found.stands in
-    c.part_of.ensures.cause disk.front disk.more found.payload disk.holds disk.place told
+    c.part_of.ensures.cause disk.prefix disk.more found.payload disk.holds disk.place told
 
 pub returns-in-Err-clause-cause : goal.returns-in-Err-clause-cause
 returns-in-Err-clause-cause g c = λ h debt stands at told.
@@ -154,7 +154,7 @@ returns-in-Err-clause-cause g c = λ h debt stands at told.
     let found = there tape h c.args.key c.args.spot debt stands c.requires.works at w.payloads w.indexed in
     let disk = on_disk tape w.payloads c.args.spot.at c.args.spot.slot found.payload w.holds
     (omega (arith, c.if-spot-end_of.false, c.end_of.ensures)) found.stands in
-    c.in-Err.ensures.cause disk.front disk.more found.payload disk.holds disk.place told
+    c.in-Err.ensures.cause disk.prefix disk.more found.payload disk.holds disk.place told
 
 pub returns-then-len-clause-note : goal.returns-then-len-clause-note
 returns-then-len-clause-note g c = λ h debt stands at.
@@ -165,8 +165,8 @@ returns-then-len-clause-note g c = λ h debt stands at.
     let disk = on_disk tape w.payloads c.args.spot.at c.args.spot.slot found.payload w.holds
     (omega (arith, c.if-spot-end_of.false, c.end_of.ensures)) found.stands in
     let first : c.args.spot.within ≡ 0 = omega (arith, c.if-spot-gt0.false) in
-    let read = c.in-Ok.ensures.part disk.front disk.more found.payload disk.holds disk.place in
-    let inside = stands-front found.payload (spelling (owe debt)) c.owed_len-len.result long
+    let read = c.in-Ok.ensures.part disk.prefix disk.more found.payload disk.holds disk.place in
+    let inside = stands-prefix found.payload (spelling (owe debt)) c.owed_len-len.result long
     (subst (λ (n : ℕ). StandsIn found.payload n (spelling (owe debt))) first found.inside) in
     alone c.in-Ok.part.items (spelling (owe debt)) (omega (arith, c.len.ensures, c.if-len.true, long))
     (subst (λ (l : List ℕ). StandsIn l 0 (spelling (owe debt))) (sym read) inside)
@@ -181,8 +181,8 @@ returns-in-Some-clause-note g c = λ h debt stands at.
     (omega (arith, c.if-spot-end_of.false, c.end_of.ensures)) found.stands in
     let first : c.args.spot.within ≡ 0 = omega (arith, c.if-spot-gt0.false) in
     let read = c.deref.ensures.value
-    ∙ c.in-Ok.ensures.part disk.front disk.more found.payload disk.holds disk.place in
-    let inside = stands-front found.payload (spelling (owe debt)) c.owed_len-len.result long
+    ∙ c.in-Ok.ensures.part disk.prefix disk.more found.payload disk.holds disk.place in
+    let inside = stands-prefix found.payload (spelling (owe debt)) c.owed_len-len.result long
     (subst (λ (n : ℕ). StandsIn found.payload n (spelling (owe debt))) first found.inside) in
     c.in_ok-from_slice-in-Some.ensures.items ∙ (c.in-Some.ensures.note (spelling (owe debt))
     (subst (λ (l : List ℕ). StandsIn l 0 (spelling (owe debt))) (sym read) inside) long).1
@@ -197,8 +197,8 @@ returns-clause-cause g c = λ h debt stands at told.
     (omega (arith, c.if-spot-end_of.false, c.end_of.ensures)) found.stands in
     let first : c.args.spot.within ≡ 0 = omega (arith, c.if-spot-gt0.false) in
     let read = c.deref.ensures.value
-    ∙ c.in-Ok.ensures.part disk.front disk.more found.payload disk.holds disk.place in
-    let inside = stands-front found.payload (spelling (owe debt)) c.owed_len-len.result long
+    ∙ c.in-Ok.ensures.part disk.prefix disk.more found.payload disk.holds disk.place in
+    let inside = stands-prefix found.payload (spelling (owe debt)) c.owed_len-len.result long
     (subst (λ (n : ℕ). StandsIn found.payload n (spelling (owe debt))) first found.inside) in
     absurd (false≢true (c.in-None.ensures.note (spelling (owe debt))
     (subst (λ (l : List ℕ). StandsIn l 0 (spelling (owe debt))) (sym read) inside) long).0)

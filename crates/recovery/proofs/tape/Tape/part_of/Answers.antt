@@ -5,9 +5,9 @@ use Rattle.recovery.proofs.Readings.{read_kept}
 use Rattle.recovery.proofs.tape.Tape.part_of.Goals as goal
 
 pub returns-in-Err-Disk-clause-cause : goal.returns-in-Err-Disk-clause-cause
-returns-in-Err-Disk-clause-cause g c = λ front more payload holds at told.
+returns-in-Err-Disk-clause-cause g c = λ prefix more payload holds at told.
     live_risen c.args.self.now.segments.second _ _ _
-    (c.in-Err-Disk.ensures.cause front more payload holds at (ap Err c.in-Err-Disk.field-0-is))
+    (c.in-Err-Disk.ensures.cause prefix more payload holds at (ap Err c.in-Err-Disk.field-0-is))
 
 pub returns-in-Ok-clause-reads : goal.returns-in-Ok-clause-reads
 returns-in-Ok-clause-reads g c =

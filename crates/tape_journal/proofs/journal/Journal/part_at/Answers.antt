@@ -20,35 +20,35 @@ pub part_of-found-requires-clause-shows : goal.part_of-found-requires-clause-sho
 part_of-found-requires-clause-shows g c honest = record { same = c.args.self.now.shows honest }
 
 pub returns-then-len-offset-clause-cause : goal.returns-then-len-offset-clause-cause
-returns-then-len-offset-clause-cause g c front more payload holds place told =
+returns-then-len-offset-clause-cause g c prefix more payload holds place told =
     let all = content (g.D.Disk.log c.args.self.now.disk) in
-    let within = gate_within all front more payload c.args.offset holds.rest.only.whole place in
+    let within = gate_within all prefix more payload c.args.offset holds.rest.only.whole place in
     absurd (omega (arith, within, c.len-len.ensures.content holds.honest))
 
 pub returns-in-Ok-Some-clause-part : goal.returns-in-Ok-Some-clause-part
-returns-in-Ok-Some-clause-part g c front more payload holds place =
+returns-in-Ok-Some-clause-part g c prefix more payload holds place =
     let all = content (g.D.Disk.log c.args.self.now.disk) in
     let len = c.len-len.ensures.content holds.honest in
     let is = rw c.in-Ok-Some.field-0-is at (c.in-Ok-Some.ensures.reads holds.honest len) in
-    let short = AllShort-mid front more payload holds.rest.short in
+    let short = AllShort-mid prefix more payload holds.rest.short in
     let same = one_record (drop c.args.offset all) _ is.payload payload short is.is
-    (record_there all front more payload c.args.offset holds.rest.only.whole place) in
+    (record_there all prefix more payload c.args.offset holds.rest.only.whole place) in
     is.part_is ∙ ap (λ (l : List ℕ). take c.args.most (drop c.args.from l)) same
 
 pub returns-in-Ok-None-clause-cause : goal.returns-in-Ok-None-clause-cause
-returns-in-Ok-None-clause-cause g c front more payload holds place told =
+returns-in-Ok-None-clause-cause g c prefix more payload holds place told =
     let all = content (g.D.Disk.log c.args.self.now.disk) in
     let len = c.len-len.ensures.content holds.honest in
     let ends = rw c.in-Ok-None.field-0-is at (c.in-Ok-None.ensures.reads holds.honest len) in
-    let there = record_there all front more payload c.args.offset holds.rest.only.whole place in
+    let there = record_there all prefix more payload c.args.offset holds.rest.only.whole place in
     absurd (record_ends (drop c.args.offset all) _ payload there ends)
 
 pub returns-in-Err-clause-cause : goal.returns-in-Err-clause-cause
-returns-in-Err-clause-cause g c front more payload holds place told =
+returns-in-Err-clause-cause g c prefix more payload holds place told =
     let all = content (g.D.Disk.log c.args.self.now.disk) in
     let len = c.len-len.ensures.content holds.honest in
-    let there = record_there all front more payload c.args.offset holds.rest.only.whole place in
+    let there = record_there all prefix more payload c.args.offset holds.rest.only.whole place in
     disk_alone c.in-Err.fault (cc (told, c.read_fault_of.ensures))
-    (λ at is. whole_uncut payload _ (AllShort-mid front more payload holds.rest.short)
+    (λ at is. whole_uncut payload _ (AllShort-mid prefix more payload holds.rest.short)
     (subst IsCutShort there (c.in-Err.ensures.damaged holds.honest len at (cc is)).1))
     (λ is. c.in-Err.ensures.cause holds.honest len (cc is))

@@ -1,8 +1,8 @@
 -- What became of the candidate is told, and what follows it.
 use Rattle.std.proofs.Common.{◌++◌, ◌∷◌, ◌∙◌, ap, refl, List, []}
 use Rattle.world_core.specs.Exchange.{with_transcript}
-use Rattle.world_core.specs.declared.told.Told.{Told}
-use Rattle.world_core.specs.declared.told.Told.TheVariants.{Handed as ToldHanded}
+use Rattle.world_core.specs.declared.output.Output.{Output}
+use Rattle.world_core.specs.declared.output.Output.TheVariants.{Handed as OutputHanded}
 use Rattle.world_core.proofs.Results.{if_err, if_err_map, on_ok_map}
 use Rattle.world_core.proofs.Handing.{hand_memory, hand_not, hand_on, hand_on_not, open_over}
 use Rattle.world_core.proofs.connection.Connection.hand.Goals as goal
@@ -25,9 +25,10 @@ returns-clause-ok g c = λ id conn past pair.
     c.closed.ensures c.is_none-was_open.ensures in
     on_ok_map c.tell.result _ _
     (c.tell.ensures.ok id (with_transcript conn over.transcript) over.later conn.transcript over.stand was_so)
-    (hand_on id c.args.now conn past c.in_ok-handed.handed _ _ over c.args.told.now.items _ _ c.id.result.0 _ _ _ refl
+    (hand_on id c.args.now conn past c.in_ok-handed.handed _ _ over c.args.outputs.now.items _ _ c.id.result.0 _ _ _
+    refl
     (c.push_reserved.ensures.items
-    ∙ ap (λ (l : List Told). l ++ ToldHanded c.id.result.0 c.in_ok-handed.handed ∷ [])
+    ∙ ap (λ (l : List Output). l ++ OutputHanded c.id.result.0 c.in_ok-handed.handed ∷ [])
     c.in_ok-reserve.ensures.items) (ap (λ i. i.0) c.id.ensures))
 
 pub returns-clause-err : goal.returns-clause-err

@@ -9,7 +9,7 @@ abbrev pub invariant-loop : goal.invariant-loop
 invariant-loop g l = (id : ℕ) (conn : ConnPast) (past : PeerPast)
     → PairStands id conn past l.initial.self l.initial.peer
     → (done : List Outcome) × (later : PeerPast)
-    × SettledSome id l.now conn past l.initial.told.items done later l.self l.peer l.told.items
+    × SettledSome id l.now conn past l.initial.outputs.items done later l.self l.peer l.outputs.items
 
 abbrev pub decreases-loop : goal.decreases-loop
 decreases-loop g l = length (left_at l.self)

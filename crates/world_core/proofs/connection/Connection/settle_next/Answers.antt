@@ -10,7 +10,7 @@ returns-in-Ok-clause-ok g c = λ id conn past pair.
     let is = c.in-Ok.ensures in
     let taken = subst (λ o. TakesNext (options_of past.conf) conn o c.next_outcome.new.self) c.in-Some.is
     (c.next_outcome.ensures.takes past.conf conn pair.holds pair.waits) in
-    settled_one id c.args.now conn past c.args.self.now _ c.args.peer.now _ c.args.told.now.items
+    settled_one id c.args.now conn past c.args.self.now _ c.args.peer.now _ c.args.outputs.now.items
     c.reserve.new.self.items _ c.in-Some.outcome
     c.id-id.result.0 c.key_in-key.result c.in-Ok.settled pair taken c.next_outcome.ensures.waits
     c.next_outcome.ensures.rank

@@ -4,30 +4,30 @@ use Rattle.world_core.proofs.Results.{if_err}
 use Rattle.world_core.proofs.Telling.{followed, told_not}
 use Rattle.world_core.proofs.connection.Connection.tell.Goals as goal
 
-pub returns-in_err-tell_output-clause-err : goal.returns-in_err-tell_output-clause-err
-returns-in_err-tell_output-clause-err g c = λ id conn past pair.
-    if_err c.from_residual-in_err-tell_output.result _ _ c.from_residual-in_err-tell_output.ensures.1
-    (told_not id c.args.now conn past c.args.told.now.items _ _ _ (c.in_ok-settle_all.ensures.ok id conn past pair))
+pub returns-in_err-add_sent-clause-err : goal.returns-in_err-add_sent-clause-err
+returns-in_err-add_sent-clause-err g c = λ id conn past pair.
+    if_err c.from_residual-in_err-add_sent.result _ _ c.from_residual-in_err-add_sent.ensures.1
+    (told_not id c.args.now conn past c.args.outputs.now.items _ _ _ (c.in_ok-settle_all.ensures.ok id conn past pair))
 
-pub returns-in_err-tell_need-clause-err : goal.returns-in_err-tell_need-clause-err
-returns-in_err-tell_need-clause-err g c = λ id conn past pair.
-    if_err c.from_residual-in_err-tell_need.result _ _ c.from_residual-in_err-tell_need.ensures.1
-    (told_not id c.args.now conn past c.args.told.now.items _ _ _ (c.in_ok-settle_all.ensures.ok id conn past pair))
+pub returns-in_err-add_need-clause-err : goal.returns-in_err-add_need-clause-err
+returns-in_err-add_need-clause-err g c = λ id conn past pair.
+    if_err c.from_residual-in_err-add_need.result _ _ c.from_residual-in_err-add_need.ensures.1
+    (told_not id c.args.now conn past c.args.outputs.now.items _ _ _ (c.in_ok-settle_all.ensures.ok id conn past pair))
 
-pub returns-in_err-tell_closed-clause-err : goal.returns-in_err-tell_closed-clause-err
-returns-in_err-tell_closed-clause-err g c = λ id conn past pair.
-    if_err c.from_residual-in_err-tell_closed.result _ _ c.from_residual-in_err-tell_closed.ensures.1
-    (told_not id c.args.now conn past c.args.told.now.items _ _ _ (c.in_ok-settle_all.ensures.ok id conn past pair))
+pub returns-in_err-add_closed-clause-err : goal.returns-in_err-add_closed-clause-err
+returns-in_err-add_closed-clause-err g c = λ id conn past pair.
+    if_err c.from_residual-in_err-add_closed.result _ _ c.from_residual-in_err-add_closed.ensures.1
+    (told_not id c.args.now conn past c.args.outputs.now.items _ _ _ (c.in_ok-settle_all.ensures.ok id conn past pair))
 
 pub returns-clause-ok : goal.returns-clause-ok
 returns-clause-ok g c = λ id conn past was pair was_is.
-    followed id c.args.now conn past c.args.told.now.items c.settle_all.new.self c.settle_all.new.peer
-    c.settle_all.new.told.items
-    (c.in_ok-settle_all.ensures.ok id conn past pair) was _ c.tell_output.new.told.items c.tell_need.new.told.items
-    c.tell_closed.new.told.items
+    followed id c.args.now conn past c.args.outputs.now.items c.settle_all.new.self c.settle_all.new.peer
+    c.settle_all.new.outputs.items
+    (c.in_ok-settle_all.ensures.ok id conn past pair) was _ c.add_sent.new.outputs.items c.add_need.new.outputs.items
+    c.add_closed.new.outputs.items
     c.id-connection.result.0 _ c.args.was_open c.output.result.now c.need.result c.closed.result
     (ap (λ i. i.0) c.id-connection.ensures)
-    c.output.ensures.stands c.need.ensures c.closed.ensures c.in_ok-tell_output.ensures c.in_ok-tell_need.ensures
-    c.in_ok-tell_closed.ensures
+    c.output.ensures.stands c.need.ensures c.closed.ensures c.in_ok-add_sent.ensures c.in_ok-add_need.ensures
+    c.in_ok-add_closed.ensures
     was_is (ap length (c.output-count.ensures.now ∙ sym c.output.ensures.now)) refl refl c.sent.ensures.same_id
     c.sent.ensures.stands

@@ -9,4 +9,4 @@ pub returns : goal.returns
 returns c = λ past stands.
     peer_halted past c.args.self _ stands refl
     (logs_of_disks (tape_of c.args.self.station) c.into_disks-disks.result c.into_disks-disks.ensures.disks)
-    c.into_disks-disks.ensures.told
+    c.into_disks-disks.ensures.faults

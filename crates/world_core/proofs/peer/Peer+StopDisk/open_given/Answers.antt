@@ -4,7 +4,7 @@ use Rattle.disk_model.specs.Disk.Event.{Made}
 use Rattle.recovery.specs.Image.{IsNoTapeAt, Log}
 use Rattle.recovery.specs.Tape.{contents_of}
 use Rattle.world_core.specs.Given.{given_octets}
-use Rattle.world_core.proofs.Making.{both_are, happened_as, none_told, opens_given, refuses_tape}
+use Rattle.world_core.proofs.Making.{both_are, happened_as, no_faults, opens_given, refuses_tape}
 use Rattle.world_core.proofs.peer.Peer+StopDisk.open_given.Goals as goal
 
 pub returns-in-Ok-clause-ok : goal.returns-in-Ok-clause-ok
@@ -18,8 +18,8 @@ returns-in-Ok-clause-ok c =
     (held.log ∙ ap (λ octets. Made octets ∷ []) c.deref.ensures.value))
     (happened_as c.new-second.result c.new.result [] second.disk c.new.ensures.log))
     ((is.opens tt tt).ok)
-    (is.quiet ∙ both_are (none_told c.new-first.result c.in_ok-first.first first.disk first.told held.told)
-    (none_told c.new-second.result c.new.result second.disk second.told c.new.ensures.told))
+    (is.quiet ∙ both_are (no_faults c.new-first.result c.in_ok-first.first first.disk first.faults held.faults)
+    (no_faults c.new-second.result c.new.result second.disk second.faults c.new.ensures.faults))
     is.fresh.works is.fresh.ready (is.fresh.limits ∙ c.limits_of.ensures) refl refl
 
 pub returns-in_default : goal.returns-in_default

@@ -14,7 +14,7 @@ returns-clause-ok g c = λ life running now_is.
     on_ok_map c.supply.result _ _ (c.supply.ensures.ok c.args.id so.conn so.peer so.pair)
     (supplied life c.args.self.now _ c.args.connections.now.items _ running c.args.id so.conn so.peer
     c.index_mut-connection.result.now _ c.index_mut-peer.result.now _ so.put c.args.now now_is c.args.found.now
-    c.args.told.now.items c.supply.new.told.items)
+    c.args.outputs.now.items c.supply.new.outputs.items)
 
 pub returns-clause-err : goal.returns-clause-err
 returns-clause-err g c = λ life running now_is.

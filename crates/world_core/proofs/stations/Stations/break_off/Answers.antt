@@ -13,8 +13,8 @@ returns-clause-ok g c = λ life running now_is.
     (record { peers = refl; intake = refl; last = refl; begun = refl }) refl in
     on_ok_map c.break_off.result _ _ (c.break_off.ensures.ok c.args.id so.conn so.peer so.pair)
     (broke_off life c.args.self.now _ c.args.connections.now.items _ running c.args.id so.conn so.peer
-    c.index_mut-connection.result.now _ c.index_mut-peer.result.now _ so.put c.args.now now_is c.args.told.now.items
-    c.break_off.new.told.items)
+    c.index_mut-connection.result.now _ c.index_mut-peer.result.now _ so.put c.args.now now_is c.args.outputs.now.items
+    c.break_off.new.outputs.items)
 
 pub returns-clause-err : goal.returns-clause-err
 returns-clause-err g c = λ life running now_is.

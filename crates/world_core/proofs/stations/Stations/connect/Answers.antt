@@ -1,7 +1,7 @@
 -- A connection more, behind all others.
 use Rattle.std.proofs.Common.{◌≡◌, ◌∙◌, ◌+◌, ◌<◌, ◌^◌, ◌++◌, ◌∷◌, [], ap, arith, refl, rules, sym}
-use Rattle.world_core.specs.declared.told.Told.TheVariants.{Connected as ToldConnected}
-use Rattle.world_core.specs.Told.{Connected, Said, said_of}
+use Rattle.world_core.specs.declared.output.Output.TheVariants.{Connected as OutputConnected}
+use Rattle.world_core.specs.Output.{Connected, Said, said_of}
 use Rattle.std.specs.Prelude.{map}
 use Rattle.world_core.proofs.Connecting.{connect_absent, connect_full, connect_memory, connected_made}
 use Rattle.world_core.proofs.Results.{if_err}
@@ -73,10 +73,10 @@ returns-clause-ok g c = λ life running same.
     c.in_ok-connection.connection c.index.result.now c.index.ensures
     (position_within _ c.args.self.now.peers.items c.in-Some.rank (sym c.rank_of.ensures ∙ c.in-Some.is))
     made.stands (made.number ∙ is) made.rank made.waits
-    c.in-Some-checked_add.number c.args.told.now.items c.push_reserved-2.new.self.items _ is
+    c.in-Some-checked_add.number c.args.outputs.now.items c.push_reserved-2.new.self.items _ is
     (c.push_reserved.ensures.items ∙ ap (λ l. l ++ c.in_ok-connection.connection ∷ []) c.in_ok-reserve-2.ensures.items)
-    (tells_push c.args.told.now.items _ _ (ToldConnected c.in-Some-checked_add.number c.in_ok-name.name)
+    (tells_push c.args.outputs.now.items _ _ (OutputConnected c.in-Some-checked_add.number c.in_ok-name.name)
     c.in_ok-reserve.ensures.items c.push_reserved-2.ensures.items
-    ∙ ap (λ (said : Said). map said_of c.args.told.now.items ++ said ∷ [])
+    ∙ ap (λ (said : Said). map said_of c.args.outputs.now.items ++ said ∷ [])
     (ap (λ n. Connected n c.in_ok-name.name) is
     ∙ ap (λ name. Connected (life.connected + 1) name) c.in_ok-name.ensures.cases))

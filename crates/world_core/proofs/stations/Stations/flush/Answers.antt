@@ -6,8 +6,8 @@ use Rattle.world_core.proofs.Stepping.{flush_failed_part, flush_failed_seal, flu
 use Rattle.world_core.proofs.Stepping.{sealable_begun}
 use Rattle.world_core.proofs.stations.Stations.flush.Goals as goal
 
-pub returns-in_err-told-clause-err : goal.returns-in_err-told-clause-err
-returns-in_err-told-clause-err g c = λ past stands.
+pub returns-in_err-outputs-clause-err : goal.returns-in_err-outputs-clause-err
+returns-in_err-outputs-clause-err g c = λ past stands.
     if_err c.from_residual.result _ _ c.from_residual.ensures.1
     (λ halt memory. flush_memory past halt c.args.self.now memory stands)
 
@@ -32,4 +32,4 @@ returns-clause-ok g c = λ past stands.
     let is = c.part_each.ensures.last ∙ begun.last in
     flush_took past c.part_each.new.self.last c.part_each.new.self c.seal_number.new.self each is c.mark-mark.result _
     (c.in_default.ensures.ok each.did.later each.did.stands (sealable_begun past _ c.part_each.new.self each is))
-    c.mark-mark.ensures (pushed _ _ _ c.push_reserved.ensures.items c.in_ok-told.ensures.items)
+    c.mark-mark.ensures (pushed _ _ _ c.push_reserved.ensures.items c.in_ok-outputs.ensures.items)

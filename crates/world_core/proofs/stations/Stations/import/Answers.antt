@@ -13,8 +13,8 @@ returns-in_default-clause-err g c = λ past stands.
     import_absent c.args.name.now c.args.text.now past _ c.args.self.now refl
     (rank_same c.args.name.now past c.args.self.now stands ∙ sym c.rank_of.ensures ∙ c.in_default.is) stands
 
-pub returns-in_err-told-clause-err : goal.returns-in_err-told-clause-err
-returns-in_err-told-clause-err g c = λ past stands.
+pub returns-in_err-outputs-clause-err : goal.returns-in_err-outputs-clause-err
+returns-in_err-outputs-clause-err g c = λ past stands.
     if_err c.from_residual.result _ _ c.from_residual.ensures.1
     (λ fault memory. import_memory c.args.name.now c.args.text.now past c.in-Some.rank fault c.args.self.now
     (rank_same c.args.name.now past c.args.self.now stands ∙ sym c.rank_of.ensures ∙ c.in-Some.is) memory stands)
@@ -58,4 +58,4 @@ returns-clause-ok g c = λ past stands.
     HasGood c.args.text.now (map good_of lines)) (sym c.deref.ensures.value) c.in_ok-lines.ensures)
     c.args.self.now stands c.in_ok-count.count c.import_each.new.self c.close_all.new.self c.in_ok-count.ensures.ok
     _ c.in_ok-source.source _ c.in_ok-name.ensures.cases
-    (pushed _ _ _ c.push_reserved.ensures.items c.in_ok-told.ensures.items) c.in_ok-source.ensures.ok
+    (pushed _ _ _ c.push_reserved.ensures.items c.in_ok-outputs.ensures.items) c.in_ok-source.ensures.ok

@@ -32,7 +32,7 @@ returns-clause-ok g c = λ past stands.
             begun =
                 ap (λ s. s.begun) w.self-is;
           })
-          (ap (λ v. v.items) w.told-is ∙ pushed _ _ _ w.push_reserved.ensures.items c.in_ok-told.ensures.items)
+          (ap (λ v. v.items) w.outputs-is ∙ pushed _ _ _ w.push_reserved.ensures.items c.in_ok-outputs.ensures.items)
       | in-Err w ↦
           line_bad c.args.text.now past c.args.self.now c.in-Some.number stands numbered fits w.in-Err.fault _ _
           (reads_bad c.args.text.now w.in-Err.fault w.in-Err.ensures.too_long w.in-Err.ensures.no_token
@@ -44,5 +44,6 @@ returns-clause-ok g c = λ past stands.
             begun =
                 ap (λ s. s.begun) w.self-is;
           })
-          (ap (λ v. v.items) w.told-is ∙ pushed _ _ _ w.push_reserved-in-Err.ensures.items c.in_ok-told.ensures.items)
+          (ap (λ v. v.items) w.outputs-is ∙ pushed _ _ _ w.push_reserved-in-Err.ensures.items
+          c.in_ok-outputs.ensures.items)
     ]

@@ -11,14 +11,15 @@ loop-rank-init g c =
     let gives : c.into_iter-rank-iterator.result ≡ c.args.found.entries =
     c.into_iter-rank-iterator.ensures.into_iter_gives.0 in
     let long : length c.into_iter-rank-iterator.result ≡ length c.args.found.entries = ap length gives in
-    let empty : vec_len c.args.told ≡ length c.args.told.items = omega arith in
-    let none : length c.args.told.items ≡ 0 = ap length c.requires.none in
+    let empty : vec_len c.args.outputs ≡ length c.args.outputs.items = omega arith in
+    let none : length c.args.outputs.items ≡ 0 = ap length c.requires.none in
     record {
       can = tt;
       finite = tt;
       split = sym gives;
       owed = λ past named stands found.
-          some_none past c.args.token.now c.args.id.now named c.args.told.items c.args.self.now c.requires.none stands;
+          some_none past c.args.token.now c.args.id.now named c.args.outputs.items c.args.self.now c.requires.none
+          stands;
       within = subst (AreWithin _) (sym gives) c.requires.within;
       room = omega (arith, c.requires.room, long, empty, none);
       last = refl;
@@ -50,7 +51,7 @@ loop-rank-preserved g c =
           (length_more loop.yielded (c.in-Some.rank, c.in-Some.name))
           (some_more past c.args.token.now c.args.id.now named loop.yielded (c.in-Some.rank, c.in-Some.name)
           c.next.new.self here
-          loop.told.items c.push_reserved.new.self.items c.in-Some.name c.in_ok-owed.owed loop.self c.owe_at.new.self
+          loop.outputs.items c.push_reserved.new.self.items c.in-Some.name c.in_ok-owed.owed loop.self c.owe_at.new.self
           so_far
           (c.in_ok-owed.ensures.ok so_far.did.later so_far.did.stands) refl c.push_reserved.ensures.items);
       within = subst (λ (n : ℕ). AreWithin n c.next.new.self) (sym c.owe_at.ensures.count) within.1;
@@ -73,7 +74,7 @@ returns-in_err-owed-clause-err g c = λ past named stands found.
       c.in-Some.rank,
       c.in-Some.name,
     ) c.next.new.self here
-    loop.told.items _ loop.self c.owe_at.new.self so_far
+    loop.outputs.items _ loop.self c.owe_at.new.self so_far
     (c.in_err-owed.ensures.err so_far.did.later so_far.did.stands))
 
 pub returns-clause-ok : goal.returns-clause-ok
@@ -81,6 +82,6 @@ returns-clause-ok g c = λ past named stands found.
     let loop = c.loop-rank in
     let all = split_end c.args.found.entries loop.yielded loop.rank-iterator loop.invariant.split
     c.in-None.ensures.steps.0 in
-    some_all past c.args.token.now c.args.id.now named loop.yielded loop.told.items loop.self
+    some_all past c.args.token.now c.args.id.now named loop.yielded loop.outputs.items loop.self
     (subst (AreFound past named) all found)
     (loop.invariant.owed past named stands found)

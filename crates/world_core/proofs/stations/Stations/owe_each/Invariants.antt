@@ -12,9 +12,9 @@ invariant-loop-rank g l = record {
   finite : (goal.iterator-loop-rank g).is_finite l.rank-iterator;
   split : l.fn.found.entries ≡ l.yielded ++ l.rank-iterator;
   owed : (past : Past) (named : List (List ℕ)) → Stands l.initial.self past → AreFound past named l.fn.found.entries
-      → OwedSome past l.token l.id named (length l.yielded) l.told.items l.self;
+      → OwedSome past l.token l.id named (length l.yielded) l.outputs.items l.self;
   within : AreWithin (vec_len l.self.peers) l.rank-iterator;
-  room : vec_len l.told + length l.rank-iterator ≤ vec_capacity l.told;
+  room : vec_len l.outputs + length l.rank-iterator ≤ vec_capacity l.outputs;
   last : l.self.last ≡ l.initial.self.last;
   count : vec_len l.self.peers ≡ vec_len l.initial.self.peers;
 }

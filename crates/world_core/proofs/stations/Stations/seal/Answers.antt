@@ -8,8 +8,8 @@ pub returns-in_default-clause-err : goal.returns-in_default-clause-err
 returns-in_default-clause-err g c =
     λ past stands. unready past c.args.self.now _ refl (λ number. c.in_default.ensures.none past stands number) stands
 
-pub returns-in_err-told-clause-err : goal.returns-in_err-told-clause-err
-returns-in_err-told-clause-err g c = λ past stands.
+pub returns-in_err-outputs-clause-err : goal.returns-in_err-outputs-clause-err
+returns-in_err-outputs-clause-err g c = λ past stands.
     if_err c.from_residual.result _ _ c.from_residual.ensures.1
     (λ fault memory. seal_memory past c.in-Some.number fault c.args.self.now (c.in-Some.ensures.some past stands)
     memory stands)
@@ -26,4 +26,4 @@ returns-clause-ok g c = λ past stands.
     let sealable = c.in-Some.ensures.some past stands in
     seal_took past c.in-Some.number c.mark-mark.result _ c.seal_number.new.self sealable
     (c.in_ok-seal_number.ensures.ok past stands sealable)
-    c.mark-mark.ensures (pushed _ _ _ c.push_reserved.ensures.items c.in_ok-told.ensures.items)
+    c.mark-mark.ensures (pushed _ _ _ c.push_reserved.ensures.items c.in_ok-outputs.ensures.items)

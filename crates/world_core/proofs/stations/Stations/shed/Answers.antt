@@ -10,8 +10,8 @@ returns-in_default-clause-err g c = λ past stands.
     shed_absent c.args.name.now past _ c.args.self.now refl (rank_same c.args.name.now past c.args.self.now stands
     ∙ sym c.rank_of.ensures ∙ c.in_default.is) stands
 
-pub returns-in_err-told-clause-err : goal.returns-in_err-told-clause-err
-returns-in_err-told-clause-err g c = λ past stands.
+pub returns-in_err-outputs-clause-err : goal.returns-in_err-outputs-clause-err
+returns-in_err-outputs-clause-err g c = λ past stands.
     if_err c.from_residual.result _ _ c.from_residual.ensures.1
     (λ fault memory. shed_memory c.args.name.now past c.in-Some.rank
     (rank_same c.args.name.now past c.args.self.now stands ∙ sym c.rank_of.ensures ∙ c.in-Some.is) c.args.self.now
@@ -37,5 +37,5 @@ returns-clause-ok g c = λ past stands.
     (rank_same c.args.name.now past c.args.self.now stands ∙ sym c.rank_of.ensures ∙ c.in-Some.is)
     c.shed_at.new.self _ c.in_ok-keys.keys.items
     (shed_said c.args.name.now _ c.in_ok-keys.keys _ c.in_ok-name.ensures.cases
-    (pushed _ _ _ c.push_reserved.ensures.items c.in_ok-told.ensures.items))
+    (pushed _ _ _ c.push_reserved.ensures.items c.in_ok-outputs.ensures.items))
     (c.in_ok-keys.ensures.ok past stands)

@@ -7,6 +7,7 @@ use Rattle.world_core.proofs.stations.Stations.tick.Given as goal
 abbrev pub invariant-loop-index : goal.invariant-loop-index
 invariant-loop-index g l = record {
   ticks : (life : Life) → AreRunning life l.initial.self l.initial.connections.items → life.now ≡ l.now
-      → MadeOn (TicksSome l.index) life.connected life l.initial.told.items l.told.items l.self l.connections.items;
+      → MadeOn (TicksSome l.index) life.connected life l.initial.outputs.items l.outputs.items l.self
+      l.connections.items;
   count : vec_len l.connections ≡ vec_len l.initial.connections;
 }

@@ -31,7 +31,7 @@ returns-clause-ok g c = λ life running now_is.
     (record { peers = refl; intake = refl; last = refl; begun = refl }) refl in
     on_ok_map c.tick.result _ _ (c.tick.ensures.ok id so.conn so.peer so.pair)
     (ticked_one life c.args.self.now _ cs _ running id so.conn so.peer conn _ c.index_mut-peer.result.now _ so.put
-    c.args.now now_is c.args.told.now.items c.tick.new.told.items)
+    c.args.now now_is c.args.outputs.now.items c.tick.new.outputs.items)
 
 pub returns-clause-err : goal.returns-clause-err
 returns-clause-err g c = λ life running now_is.

@@ -18,9 +18,10 @@ returns-in-Ok-clause-ok c = λ life stands.
     let text = c.args.text.now in
     took_tapes c.args.self.now _ life c.in-Running.stations c.import.new.self c.in-Running.field-1 stands
     c.in-Running.is refl refl refl refl
-    (Import name text) (TakesImport name text.items) c.in-Ok.told.items (λ told later t. t) (import_keeps steady name
+    (Import name text) (TakesImport name text.items) c.in-Ok.outputs.items (λ outputs later t. t) (import_keeps
+    steady name
     text.items)
-    (λ on. subst (λ (t : List ℕ). TookTapes (TakesImport name t) life.past c.in-Ok.told.items c.import.new.self)
+    (λ on. subst (λ (t : List ℕ). TookTapes (TakesImport name t) life.past c.in-Ok.outputs.items c.import.new.self)
     c.deref.ensures.value (c.in-Ok.ensures.ok life.past on))
 
 pub returns-in-Err : goal.returns-in-Err

@@ -24,6 +24,6 @@ returns-clause-ok c = λ life stands.
     let text = c.args.text.now in
     took_tapes c.args.self.now _ life c.in-Running.stations c.line.new.self c.in-Running.field-1 stands
     c.in-Running.is refl refl refl refl
-    (Line text) (TakesLine text.items) c.in_ok-out.field-0.items (λ told later t. t) (line_keeps steady text.items)
+    (Line text) (TakesLine text.items) c.in_ok-out.field-0.items (λ outputs later t. t) (line_keeps steady text.items)
     (λ on. subst (λ (t : List ℕ). TookTapes (TakesLine t) life.past c.in_ok-out.field-0.items c.line.new.self)
     c.deref.ensures.value (c.in_ok-out.ensures.ok life.past on))

@@ -16,7 +16,7 @@ returns-in-Ok-clause-ok c = λ life stands.
     let name = c.args.name.now in
     took_tapes c.args.self.now _ life c.in-Running.stations c.part.new.self c.in-Running.field-1 stands
     c.in-Running.is refl refl refl refl
-    (Part name) (TakesPart name) c.in-Ok.told.items (λ told later t. t) (part_keeps steady name)
+    (Part name) (TakesPart name) c.in-Ok.outputs.items (λ outputs later t. t) (part_keeps steady name)
     (λ on. c.in-Ok.ensures.ok life.past on)
 
 pub returns-in-Err : goal.returns-in-Err

@@ -1,6 +1,6 @@
 -- It runs, and stops.
 use Rattle.std.proofs.Common.{map, refl, ap, ◌∙◌, inl}
-use Rattle.world_core.specs.Told.{said_of}
+use Rattle.world_core.specs.Output.{said_of}
 use Rattle.world_core.proofs.Reopening.{runs_stage}
 use Rattle.world_core.proofs.Stepping.{pushed}
 use Rattle.world_core.proofs.world.World.rest.Goals as goal

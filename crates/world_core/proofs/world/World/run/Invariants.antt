@@ -1,7 +1,7 @@
 use Rattle.std.proofs.Common.{◌≡◌, ◌≤◌, length, take, vec_capacity, vec_len}
 use Rattle.world_core.specs.Past.{Life}
 use Rattle.world_core.specs.Stands.{Ran, WorldStands}
-use Rattle.world_core.specs.Told.{said_by}
+use Rattle.world_core.specs.Output.{said_by}
 use Rattle.world_core.proofs.world.World.run.Given as goal
 
 -- the steps so far were taken, and there is room for the lines of the others

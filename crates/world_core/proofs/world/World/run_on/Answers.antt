@@ -11,5 +11,6 @@ returns-in_default-clause-err c = λ life waits stopped opens.
 
 pub returns-clause-ok : goal.returns-clause-ok
 returns-clause-ok c = λ life waits stopped opens.
-    runs_again c.args.self.now _ life c.args.stations _ c.in-Ok.told.items waits stopped opens refl c.new.ensures.items
+    runs_again c.args.self.now _ life c.args.stations _ c.in-Ok.outputs.items waits stopped opens refl
+    c.new.ensures.items
     (c.in-Ok.ensures ∙ ap (map opened_said) c.deref.ensures.value) refl refl refl

@@ -11,7 +11,8 @@ pub returns-in-Ok-clause-ok : goal.returns-in-Ok-clause-ok
 returns-in-Ok-clause-ok c = λ life stands.
     took_tapes c.args.self.now _ life c.in-Running.stations c.seal.new.self c.in-Running.field-1 stands
     c.in-Running.is refl refl refl refl
-    Seal TakesSeal c.in-Ok.told.items (λ told later t. t) (seal_keeps steady) (λ on. c.in-Ok.ensures.ok life.past on)
+    Seal TakesSeal c.in-Ok.outputs.items (λ outputs later t. t) (seal_keeps steady) (λ on. c.in-Ok.ensures.ok
+    life.past on)
 
 pub returns-in-Err-clause-ok : goal.returns-in-Err-clause-ok
 returns-in-Err-clause-ok c = λ life stands.

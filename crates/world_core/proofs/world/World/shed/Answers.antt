@@ -22,5 +22,5 @@ returns-clause-ok c = λ life stands.
     let name = c.args.name.now in
     took_tapes c.args.self.now _ life c.in-Running.stations c.shed.new.self c.in-Running.field-1 stands
     c.in-Running.is refl refl refl refl
-    (Shed name) (TakesShed name) c.in_ok-out.field-0.items (λ told later t. t) (shed_keeps steady name)
+    (Shed name) (TakesShed name) c.in_ok-out.field-0.items (λ outputs later t. t) (shed_keeps steady name)
     (λ on. c.in_ok-out.ensures.ok life.past on)

@@ -2,7 +2,7 @@
 use Rattle.std.proofs.Common.{List, sym, subst, arith}
 use Rattle.world_core.specs.Halts.{TakesStop}
 use Rattle.world_core.specs.Turn.{Made}
-use Rattle.world_core.specs.declared.told.Told.{Told}
+use Rattle.world_core.specs.declared.output.Output.{Output}
 use Rattle.world_core.proofs.Placing.{rested, rested_not}
 use Rattle.world_core.proofs.Results.{if_err_map, on_ok_map}
 use Rattle.world_core.proofs.world.World.stop.Goals as goal
@@ -20,5 +20,5 @@ returns-then-call-eq0-clause-err c = λ life stands.
 pub returns-clause-ok : goal.returns-clause-ok
 returns-clause-ok c = λ life stands.
     on_ok_map c.arm.result _ _ (c.arm.ensures.ok life stands)
-    (λ made. subst (λ (told : List Told).
-    Made (TakesStop c.args.peer.now c.args.call c.args.choice) life told c.arm.new.self) (sym c.requires) made)
+    (λ made. subst (λ (outputs : List Output).
+    Made (TakesStop c.args.peer.now c.args.call c.args.choice) life outputs c.arm.new.self) (sym c.requires) made)

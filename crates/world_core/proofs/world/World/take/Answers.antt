@@ -9,7 +9,7 @@ use Rattle.world_core.proofs.world.World.take.Goals as goal
 pub returns-in-Connect-clause-ok : goal.returns-in-Connect-clause-ok
 returns-in-Connect-clause-ok c = λ life stands.
     as_step c.args.step.now _ c.connect.result life _ _ c.in-Connect.is
-    (on_ok_map c.connect.result _ _ (c.connect.ensures.ok life stands) (made_took _ _ life _ _ (λ told later t. t)))
+    (on_ok_map c.connect.result _ _ (c.connect.ensures.ok life stands) (made_took _ _ life _ _ (λ outputs later t. t)))
 
 pub returns-in-Connect-clause-err : goal.returns-in-Connect-clause-err
 returns-in-Connect-clause-err c = λ life stands.
@@ -19,7 +19,7 @@ returns-in-Connect-clause-err c = λ life stands.
 pub returns-in-Hand-clause-ok : goal.returns-in-Hand-clause-ok
 returns-in-Hand-clause-ok c = λ life stands.
     as_step c.args.step.now _ c.hand.result life _ _ c.in-Hand.is
-    (on_ok_map c.hand.result _ _ (c.hand.ensures.ok life stands) (made_took _ _ life _ _ (λ told later t. t)))
+    (on_ok_map c.hand.result _ _ (c.hand.ensures.ok life stands) (made_took _ _ life _ _ (λ outputs later t. t)))
 
 pub returns-in-Hand-clause-err : goal.returns-in-Hand-clause-err
 returns-in-Hand-clause-err c = λ life stands.
@@ -30,8 +30,8 @@ pub returns-in-Bytes-clause-ok : goal.returns-in-Bytes-clause-ok
 returns-in-Bytes-clause-ok c = λ life stands.
     as_step c.args.step.now _ c.bytes.result life _ _ c.in-Bytes.is
     (on_ok_map c.bytes.result _ _ (c.bytes.ensures.ok life stands)
-    (made_took _ _ life _ _ (λ told later t.
-    (t.0, subst (λ (octets : List ℕ). TakesBytes c.in-Bytes.id octets life told later) c.deref.ensures.value t.1))))
+    (made_took _ _ life _ _ (λ outputs later t.
+    (t.0, subst (λ (octets : List ℕ). TakesBytes c.in-Bytes.id octets life outputs later) c.deref.ensures.value t.1))))
 
 pub returns-in-Bytes-clause-err : goal.returns-in-Bytes-clause-err
 returns-in-Bytes-clause-err c = λ life stands.
@@ -44,7 +44,7 @@ returns-in-Bytes-clause-err c = λ life stands.
 pub returns-in-Article-clause-ok : goal.returns-in-Article-clause-ok
 returns-in-Article-clause-ok c = λ life stands.
     as_step c.args.step.now _ c.article.result life _ _ c.in-Article.is
-    (on_ok_map c.article.result _ _ (c.article.ensures.ok life stands) (made_took _ _ life _ _ (λ told later t. t)))
+    (on_ok_map c.article.result _ _ (c.article.ensures.ok life stands) (made_took _ _ life _ _ (λ outputs later t. t)))
 
 pub returns-in-Article-clause-err : goal.returns-in-Article-clause-err
 returns-in-Article-clause-err c = λ life stands.
@@ -54,7 +54,8 @@ returns-in-Article-clause-err c = λ life stands.
 pub returns-in-Break-clause-ok : goal.returns-in-Break-clause-ok
 returns-in-Break-clause-ok c = λ life stands.
     as_step c.args.step.now _ c.break_off.result life _ _ c.in-Break.is
-    (on_ok_map c.break_off.result _ _ (c.break_off.ensures.ok life stands) (made_took _ _ life _ _ (λ told later t. t)))
+    (on_ok_map c.break_off.result _ _ (c.break_off.ensures.ok life stands) (made_took _ _ life _ _ (λ outputs later
+    t. t)))
 
 pub returns-in-Break-clause-err : goal.returns-in-Break-clause-err
 returns-in-Break-clause-err c = λ life stands.
@@ -65,7 +66,7 @@ returns-in-Break-clause-err c = λ life stands.
 pub returns-in-Tick-clause-ok : goal.returns-in-Tick-clause-ok
 returns-in-Tick-clause-ok c = λ life stands.
     as_step c.args.step.now _ c.tick.result life _ _ c.in-Tick.is
-    (on_ok_map c.tick.result _ _ (c.tick.ensures.ok life stands) (made_took _ _ life _ _ (λ told later t. t)))
+    (on_ok_map c.tick.result _ _ (c.tick.ensures.ok life stands) (made_took _ _ life _ _ (λ outputs later t. t)))
 
 pub returns-in-Tick-clause-err : goal.returns-in-Tick-clause-err
 returns-in-Tick-clause-err c = λ life stands.
@@ -75,7 +76,7 @@ returns-in-Tick-clause-err c = λ life stands.
 pub returns-in-Stop-clause-ok : goal.returns-in-Stop-clause-ok
 returns-in-Stop-clause-ok c = λ life stands.
     as_step c.args.step.now _ c.stop.result life _ _ c.in-Stop.is
-    (on_ok_map c.stop.result _ _ (c.stop.ensures.ok life stands) (made_took _ _ life _ _ (λ told later t. t)))
+    (on_ok_map c.stop.result _ _ (c.stop.ensures.ok life stands) (made_took _ _ life _ _ (λ outputs later t. t)))
 
 pub returns-in-Stop-clause-err : goal.returns-in-Stop-clause-err
 returns-in-Stop-clause-err c = λ life stands.

@@ -8,17 +8,18 @@ use Rattle.conn_core.specs.declared.reason.Reason.{Reason}
 use Rattle.peer_queue.specs.declared.limits.Owed.{Owed as Answer}
 use Rattle.peer_queue.specs.declared.settled.Settled.{Settled as Settling}
 use Rattle.world_core.specs.Past.{PeerPast, ledger_at, mark_at}
-use Rattle.world_core.specs.declared.told.Handed.{Handed as Handing}
-use Rattle.world_core.specs.declared.told.OwedAt.{OwedAt}
-use Rattle.world_core.specs.declared.told.Told.{Told}
-use Rattle.world_core.specs.declared.told.Told.TheVariants.{Owed as ToldOwed, Bad as ToldBad, Taken as ToldTaken}
-use Rattle.world_core.specs.declared.told.Told.TheVariants.{Connected as ToldConnected}
-use Rattle.world_core.specs.declared.told.Told.TheVariants.{Handed as ToldHanded, Settled as ToldSettled}
-use Rattle.world_core.specs.declared.told.Told.TheVariants.{Output as ToldOutput, Need as ToldNeed}
-use Rattle.world_core.specs.declared.told.Told.TheVariants.{Closed as ToldClosed, Shed as ToldShed}
-use Rattle.world_core.specs.declared.told.Told.TheVariants.{Rotated as ToldRotated, Imported as ToldImported}
-use Rattle.world_core.specs.declared.told.Told.TheVariants.{Stopped as ToldStopped}
-use Rattle.world_core.specs.declared.told.Told.TheVariants.{Mark as ToldMark}
+use Rattle.world_core.specs.declared.output.Handed.{Handed as Handing}
+use Rattle.world_core.specs.declared.output.OwedAt.{OwedAt}
+use Rattle.world_core.specs.declared.output.Output.{Output}
+use Rattle.world_core.specs.declared.output.Output.TheVariants.{Owed as OutputOwed, Bad as OutputBad}
+use Rattle.world_core.specs.declared.output.Output.TheVariants.{Taken as OutputTaken}
+use Rattle.world_core.specs.declared.output.Output.TheVariants.{Connected as OutputConnected}
+use Rattle.world_core.specs.declared.output.Output.TheVariants.{Handed as OutputHanded, Settled as OutputSettled}
+use Rattle.world_core.specs.declared.output.Output.TheVariants.{SentLine as OutputSentLine, Need as OutputNeed}
+use Rattle.world_core.specs.declared.output.Output.TheVariants.{Closed as OutputClosed, Shed as OutputShed}
+use Rattle.world_core.specs.declared.output.Output.TheVariants.{Rotated as OutputRotated, Imported as OutputImported}
+use Rattle.world_core.specs.declared.output.Output.TheVariants.{Stopped as OutputStopped}
+use Rattle.world_core.specs.declared.output.Output.TheVariants.{Mark as OutputMark}
 
 -- One thing that a step tells.
 pub data Said : Type 0 where
@@ -29,7 +30,7 @@ pub data Said : Type 0 where
   Connected : (connection : ℕ) (name : List ℕ) → Said  -- a connection was made
   Handed : (connection : ℕ) (handed : Handing) → Said  -- what came of the least candidate
   Settled : (connection key : ℕ) (settled : Settling) → Said  -- what came of the debt of this key, which it had
-  Output : (connection : ℕ) (line : List ℕ) → Said  -- a line went out
+  SentLine : (connection : ℕ) (line : List ℕ) → Said  -- a line went out
   Need : (connection : ℕ) (key : ℕ) → Said  -- an article is wanted
   Closed : (connection : ℕ) (reason : Reason) → Said  -- a connection closed
   Shed : (name : List ℕ) (keys : List ℕ) → Said  -- what of a peer's backlog was dropped
@@ -39,25 +40,25 @@ pub data Said : Type 0 where
   Mark : (name : List ℕ) (mark : ℕ) (owes : List ℕ) → Said  -- a peer's tape was opened
 
 -- the value that is told
-abbrev pub said_of : Told → Said
-said_of (ToldOwed number peers) = Owed number (map (λ (at : OwedAt). (at.name, at.owed)) peers.items)
-said_of (ToldBad number fault) = Bad number fault
-said_of (ToldTaken mark) = Taken mark
-said_of (ToldConnected connection name) = Connected connection name
-said_of (ToldHanded connection handed) = Handed connection handed
-said_of (ToldSettled connection key settled) = Settled connection key settled
-said_of (ToldOutput connection line) = Output connection line.items
-said_of (ToldNeed connection key) = Need connection key
-said_of (ToldClosed connection reason) = Closed connection reason
-said_of (ToldShed name debts) = Shed name debts.items
-said_of (ToldRotated name generation) = Rotated name generation
-said_of (ToldImported name source new) = Imported name source new
-said_of ToldStopped = Stopped
-said_of (ToldMark name mark owes) = Mark name mark owes.items
+abbrev pub said_of : Output → Said
+said_of (OutputOwed number peers) = Owed number (map (λ (at : OwedAt). (at.name, at.owed)) peers.items)
+said_of (OutputBad number fault) = Bad number fault
+said_of (OutputTaken mark) = Taken mark
+said_of (OutputConnected connection name) = Connected connection name
+said_of (OutputHanded connection handed) = Handed connection handed
+said_of (OutputSettled connection key settled) = Settled connection key settled
+said_of (OutputSentLine connection line) = SentLine connection line.items
+said_of (OutputNeed connection key) = Need connection key
+said_of (OutputClosed connection reason) = Closed connection reason
+said_of (OutputShed name debts) = Shed name debts.items
+said_of (OutputRotated name generation) = Rotated name generation
+said_of (OutputImported name source new) = Imported name source new
+said_of OutputStopped = Stopped
+said_of (OutputMark name mark owes) = Mark name mark owes.items
 
 -- what each step tells
-abbrev pub said_by : List (Vec Told) → List (List Said)
-said_by lines = map (λ (told : Vec Told). map said_of told.items) lines
+abbrev pub said_by : List (Vec Output) → List (List Said)
+said_by lines = map (λ (outputs : Vec Output). map said_of outputs.items) lines
 
 -- ---- what is told of output, of a peer
 

@@ -1,4 +1,4 @@
--- Rising numbers, and fronts of them.
+-- Rising numbers, and prefixes of them.
 use Rattle.std.proofs.Common.{◌≡◌, ◌==◌, ℕ, zero, suc, ◌+◌, ◌<◌, ◌≤◌, ◌^◌, Bool, true, false, cond, Some, None, List, [], ◌∷◌, ◌++◌, length, get_or, take, refl, sym, ap, ◌∙◌, subst, inl, inr, arith}
 use Rattle.std.specs.Prelude.{◌||◌, filter, find, nat_le, nat_lt}
 use Rattle.std.specs.List.{All, Contains, list_any, slice_get}

@@ -8,7 +8,7 @@ use crate::choice::Choice;
 use crate::octets::{overwrite, write_behind_zeros};
 
 #[derive(Drop)]
-pub(crate) enum Moment {
+pub(crate) enum DiskEvent {
     // It began with these octets.
     Began(Vec<u8>),
     // These octets were written at this offset.
@@ -19,7 +19,7 @@ pub(crate) enum Moment {
     Sync,
 }
 
-impl Moment {
+impl DiskEvent {
     ghost use Rattle.disk_model.specs.Memory.{event_of, is_settling};
 
     // Whether the content is the only image from it on.
@@ -27,8 +27,8 @@ impl Moment {
         ensures { result ≡ is_settling self.now }
     {
         match self {
-            Moment::Began(_) | Moment::Sync => true,
-            Moment::Write { .. } | Moment::Cut { .. } => false,
+            DiskEvent::Began(_) | DiskEvent::Sync => true,
+            DiskEvent::Write { .. } | DiskEvent::Cut { .. } => false,
         }
     }
 
@@ -38,16 +38,16 @@ impl Moment {
             → whole.new.items ≡ content (event_of self.now ∷ log)) }
     {
         match self {
-            Moment::Began(first) => {
+            DiskEvent::Began(first) => {
                 whole.clear();
                 whole.extend_from_slice(first)
             }
-            Moment::Write { at, octets } => overwrite(whole, *at as usize, octets),
-            Moment::Cut { len } => {
+            DiskEvent::Write { at, octets } => overwrite(whole, *at as usize, octets),
+            DiskEvent::Cut { len } => {
                 whole.truncate(*len as usize);
                 Ok(())
             }
-            Moment::Sync => Ok(()),
+            DiskEvent::Sync => Ok(()),
         }
     }
 
@@ -64,7 +64,7 @@ impl Moment {
             → image.new.items ≡ chosen_image choice (event_of self.now ∷ log)) }
     {
         match self {
-            Moment::Write { at, octets } => {
+            DiskEvent::Write { at, octets } => {
                 let at = *at as usize;
                 if choice.happens(number) {
                     return write_behind_zeros(image, at, octets);
@@ -74,7 +74,7 @@ impl Moment {
                     return write_behind_zeros(image, at, &filling);
                 }
             }
-            Moment::Cut { len } if choice.happens(number) => image.truncate(*len as usize),
+            DiskEvent::Cut { len } if choice.happens(number) => image.truncate(*len as usize),
             _ => {}
         }
         Ok(())

@@ -28,7 +28,7 @@ pub enum Handed {
 
 /// One thing that a step tells.
 #[derive(Debug, Drop)]
-pub enum Told {
+pub enum Output {
     /// A good line has this number, and this came of it at the peers that it names, in byte order of their names.
     Owed {
         number: u64,
@@ -60,7 +60,7 @@ pub enum Told {
         settled: Settled,
     },
     /// A line that went out, without its CR LF.
-    Output {
+    SentLine {
         connection: u64,
         line: Vec<u8>,
     },
