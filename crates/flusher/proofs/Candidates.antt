@@ -4,23 +4,24 @@ use Rattle.std.proofs.Common.{◌∙◌, ◌⊎◌, inl, inr, subst}
 use Rattle.std.specs.Prelude.{Result, Ok, Err, IfErr, IsErrOf, OnErr, OnOk, ◌↔◌, find, option_map}
 use Rattle.std.proofs.lemmas.Bool.{eq-eqb}
 use Rattle.peer_queue.specs.Front.{IsBroken, IsSame, KeepsNotes, places_of}
-use Rattle.peer_queue.specs.Place.{Held, IsHeldBy, Place, Places, Ready, is_candidate, least_candidate, moved, place_at}
+use Rattle.peer_queue.specs.DebtPlace.{DebtPlace, Held, IsHeldBy, Places, Ready, is_candidate, least_candidate, moved}
+use Rattle.peer_queue.specs.DebtPlace.{place_at}
 use Rattle.peer_queue.specs.declared.fault.StationFault.{StationFault}
 use Rattle.peer_queue.specs.declared.fault.StationFault.TheVariants.{Broken, NotHeld}
 use Rattle.peer_queue.specs.declared.front.Front.{Front}
 use Rattle.peer_queue.specs.declared.outbox.Outbox.{Outbox}
 use Rattle.flusher.specs.Claims.{Unclaims}
 
-held_step : (key : ℕ) (place : Place) (e : ℕ × Place) (rest : Option Place) (b : Bool) → (e.0 == key) ≡ b
+held_step : (key : ℕ) (place : DebtPlace) (e : ℕ × DebtPlace) (rest : Option DebtPlace) (b : Bool) → (e.0 == key) ≡ b
     → (b ≡ false → rest ≡ Some place)
-    → (let f : ℕ × Place = cond b (key, place) e in cond (f.0 == key) (Some f.1) rest ≡ Some place)
+    → (let f : ℕ × DebtPlace = cond b (key, place) e in cond (f.0 == key) (Some f.1) rest ≡ Some place)
 held_step key place e rest true is behind = ap (λ (t : Bool). cond t (Some place) rest) (eq-eqb key key refl)
 held_step key place e rest false is behind = ap (λ (t : Bool). cond t (Some e.1) rest) is ∙ behind refl
 
-behind_it : (now key : ℕ) (place : Place) (e : ℕ × Place) (places : Places) (b : Bool)
+behind_it : (now key : ℕ) (place : DebtPlace) (e : ℕ × DebtPlace) (places : Places) (b : Bool)
     → (least_candidate now places ≡ Some key → place_at (moved places key place) key ≡ Some place)
-    → option_map (λ (entry : ℕ × Place). entry.0)
-    (cond b (Some e) (find (λ (entry : ℕ × Place). is_candidate now entry.1) places)) ≡ Some key
+    → option_map (λ (entry : ℕ × DebtPlace). entry.0)
+    (cond b (Some e) (find (λ (entry : ℕ × DebtPlace). is_candidate now entry.1) places)) ≡ Some key
     → (e.0 == key) ≡ false → place_at (moved places key place) key ≡ Some place
 behind_it now key place e places true within is apart =
     let same : e.0 ≡ key = cc in absurd (true≢false (sym (eq-eqb e.0 key same) ∙ apart))

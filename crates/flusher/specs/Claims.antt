@@ -4,7 +4,7 @@ use Rattle.flusher.specs.declared.front_desk.Claimed.{Claimed}
 use Rattle.flusher.specs.declared.front_desk.Claimed.TheVariants.{Nothing, Debt, OnTape}
 use Rattle.peer_queue.specs.Front.{IsBroken, IsSame, KeepsNotes, places_of}
 use Rattle.peer_queue.specs.FrontCalls.{IsTextOf}
-use Rattle.peer_queue.specs.Place.{Held, IsHeldBy, Ready, least_candidate, moved}
+use Rattle.peer_queue.specs.DebtPlace.{Held, IsHeldBy, Ready, least_candidate, moved}
 use Rattle.peer_queue.specs.declared.front.Front.{Front}
 
 -- the least candidate is held by the connection

@@ -8,7 +8,7 @@ ghost use Rattle.note_queue.specs.Noted.{IsOnlySent};
 ghost use Rattle.note_queue.specs.Words.{front_of};
 ghost use Rattle.peer_queue.specs.Faults.{IsEndFault};
 ghost use Rattle.peer_queue.specs.Front.{IsSame, KeepsNotes, places_of};
-ghost use Rattle.peer_queue.specs.Place.{moved, place_until};
+ghost use Rattle.peer_queue.specs.DebtPlace.{moved, place_until};
 
 use crate::front_desk::FrontDesk;
 use crate::share::FeederShare;

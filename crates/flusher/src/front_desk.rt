@@ -76,7 +76,7 @@ impl<N: Naming> FrontDesk<N> {
     ghost use Rattle.peer_queue.specs.Front.{IsSame, KeepsNotes, pending_of, places_of, sent_of, settled_of};
     ghost use Rattle.peer_queue.specs.FrontCalls.{Finishes, IsAnswered, OnlyOutbox};
     ghost use Rattle.peer_queue.specs.Outbox.{Breaks, Learns};
-    ghost use Rattle.peer_queue.specs.Place.{IsLater, held_count, moved, place_until, released};
+    ghost use Rattle.peer_queue.specs.DebtPlace.{IsLater, held_count, moved, place_until, released};
 
     /// Takes a good line, where its number is above the mark, and counts it.
     pub fn take(

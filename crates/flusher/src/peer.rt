@@ -8,7 +8,7 @@ ghost use Rattle.flusher.specs.Sealed.{IsFlushed};
 ghost use Rattle.ledger_core.specs.declared.note.Note.{Note};
 ghost use Rattle.peer_queue.specs.Calls.{IsFresh, RefusesClose, RefusesOwe};
 ghost use Rattle.peer_queue.specs.Faults.{IsFlushFault};
-ghost use Rattle.peer_queue.specs.Place.{Ready, with_place};
+ghost use Rattle.peer_queue.specs.DebtPlace.{Ready, with_place};
 ghost use Rattle.peer_queue.specs.Words.{AreHonest, IsBroken, Notes, ledger_of, open_key, places_of};
 ghost use Rattle.peer_queue.specs.Words.{tape_of, faults_of};
 ghost use Rattle.recovery.specs.Image.{EachTape, Survives};

@@ -119,9 +119,9 @@ module _ {D : Type 0} {g : Ghosts D} where
       → LedgersLeave (IsFirst base notes) (log_of old) (log_of new)
   all_first old new base notes o run =
       LedgersLeave-weaker (IsPrefix o.h) (IsFirst base notes) (first_of_front old base notes o) (log_of old) (log_of
-          new)
+      new)
       (TapeLeaves-weaker (Survives o.h) (HasLedger (IsPrefix o.h)) (prefix_of_survives o.h) (log_of old) (log_of new)
-          run)
+      run)
 
   takes : (old new : Tape D g) (base : State) (notes : List Note) (note : Note) → disks_of new ≡ disks_of old
       → ((h : History) → StandsFor old h → StandsFor new (noted h note)) → IsOwner old base notes

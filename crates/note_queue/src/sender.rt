@@ -39,8 +39,8 @@ impl Sender {
     ghost use Rattle.peer_queue.specs.FrontCalls.{Finishes, IsAnswered, OnlyOutbox, Refuses, RefusesClaim, RefusesOwe};
     ghost use Rattle.peer_queue.specs.FrontCalls.{Sheds};
     ghost use Rattle.peer_queue.specs.Outbox.{Breaks, Learns};
-    ghost use Rattle.peer_queue.specs.Place.{Held, IsHeldBy, Ready, held_count, least_candidate, moved, place_until};
-    ghost use Rattle.peer_queue.specs.Place.{released, with_place};
+    ghost use Rattle.peer_queue.specs.DebtPlace.{Held, IsHeldBy, Ready, held_count, least_candidate, moved};
+    ghost use Rattle.peer_queue.specs.DebtPlace.{place_until, released, with_place};
     ghost use Rattle.peer_queue.specs.Refusals.{Tells};
     ghost use Rattle.peer_queue.specs.Settled.{IsEnded, key_in, settled_by};
     ghost use Rattle.note_queue.specs.Sending.{SendsMore};

@@ -9,14 +9,14 @@ use Rattle.std.specs.List.{All}
 use Rattle.std.proofs.lemmas.Bool.{eqb-true, eq-eqb, ne_eqb}
 use Rattle.std.proofs.lemmas.List.Elements.{All-nil, All-cons, All-head, All-tail}
 use Rattle.deferral.specs.Due.{Waiting, IsDue, IsRising, due_of}
-use Rattle.peer_queue.specs.Place.{IsLater, Place, Places}
+use Rattle.peer_queue.specs.DebtPlace.{DebtPlace, IsLater, Places}
 use Rattle.peer_queue.specs.Index.{Holders, due_at, place_by, place_for, places_by}
 use Rattle.peer_queue.specs.declared.wait.Wait.TheVariants.{Ready, Until}
 use Rattle.peer_queue.proofs.Moves.{above_at, at_head, in_tail}
 
 -- each of them waits for a moment
 abbrev pub AreLater : Places → Type 0
-AreLater places = All (λ (entry : ℕ × Place). IsLater entry.1) places
+AreLater places = All (λ (entry : ℕ × DebtPlace). IsLater entry.1) places
 
 later_place : (holder due : Option ℕ) → (due ≡ None → ⊥) → (due ≡ Some zero → ⊥) → IsLater (place_by holder due)
 later_place holder None held ready = absurd (held refl)
@@ -36,9 +36,9 @@ due_tail x xs n d rising is =
 pub are_later : (h : Holders) (agenda : Waiting) (now : ℕ) → IsRising agenda
     → ((n : ℕ) → due_of agenda n ≡ Some None → ⊥) → ((n : ℕ) → IsDue agenda now n → ⊥)
     → AreLater (places_by h agenda)
-are_later h [] now rising held ready = All-nil (λ (entry : ℕ × Place). IsLater entry.1)
+are_later h [] now rising held ready = All-nil (λ (entry : ℕ × DebtPlace). IsLater entry.1)
 are_later h (x ∷ xs) now rising held ready =
-    All-cons (λ (entry : ℕ × Place). IsLater entry.1) (x.0, place_by (h x.0) x.1) (places_by h xs)
+    All-cons (λ (entry : ℕ × DebtPlace). IsLater entry.1) (x.0, place_by (h x.0) x.1) (places_by h xs)
     (later_place (h x.0) x.1 (λ is. held x.0 (due_head x xs None is))
     (λ is. ready x.0 (at_head now x xs 0 is (omega arith))))
     (are_later h xs now rising.1 (λ n is. held n (due_tail x xs n None rising is))
@@ -50,13 +50,13 @@ pub later_at : (h : Holders) (agenda : Waiting) (n : ℕ) (d : Option ℕ) → A
 later_at h [] n d all is = cc
 later_at h (x ∷ xs) n d all is =
     on (x.0 == n) refl is (λ there. later_at h xs n d
-    (All-tail (λ (entry : ℕ × Place). IsLater entry.1) (x.0, place_by (h x.0) x.1) (places_by h xs) all) there)
+    (All-tail (λ (entry : ℕ × DebtPlace). IsLater entry.1) (x.0, place_by (h x.0) x.1) (places_by h xs) all) there)
   where
     on : (b : Bool) → (x.0 == n) ≡ b → cond b (Some x.1) (due_of xs n) ≡ Some d
         → (due_of xs n ≡ Some d → IsLater (place_by (h n) d)) → IsLater (place_by (h n) d)
     on true e here rest =
         let same : x.1 ≡ d = cc in
-        let first = All-head (λ (entry : ℕ × Place). IsLater entry.1) (x.0, place_by (h x.0) x.1)
+        let first = All-head (λ (entry : ℕ × DebtPlace). IsLater entry.1) (x.0, place_by (h x.0) x.1)
         (places_by h xs) all in
         subst (λ (due : Option ℕ). IsLater (place_by (h n) due)) same
         (subst (λ (m : ℕ). IsLater (place_by (h m) x.1)) (eqb-true x.0 n e) first)

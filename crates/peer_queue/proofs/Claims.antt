@@ -7,7 +7,7 @@ use Rattle.std.proofs.lemmas.List.Elements.{Contains-append_right, Contains-appe
 use Rattle.ledger_core.specs.Index.{debt_at}
 use Rattle.ledger_core.specs.State.{Owing, State, keys_in}
 use Rattle.recovery.specs.Texts.{HasLengths, lengths_of}
-use Rattle.peer_queue.specs.Place.{Held, Place, Places, is_candidate, least_candidate, moved, placed}
+use Rattle.peer_queue.specs.DebtPlace.{DebtPlace, Held, Places, is_candidate, least_candidate, moved, placed}
 use Rattle.peer_queue.proofs.Ends.{placed-moved}
 
 -- ---- in lists
@@ -63,8 +63,8 @@ read_number state n d same = lengths_number n state.debts d (debt_at state n) re
 
 -- ---- the number that may be claimed
 
-placed_step : (n : ℕ) (e : ℕ × Place) (p : Places) (found : Option (ℕ × Place)) (b : Bool) → (option_map (λ (entry : ℕ × Place). entry.0) found ≡ Some n → Contains (placed p) n)
-    → option_map (λ (entry : ℕ × Place). entry.0) (cond b (Some e) found) ≡ Some n → Contains (e.0 ∷ placed p) n
+placed_step : (n : ℕ) (e : ℕ × DebtPlace) (p : Places) (found : Option (ℕ × DebtPlace)) (b : Bool) → (option_map (λ (entry : ℕ × DebtPlace). entry.0) found ≡ Some n → Contains (placed p) n)
+    → option_map (λ (entry : ℕ × DebtPlace). entry.0) (cond b (Some e) found) ≡ Some n → Contains (e.0 ∷ placed p) n
 placed_step n e p found true rest is =
     let same : e.0 ≡ n = cc in
     subst (λ (m : ℕ). Contains (e.0 ∷ placed p) m) same (Contains-head e.0 (placed p))
@@ -73,7 +73,7 @@ placed_step n e p found false rest is = Contains-tail e.0 (placed p) n (rest is)
 -- it has a place
 pub candidate_placed : (now n : ℕ) (p : Places) → least_candidate now p ≡ Some n → Contains (placed p) n
 candidate_placed now n [] is = absurd (cc)
-candidate_placed now n (e ∷ p) is = placed_step n e p (find (λ (entry : ℕ × Place). is_candidate now entry.1) p) (is_candidate now e.1) (λ there. candidate_placed now n p there) is
+candidate_placed now n (e ∷ p) is = placed_step n e p (find (λ (entry : ℕ × DebtPlace). is_candidate now entry.1) p) (is_candidate now e.1) (λ there. candidate_placed now n p there) is
 
 -- the same numbers have a place, whether a connection holds one of them from now on or memory was refused
 pub placed_hold : {T E : Type 0} (result : Result T E) (old new : Places) (n c : ℕ) → OnOk result (new ≡ moved old n (Held c)) → OnErr result (new ≡ old) → placed new ≡ placed old

@@ -5,7 +5,7 @@ use Rattle.std.specs.Prelude.{◌⊎◌, min, nat_lt}
 use Rattle.std.proofs.lemmas.Bool.{cases_lt, lt-ltb, ltb-true}
 use Rattle.std.proofs.lemmas.List.{length-take, length-take-le, take-take, take_all}
 use Rattle.recovery.specs.Notes.{most_pending}
-use Rattle.peer_queue.specs.Place.{Places, unheld}
+use Rattle.peer_queue.specs.DebtPlace.{Places, unheld}
 use Rattle.peer_queue.specs.Shed.{AreWithin, IsShedOf, IsShortestPrefix}
 use Rattle.peer_queue.specs.Station.{IsShedFrom}
 use Rattle.peer_queue.specs.declared.limits.Limits.{Limits}

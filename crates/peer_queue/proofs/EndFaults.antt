@@ -18,7 +18,7 @@ use Rattle.recovery.specs.Words.{IsNoteFault, RefusesNote}
 use Rattle.recovery.specs.declared.fault.TapeFault.{TapeFault}
 use Rattle.recovery.specs.declared.fault.TapeFault.TheVariants.{Damaged, Disk, Broken, TapeFull, GenerationFull, PendingFull, NoMemory as NoTapeMemory, Note as RefusedNote}
 use Rattle.peer_queue.specs.Faults.{station_fault}
-use Rattle.peer_queue.specs.Place.{Place, Places, Held, IsHeldBy, place_at, placed}
+use Rattle.peer_queue.specs.DebtPlace.{DebtPlace, Places, Held, IsHeldBy, place_at, placed}
 use Rattle.peer_queue.specs.Words.{IsEnd}
 use Rattle.peer_queue.specs.declared.fault.StationFault.{StationFault}
 use Rattle.peer_queue.specs.declared.fault.StationFault.TheVariants.{NoMemory, Tape as TapeRefused}
@@ -29,7 +29,7 @@ contains_first n first others same = (zero, omega arith, same)
 contains_later : (n first : ℕ) (others : List ℕ) → Contains others n → Contains (first ∷ others) n
 contains_later n first others has = (suc has.0, omega (arith, has.1), has.2)
 
-held_step : (p : Places) (c n : ℕ) (e : ℕ × Place) (b : Bool) → (e.0 == n) ≡ b → cond b (Some e.1) (place_at p n) ≡ Some (Held c) → (place_at p n ≡ Some (Held c) → Contains (placed p) n) → Contains (e.0 ∷ placed p) n
+held_step : (p : Places) (c n : ℕ) (e : ℕ × DebtPlace) (b : Bool) → (e.0 == n) ≡ b → cond b (Some e.1) (place_at p n) ≡ Some (Held c) → (place_at p n ≡ Some (Held c) → Contains (placed p) n) → Contains (e.0 ∷ placed p) n
 held_step p c n e true same held rest = contains_first n e.0 (placed p) (eqb-true e.0 n same)
 held_step p c n e false same held rest = contains_later n e.0 (placed p) (rest held)
 

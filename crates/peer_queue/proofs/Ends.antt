@@ -7,19 +7,19 @@ use Rattle.ledger_core.specs.declared.note.Note.TheVariants.{Owe, Final, Drop, S
 use Rattle.ledger_core.specs.Shape.{Shape, Size, keys_sized, shape_step, without_key}
 use Rattle.ledger_core.specs.StateLaws.{keys-without}
 use Rattle.ledger_core.specs.State.{State, keys, step}
-use Rattle.peer_queue.specs.Place.{Place, Places, gone, moved, placed}
+use Rattle.peer_queue.specs.DebtPlace.{DebtPlace, Places, gone, moved, placed}
 use Rattle.peer_queue.specs.Words.{IsEnd}
 
-moved_number : (e : ℕ × Place) (n : ℕ) (place : Place) (b : Bool) (rest : List ℕ) → (e.0 == n) ≡ b → (cond b (n, place) e).0 ∷ rest ≡ e.0 ∷ rest
+moved_number : (e : ℕ × DebtPlace) (n : ℕ) (place : DebtPlace) (b : Bool) (rest : List ℕ) → (e.0 == n) ≡ b → (cond b (n, place) e).0 ∷ rest ≡ e.0 ∷ rest
 moved_number e n place true rest same = ap (λ (m : ℕ). m ∷ rest) (sym (eqb-true e.0 n same))
 moved_number e n place false rest same = refl
 
 -- the same numbers have a place
-pub placed-moved : (p : Places) (n : ℕ) (place : Place) → placed (moved p n place) ≡ placed p
+pub placed-moved : (p : Places) (n : ℕ) (place : DebtPlace) → placed (moved p n place) ≡ placed p
 placed-moved [] n place = refl
 placed-moved (e ∷ p) n place = moved_number e n place (e.0 == n) (placed (moved p n place)) refl ∙ ap (λ (l : List ℕ). e.0 ∷ l) (placed-moved p n place)
 
-gone_number : (e : ℕ × Place) (b : Bool) (p : Places) (l : List ℕ) → placed p ≡ l → placed (cond (cond b false true) (e ∷ p) p) ≡ cond (not b) (e.0 ∷ l) l
+gone_number : (e : ℕ × DebtPlace) (b : Bool) (p : Places) (l : List ℕ) → placed p ≡ l → placed (cond (cond b false true) (e ∷ p) p) ≡ cond (not b) (e.0 ∷ l) l
 gone_number e true p l same = same
 gone_number e false p l same = ap (λ (k : List ℕ). e.0 ∷ k) same
 

@@ -10,7 +10,8 @@ use Rattle.std.specs.declared.cmp.Ordering.TheVariants.{Less, Equal, Greater}
 use Rattle.std.proofs.lemmas.Bool.{eqb-false, eq-eqb, le-ltb, ne_eqb}
 use Rattle.std.proofs.lemmas.Bool.Decides.{nat_tests}
 use Rattle.std.proofs.lemmas.List.Elements.{All-head, All-tail}
-use Rattle.peer_queue.specs.Place.{IsUnheld, Place, Places, Ready, gone, is_held, place_at, placed, with_place}
+use Rattle.peer_queue.specs.DebtPlace.{DebtPlace, IsUnheld, Places, Ready, gone, is_held, place_at, placed}
+use Rattle.peer_queue.specs.DebtPlace.{with_place}
 
 same_key : (m n : ℕ) → nat_cmp m n ≡ Equal → m ≡ n
 same_key m n same = grind (arith, nat_tests)
@@ -19,12 +20,13 @@ apart_key : (m n : ℕ) → nat_cmp m n ≡ Greater → n ≡ m → ⊥
 apart_key m n greater same = grind (arith, nat_tests)
 
 -- the places with this one put in, where the key compares so with that of the first
-abbrev inserted : Ordering → ℕ → Place → ℕ × Place → Places → Places
+abbrev inserted : Ordering → ℕ → DebtPlace → ℕ × DebtPlace → Places → Places
 inserted order n x e p = match_ordering order ((n, x) ∷ e ∷ p) ((e.0, x) ∷ p) (e ∷ with_place p n x)
 
 -- ---- what has no place
 
-absent_step : (b : Bool) (place : Place) (o : Option Place) → cond b (Some place) o ≡ None → (b ≡ false) × (o ≡ None)
+absent_step : (b : Bool) (place : DebtPlace) (o : Option DebtPlace) → cond b (Some place) o ≡ None
+    → (b ≡ false) × (o ≡ None)
 absent_step true place o none = cc
 absent_step false place o none = (refl, none)
 
@@ -45,7 +47,7 @@ gone_absent (e ∷ p) n none =
 
 -- ---- put in, and taken out again
 
-at_step : (order : Ordering) (n : ℕ) (x : Place) (e : ℕ × Place) (p : Places) → nat_cmp n e.0 ≡ order
+at_step : (order : Ordering) (n : ℕ) (x : DebtPlace) (e : ℕ × DebtPlace) (p : Places) → nat_cmp n e.0 ≡ order
     → place_at (with_place p n x) n ≡ Some x → place_at (inserted order n x e p) n ≡ Some x
 at_step Less n x e p is rest = ap (λ (b : Bool). cond b (Some x) (place_at (e ∷ p) n)) (eq-eqb n n refl)
 at_step Equal n x e p is rest =
@@ -54,7 +56,7 @@ at_step Greater n x e p is rest =
     ap (λ (b : Bool). cond b (Some e.1) (place_at (with_place p n x) n)) (ne_eqb e.0 n (apart_key n e.0 is)) ∙ rest
 
 -- it has this place then
-pub place_with : (p : Places) (n : ℕ) (x : Place) → place_at (with_place p n x) n ≡ Some x
+pub place_with : (p : Places) (n : ℕ) (x : DebtPlace) → place_at (with_place p n x) n ≡ Some x
 place_with [] n x = ap (λ (b : Bool). cond b (Some x) None) (eq-eqb n n refl)
 place_with (e ∷ p) n x = at_step (nat_cmp n e.0) n x e p refl (place_with p n x)
 
@@ -62,7 +64,7 @@ place_with (e ∷ p) n x = at_step (nat_cmp n e.0) n x e p refl (place_with p n 
 pub unheld_with : (p : Places) (n : ℕ) → IsUnheld (with_place p n Ready) n
 unheld_with p n = ap (option_map is_held) (place_with p n Ready)
 
-gone_step : (order : Ordering) (n : ℕ) (x : Place) (e : ℕ × Place) (p : Places) → nat_cmp n e.0 ≡ order
+gone_step : (order : Ordering) (n : ℕ) (x : DebtPlace) (e : ℕ × DebtPlace) (p : Places) → nat_cmp n e.0 ≡ order
     → place_at (e ∷ p) n ≡ None → gone (with_place p n x) n ≡ p → gone (inserted order n x e p) n ≡ e ∷ p
 gone_step Less n x e p is none rest =
     ap (λ (b : Bool). cond (cond b false true) ((n, x) ∷ gone (e ∷ p) n) (gone (e ∷ p) n)) (eq-eqb n n refl)
@@ -74,7 +76,7 @@ gone_step Greater n x e p is none rest =
     (ne_eqb e.0 n (apart_key n e.0 is)) ∙ ap (λ (l : Places). e ∷ l) rest
 
 -- taken out again it leaves the others
-pub gone_with : (p : Places) (n : ℕ) (x : Place) → place_at p n ≡ None → gone (with_place p n x) n ≡ p
+pub gone_with : (p : Places) (n : ℕ) (x : DebtPlace) → place_at p n ≡ None → gone (with_place p n x) n ≡ p
 gone_with [] n x none = ap (λ (b : Bool). cond (cond b false true) ((n, x) ∷ []) []) (eq-eqb n n refl)
 gone_with (e ∷ p) n x none =
     gone_step (nat_cmp n e.0) n x e p refl none (gone_with p n x (absent_step (e.0 == n) e.1 (place_at p n) none).1)
@@ -119,7 +121,7 @@ AreBelow n (e ∷ p) = (e.0 < n) × AreBelow n p
 cmp_above : (n m : ℕ) → m < n → nat_cmp n m ≡ Greater
 cmp_above n m h = rw (le-ltb n m (omega arith), ne_eqb n m (omega arith))
 
-pub with_last : (p : Places) (n : ℕ) (x : Place) → AreBelow n p → with_place p n x ≡ p ++ (n, x) ∷ []
+pub with_last : (p : Places) (n : ℕ) (x : DebtPlace) → AreBelow n p → with_place p n x ≡ p ++ (n, x) ∷ []
 with_last [] n x below = refl
 with_last (e ∷ p) n x below =
     ap (λ (o : Ordering). inserted o n x e p) (cmp_above n e.0 below.0)

@@ -12,7 +12,7 @@ use Rattle.std.specs.BTreeMap.Range.{IsInRange}
 use Rattle.std.specs.declared.ops.Bound.TheVariants.{Included, Unbounded}
 use Rattle.std.proofs.lemmas.Cmp.{nat_cmp_total, tied_itself}
 use Rattle.deferral.specs.Due.{Waiting, IsRising, added, due_of}
-use Rattle.peer_queue.specs.Place.{Place, Held, place_at, is_held, IsHeldBy, IsUnheld}
+use Rattle.peer_queue.specs.DebtPlace.{DebtPlace, Held, IsHeldBy, IsUnheld, place_at, is_held}
 use Rattle.peer_queue.specs.Index.{Holders, IsKept, pair_cmp, place_by, place_for, places_by}
 use Rattle.peer_queue.specs.declared.wait.Wait.TheVariants.{Until}
 
@@ -51,7 +51,7 @@ nat_apart n m apart = not_true (is_eq (nat_cmp n m)) (λ e. apart (sym (nat_at n
 
 -- ---- the place of a number
 
-at_step : (h : Holders) (n m : ℕ) (d : Option ℕ) (b : Bool) (o : Option (Option ℕ)) (p : Option Place) → (m == n) ≡ b → p ≡ option_map (place_by (h n)) o
+at_step : (h : Holders) (n m : ℕ) (d : Option ℕ) (b : Bool) (o : Option (Option ℕ)) (p : Option DebtPlace) → (m == n) ≡ b → p ≡ option_map (place_by (h n)) o
     → cond b (Some (place_by (h m) d)) p ≡ option_map (place_by (h n)) (cond b (Some d) o)
 at_step h n m d true o p e q = ap (λ (k : ℕ). Some (place_by (h k) d)) (eqb-true m n e)
 at_step h n m d false o p e q = q

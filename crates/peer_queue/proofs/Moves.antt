@@ -7,7 +7,8 @@ use Rattle.std.specs.declared.cmp.Ordering.TheVariants.{Less, Equal, Greater}
 use Rattle.std.proofs.lemmas.Bool.{eqb-true, eqb-false, eq-eqb, ne_eqb}
 use Rattle.std.proofs.lemmas.Bool.Decides.{nat_tests}
 use Rattle.deferral.specs.Due.{Waiting, AllNumbers, IsDue, IsLeastDue, IsRising, added, changed, due_of, removed}
-use Rattle.peer_queue.specs.Place.{Place, Places, Ready, gone, is_candidate, least_candidate, moved, place_at, with_place}
+use Rattle.peer_queue.specs.DebtPlace.{DebtPlace, Places, Ready, gone, is_candidate, least_candidate, moved, place_at}
+use Rattle.peer_queue.specs.DebtPlace.{with_place}
 use Rattle.peer_queue.specs.Index.{Holders, due_at, place_by, place_for, places_by}
 use Rattle.peer_queue.specs.declared.wait.Wait.{Wait}
 use Rattle.peer_queue.specs.declared.wait.Wait.TheVariants.{Ready as ReadyNow, Until}
@@ -20,14 +21,14 @@ due_place (Until moment) = refl
 -- ---- another moment, or none
 
 moved_step : (k h : Holders) (n : ℕ) (x : ℕ × Option ℕ) (due o : Option ℕ) (b : Bool) → (x.0 == n) ≡ b → k n ≡ o → (b ≡ false → k x.0 ≡ h x.0)
-    → ◌≡◌ {A = ℕ × Place} (x.0, place_by (k x.0) (cond b due x.1)) (cond b (n, place_by o due) (x.0, place_by (h x.0) x.1))
+    → ◌≡◌ {A = ℕ × DebtPlace} (x.0, place_by (k x.0) (cond b due x.1)) (cond b (n, place_by o due) (x.0, place_by (h x.0) x.1))
 moved_step k h n x due o true e here same = ap (λ (m : ℕ). (m, place_by (k m) due)) (eqb-true x.0 n e) ∙ ap (λ (q : Option ℕ). (n, place_by q due)) here
 moved_step k h n x due o false e here same = ap (λ (q : Option ℕ). (x.0, place_by q x.1)) (same refl)
 
 pub moved_by : (k h : Holders) (agenda : Waiting) (n : ℕ) (due o : Option ℕ) → k n ≡ o → ((m : ℕ) → (m ≡ n → ⊥) → k m ≡ h m) → places_by k (changed agenda n due) ≡ moved (places_by h agenda) n (place_by o due)
 moved_by k h [] n due o here same = refl
 moved_by k h (x ∷ xs) n due o here same =
-    ap (λ (e : ℕ × Place). e ∷ places_by k (changed xs n due)) (moved_step k h n x due o (x.0 == n) refl here (λ e. same x.0 (eqb-false x.0 n e)))
+    ap (λ (e : ℕ × DebtPlace). e ∷ places_by k (changed xs n due)) (moved_step k h n x due o (x.0 == n) refl here (λ e. same x.0 (eqb-false x.0 n e)))
     ∙ ap (λ (l : Places). cond (x.0 == n) (n, place_by o due) (x.0, place_by (h x.0) x.1) ∷ l) (moved_by k h xs n due o here same)
 
 -- a number that none holds any more, and its wait
@@ -130,18 +131,18 @@ due_cases now n x xs due = on (x.0 == n) refl due.1
     on true e is = let same : x.1 ≡ Some due.0 = cc in inl (eqb-true x.0 n e, (due.0, same, due.2))
     on false e is = inr (due.0, is, due.2)
 
-none_step : (b : Bool) (e : ℕ × Place) (o : Option (ℕ × Place)) → (b ≡ true → ⊥) → option_map (λ (entry : ℕ × Place). entry.0) o ≡ None → option_map (λ (entry : ℕ × Place). entry.0) (cond b (Some e) o) ≡ None
+none_step : (b : Bool) (e : ℕ × DebtPlace) (o : Option (ℕ × DebtPlace)) → (b ≡ true → ⊥) → option_map (λ (entry : ℕ × DebtPlace). entry.0) o ≡ None → option_map (λ (entry : ℕ × DebtPlace). entry.0) (cond b (Some e) o) ≡ None
 none_step true e o f rest = absurd (f refl)
 none_step false e o f rest = rest
 
 pub least_none : (h : Holders) (agenda : Waiting) (now : ℕ) → IsRising agenda → ((n : ℕ) → IsDue agenda now n → ⊥) → least_candidate now (places_by h agenda) ≡ None
 least_none h [] now rising none = refl
 least_none h (x ∷ xs) now rising none =
-    none_step (is_candidate now (place_by (h x.0) x.1)) (x.0, place_by (h x.0) x.1) (find (λ (entry : ℕ × Place). is_candidate now entry.1) (places_by h xs))
+    none_step (is_candidate now (place_by (h x.0) x.1)) (x.0, place_by (h x.0) x.1) (find (λ (entry : ℕ × DebtPlace). is_candidate now entry.1) (places_by h xs))
     (λ e. let d = candidate_due now (h x.0) x.1 e in none x.0 (at_head now x xs d.0 d.1 d.2))
     (least_none h xs now rising.1 (λ n due. none n (in_tail now n x xs rising due)))
 
-some_step : (b : Bool) (e : ℕ × Place) (o : Option (ℕ × Place)) (n : ℕ) → (b ≡ true → e.0 ≡ n) → (b ≡ false → option_map (λ (entry : ℕ × Place). entry.0) o ≡ Some n) → option_map (λ (entry : ℕ × Place). entry.0) (cond b (Some e) o) ≡ Some n
+some_step : (b : Bool) (e : ℕ × DebtPlace) (o : Option (ℕ × DebtPlace)) (n : ℕ) → (b ≡ true → e.0 ≡ n) → (b ≡ false → option_map (λ (entry : ℕ × DebtPlace). entry.0) o ≡ Some n) → option_map (λ (entry : ℕ × DebtPlace). entry.0) (cond b (Some e) o) ≡ Some n
 some_step true e o n f g = ap (λ (m : ℕ). Some m) (f refl)
 some_step false e o n f g = g refl
 
@@ -149,7 +150,7 @@ pub least_some : (h : Holders) (agenda : Waiting) (now n : ℕ) → IsRising age
 least_some h [] now n rising is = absurd (let e = is.due.1 in cc)
 least_some h (x ∷ xs) now n rising is =
     let cases = due_cases now n x xs is.due in
-    some_step (is_candidate now (place_by (h x.0) x.1)) (x.0, place_by (h x.0) x.1) (find (λ (entry : ℕ × Place). is_candidate now entry.1) (places_by h xs)) n
+    some_step (is_candidate now (place_by (h x.0) x.1)) (x.0, place_by (h x.0) x.1) (find (λ (entry : ℕ × DebtPlace). is_candidate now entry.1) (places_by h xs)) n
     (λ e. elim cases [
       | inl here ↦ here.0
       | inr there ↦

@@ -15,7 +15,7 @@ use Rattle.recovery.specs.declared.fault.TapeFault.TheVariants.{Damaged, Disk, B
 use Rattle.recovery.specs.Words.{IsNoteFault, RefusesNote}
 use Rattle.peer_queue.specs.Faults.{IsOweFault, station_fault}
 use Rattle.peer_queue.specs.declared.fault.StationFault.TheVariants.{Tape as TapeRefused}
-use Rattle.peer_queue.specs.Place.{Places, Ready, all_ready, place_at, placed, with_place}
+use Rattle.peer_queue.specs.DebtPlace.{Places, Ready, all_ready, place_at, placed, with_place}
 use Rattle.peer_queue.proofs.Inserted.{absent_of, same_with}
 
 -- all of these have a place where all of them are ready

@@ -7,7 +7,7 @@ use Rattle.std.proofs.lemmas.List.Elements.{All-head, All-tail, Contains-push_ca
 use Rattle.ledger_core.specs.State.{State, IsOwed, IsPast}
 use Rattle.ledger_core.specs.declared.marks.Marks.{Marks}
 use Rattle.recovery.specs.Notes.{AreOwed}
-use Rattle.peer_queue.specs.Place.{AreAbove, AreRising, Place, Places, is_held, placed, unheld}
+use Rattle.peer_queue.specs.DebtPlace.{AreAbove, AreRising, DebtPlace, Places, is_held, placed, unheld}
 
 -- this holds of each number
 abbrev pub Each : (ℕ → Type 0) → List ℕ → Type 0
@@ -61,9 +61,9 @@ rise_placed (e ∷ p) rising = (above e.0 p rising.0, rise_placed p rising.1)
 
 -- the places of the numbers that no connection holds
 abbrev free : Places → Places
-free p = filter (λ (entry : ℕ × Place). cond (is_held entry.1) false true) p
+free p = filter (λ (entry : ℕ × DebtPlace). cond (is_held entry.1) false true) p
 
-each_step : (P : ℕ → Type 0) (b : Bool) (e : ℕ × Place) (q : Places) → P e.0 → Each P (placed q) → Each P (placed (cond (cond b false true) (e ∷ q) q))
+each_step : (P : ℕ → Type 0) (b : Bool) (e : ℕ × DebtPlace) (q : Places) → P e.0 → Each P (placed q) → Each P (placed (cond (cond b false true) (e ∷ q) q))
 each_step P true e q here rest = rest
 each_step P false e q here rest = (here, rest)
 
@@ -72,7 +72,7 @@ pub each_unheld : (P : ℕ → Type 0) (p : Places) → Each P (placed p) → Ea
 each_unheld P [] each = tt
 each_unheld P (e ∷ p) each = each_step P (is_held e.1) e (free p) each.0 (each_unheld P p each.1)
 
-rise_step : (b : Bool) (e : ℕ × Place) (q : Places) → Each (λ m. e.0 < m) (placed q) → Rise (placed q) → Rise (placed (cond (cond b false true) (e ∷ q) q))
+rise_step : (b : Bool) (e : ℕ × DebtPlace) (q : Places) → Each (λ m. e.0 < m) (placed q) → Rise (placed q) → Rise (placed (cond (cond b false true) (e ∷ q) q))
 rise_step true e q above rest = rest
 rise_step false e q above rest = (above, rest)
 

@@ -5,7 +5,7 @@ use Rattle.std.specs.List.Sorted.{IsStrictlyIncreasing}
 use Rattle.std.proofs.lemmas.List.{map-append, take_more, get_or-take, length-take-le}
 use Rattle.std.proofs.lemmas.List.Elements.{All-from_get_or, All-head, All-tail}
 use Rattle.std.proofs.lemmas.Map.Keys.{below_from_sorted, sorted_from_strictly_increasing}
-use Rattle.peer_queue.specs.Place.{Ready, all_ready}
+use Rattle.peer_queue.specs.DebtPlace.{Ready, all_ready}
 use Rattle.peer_queue.proofs.Inserted.{AreBelow}
 
 below_ready : (n : ℕ) (ns : List ℕ) → All (λ m. m < n) ns → AreBelow n (all_ready ns)

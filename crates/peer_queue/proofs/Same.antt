@@ -6,9 +6,9 @@ use Rattle.ledger_core.specs.State.{keys}
 use Rattle.recovery.specs.Words.{ledger_of as tape_ledger, place_of}
 use Rattle.recovery.specs.declared.tape.Tape.{Tape}
 use Rattle.peer_queue.specs.declared.station.Station.{Station}
-use Rattle.peer_queue.specs.Place.{Place, Places, Ready, is_held_by, placed, released}
+use Rattle.peer_queue.specs.DebtPlace.{DebtPlace, Places, Ready, is_held_by, placed, released}
 
-released_number : (e : ℕ × Place) (b : Bool) (rest : List ℕ) → (cond b (e.0, Ready) e).0 ∷ rest ≡ e.0 ∷ rest
+released_number : (e : ℕ × DebtPlace) (b : Bool) (rest : List ℕ) → (cond b (e.0, Ready) e).0 ∷ rest ≡ e.0 ∷ rest
 released_number e true rest = refl
 released_number e false rest = refl
 

@@ -24,8 +24,9 @@ use Rattle.recovery.specs.declared.fault.TapeFault.TheVariants.{Damaged, Disk, B
 use Rattle.recovery.specs.declared.fault.TapeFault.TheVariants.{PendingFull}
 use Rattle.recovery.specs.declared.fault.TapeFault.TheVariants.{NoMemory as NoTapeMemory, Note as RefusedNote}
 use Rattle.peer_queue.specs.Faults.{IsOweFault, station_fault}
-use Rattle.peer_queue.specs.Place.{AreUnheld, IsHeldBy, IsUnheld, Place, Places, Ready, all_gone, gone, is_held}
-use Rattle.peer_queue.specs.Place.{place_at, placed, with_place}
+use Rattle.peer_queue.specs.DebtPlace.{AreUnheld, DebtPlace, IsHeldBy, IsUnheld, Places, Ready, all_gone, gone}
+use Rattle.peer_queue.specs.DebtPlace.{is_held}
+use Rattle.peer_queue.specs.DebtPlace.{place_at, placed, with_place}
 use Rattle.peer_queue.specs.Shapes.{AllFit, RefusesByShape, shape_after}
 use Rattle.peer_queue.specs.Shed.{dropped}
 use Rattle.peer_queue.specs.Words.{IsEnd}
@@ -120,11 +121,11 @@ end_fault shape note (RefusedNote cause) fits kind works refused =
 -- ---- what is shed
 
 -- where none of these is held, each has a place
-unheld_at : (p : Places) (n : ℕ) → IsUnheld p n → (place : Place) × (place_at p n ≡ Some place)
+unheld_at : (p : Places) (n : ℕ) → IsUnheld p n → (place : DebtPlace) × (place_at p n ≡ Some place)
 unheld_at p n unheld = on (place_at p n) refl unheld
   where
-    on : (o : Option Place) → place_at p n ≡ o → option_map is_held o ≡ Some false
-        → (place : Place) × (place_at p n ≡ Some place)
+    on : (o : Option DebtPlace) → place_at p n ≡ o → option_map is_held o ≡ Some false
+        → (place : DebtPlace) × (place_at p n ≡ Some place)
     on None is none = absurd (cc)
     on (Some place) is some = (place, is)
 
@@ -134,7 +135,7 @@ contains_first n first others same = (zero, omega arith, same)
 contains_later : (n first : ℕ) (others : List ℕ) → Contains others n → Contains (first ∷ others) n
 contains_later n first others has = (suc has.0, omega (arith, has.1), has.2)
 
-at_placed : (p : Places) (n : ℕ) (place : Place) → place_at p n ≡ Some place → Contains (placed p) n
+at_placed : (p : Places) (n : ℕ) (place : DebtPlace) → place_at p n ≡ Some place → Contains (placed p) n
 at_placed [] n place is = absurd (cc)
 at_placed (e ∷ p) n place is = on (e.0 == n) refl is (λ there. at_placed p n place there)
   where
@@ -153,7 +154,7 @@ gone_within (e ∷ p) n = on (e.0 == n) (gone_within p n)
     on true less = omega (arith, less)
     on false less = omega (arith, less)
 
-gone_fewer : (p : Places) (n : ℕ) (place : Place) → place_at p n ≡ Some place → length (gone p n) < length p
+gone_fewer : (p : Places) (n : ℕ) (place : DebtPlace) → place_at p n ≡ Some place → length (gone p n) < length p
 gone_fewer [] n place is = absurd (cc)
 gone_fewer (e ∷ p) n place is = on (e.0 == n) is (λ there. gone_fewer p n place there)
   where
@@ -185,7 +186,7 @@ drops_fit p shape ns totals same unheld counts sum fits =
       arith,
       both.0,
       both.1,
-      length-map p (λ (entry : ℕ × Place). entry.0),
+      length-map p (λ (entry : ℕ × DebtPlace). entry.0),
       length-map shape.sizes (λ (size : Size). size.0),
       ap (λ (l : List ℕ). length l) same,
     ))

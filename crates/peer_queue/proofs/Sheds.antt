@@ -16,7 +16,7 @@ use Rattle.recovery.specs.declared.fault.TapeFault.{TapeFault}
 use Rattle.recovery.specs.declared.fault.TapeFault.TheVariants.{Damaged, Disk, Broken as BrokenTape, TapeFull, GenerationFull, PendingFull, NoMemory as NoTapeMemory, Note as RefusedNote}
 use Rattle.peer_queue.specs.Faults.{station_fault}
 use Rattle.peer_queue.specs.declared.fault.StationFault.TheVariants.{NoMemory}
-use Rattle.peer_queue.specs.Place.{AreRising, Places, all_gone, gone, placed, unheld}
+use Rattle.peer_queue.specs.DebtPlace.{AreRising, Places, all_gone, gone, placed, unheld}
 use Rattle.peer_queue.specs.Shed.{AreWithin, IsShedOf, IsShedSet, dropped, owed_without, sized_without}
 use Rattle.peer_queue.specs.ShedLaws.{prefix_of}
 use Rattle.peer_queue.specs.declared.limits.Limits.{Limits}

@@ -3,7 +3,7 @@ use Rattle.std.proofs.Common.{◌≡◌, ℕ, zero, suc, ◌<◌, ◌≤◌, Boo
 use Rattle.std.specs.Prelude.{IfNone, IfSome, IsSome, nat_le, find}
 use Rattle.std.proofs.lemmas.Bool.{cases_lt, eq-eqb, le-leb, lt-leb, ne_eqb}
 use Rattle.deferral.specs.Due.{Waiting, IsDue, IsLeastDueFrom, IsRising, due_of}
-use Rattle.peer_queue.specs.Place.{AreUnheld, Places, all_gone, gone, unheld}
+use Rattle.peer_queue.specs.DebtPlace.{AreUnheld, Places, all_gone, gone, unheld}
 use Rattle.peer_queue.specs.Index.{Holders, place_by, places_by}
 use Rattle.peer_queue.proofs.Moves.{above_at, at_head, due_cases, in_tail}
 

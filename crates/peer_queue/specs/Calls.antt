@@ -12,7 +12,8 @@ use Rattle.recovery.specs.declared.flushed.Flushed.{Flushed}
 use Rattle.recovery.specs.declared.fault.TapeFault.TheVariants.{Disk, GenerationFull, TapeFull}
 use Rattle.conn_core.specs.declared.deferral.Deferral.{Deferral}
 use Rattle.peer_queue.specs.Faults.{IsClaimFault, IsFlushFault, IsRotateFault}
-use Rattle.peer_queue.specs.Place.{IsHeldBy, Later, all_gone, all_ready, deferred_until, gone, least_candidate, moved}
+use Rattle.peer_queue.specs.DebtPlace.{IsHeldBy, Later, all_gone, all_ready, deferred_until, gone, least_candidate}
+use Rattle.peer_queue.specs.DebtPlace.{moved}
 use Rattle.peer_queue.specs.Refusals.{RefusesEnd, RefusesLine}
 use Rattle.peer_queue.specs.Shed.{dropped}
 use Rattle.peer_queue.specs.Station.{IsShed}

@@ -11,7 +11,7 @@ use Rattle.recovery.specs.Words.{IsBroken as IsBrokenTape, IsSame as IsSameTape,
 use Rattle.recovery.specs.Words.{place_of as tape_place}
 use Rattle.recovery.specs.declared.tape.Tape.{Tape}
 use Rattle.peer_queue.specs.Outbox.{IsCutOff, IsSameOutbox, Pends, box_shape, notes_in, unsent_in, unsettled_in}
-use Rattle.peer_queue.specs.Place.{IsHeldBy, Places}
+use Rattle.peer_queue.specs.DebtPlace.{IsHeldBy, Places}
 use Rattle.peer_queue.specs.Words.{IsBroken as IsBrokenStation, ledger_of}
 use Rattle.peer_queue.specs.Words.{limits_of as station_limits, places_of as station_places, tape_of}
 use Rattle.peer_queue.specs.declared.front.Front.{Front}

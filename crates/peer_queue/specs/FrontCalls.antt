@@ -12,8 +12,9 @@ use Rattle.recovery.specs.declared.flushed.Flushed.{Flushed}
 use Rattle.peer_queue.specs.Front.{IsBroken, IsSame, KeepsNotes, Notes, closing, front_shape, limits_of, pending_of}
 use Rattle.peer_queue.specs.Front.{places_of}
 use Rattle.peer_queue.specs.Outbox.{IsAnswerTo, IsTextIn}
-use Rattle.peer_queue.specs.Place.{IsHeldBy, Later as LaterPlace, Place, Ready as ReadyPlace, all_gone, deferred_until}
-use Rattle.peer_queue.specs.Place.{gone, least_candidate, moved}
+use Rattle.peer_queue.specs.DebtPlace.{DebtPlace, IsHeldBy, Later as LaterPlace, Ready as ReadyPlace, all_gone}
+use Rattle.peer_queue.specs.DebtPlace.{deferred_until}
+use Rattle.peer_queue.specs.DebtPlace.{gone, least_candidate, moved}
 use Rattle.peer_queue.specs.Refusals.{RefusesEnd, RefusesHeld, RefusesLine}
 use Rattle.peer_queue.specs.Settled.{key_in, settled_by}
 use Rattle.peer_queue.specs.Shed.{IsShedByShape, dropped}
@@ -63,7 +64,7 @@ pub record Ends (connection number : ℕ) (note : Note) (old new : Front) : Type
   pub places : places_of new ≡ gone (places_of old) number
 
 -- it is owed as before, and at this place
-pub record Moves (connection number : ℕ) (place : Place) (old new : Front) : Type 0 where
+pub record Moves (connection number : ℕ) (place : DebtPlace) (old new : Front) : Type 0 where
   pub held : IsHeldBy (places_of old) connection number
   pub keeps : KeepsNotes old new
   pub places : places_of new ≡ moved (places_of old) number place

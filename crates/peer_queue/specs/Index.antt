@@ -5,7 +5,7 @@ use Rattle.std.specs.Prelude.{Option, Some, None, IsSome, map, unwrap_or}
 use Rattle.std.specs.Ordering.{nat_cmp, ordering_then}
 use Rattle.std.specs.declared.cmp.Ordering.{Ordering}
 use Rattle.deferral.specs.Due.{Waiting, IsRising, due_of}
-use Rattle.peer_queue.specs.Place.{Place, Places, Ready, Held, place_until}
+use Rattle.peer_queue.specs.DebtPlace.{DebtPlace, Places, Ready, Held, place_until}
 use Rattle.peer_queue.specs.declared.wait.Wait.{Wait}
 use Rattle.peer_queue.specs.declared.wait.Wait.TheVariants.{Ready as ReadyNow, Until}
 
@@ -18,7 +18,7 @@ abbrev pub Holders : Type 0
 Holders = ℕ → Option ℕ
 
 -- the place of a number that waits for this
-abbrev pub place_for : Wait → Place
+abbrev pub place_for : Wait → DebtPlace
 place_for ReadyNow = Ready
 place_for (Until moment) = place_until moment
 
@@ -28,7 +28,7 @@ due_at ReadyNow = 0
 due_at (Until moment) = moment
 
 -- the place of a number that is due at this moment, or at none where this connection holds it
-abbrev pub place_by : Option ℕ → Option ℕ → Place
+abbrev pub place_by : Option ℕ → Option ℕ → DebtPlace
 place_by holder None = Held (unwrap_or holder 0)
 place_by holder (Some moment) = place_for (Until moment)
 

@@ -1,4 +1,4 @@
-pub mod Place
+pub mod DebtPlace
 pub mod Index
 pub mod Faults
 pub mod Refusals

@@ -7,8 +7,8 @@ use Rattle.ledger_core.specs.declared.note.Cause.TheVariants.{Deferred as PutOff
 use Rattle.conn_core.specs.Commands.{debt_in}
 use Rattle.conn_core.specs.declared.outcome.Outcome.{Outcome}
 use Rattle.conn_core.specs.declared.outcome.Outcome.TheVariants.{Final, Deferred, Lost, Back}
-use Rattle.peer_queue.specs.Place.{Place, Ready as ReadyPlace, Later as LaterPlace}
-use Rattle.peer_queue.specs.Place.{IsHeldBy, deferred_until, gone, moved}
+use Rattle.peer_queue.specs.DebtPlace.{DebtPlace, Ready as ReadyPlace, Later as LaterPlace}
+use Rattle.peer_queue.specs.DebtPlace.{IsHeldBy, deferred_until, gone, moved}
 use Rattle.peer_queue.specs.Words.{IsSameTape, Notes, limits_of, places_of}
 use Rattle.peer_queue.specs.declared.limits.Limits.{Limits}
 use Rattle.peer_queue.specs.declared.settled.Settled.{Settled}
@@ -46,7 +46,7 @@ module _ {D : Type 0} {g : Ghosts D} where
     pub places : places_of new ≡ gone (places_of old) number
 
   -- a debt that the connection held is owed as before, and at this place
-  pub record Moves (connection number : ℕ) (place : Place) (old new : Station D g) : Type 0 where
+  pub record Moves (connection number : ℕ) (place : DebtPlace) (old new : Station D g) : Type 0 where
     pub held : IsHeldBy (places_of old) connection number
     pub tape : IsSameTape old new
     pub places : places_of new ≡ moved (places_of old) number place

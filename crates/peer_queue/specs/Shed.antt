@@ -7,7 +7,7 @@ use Rattle.recovery.specs.Notes.{drops}
 use Rattle.ledger_core.specs.Shape.{Shape, Size, octets_sized}
 use Rattle.ledger_core.specs.State.{State, Owing, octets_of_debts, owed_bytes}
 use Rattle.peer_queue.specs.declared.limits.Limits.{Limits}
-use Rattle.peer_queue.specs.Place.{Places, unheld}
+use Rattle.peer_queue.specs.DebtPlace.{Places, unheld}
 
 -- the octets that are owed without the debts of these numbers
 abbrev pub owed_without : State → List ℕ → ℕ

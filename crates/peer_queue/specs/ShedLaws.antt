@@ -4,8 +4,9 @@ use Rattle.std.proofs.Common.{take, refl, sym, ap, ◌∙◌, subst, inl, inr, a
 use Rattle.std.specs.Prelude.{filter, option_map}
 use Rattle.std.proofs.lemmas.Bool.{eq-eqb, ne_eqb}
 use Rattle.ledger_core.specs.State.{State, owed_bytes}
-use Rattle.peer_queue.specs.Place.{AreAbove, AreRising, AreUnheld, IsUnheld, Place, Places, gone, is_held, place_at}
-use Rattle.peer_queue.specs.Place.{placed, unheld}
+use Rattle.peer_queue.specs.DebtPlace.{AreAbove, AreRising, AreUnheld, DebtPlace, IsUnheld, Places, gone, is_held}
+use Rattle.peer_queue.specs.DebtPlace.{place_at}
+use Rattle.peer_queue.specs.DebtPlace.{placed, unheld}
 use Rattle.peer_queue.specs.Shed.{IsShedOf, IsShedSet, owed_without}
 use Rattle.peer_queue.specs.declared.limits.Limits.{Limits}
 
@@ -15,7 +16,7 @@ gone_above n (e ∷ p) above =
     ap (λ (b : Bool). cond (cond b false true) (e ∷ gone p n) (gone p n)) (ne_eqb e.0 n (λ same. omega (arith, above.0, same)))
     ∙ ap (λ (l : Places). e ∷ l) (gone_above n p above.1)
 
-above_step : (m : ℕ) (b : Bool) (e : ℕ × Place) (p : Places) → m < e.0 → AreAbove m p
+above_step : (m : ℕ) (b : Bool) (e : ℕ × DebtPlace) (p : Places) → m < e.0 → AreAbove m p
     → AreAbove m (cond (cond b false true) (e ∷ p) p)
 above_step m true e p here rest = rest
 above_step m false e p here rest = (here, rest)
@@ -24,7 +25,7 @@ above_gone : (m n : ℕ) (p : Places) → AreAbove m p → AreAbove m (gone p n)
 above_gone m n [] above = tt
 above_gone m n (e ∷ p) above = above_step m (e.0 == n) e (gone p n) above.0 (above_gone m n p above.1)
 
-rising_step : (b : Bool) (e : ℕ × Place) (p : Places) → AreAbove e.0 p → AreRising p
+rising_step : (b : Bool) (e : ℕ × DebtPlace) (p : Places) → AreAbove e.0 p → AreRising p
     → AreRising (cond (cond b false true) (e ∷ p) p)
 rising_step true e p above rest = rest
 rising_step false e p above rest = (above, rest)
@@ -39,7 +40,7 @@ unheld_above m [] n rest above is = cc
 unheld_above m (e ∷ p) n rest above is = on (is_held e.1) (λ behind. unheld_above m p n rest above.1 behind) is
   where
     free : Places
-    free = filter (λ (entry : ℕ × Place). cond (is_held entry.1) false true) p
+    free = filter (λ (entry : ℕ × DebtPlace). cond (is_held entry.1) false true) p
 
     on : (b : Bool) → (placed free ≡ n ∷ rest → m < n) → placed (cond (cond b false true) (e ∷ free) free) ≡ n ∷ rest → m < n
     on true later behind = later behind
@@ -52,7 +53,7 @@ unheld_first [] n rest rising is = cc
 unheld_first (e ∷ p) n rest rising is = on (λ behind. unheld_first p n rest rising.1 behind) (is_held e.1) refl is
   where
     free : Places
-    free = filter (λ (entry : ℕ × Place). cond (is_held entry.1) false true) p
+    free = filter (λ (entry : ℕ × DebtPlace). cond (is_held entry.1) false true) p
 
     on : (unheld p ≡ n ∷ rest → IsUnheld p n × (unheld (gone p n) ≡ rest)) → (b : Bool) → is_held e.1 ≡ b → placed (cond (cond b false true) (e ∷ free) free) ≡ n ∷ rest → IsUnheld (e ∷ p) n × (unheld (gone (e ∷ p) n) ≡ rest)
     on within true held behind =
@@ -61,7 +62,7 @@ unheld_first (e ∷ p) n rest rising is = on (λ behind. unheld_first p n rest r
         let apart : (e.0 == n) ≡ false = ne_eqb e.0 n (omega arith) in (
           ap (λ (b : Bool). option_map is_held (cond b (Some e.1) (place_at p n))) apart ∙ later.0,
           ap (λ (b : Bool). unheld (cond (cond b false true) (e ∷ gone p n) (gone p n))) apart
-              ∙ (ap (λ (b : Bool). placed (cond (cond b false true) (e ∷ filter (λ (entry : ℕ × Place). cond (is_held entry.1) false true) (gone p n)) (filter (λ (entry : ℕ × Place). cond (is_held entry.1) false true) (gone p n)))) held ∙ later.1),
+              ∙ (ap (λ (b : Bool). placed (cond (cond b false true) (e ∷ filter (λ (entry : ℕ × DebtPlace). cond (is_held entry.1) false true) (gone p n)) (filter (λ (entry : ℕ × DebtPlace). cond (is_held entry.1) false true) (gone p n)))) held ∙ later.1),
         )
     on within false held behind =
         let here : e.0 ≡ n = cc in

@@ -2,7 +2,7 @@
 use Rattle.std.specs.Prelude.{◌≡◌, ◌↔◌, ◌<◌, ◌+◌, ◌-◌, ℕ, true, List, length, take}
 use Rattle.ledger_core.specs.State.{State}
 use Rattle.recovery.specs.Notes.{most_pending}
-use Rattle.peer_queue.specs.Place.{Places}
+use Rattle.peer_queue.specs.DebtPlace.{Places}
 use Rattle.peer_queue.specs.Shed.{IsShedSet}
 use Rattle.peer_queue.specs.declared.limits.Limits.{Limits}
 use Rattle.peer_queue.specs.declared.limits.Shed.{Shed}

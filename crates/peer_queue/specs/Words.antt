@@ -13,7 +13,7 @@ use Rattle.recovery.specs.declared.tape.Tape.{Tape}
 use Rattle.recovery.specs.Words.{log_of as tape_log, disks_of as tape_disks, faults_of as tape_faults, generation_of as tape_generation, AreHonest as AreTapeHonest, Continues as TapeContinues, ledger_of as tape_ledger, pending_of as tape_pending, IsBroken as IsBrokenTape}
 use Rattle.conn_core.specs.declared.verdict.Verdict.{Verdict}
 use Rattle.conn_core.specs.declared.deferral.Deferral.{Deferral}
-use Rattle.peer_queue.specs.Place.{Places, IsHeldBy}
+use Rattle.peer_queue.specs.DebtPlace.{Places, IsHeldBy}
 use Rattle.peer_queue.specs.Refusals.{RefusesHeld}
 use Rattle.peer_queue.specs.declared.fault.StationFault.{StationFault}
 use Rattle.peer_queue.specs.declared.station.Station.{Station}

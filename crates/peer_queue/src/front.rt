@@ -4,7 +4,7 @@ ghost use Rattle.std.specs.List.{All};
 ghost use Rattle.std.specs.List.Sorted.{IsStrictlyIncreasing};
 ghost use Rattle.ledger_core.specs.Shape.{keys_sized};
 ghost use Rattle.peer_queue.specs.Outbox.{box_shape};
-ghost use Rattle.peer_queue.specs.Place.{placed};
+ghost use Rattle.peer_queue.specs.DebtPlace.{placed};
 
 use crate::fault::station_fault;
 use crate::outbox::Outbox;
@@ -57,8 +57,8 @@ impl Front {
     ghost use Rattle.peer_queue.specs.FrontCalls.{RefusesClaim, RefusesClose, RefusesOwe, Settles, Sheds};
     ghost use Rattle.peer_queue.specs.Index.{place_for};
     ghost use Rattle.peer_queue.specs.Outbox.{Breaks, Learns, Sends};
-    ghost use Rattle.peer_queue.specs.Place.{AreRising, Held, IsHeldBy, IsLater, Ready, gone, held_count};
-    ghost use Rattle.peer_queue.specs.Place.{least_candidate, moved, place_until, released, unheld, with_place};
+    ghost use Rattle.peer_queue.specs.DebtPlace.{AreRising, Held, IsHeldBy, IsLater, Ready, gone, held_count};
+    ghost use Rattle.peer_queue.specs.DebtPlace.{least_candidate, moved, place_until, released, unheld, with_place};
     ghost use Rattle.peer_queue.specs.Refusals.{Tells};
     ghost use Rattle.peer_queue.specs.Settled.{IsEnded, key_in, settled_by};
     ghost use Rattle.peer_queue.specs.Shed.{IsShedByShape};

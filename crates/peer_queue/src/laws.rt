@@ -5,7 +5,7 @@ ghost use Rattle.ledger_core.specs.State.{keys};
 ghost use Rattle.recovery.specs.Image.{EachTape, Survives};
 ghost use Rattle.recovery.specs.Notes.{History, recovered};
 ghost use Rattle.recovery.specs.Words.{OneHasRisen};
-ghost use Rattle.peer_queue.specs.Place.{AreRising, all_ready, placed};
+ghost use Rattle.peer_queue.specs.DebtPlace.{AreRising, all_ready, placed};
 ghost use Rattle.peer_queue.specs.Refusals.{Tells};
 ghost use Rattle.peer_queue.specs.Words.{IsBroken, StandsFor, ledger_of, faults_of, limits_of, pending_of};
 ghost use Rattle.peer_queue.specs.Words.{places_of};

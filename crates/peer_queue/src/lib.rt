@@ -4,7 +4,7 @@
 //! May touch the disks that it is given and nothing else; it stands on `recovery`, `deferral` and `conn_core`, and is
 //! neither Sync nor in need of it: who shares it puts a lock round it. The crates above use `Station`: its ledger as a
 //! history of notes (`specs/Words.antt`, `StandsFor`), so that the tape's stop theorem is the station's, the places of
-//! the debts as plain data (`specs/Place.antt`), and what an outcome of a connection makes of both
+//! the debts as plain data (`specs/DebtPlace.antt`), and what an outcome of a connection makes of both
 //! (`specs/Settled.antt`, `Finishes`).
 #![tactic(auto)]
 

@@ -3,9 +3,9 @@ ghost use Rattle.std.specs.Prelude.{◌≡◌, ◌↔◌, [], ℕ, None, IfNone,
 ghost use Rattle.std.specs.Prelude.{OnErr, OnOk, ◌<◌, ◌^◌, nat_le, find, length};
 ghost use Rattle.std.specs.List.{All};
 ghost use Rattle.std.specs.List.Sorted.{IsStrictlyIncreasing};
-ghost use Rattle.peer_queue.specs.Place.{AreRising, AreUnheld, Held, IsHeldBy, IsLater, IsUnheld, Ready};
-ghost use Rattle.peer_queue.specs.Place.{all_gone, all_ready, gone, held_count, least_candidate, moved, place_at};
-ghost use Rattle.peer_queue.specs.Place.{released, unheld, with_place};
+ghost use Rattle.peer_queue.specs.DebtPlace.{AreRising, AreUnheld, Held, IsHeldBy, IsLater, IsUnheld, Ready};
+ghost use Rattle.peer_queue.specs.DebtPlace.{all_gone, all_ready, gone, held_count, least_candidate, moved, place_at};
+ghost use Rattle.peer_queue.specs.DebtPlace.{released, unheld, with_place};
 ghost use Rattle.peer_queue.specs.Index.{place_for};
 
 use crate::wait::Wait;
@@ -34,7 +34,7 @@ impl Model for PlaceIndex {
     ghost use Rattle.std.specs.Ordering.{nat_cmp};
     ghost use Rattle.std.specs.BTreeMap.{get};
     ghost use Rattle.std.specs.BTreeSet.{contains};
-    ghost use Rattle.peer_queue.specs.Place.{Places};
+    ghost use Rattle.peer_queue.specs.DebtPlace.{Places};
     ghost use Rattle.peer_queue.specs.Index.{IsKept, pair_cmp, places_by};
 
     ghost Value = { Places };

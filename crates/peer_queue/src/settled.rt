@@ -1,6 +1,6 @@
 // What becomes of a debt that a connection held.
 ghost use Rattle.std.specs.Prelude.{◌≡◌, ℕ};
-ghost use Rattle.peer_queue.specs.Place.{deferred_until};
+ghost use Rattle.peer_queue.specs.DebtPlace.{deferred_until};
 ghost use Rattle.peer_queue.specs.Settled.{deferred_as, key_in, settled_by};
 
 use crate::Limits;

@@ -5,7 +5,7 @@ ghost use Rattle.std.specs.List.Sorted.{IsStrictlyIncreasing};
 ghost use Rattle.ledger_core.specs.State.{keys};
 ghost use Rattle.recovery.specs.Words.{ledger_of as tape_ledger, place_of as tape_place};
 ghost use Rattle.std.specs.Prelude.{IfOk, OnOk};
-ghost use Rattle.peer_queue.specs.Place.{all_ready, placed};
+ghost use Rattle.peer_queue.specs.DebtPlace.{all_ready, placed};
 
 use crate::fault::station_fault;
 use crate::place_index::{PlaceIndex, all_ready_of};
@@ -54,9 +54,9 @@ impl<D: Disk> Station<D> {
     ghost use Rattle.recovery.specs.Texts.{HasLengths};
     ghost use Rattle.peer_queue.specs.Calls.{Defers, IsFresh, KeepsDebts, RefusesClaim, RefusesFlush};
     ghost use Rattle.peer_queue.specs.Calls.{RefusesClose, RefusesDebt, RefusesOwe, RefusesRotation, Sheds};
-    ghost use Rattle.peer_queue.specs.Place.{AreRising, Held, IsHeldBy, IsLater, Later, Ready};
-    ghost use Rattle.peer_queue.specs.Place.{gone, held_count, least_candidate, moved, place_until};
-    ghost use Rattle.peer_queue.specs.Place.{released, unheld, with_place};
+    ghost use Rattle.peer_queue.specs.DebtPlace.{AreRising, Held, IsHeldBy, IsLater, Later, Ready};
+    ghost use Rattle.peer_queue.specs.DebtPlace.{gone, held_count, least_candidate, moved, place_until};
+    ghost use Rattle.peer_queue.specs.DebtPlace.{released, unheld, with_place};
     ghost use Rattle.peer_queue.specs.Index.{place_for};
     ghost use Rattle.peer_queue.specs.Shed.{IsShedSet};
     ghost use Rattle.peer_queue.specs.Settled.{Finishes, IsEnded, Settles, key_in, settled_by};

@@ -14,7 +14,7 @@ use Rattle.feed_conf.specs.declared.conf.PeerConf.{PeerConf}
 use Rattle.conn_core.specs.History.{story}
 use Rattle.conn_core.specs.Stands.{StandsFor as ConnStands, Starts}
 use Rattle.conn_core.specs.declared.options.Options.{Options}
-use Rattle.peer_queue.specs.Place.{IsHeldBy}
+use Rattle.peer_queue.specs.DebtPlace.{IsHeldBy}
 use Rattle.world_core.specs.Past.{ConnPast, Life, PeerPast, conn_at, options_of, rank_of}
 use Rattle.world_core.specs.Exchange.{RefusesConnect, TakesConnect, fresh_conn}
 use Rattle.world_core.specs.Joined.{AreRunning, MadeOn, RefusedOn}

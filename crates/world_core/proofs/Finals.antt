@@ -21,7 +21,7 @@ use Rattle.conn_core.specs.declared.outcome.Outcome.TheVariants.{Back, Deferred,
 use Rattle.conn_core.specs.declared.verdict.Verdict.{Verdict}
 use Rattle.conn_laws.specs.Laws.{AllAreTheirOwn, AllRight, IsRightAt}
 use Rattle.feed_conf.specs.declared.conf.PeerConf.{PeerConf}
-use Rattle.peer_queue.specs.Place.{Ready as ReadyPlace, moved}
+use Rattle.peer_queue.specs.DebtPlace.{Ready as ReadyPlace, moved}
 use Rattle.peer_queue.specs.Settled.{deferred_as}
 use Rattle.peer_queue.specs.Shed.{dropped}
 use Rattle.peer_queue.specs.declared.limits.Owed.{Owed}

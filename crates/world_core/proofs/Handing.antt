@@ -15,8 +15,9 @@ use Rattle.conn_core.specs.declared.options.Options.{Options}
 use Rattle.conn_core.specs.declared.reason.Reason.{Reason}
 use Rattle.conn_core.specs.declared.ready.Ready.TheVariants.{Busy as NoRoom, Shut, Yes}
 use Rattle.peer_queue.specs.Faults.{IsClaimFault}
-use Rattle.peer_queue.specs.Place.{AreRising, Held, IsHeldBy, IsUnheld, Place, Places, Ready, is_held, least_candidate}
-use Rattle.peer_queue.specs.Place.{moved, place_at}
+use Rattle.peer_queue.specs.DebtPlace.{AreRising, DebtPlace, Held, IsHeldBy, IsUnheld, Places, Ready, is_held}
+use Rattle.peer_queue.specs.DebtPlace.{least_candidate}
+use Rattle.peer_queue.specs.DebtPlace.{moved, place_at}
 use Rattle.peer_queue.specs.ClaimLaws.{candidate_unheld}
 use Rattle.peer_queue.specs.Words.{IsRead, IsSameTape, ledger_of, places_of, tape_of}
 use Rattle.peer_queue.specs.declared.fault.StationFault.{StationFault}
@@ -48,7 +49,7 @@ use Rattle.world_core.proofs.Settling.{tells_push}
 
 -- ---- places
 
-unheld_there : (o : Option Place) → option_map is_held o ≡ Some false → (q : Place) × (o ≡ Some q)
+unheld_there : (o : Option DebtPlace) → option_map is_held o ≡ Some false → (q : DebtPlace) × (o ≡ Some q)
 unheld_there None is = let never : None ≡ Some false = is in cc
 unheld_there (Some q) is = (q, refl)
 

@@ -11,7 +11,7 @@ use Rattle.conn_core.specs.History.{Event as Happening, Story, Taken, accepted, 
 use Rattle.conn_core.specs.History.{outcomes, story, taken}
 use Rattle.conn_core.specs.declared.options.Options.{Options}
 use Rattle.conn_core.specs.declared.outcome.Outcome.{Outcome}
-use Rattle.peer_queue.specs.Place.{IsHeldBy, Place, Places, gone, moved, place_at}
+use Rattle.peer_queue.specs.DebtPlace.{DebtPlace, IsHeldBy, Places, gone, moved, place_at}
 use Rattle.peer_queue.specs.Settled.{key_in}
 use Rattle.world_core.specs.Past.{ConnPast}
 use Rattle.world_core.specs.Exchange.{all_out, one_out, out_to, unsettled, waiting}
@@ -67,7 +67,7 @@ gone_other p n m apart =
 pub gone_none : (p : Places) (n : ℕ) → place_at (gone p n) n ≡ None
 gone_none p n = lookup-filter-keys (λ (k : ℕ). k == n) (λ (k : ℕ). if k == n then false else true) false (test_same n) p
 
-moved_other_step : (p : Places) (e : ℕ × Place) (n m : ℕ) (q : Place) (b : Bool) → (e.0 == n) ≡ b → (m ≡ n → ⊥)
+moved_other_step : (p : Places) (e : ℕ × DebtPlace) (n m : ℕ) (q : DebtPlace) (b : Bool) → (e.0 == n) ≡ b → (m ≡ n → ⊥)
     → place_at (moved p n q) m ≡ place_at p m
     → place_at ((if b then (n, q) else e) ∷ moved p n q) m ≡ place_at (e ∷ p) m
 moved_other_step p e n m q true is apart rest =
@@ -75,14 +75,14 @@ moved_other_step p e n m q true is apart rest =
     let there : (e.0 == m) ≡ false = ne_eqb e.0 m (λ same. apart (sym same ∙ eqb-true e.0 n is)) in
     ap (λ (b : Bool). cond b (Some q) (place_at (moved p n q) m)) here
     ∙ (rest ∙ sym (ap (λ (b : Bool). cond b (Some e.1) (place_at p m)) there))
-moved_other_step p e n m q false is apart rest = ap (λ (o : Option Place). cond (e.0 == m) (Some e.1) o) rest
+moved_other_step p e n m q false is apart rest = ap (λ (o : Option DebtPlace). cond (e.0 == m) (Some e.1) o) rest
 
 -- where a number moves, any other keeps its place
-pub moved_other : (p : Places) (n m : ℕ) (q : Place) → (m ≡ n → ⊥) → place_at (moved p n q) m ≡ place_at p m
+pub moved_other : (p : Places) (n m : ℕ) (q : DebtPlace) → (m ≡ n → ⊥) → place_at (moved p n q) m ≡ place_at p m
 moved_other [] n m q apart = refl
 moved_other (e ∷ p) n m q apart = moved_other_step p e n m q (e.0 == n) refl apart (moved_other p n m q apart)
 
-moved_here_step : (p : Places) (e : ℕ × Place) (n : ℕ) (q x : Place) (b : Bool) → (e.0 == n) ≡ b
+moved_here_step : (p : Places) (e : ℕ × DebtPlace) (n : ℕ) (q x : DebtPlace) (b : Bool) → (e.0 == n) ≡ b
     → (place_at p n ≡ Some x → place_at (moved p n q) n ≡ Some q)
     → cond b (Some e.1) (place_at p n) ≡ Some x → place_at ((if b then (n, q) else e) ∷ moved p n q) n ≡ Some q
 moved_here_step p e n q x true is rest here =
@@ -90,7 +90,7 @@ moved_here_step p e n q x true is rest here =
 moved_here_step p e n q x false is rest here =
     ap (λ (b : Bool). cond b (Some e.1) (place_at (moved p n q) n)) is ∙ rest here
 
-pub moved_here : (p : Places) (n : ℕ) (q x : Place) → place_at p n ≡ Some x → place_at (moved p n q) n ≡ Some q
+pub moved_here : (p : Places) (n : ℕ) (q x : DebtPlace) → place_at p n ≡ Some x → place_at (moved p n q) n ≡ Some q
 moved_here [] n q x here = let never : None ≡ Some x = here in cc
 moved_here (e ∷ p) n q x here = moved_here_step p e n q x (e.0 == n) refl (moved_here p n q x) here
 

@@ -11,7 +11,7 @@ use Rattle.std.proofs.lemmas.Option.{get_or_from_slice_get, slice_get-map, slice
 use Rattle.disk_model.specs.declared.Disk.{Ghosts}
 use Rattle.feed_conf.specs.declared.conf.PeerConf.{PeerConf}
 use Rattle.conn_core.specs.Stands.{Arises}
-use Rattle.peer_queue.specs.Place.{IsHeldBy}
+use Rattle.peer_queue.specs.DebtPlace.{IsHeldBy}
 use Rattle.world_core.specs.Past.{ConnPast, Life, PeerPast, conn_at, options_of, with_conn, with_past, with_peer}
 use Rattle.world_core.specs.Joined.{AreRunning}
 use Rattle.world_core.specs.Pairs.{PairStands}

@@ -15,7 +15,7 @@ use Rattle.recovery.specs.Leaving.{EachLedger, IsPrefix, pending_notes}
 use Rattle.recovery.specs.LeavingLaws.{EachLedger-weaker}
 use Rattle.recovery.specs.Notes.{AreLegal, History, noted}
 use Rattle.conn_core.specs.declared.outcome.Outcome.{Outcome}
-use Rattle.peer_queue.specs.Place.{Held, IsHeldBy, Later as LaterPlace, Place, Places, Ready, moved, place_at}
+use Rattle.peer_queue.specs.DebtPlace.{DebtPlace, Held, IsHeldBy, Later as LaterPlace, Places, Ready, moved, place_at}
 use Rattle.peer_queue.specs.Settled.{key_in}
 use Rattle.peer_queue.specs.declared.settled.Settled.{Settled}
 use Rattle.peer_queue.specs.declared.settled.Settled.TheVariants.{Answered, Dropped, Later, Ready as Back}
@@ -126,7 +126,7 @@ held_once p id other n held apart is =
     let same : Some (Held id) ≡ Some (Held other) = sym held ∙ is in
     apart cc
 
-moved_only_step : (p : Places) (e : ℕ × Place) (n : ℕ) (q x : Place) (b : Bool) → (e.0 == n) ≡ b
+moved_only_step : (p : Places) (e : ℕ × DebtPlace) (n : ℕ) (q x : DebtPlace) (b : Bool) → (e.0 == n) ≡ b
     → (place_at (moved p n q) n ≡ Some x → x ≡ q) → place_at ((if b then (n, q) else e) ∷ moved p n q) n ≡ Some x
     → x ≡ q
 moved_only_step p e n q x true same rest is =
@@ -136,7 +136,7 @@ moved_only_step p e n q x false same rest is =
     rest (sym (ap (λ (b : Bool). cond b (Some e.1) (place_at (moved p n q) n)) same) ∙ is)
 
 -- a number that has moved has no other place
-moved_only : (p : Places) (n : ℕ) (q x : Place) → place_at (moved p n q) n ≡ Some x → x ≡ q
+moved_only : (p : Places) (n : ℕ) (q x : DebtPlace) → place_at (moved p n q) n ≡ Some x → x ≡ q
 moved_only [] n q x is = let never : None ≡ Some x = is in cc
 moved_only (e ∷ p) n q x is = moved_only_step p e n q x (e.0 == n) refl (λ there. moved_only p n q x there) is
 

@@ -21,7 +21,7 @@ use Rattle.disk_model.specs.declared.memory.MemDisk.{MemDisk}
 use Rattle.disk_model.specs.declared.Disk.{Ghosts}
 use Rattle.feed_conf.specs.declared.conf.PeerConf.{PeerConf}
 use Rattle.ledger_core.specs.State.{State, keys, start}
-use Rattle.peer_queue.specs.Place.{all_ready}
+use Rattle.peer_queue.specs.DebtPlace.{all_ready}
 use Rattle.peer_queue.specs.Words.{limits_of as station_limits, places_of, tape_of}
 use Rattle.recovery.specs.Image.{IsNoTapeAt, IsSomeTape, IsTape, Log, Octets}
 use Rattle.recovery.specs.TapeLaws.{tape_nowhere_damaged, tape_once}

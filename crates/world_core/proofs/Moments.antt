@@ -7,7 +7,7 @@ use Rattle.recovery.specs.Leaving.{EachLedger, IsPrefix, LedgersLeave}
 use Rattle.recovery.specs.LeavingLaws.{EachLedger-weaker}
 use Rattle.recovery.specs.Pairs.LeavesPair.{at_start}
 use Rattle.ledger_core.specs.declared.note.Note.TheVariants.{Seen}
-use Rattle.peer_queue.specs.Place.{Ready as Free, moved}
+use Rattle.peer_queue.specs.DebtPlace.{Ready as Free, moved}
 use Rattle.peer_queue.specs.Settled.{key_in}
 use Rattle.peer_queue.specs.declared.limits.Owed.{Owed}
 use Rattle.peer_queue.specs.declared.limits.Owed.TheVariants.{New, Already}

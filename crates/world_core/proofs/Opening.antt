@@ -11,7 +11,7 @@ use Rattle.recovery.specs.Words.{IsBroken, IsOpenFault, OneHasRisen, ledger_of, 
 use Rattle.recovery.specs.declared.fault.TapeFault.{TapeFault}
 use Rattle.recovery.specs.declared.fault.TapeFault.TheVariants.{Damaged, Disk, Broken, TapeFull, GenerationFull}
 use Rattle.recovery.specs.declared.fault.TapeFault.TheVariants.{PendingFull, NoMemory, Note}
-use Rattle.peer_queue.specs.Place.{all_ready}
+use Rattle.peer_queue.specs.DebtPlace.{all_ready}
 use Rattle.peer_queue.specs.Words.{limits_of as station_limits, places_of, tape_of}
 use Rattle.world_core.specs.Past.{PeerPast, limits_of}
 use Rattle.world_core.specs.Safe.{KeepsNotes}

@@ -21,7 +21,7 @@ use Rattle.recovery.specs.declared.fault.TapeFault.TheVariants.{Damaged, Disk, B
 use Rattle.recovery.specs.declared.fault.TapeFault.TheVariants.{GenerationFull, PendingFull, NoMemory as NoTapeMemory}
 use Rattle.recovery.specs.declared.fault.TapeFault.TheVariants.{Note as RefusedNote}
 use Rattle.peer_queue.specs.Faults.{IsOweFault, IsOweTapeFault}
-use Rattle.peer_queue.specs.Place.{Places, Ready, place_at, placed, with_place}
+use Rattle.peer_queue.specs.DebtPlace.{Places, Ready, place_at, placed, with_place}
 use Rattle.peer_queue.specs.Words.{IsSame, Notes, limits_of as station_limits, places_of, tape_of}
 use Rattle.peer_queue.specs.declared.fault.StationFault.{StationFault}
 use Rattle.peer_queue.specs.declared.fault.StationFault.TheVariants.{NotHeld, Broken, Tape as TapeRefused, NoMemory}

@@ -13,7 +13,7 @@ use Rattle.conn_core.specs.State.{Holding}
 use Rattle.conn_core.specs.Used.{times}
 use Rattle.conn_core.specs.declared.options.Options.{Options}
 use Rattle.conn_core.specs.declared.outcome.Outcome.{Outcome}
-use Rattle.peer_queue.specs.Place.{IsHeldBy, place_at}
+use Rattle.peer_queue.specs.DebtPlace.{IsHeldBy, place_at}
 use Rattle.world_core.specs.Past.{ConnPast, PeerPast, options_of}
 use Rattle.world_core.specs.Exchange.{with_transcript}
 use Rattle.world_core.specs.Pairs.{IsTied, PairStands}

@@ -8,7 +8,7 @@ use Rattle.std.specs.List.{All}
 use Rattle.std.specs.Ordering.{match_ordering, nat_cmp}
 use Rattle.std.specs.declared.cmp.Ordering.{Ordering}
 use Rattle.std.specs.declared.cmp.Ordering.TheVariants.{Less, Equal, Greater}
-use Rattle.peer_queue.specs.Place.{Place, Places, place_at, placed, with_place}
+use Rattle.peer_queue.specs.DebtPlace.{DebtPlace, Places, place_at, placed, with_place}
 
 same_key : (m n : ℕ) → nat_cmp m n ≡ Equal → m ≡ n
 same_key m n same = grind (arith, nat_tests)
@@ -16,11 +16,12 @@ same_key m n same = grind (arith, nat_tests)
 above_apart : (m n : ℕ) → nat_cmp m n ≡ Greater → n ≡ m → ⊥
 above_apart m n greater same = grind (arith, nat_tests)
 
-abbrev placed_by : Ordering → ℕ → Place → ℕ × Place → Places → Places
+abbrev placed_by : Ordering → ℕ → DebtPlace → ℕ × DebtPlace → Places → Places
 placed_by order key place e p =
     match_ordering order ((key, place) ∷ e ∷ p) ((e.0, place) ∷ p) (e ∷ with_place p key place)
 
-other_step : (order : Ordering) (key m : ℕ) (place : Place) (e : ℕ × Place) (p : Places) → nat_cmp key e.0 ≡ order
+other_step : (order : Ordering) (key m : ℕ) (place : DebtPlace) (e : ℕ × DebtPlace) (p : Places)
+    → nat_cmp key e.0 ≡ order
     → (m ≡ key → ⊥) → place_at (with_place p key place) m ≡ place_at p m
     → place_at (placed_by order key place e p) m ≡ place_at (e ∷ p) m
 other_step Less key m place e p is apart rest =
@@ -30,17 +31,17 @@ other_step Equal key m place e p is apart rest =
     ap (λ (b : Bool). cond b (Some place) (place_at p m)) miss
     ∙ ap (λ (b : Bool). cond b (Some e.1) (place_at p m)) (sym miss)
 other_step Greater key m place e p is apart rest =
-    ap (λ (o : Option Place). cond (e.0 == m) (Some e.1) o) rest
+    ap (λ (o : Option DebtPlace). cond (e.0 == m) (Some e.1) o) rest
 
 -- each other key keeps its place
-pub with_other : (p : Places) (key m : ℕ) (place : Place) → (m ≡ key → ⊥)
+pub with_other : (p : Places) (key m : ℕ) (place : DebtPlace) → (m ≡ key → ⊥)
     → place_at (with_place p key place) m ≡ place_at p m
 with_other [] key m place apart =
     ap (λ (b : Bool). cond b (Some place) None) (ne_eqb key m (λ same. apart (sym same)))
 with_other (e ∷ p) key m place apart =
     other_step (nat_cmp key e.0) key m place e p refl apart (with_other p key m place apart)
 
-here_step : (order : Ordering) (key : ℕ) (place : Place) (e : ℕ × Place) (p : Places) → nat_cmp key e.0 ≡ order
+here_step : (order : Ordering) (key : ℕ) (place : DebtPlace) (e : ℕ × DebtPlace) (p : Places) → nat_cmp key e.0 ≡ order
     → place_at (with_place p key place) key ≡ Some place → place_at (placed_by order key place e p) key ≡ Some place
 here_step Less key place e p is rest =
     ap (λ (b : Bool). cond b (Some place) (place_at (e ∷ p) key)) (eq-eqb key key refl)
@@ -51,7 +52,7 @@ here_step Greater key place e p is rest =
     (ne_eqb e.0 key (above_apart key e.0 is)) ∙ rest
 
 -- and this one has its own
-pub with_here : (p : Places) (key : ℕ) (place : Place) → place_at (with_place p key place) key ≡ Some place
+pub with_here : (p : Places) (key : ℕ) (place : DebtPlace) → place_at (with_place p key place) key ≡ Some place
 with_here [] key place = ap (λ (b : Bool). cond b (Some place) None) (eq-eqb key key refl)
 with_here (e ∷ p) key place = here_step (nat_cmp key e.0) key place e p refl (with_here p key place)
 

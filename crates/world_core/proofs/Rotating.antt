@@ -13,7 +13,7 @@ use Rattle.recovery.specs.declared.tape.Tape.{Tape}
 use Rattle.recovery.specs.declared.fault.TapeFault.{TapeFault}
 use Rattle.recovery.specs.declared.fault.TapeFault.TheVariants.{Disk, TapeFull, GenerationFull}
 use Rattle.peer_queue.specs.Faults.{IsRotateFault}
-use Rattle.peer_queue.specs.Place.{AreRising, AreUnheld, Places, all_gone}
+use Rattle.peer_queue.specs.DebtPlace.{AreRising, AreUnheld, Places, all_gone}
 use Rattle.peer_queue.specs.Shed.{IsShedSet, dropped}
 use Rattle.peer_queue.specs.Station.{IsShed}
 use Rattle.peer_queue.specs.Words.{limits_of as station_limits, places_of, tape_of}

@@ -11,7 +11,7 @@ use Rattle.ledger_core.specs.declared.note.Note.TheVariants.{Owe}
 use Rattle.recovery.specs.Pairs.LeavesPair.{at_start}
 use Rattle.recovery.specs.declared.fault.TapeFault.TheVariants.{Broken}
 use Rattle.recovery.specs.Notes.{begun as begun_history, flushed, most_pending, recovered}
-use Rattle.peer_queue.specs.Place.{Ready}
+use Rattle.peer_queue.specs.DebtPlace.{Ready}
 use Rattle.peer_queue.specs.declared.limits.Owed.TheVariants.{Already, New}
 use Rattle.world_core.specs.Past.{Armed, Life, Past, PeerPast, TapePast, ledger_at, mark_at}
 use Rattle.world_core.specs.Events.{Acknowledges, Closes, Imports, Opens, OpensIntake, Owes, Parts, Rotates, Sees}

@@ -12,7 +12,7 @@ use Rattle.recovery.specs.declared.fault.TapeFault.TheVariants.{PendingFull}
 use Rattle.conn_core.specs.declared.options.Options.{Options}
 use Rattle.conn_core.specs.declared.outcome.Outcome.{Outcome}
 use Rattle.peer_queue.specs.Faults.{IsEndFault}
-use Rattle.peer_queue.specs.Place.{Held, IsHeldBy, Later as LaterPlace, Places, Ready, gone, moved, place_at}
+use Rattle.peer_queue.specs.DebtPlace.{Held, IsHeldBy, Later as LaterPlace, Places, Ready, gone, moved, place_at}
 use Rattle.peer_queue.specs.Settled.{Finishes, IsEnded, Settles, key_in, settled_by}
 use Rattle.peer_queue.specs.Words.{IsSame, limits_of as station_limits, places_of, tape_of}
 use Rattle.peer_queue.specs.Words.{MeetsFull}

@@ -3,8 +3,8 @@ use Rattle.std.proofs.Common.{◌≡◌, ◌↔◌, ℕ, ◌+◌, false, None, S
 use Rattle.std.proofs.Common.{◌∙◌, subst, inl, inr}
 use Rattle.std.proofs.lemmas.Bool.{cases_eq}
 use Rattle.std.specs.List.{AllZip, slice_get}
-use Rattle.peer_queue.specs.Place.{AreUnheld, Held, IsHeldBy, IsUnheld, Places, Ready, all_gone, gone, place_at}
-use Rattle.peer_queue.specs.Place.{with_place}
+use Rattle.peer_queue.specs.DebtPlace.{AreUnheld, Held, IsHeldBy, IsUnheld, Places, Ready, all_gone, gone, place_at}
+use Rattle.peer_queue.specs.DebtPlace.{with_place}
 use Rattle.peer_queue.specs.declared.limits.Owed.{Owed}
 use Rattle.peer_queue.specs.declared.limits.Owed.TheVariants.{New, Already}
 use Rattle.world_core.specs.Past.{Past, PeerPast, TapePast, with_peer, with_tape}

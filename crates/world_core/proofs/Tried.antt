@@ -7,7 +7,7 @@ use Rattle.std.specs.Option.{is_some}
 use Rattle.std.specs.List.{AllByRecursion, AllZip, slice_get}
 use Rattle.disk_model.specs.declared.Disk.{Ghosts}
 use Rattle.ledger_core.specs.State.{keys}
-use Rattle.peer_queue.specs.Place.{Held, Ready, all_ready, place_at}
+use Rattle.peer_queue.specs.DebtPlace.{Held, Ready, all_ready, place_at}
 use Rattle.world_core.specs.Past.{Past, PeerPast, TapePast, ledger_at, with_peer, with_tape}
 use Rattle.world_core.specs.Safe.{IsAbove, IsSafe}
 use Rattle.world_core.specs.Events.{AllDo, Event, Next, Opens, OpensIntake, each_rank, opened_peer}

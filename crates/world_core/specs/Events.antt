@@ -10,8 +10,8 @@ use Rattle.recovery.specs.Notes.{most_pending, noted_all}
 use Rattle.recovery.specs.Words.{OneHasRisen}
 use Rattle.recovery.specs.declared.fault.TapeFault.TheVariants.{Broken, Disk}
 use Rattle.conn_core.specs.declared.outcome.Outcome.{Outcome}
-use Rattle.peer_queue.specs.Place.{AreUnheld, Held, IsHeldBy, Later as LaterPlace, Ready, all_gone, all_ready, gone}
-use Rattle.peer_queue.specs.Place.{least_candidate, moved, place_at, with_place}
+use Rattle.peer_queue.specs.DebtPlace.{AreUnheld, Held, IsHeldBy, Later as LaterPlace, Ready, all_gone, all_ready, gone}
+use Rattle.peer_queue.specs.DebtPlace.{least_candidate, moved, place_at, with_place}
 use Rattle.peer_queue.specs.Settled.{IsEnded, key_in, settled_by}
 use Rattle.peer_queue.specs.Shed.{IsShedSet, dropped}
 use Rattle.peer_queue.specs.declared.limits.Owed.{Owed}

@@ -13,7 +13,7 @@ use Rattle.conn_core.specs.Stands.{left_behind, ready_of}
 use Rattle.conn_core.specs.declared.options.Options.{Options}
 use Rattle.conn_core.specs.declared.outcome.Outcome.{Outcome}
 use Rattle.conn_core.specs.declared.ready.Ready.TheVariants.{Busy as NoRoom, Shut, Yes}
-use Rattle.peer_queue.specs.Place.{least_candidate}
+use Rattle.peer_queue.specs.DebtPlace.{least_candidate}
 use Rattle.peer_queue.specs.Settled.{key_in, settled_by}
 use Rattle.peer_queue.specs.declared.limits.Limits.{Limits}
 use Rattle.world_core.specs.Past.{ConnPast, Life, Past, PeerPast, TapePast, conn_at, limits_of, options_of, rank_of}

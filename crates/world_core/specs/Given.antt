@@ -6,7 +6,7 @@ use Rattle.std.specs.declared.alloc.Global.{Global}
 use Rattle.disk_model.specs.declared.Disk.{Ghosts}
 use Rattle.feed_conf.specs.declared.conf.PeerConf.{PeerConf}
 use Rattle.ledger_core.specs.State.{State, keys}
-use Rattle.peer_queue.specs.Place.{all_ready}
+use Rattle.peer_queue.specs.DebtPlace.{all_ready}
 use Rattle.recovery.specs.Image.{IsNoTapeAt, IsSomeTape, IsTape, Log, Octets}
 use Rattle.recovery.specs.Notes.{found}
 use Rattle.recovery.specs.Words.{log_of}

@@ -2,7 +2,7 @@
 use Rattle.std.specs.Prelude.{◌≡◌, ◌+◌, ◌≤◌, ℕ, Option, None, Some, List, [], ◌++◌, length, map, vec_capacity, vec_len}
 use Rattle.std.specs.List.{AllByRecursion, AllZip}
 use Rattle.disk_model.specs.declared.Disk.{Ghosts}
-use Rattle.peer_queue.specs.Place.{IsHeldBy}
+use Rattle.peer_queue.specs.DebtPlace.{IsHeldBy}
 use Rattle.world_core.specs.Past.{Past, PeerPast}
 use Rattle.world_core.specs.Safe.{IsSafe}
 use Rattle.world_core.specs.Events.{AllDo, Event, Fails, Opens, calls_disk, each_rank}

@@ -14,7 +14,7 @@ use Rattle.conn_core.specs.State.{untold_at}
 use Rattle.conn_core.specs.declared.options.Options.{Options}
 use Rattle.conn_core.specs.declared.outcome.Outcome.{Outcome}
 use Rattle.conn_core.specs.declared.ready.Ready.TheVariants.{Busy as NoRoom, Shut, Yes}
-use Rattle.peer_queue.specs.Place.{IsHeldBy, Ready, least_candidate, moved}
+use Rattle.peer_queue.specs.DebtPlace.{IsHeldBy, Ready, least_candidate, moved}
 use Rattle.peer_queue.specs.Settled.{IsEnded, key_in}
 use Rattle.world_core.specs.Past.{ConnPast, PeerPast, TapePast, limits_of, options_of, with_places, with_tape}
 use Rattle.world_core.specs.Tapes.{HasRoom, IsReadTape}

@@ -10,7 +10,7 @@ use Rattle.recovery.specs.Leaving.{mark_of}
 use Rattle.recovery.specs.Notes.{History, ledger_after}
 use Rattle.conn_core.specs.History.{Event as Happening}
 use Rattle.conn_core.specs.declared.options.Options.{Options}
-use Rattle.peer_queue.specs.Place.{Places}
+use Rattle.peer_queue.specs.DebtPlace.{Places}
 use Rattle.peer_queue.specs.declared.limits.Limits.{Limits}
 
 -- A tape: its notes and how many are acknowledged, what has happened to its two disks, how many faults each told, and

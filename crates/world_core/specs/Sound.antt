@@ -10,7 +10,7 @@ use Rattle.conn_core.specs.Commands.{Held}
 use Rattle.conn_core.specs.History.{held}
 use Rattle.conn_core.specs.Stands.{Arises}
 use Rattle.conn_core.specs.declared.options.Options.{Options}
-use Rattle.peer_queue.specs.Place.{IsHeldBy}
+use Rattle.peer_queue.specs.DebtPlace.{IsHeldBy}
 use Rattle.peer_queue.specs.Settled.{key_in}
 use Rattle.world_core.specs.Past.{ConnPast, Life, Past, PeerPast, conn_at, mark_at, options_of}
 use Rattle.world_core.specs.Safe.{HasAcknowledged}

@@ -17,7 +17,7 @@ use Rattle.recovery.specs.declared.tape.Tape.{Tape}
 use Rattle.conn_core.specs.History.{outcomes, taken}
 use Rattle.conn_core.specs.Stands.{StandsFor as ConnStands}
 use Rattle.conn_core.specs.declared.outcome.Outcome.{Outcome}
-use Rattle.peer_queue.specs.Place.{all_ready, place_at}
+use Rattle.peer_queue.specs.DebtPlace.{all_ready, place_at}
 use Rattle.peer_queue.specs.Words.{limits_of as station_limits, places_of, tape_of}
 use Rattle.peer_queue.specs.declared.limits.Owed.{Owed}
 use Rattle.peer_queue.specs.declared.limits.Owed.TheVariants.{New}

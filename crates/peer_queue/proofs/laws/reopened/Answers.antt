@@ -6,7 +6,7 @@ use Rattle.recovery.specs.declared.fault.TapeFault.TheVariants.{NoMemory, Note}
 use Rattle.recovery.specs.Notes.{flushed}
 use Rattle.peer_queue.specs.declared.fault.StationFault.TheVariants.{Tape}
 use Rattle.peer_queue.specs.Faults.{station_fault}
-use Rattle.peer_queue.specs.Place.{all_ready}
+use Rattle.peer_queue.specs.DebtPlace.{all_ready}
 use Rattle.peer_queue.proofs.Reopens.{same_ledger, stands_whole, survives_now}
 use Rattle.peer_queue.proofs.laws.reopened.Goals as goal
 

@@ -1,5 +1,5 @@
 use Rattle.std.proofs.Common.{◌≡◌, None, take, sym, ap, ◌∙◌, subst, arith}
-use Rattle.peer_queue.specs.Place.{Places, Ready, all_ready, place_at, with_place}
+use Rattle.peer_queue.specs.DebtPlace.{Places, Ready, all_ready, place_at, with_place}
 use Rattle.peer_queue.proofs.Inserted.{absent_last, with_last}
 use Rattle.peer_queue.proofs.Ready.{ready_below, ready_more}
 use Rattle.peer_queue.proofs.place_index.all_ready_of.Goals as goal

@@ -4,7 +4,7 @@ use Rattle.ledger_core.specs.Shape.{FitsShape, Shape, keys_sized}
 use Rattle.recovery.specs.Notes.{most_pending}
 use Rattle.recovery.specs.declared.fault.TapeFault.TheVariants.{PendingFull}
 use Rattle.peer_queue.specs.Front.{IsBroken, front_shape, pending_of}
-use Rattle.peer_queue.specs.Place.{placed}
+use Rattle.peer_queue.specs.DebtPlace.{placed}
 use Rattle.peer_queue.specs.declared.fault.StationFault.{StationFault}
 use Rattle.peer_queue.specs.declared.fault.StationFault.TheVariants.{NoMemory, Tape as TapeRefused}
 use Rattle.peer_queue.proofs.EndFaults.{full_iff}

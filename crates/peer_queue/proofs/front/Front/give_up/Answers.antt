@@ -1,6 +1,6 @@
 use Rattle.std.proofs.Common.{ap, ◌∙◌}
 use Rattle.peer_queue.specs.Index.{place_for}
-use Rattle.peer_queue.specs.Place.{placed}
+use Rattle.peer_queue.specs.DebtPlace.{placed}
 use Rattle.peer_queue.proofs.Ends.{placed-moved}
 use Rattle.peer_queue.proofs.front.Front.give_up.Goals as goal
 

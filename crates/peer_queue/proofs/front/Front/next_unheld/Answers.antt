@@ -2,7 +2,7 @@ use Rattle.std.proofs.Common.{ℕ, sym, ap, ◌∙◌, add-one, arith}
 use Rattle.std.specs.Prelude.{find, nat_le}
 use Rattle.ledger_core.specs.Shape.{keys_sized, shape_marks}
 use Rattle.peer_queue.specs.Front.{front_shape, places_of}
-use Rattle.peer_queue.specs.Place.{unheld}
+use Rattle.peer_queue.specs.DebtPlace.{unheld}
 use Rattle.peer_queue.proofs.Prefixes.{found_last}
 use Rattle.peer_queue.proofs.Shaped.{past_outline}
 use Rattle.peer_queue.proofs.front.Front.next_unheld.Goals as goal

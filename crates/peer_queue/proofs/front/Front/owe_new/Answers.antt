@@ -7,7 +7,7 @@ use Rattle.recovery.specs.declared.fault.TapeFault.{TapeFault}
 use Rattle.recovery.specs.declared.fault.TapeFault.TheVariants.{Note as RefusedNote}
 use Rattle.peer_queue.specs.Faults.{IsOweFault}
 use Rattle.peer_queue.specs.Front.{front_shape}
-use Rattle.peer_queue.specs.Place.{IsUnheld, Places, Ready, gone, place_at, placed}
+use Rattle.peer_queue.specs.DebtPlace.{IsUnheld, Places, Ready, gone, place_at, placed}
 use Rattle.peer_queue.specs.declared.fault.StationFault.TheVariants.{Tape as TapeRefused}
 use Rattle.peer_queue.proofs.Inserted.{gone_with, unheld_with}
 use Rattle.peer_queue.proofs.Owes.{absent_among, told_fault}

@@ -3,7 +3,7 @@ use Rattle.std.specs.Prelude.{nat_lt}
 use Rattle.std.proofs.lemmas.List.{length-take}
 use Rattle.ledger_core.specs.Shape.{Shape, keys_sized}
 use Rattle.peer_queue.specs.Front.{front_shape, pending_of, places_of}
-use Rattle.peer_queue.specs.Place.{AreUnheld, all_gone, placed}
+use Rattle.peer_queue.specs.DebtPlace.{AreUnheld, all_gone, placed}
 use Rattle.peer_queue.specs.Shed.{IsShedByShape, sized_without}
 use Rattle.ledger_core.specs.Shape.{octets_sized}
 use Rattle.peer_queue.specs.ShedLaws.{set_unheld}

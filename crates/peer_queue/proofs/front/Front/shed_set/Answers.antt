@@ -3,7 +3,7 @@ use Rattle.std.specs.Prelude.{find, nat_le, unwrap_or}
 use Rattle.std.proofs.lemmas.List.{length_push, take_all}
 use Rattle.ledger_core.specs.Shape.{octets_sized}
 use Rattle.ledger_core.specs.declared.ledger.Totals.{Totals}
-use Rattle.peer_queue.specs.Place.{unheld}
+use Rattle.peer_queue.specs.DebtPlace.{unheld}
 use Rattle.peer_queue.specs.Shed.{AreWithin, sized_without}
 use Rattle.peer_queue.specs.Front.{front_shape, places_of}
 use Rattle.peer_queue.proofs.Cuts.{prefix_cut}

@@ -4,7 +4,7 @@ use Rattle.std.specs.Ordering.{nat_cmp}
 use Rattle.std.specs.BTreeMap.{get}
 use Rattle.std.specs.BTreeSet.{contains}
 use Rattle.deferral.specs.Due.{due_of}
-use Rattle.peer_queue.specs.Place.{Places, Ready, place_at, with_place}
+use Rattle.peer_queue.specs.DebtPlace.{Places, Ready, place_at, with_place}
 use Rattle.peer_queue.specs.Index.{Holders, pair_cmp, places_by}
 use Rattle.peer_queue.proofs.Kept as kept
 use Rattle.peer_queue.proofs.Moves as moves

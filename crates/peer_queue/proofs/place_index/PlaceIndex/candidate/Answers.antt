@@ -2,7 +2,7 @@ use Rattle.std.proofs.Common.{◌≡◌, ℕ, Option, Some, sym, ap, ◌∙◌, 
 use Rattle.std.specs.Prelude.{IfSome}
 use Rattle.std.specs.Ordering.{nat_cmp}
 use Rattle.std.specs.BTreeMap.{get}
-use Rattle.peer_queue.specs.Place.{AreRising, IsUnheld, Places, least_candidate}
+use Rattle.peer_queue.specs.DebtPlace.{AreRising, IsUnheld, Places, least_candidate}
 use Rattle.peer_queue.specs.Index.{Holders}
 use Rattle.peer_queue.specs.ClaimLaws.{candidate_unheld}
 use Rattle.peer_queue.proofs.Moves as moves

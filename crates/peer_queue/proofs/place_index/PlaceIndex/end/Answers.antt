@@ -3,7 +3,7 @@ use Rattle.std.specs.Ordering.{nat_cmp}
 use Rattle.std.specs.BTreeMap.{get}
 use Rattle.std.specs.BTreeSet.{contains}
 use Rattle.deferral.specs.Due.{Waiting, IsRising, due_of}
-use Rattle.peer_queue.specs.Place.{IsHeldBy, Places, gone}
+use Rattle.peer_queue.specs.DebtPlace.{IsHeldBy, Places, gone}
 use Rattle.peer_queue.specs.Index.{Holders, pair_cmp, places_by}
 use Rattle.peer_queue.proofs.Kept as kept
 use Rattle.peer_queue.proofs.Moves as moves

@@ -4,7 +4,7 @@ use Rattle.std.specs.List.{slice_get}
 use Rattle.std.specs.Ordering.{nat_cmp}
 use Rattle.std.specs.BTreeMap.{get}
 use Rattle.std.specs.BTreeSet.{contains}
-use Rattle.peer_queue.specs.Place.{AreRising, IsHeldBy, Places}
+use Rattle.peer_queue.specs.DebtPlace.{AreRising, IsHeldBy, Places}
 use Rattle.peer_queue.specs.Index.{Holders, pair_cmp}
 use Rattle.std.specs.Ordering.{is_gt}
 use Rattle.std.specs.BTreeMap.Range.{IsInRange}

@@ -5,7 +5,7 @@ use Rattle.std.specs.Ordering.{is_eq, nat_cmp}
 use Rattle.std.specs.BTreeMap.{get, is_at}
 use Rattle.std.specs.BTreeSet.{contains}
 use Rattle.deferral.specs.Due.{Waiting, IsRising, due_of}
-use Rattle.peer_queue.specs.Place.{Held, IsUnheld, Places, moved}
+use Rattle.peer_queue.specs.DebtPlace.{Held, IsUnheld, Places, moved}
 use Rattle.peer_queue.specs.Index.{Holders, pair_cmp, places_by}
 use Rattle.peer_queue.proofs.Kept as kept
 use Rattle.peer_queue.proofs.Moves as moves

@@ -3,7 +3,7 @@ use Rattle.std.specs.Ordering.{nat_cmp}
 use Rattle.std.specs.BTreeMap.{get}
 use Rattle.std.specs.BTreeSet.{contains}
 use Rattle.std.proofs.lemmas.Bool.{eqb-true, eq-eqb}
-use Rattle.peer_queue.specs.Place.{IsHeldBy, Places}
+use Rattle.peer_queue.specs.DebtPlace.{IsHeldBy, Places}
 use Rattle.peer_queue.specs.Index.{Holders, pair_cmp}
 use Rattle.peer_queue.proofs.Kept as kept
 use Rattle.peer_queue.proofs.place_index.PlaceIndex.is_held_by.Goals as goal

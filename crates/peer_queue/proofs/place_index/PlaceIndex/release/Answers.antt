@@ -1,5 +1,5 @@
 use Rattle.std.proofs.Common.{sym, ap, ◌∙◌, arith}
-use Rattle.peer_queue.specs.Place.{held_count, released}
+use Rattle.peer_queue.specs.DebtPlace.{held_count, released}
 use Rattle.peer_queue.proofs.Releases.{released_moved, count_moved, count_within, released_none, count_none}
 use Rattle.peer_queue.proofs.place_index.PlaceIndex.release.Goals as goal
 

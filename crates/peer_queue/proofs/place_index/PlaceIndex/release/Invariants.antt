@@ -1,5 +1,5 @@
 use Rattle.std.proofs.Common.{◌≡◌, ◌+◌}
-use Rattle.peer_queue.specs.Place.{held_count, released}
+use Rattle.peer_queue.specs.DebtPlace.{held_count, released}
 use Rattle.peer_queue.proofs.place_index.PlaceIndex.release.Given as goal
 
 abbrev pub invariant-loop-key : goal.invariant-loop-key

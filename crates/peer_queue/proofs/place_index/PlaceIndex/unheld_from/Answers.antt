@@ -2,7 +2,7 @@ use Rattle.std.proofs.Common.{◌-◌, ◌^◌, ap, ◌∙◌, subst, arith}
 use Rattle.std.specs.Prelude.{find, nat_le}
 use Rattle.std.specs.Ordering.{nat_cmp}
 use Rattle.std.specs.BTreeMap.{get}
-use Rattle.peer_queue.specs.Place.{AreRising, Places, unheld}
+use Rattle.peer_queue.specs.DebtPlace.{AreRising, Places, unheld}
 use Rattle.peer_queue.specs.Index.{Holders}
 use Rattle.peer_queue.proofs.Releases.{rising_by}
 use Rattle.peer_queue.proofs.Unheld.{unheld_is}

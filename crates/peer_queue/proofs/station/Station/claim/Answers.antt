@@ -1,6 +1,6 @@
 use Rattle.std.proofs.Common.{ℕ, List, sym, ◌∙◌, subst}
 use Rattle.std.specs.List.{Contains}
-use Rattle.peer_queue.specs.Place.{IsUnheld, Places}
+use Rattle.peer_queue.specs.DebtPlace.{IsUnheld, Places}
 use Rattle.peer_queue.proofs.Claims.{candidate_placed, placed_hold}
 use Rattle.peer_queue.proofs.station.Station.claim.Goals as goal
 

@@ -3,7 +3,7 @@ use Rattle.std.specs.Prelude.{◌↔◌}
 use Rattle.ledger_core.specs.State.{IsLegal, keys}
 use Rattle.recovery.specs.Notes.{most_pending}
 use Rattle.recovery.specs.declared.fault.TapeFault.TheVariants.{PendingFull}
-use Rattle.peer_queue.specs.Place.{placed}
+use Rattle.peer_queue.specs.DebtPlace.{placed}
 use Rattle.peer_queue.specs.Words.{IsBroken, ledger_of, pending_of}
 use Rattle.peer_queue.specs.declared.fault.StationFault.{StationFault}
 use Rattle.peer_queue.specs.declared.fault.StationFault.TheVariants.{NoMemory, Tape as TapeRefused}

@@ -1,7 +1,7 @@
 use Rattle.std.proofs.Common.{ℕ, sym, ap, ◌∙◌, add-one, arith}
 use Rattle.std.specs.Prelude.{find, nat_le}
 use Rattle.ledger_core.specs.State.{keys, marks_of}
-use Rattle.peer_queue.specs.Place.{unheld}
+use Rattle.peer_queue.specs.DebtPlace.{unheld}
 use Rattle.peer_queue.specs.Words.{ledger_of, places_of}
 use Rattle.peer_queue.proofs.Prefixes.{found_last}
 use Rattle.peer_queue.proofs.station.Station.next_unheld.Goals as goal

@@ -3,7 +3,7 @@ use Rattle.ledger_core.specs.State.{keys}
 use Rattle.recovery.specs.Image.{Log, Survives, TapeLeaves}
 use Rattle.recovery.specs.Words.{ledger_of as tape_ledger}
 use Rattle.recovery.specs.TapeLaws.{logs_of_disks, refused_as_opened}
-use Rattle.peer_queue.specs.Place.{placed}
+use Rattle.peer_queue.specs.DebtPlace.{placed}
 use Rattle.peer_queue.proofs.Owes.{placed-all_ready}
 use Rattle.peer_queue.proofs.station.Station.open.Goals as goal
 

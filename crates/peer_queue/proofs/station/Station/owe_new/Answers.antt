@@ -8,7 +8,7 @@ use Rattle.recovery.specs.declared.fault.TapeFault.TheVariants.{Note as RefusedN
 use Rattle.recovery.specs.Words.{ledger_of as tape_ledger}
 use Rattle.peer_queue.specs.declared.fault.StationFault.TheVariants.{Tape as TapeRefused}
 use Rattle.peer_queue.specs.Faults.{IsOweFault}
-use Rattle.peer_queue.specs.Place.{IsUnheld, Places, Ready, gone, place_at, placed}
+use Rattle.peer_queue.specs.DebtPlace.{IsUnheld, Places, Ready, gone, place_at, placed}
 use Rattle.peer_queue.proofs.Inserted.{gone_with, unheld_with}
 use Rattle.peer_queue.proofs.Owes.{absent_next, note_fault, placed_owed, told_fault}
 use Rattle.peer_queue.proofs.station.Station.owe_new.Goals as goal

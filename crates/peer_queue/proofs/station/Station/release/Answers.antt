@@ -1,5 +1,5 @@
 use Rattle.std.proofs.Common.{ap, ◌∙◌}
-use Rattle.peer_queue.specs.Place.{placed}
+use Rattle.peer_queue.specs.DebtPlace.{placed}
 use Rattle.peer_queue.proofs.Same.{placed-released}
 use Rattle.peer_queue.proofs.station.Station.release.Goals as goal
 

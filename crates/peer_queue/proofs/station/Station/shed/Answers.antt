@@ -6,7 +6,7 @@ use Rattle.ledger_core.specs.State.{State, keys, after}
 use Rattle.recovery.specs.Notes.{AreOwed}
 use Rattle.recovery.specs.declared.fault.TapeFault.{TapeFault}
 use Rattle.recovery.specs.Words.{ledger_of as tape_ledger}
-use Rattle.peer_queue.specs.Place.{AreUnheld, all_gone, placed}
+use Rattle.peer_queue.specs.DebtPlace.{AreUnheld, all_gone, placed}
 use Rattle.peer_queue.specs.Shed.{IsShedSet, dropped}
 use Rattle.peer_queue.specs.Words.{ledger_of, pending_of, places_of}
 use Rattle.peer_queue.specs.ShedLaws.{shed_unheld}

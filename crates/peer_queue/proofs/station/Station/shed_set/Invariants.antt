@@ -1,5 +1,5 @@
 use Rattle.std.proofs.Common.{length, ◌+◌, ◌-◌, ◌≤◌}
-use Rattle.peer_queue.specs.Place.{unheld}
+use Rattle.peer_queue.specs.DebtPlace.{unheld}
 use Rattle.peer_queue.specs.Shed.{owed_without}
 use Rattle.peer_queue.specs.Words.{ledger_of, places_of}
 use Rattle.peer_queue.proofs.Sheds.{IsPrefix}

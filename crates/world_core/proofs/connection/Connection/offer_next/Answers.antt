@@ -2,7 +2,7 @@
 use Rattle.std.proofs.Common.{◌∙◌, ap, refl, sym, subst, inl, inr}
 use Rattle.ledger_core.specs.State.{Owing}
 use Rattle.conn_core.specs.Stands.{Refuses as RefusesOffer, ready_of}
-use Rattle.peer_queue.specs.Place.{IsHeldBy, Ready, moved}
+use Rattle.peer_queue.specs.DebtPlace.{IsHeldBy, Ready, moved}
 use Rattle.peer_queue.specs.Words.{places_of}
 use Rattle.world_core.specs.Past.{options_of}
 use Rattle.world_core.proofs.Handing.{claim_refused, gave_back_busy, gave_back_memory, gave_back_shut, held_there}

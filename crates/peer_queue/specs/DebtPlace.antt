@@ -6,26 +6,26 @@ use Rattle.std.specs.Map.{lookup}
 use Rattle.std.specs.Ordering.{nat_cmp}
 
 -- a debt waits to be claimed, is held by one connection, or waits until a moment
-pub data Place : Type 0 where
-  Ready : Place
-  Held : (connection : ℕ) → Place
-  Later : (moment : ℕ) → Place
+pub data DebtPlace : Type 0 where
+  Ready : DebtPlace
+  Held : (connection : ℕ) → DebtPlace
+  Later : (moment : ℕ) → DebtPlace
 
 -- the place of a debt that waits until this moment: until 0 is no wait
-abbrev pub place_until : ℕ → Place
+abbrev pub place_until : ℕ → DebtPlace
 place_until zero = Ready
 place_until (suc moment) = Later (suc moment)
 
 -- the place of each number that is owed, by rising numbers
 abbrev pub Places : Type 0
-Places = List (ℕ × Place)
+Places = List (ℕ × DebtPlace)
 
 -- the numbers that have a place
 abbrev pub placed : Places → List ℕ
-placed places = map (λ (entry : ℕ × Place). entry.0) places
+placed places = map (λ (entry : ℕ × DebtPlace). entry.0) places
 
 -- the place of this number
-abbrev pub place_at : Places → ℕ → Option Place
+abbrev pub place_at : Places → ℕ → Option DebtPlace
 place_at places number = lookup (λ other. other == number) places
 
 -- this connection holds this number
@@ -37,16 +37,17 @@ abbrev pub all_ready : List ℕ → Places
 all_ready numbers = map (λ (number : ℕ). (number, Ready)) numbers
 
 -- the places and one more, in its place by its key
-abbrev pub with_place : Places → ℕ → Place → Places
+abbrev pub with_place : Places → ℕ → DebtPlace → Places
 with_place places key place = insert_entry nat_cmp places key place
 
 -- the number has this place now, and every other keeps its own
-abbrev pub moved : Places → ℕ → Place → Places
-moved places number place = map (λ (entry : ℕ × Place). if entry.0 == number then (number, place) else entry) places
+abbrev pub moved : Places → ℕ → DebtPlace → Places
+moved places number place =
+    map (λ (entry : ℕ × DebtPlace). if entry.0 == number then (number, place) else entry) places
 
 -- the number has no place any more
 abbrev pub gone : Places → ℕ → Places
-gone places number = filter (λ (entry : ℕ × Place). if entry.0 == number then false else true) places
+gone places number = filter (λ (entry : ℕ × DebtPlace). if entry.0 == number then false else true) places
 
 -- none of these has a place any more
 abbrev pub all_gone : Places → List ℕ → Places
@@ -54,41 +55,44 @@ all_gone places [] = places
 all_gone places (number ∷ numbers) = all_gone (gone places number) numbers
 
 -- a debt at this place may be claimed at this moment
-abbrev pub is_candidate : ℕ → Place → Bool
+abbrev pub is_candidate : ℕ → DebtPlace → Bool
 is_candidate now Ready = true
 is_candidate now (Held connection) = false
 is_candidate now (Later moment) = nat_le moment now
 
 -- the least number that may be claimed at this moment: the first, since they rise
 abbrev pub least_candidate : ℕ → Places → Option ℕ
-least_candidate now places = option_map (λ (entry : ℕ × Place). entry.0) (find (λ (entry : ℕ × Place). is_candidate now entry.1) places)
+least_candidate now places =
+    option_map (λ (entry : ℕ × DebtPlace). entry.0)
+    (find (λ (entry : ℕ × DebtPlace). is_candidate now entry.1) places)
 
 -- held by this connection
-abbrev pub is_held_by : ℕ → Place → Bool
+abbrev pub is_held_by : ℕ → DebtPlace → Bool
 is_held_by connection Ready = false
 is_held_by connection (Held other) = other == connection
 is_held_by connection (Later moment) = false
 
 -- all that this connection held is ready
 abbrev pub released : ℕ → Places → Places
-released connection places = map (λ (entry : ℕ × Place). if is_held_by connection entry.1 then (entry.0, Ready) else entry) places
+released connection places =
+    map (λ (entry : ℕ × DebtPlace). if is_held_by connection entry.1 then (entry.0, Ready) else entry) places
 
 -- how many numbers this connection holds
 abbrev pub held_count : ℕ → Places → ℕ
-held_count connection places = length (filter (λ (entry : ℕ × Place). is_held_by connection entry.1) places)
+held_count connection places = length (filter (λ (entry : ℕ × DebtPlace). is_held_by connection entry.1) places)
 
 -- the moment until which a deferred debt waits: 60 seconds on, or the last that there is
 abbrev pub deferred_until : ℕ → ℕ
 deferred_until now = min (now + 60) (2 ^ 64 - 1)
 
 -- held by some connection
-abbrev pub is_held : Place → Bool
+abbrev pub is_held : DebtPlace → Bool
 is_held Ready = false
 is_held (Held connection) = true
 is_held (Later moment) = false
 
 -- neither ready nor held: it waits for a moment
-abbrev pub IsLater : Place → Type 0
+abbrev pub IsLater : DebtPlace → Type 0
 IsLater Ready = ⊥
 IsLater (Held connection) = ⊥
 IsLater (Later moment) = Unit {0}
@@ -104,7 +108,9 @@ AreUnheld places (number ∷ numbers) = IsUnheld places number × AreUnheld (gon
 
 -- the numbers that no connection holds, rising
 abbrev pub unheld : Places → List ℕ
-unheld places = map (λ (entry : ℕ × Place). entry.0) (filter (λ (entry : ℕ × Place). if is_held entry.1 then false else true) places)
+unheld places =
+    map (λ (entry : ℕ × DebtPlace). entry.0)
+    (filter (λ (entry : ℕ × DebtPlace). if is_held entry.1 then false else true) places)
 
 -- each number is above this one
 abbrev pub AreAbove : ℕ → Places → Type 0
