@@ -8,11 +8,11 @@ use ledger_core::Key;
 use std::alloc::{AllocError, Global};
 use std::marker::Model;
 
-/// Keys of debts that wait, each for a moment of its own, in seconds of the caller's clock, or for none: such a key is
-/// due at no moment and keeps its room, so that it takes no memory to give it a moment again.
+/// Keys of debts that wait, each for its own moment, in seconds of the caller's clock, or for none. A key with no
+/// moment is never due and keeps its room, so that it takes no memory to give it a moment again.
 ///
-/// Contracts see it as the list of its keys, each with its moment or none, by strictly rising keys. A call takes at
-/// most a constant times as many steps as a key has bits, whatever keys wait, and memory is linear in how many wait.
+/// Contracts see the list of its keys, each with its moment or none, by strictly rising keys. A call takes at most a
+/// constant times as many steps as a key has bits, whatever keys wait, and memory is linear in how many wait.
 #[derive(Drop)]
 pub struct Later {
     alloc: Global,
@@ -33,7 +33,7 @@ impl Model for Later {
 }
 
 impl Later {
-    /// Nothing waits.
+    /// One in which no key waits.
     pub fn new(alloc: Global) -> Self
         ensures { result ≡ [] }
     {
@@ -51,10 +51,10 @@ impl Later {
         }
     }
 
-    /// Has a key that does not wait wait for this moment, which may be past.
+    /// Puts in a key that does not wait yet. It waits for this moment, which may be past.
     ///
     /// # Errors
-    /// `NoMemory` where memory was refused; what waits stays as it was.
+    /// `NoMemory` if memory was refused; nothing changes.
     pub fn put(&mut self, key: Key, due: u64) -> Result<(), AllocError>
         requires { due_of self.old key ≡ None }
         ensures ok { OnOk result (self.new ≡ added self.old key (Some due)) }
@@ -98,8 +98,7 @@ impl Later {
         }
     }
 
-    /// Has a key that waits wait for this moment from now on, or for none, and says whether it waits. Takes no
-    /// memory.
+    /// Gives a waiting key this moment instead, or none; returns whether the key waits. Takes no memory.
     pub fn set(&mut self, key: Key, due: Option<u64>) -> bool
         ensures was { IsTrue result ↔ IsSome (due_of self.old key) }
         ensures new { self.new ≡ changed self.old key due }
@@ -110,7 +109,7 @@ impl Later {
         }
     }
 
-    /// Has a key wait no more, and says whether it did.
+    /// Takes out a key; returns whether it waited.
     pub fn remove(&mut self, key: Key) -> bool
         ensures was { IsTrue result ↔ IsSome (due_of self.old key) }
         ensures new { self.new ≡ removed self.old key }

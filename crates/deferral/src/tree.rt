@@ -1,6 +1,6 @@
-// A binary tree over the bits of the keys, no deeper than a key has bits, those of its source before those of its
-// number, in which a key is found by its value and by its moment. The keys stand in the leaves. Each fork is over the
-// highest bit in which its keys differ.
+// A binary tree over the bits of the keys, the source's before the number's, no deeper than a key has bits, in which a
+// key is found by its value and by its moment. The keys are in the leaves. Each fork is at the highest bit in which its
+// keys differ.
 ghost use Rattle.std.specs.Prelude.{◌≡◌, ℕ, [], ◌∷◌, ◌≤◌, ◌<◌, ◌↔◌, ◌++◌, ◌⊎◌};
 ghost use Rattle.std.specs.Prelude.{true, false, IsSome, IsTrue, IfNone, IfSome, OnErr, OnOk, Option};
 ghost use Rattle.deferral.specs.Due.{AllNumbers, IsDue, IsLeastDueFrom, Waiting, added, changed, due_of, removed};
@@ -11,14 +11,14 @@ use std::alloc::{AllocError, Global};
 use std::marker::Model;
 use std::mem;
 
-/// A key with the moment for which it waits, or none: then it is due at no moment.
+/// A key with the moment for which it waits, or none: then it is never due.
 #[derive(Clone, Copy)]
 pub struct Entry {
     pub key: Key,
     pub due: Option<u64>,
 }
 
-/// The first and the last key of a tree, and the earliest of its moments, none where no key has one.
+/// The first and the last key of a tree, and the earliest of its moments, none if no key has one.
 #[derive(Clone, Copy)]
 pub struct Bounds {
     pub first: Key,
@@ -34,7 +34,7 @@ pub enum Tree {
     Fork(Box<Fork>),
 }
 
-/// Two trees, of the keys below the split and of the others.
+/// Two trees, one of the keys below the split and one of the others.
 #[cycle(tree)]
 #[derive(Drop)]
 pub struct Fork {
@@ -64,7 +64,7 @@ impl Model for Fork {
     ghost size_decreases = { sides_fall };
 }
 
-/// The earlier of two moments, where none is later than each.
+/// The earlier of two moments; a missing one is later than any.
 fn earlier_of(one: Option<u64>, other: Option<u64>) -> Option<u64>
     ensures { result ≡ earlier one other }
 {
@@ -75,7 +75,7 @@ fn earlier_of(one: Option<u64>, other: Option<u64>) -> Option<u64>
     }
 }
 
-/// Whether it is a moment, at or before now.
+/// Whether there is a moment, and it is at or before now.
 fn is_by(due: Option<u64>, now: u64) -> bool
     ensures { IsTrue result ↔ IsBy due now }
 {
@@ -88,7 +88,6 @@ fn is_by(due: Option<u64>, now: u64) -> bool
 impl Bounds {
     ghost use Rattle.deferral.specs.Tree.{IsBoundsOf};
 
-    /// Those of two trees together.
     fn joined(self, other: Self) -> Self
         ensures { (left right : Waiting) → IsBoundsOf self left → IsBoundsOf other right
             → IsBoundsOf result (left ++ right) }
@@ -104,7 +103,6 @@ impl Bounds {
 impl Entry {
     ghost use Rattle.deferral.specs.Tree.{IsBoundsOf};
 
-    /// What it tells where it is alone.
     fn bounds(self) -> Bounds
         ensures { IsBoundsOf result ((self.key, self.due) ∷ []) }
     {
@@ -116,7 +114,7 @@ impl Entry {
     }
 }
 
-/// Whether a split has the key on one side, and all from the first to the last on the other.
+/// Whether a split has the key on one side, and all keys from the first to the last on the other.
 fn is_apart(key: Key, split: Key, first: Key, last: Key) -> bool
     ensures { IsTrue result ↔ ((key < split) × (split ≤ first)) ⊎ ((last < split) × (split ≤ key)) }
 {
@@ -141,7 +139,6 @@ fn split_between(low: Key, high: Key) -> Key
     }
 }
 
-/// The higher number without the bits below the highest in which the two differ.
 fn split_of(low: u64, high: u64) -> u64
     requires { low < high }
     ensures above { low < result }
@@ -154,7 +151,6 @@ fn split_of(low: u64, high: u64) -> u64
 impl Fork {
     ghost use Rattle.deferral.specs.Tree.{both, is_only, waiting_in};
 
-    /// A fork of two trees at this split.
     fn of(split: Key, left: Tree, right: Tree) -> Self
         requires left { AllNumbers (λ key. key < split) (waiting_in left) }
         requires right { AllNumbers (λ key. split ≤ key) (waiting_in right) }
@@ -169,7 +165,6 @@ impl Fork {
         }
     }
 
-    /// Whether it has this key.
     #[cycle(contains)]
     fn contains(&self, key: Key) -> bool
         ensures { IsTrue result ↔ IsSome (due_of (both self.now) key) }
@@ -181,7 +176,6 @@ impl Fork {
         }
     }
 
-    /// The least key at or above the first whose moment is at or before now.
     #[cycle(due_from)]
     fn due_from(&self, first: Key, now: u64) -> Option<Key>
         ensures some { IfSome result (λ key. IsLeastDueFrom (both self.now) first now key) }
@@ -195,7 +189,7 @@ impl Fork {
         }
     }
 
-    /// Puts a key in that it has not, on its side of the split.
+    /// Puts in a key that it does not have, on its side of the split.
     #[cycle(put)]
     fn put(&mut self, alloc: Global, entry: Entry) -> Result<(), AllocError>
         requires { due_of (both self.old) entry.key ≡ None }
@@ -212,7 +206,7 @@ impl Fork {
         Ok(())
     }
 
-    /// Takes a key out that is alone on neither side; says whether it had the key.
+    /// Takes out a key that is alone on neither side; returns whether it had the key.
     #[cycle(remove)]
     fn remove(&mut self, key: Key) -> bool
         requires left { is_only key self.old.0 ≡ false }
@@ -230,7 +224,7 @@ impl Fork {
         was
     }
 
-    /// Gives a key another moment, or none, on its side of the split; says whether it has the key.
+    /// Gives a key another moment, or none, on its side of the split; returns whether it has the key.
     #[cycle(set)]
     fn set(&mut self, key: Key, due: Option<u64>) -> bool
         ensures was { IsTrue result ↔ IsSome (due_of (both self.old) key) }
@@ -246,7 +240,7 @@ impl Fork {
         was
     }
 
-    /// What is left of a fork in which this key is alone on one side.
+    /// What is left of a fork without this key, which is alone on one side.
     fn other_side(self, key: Key) -> Tree
         requires { (is_only key self.0 ≡ true) ⊎ (is_only key self.1 ≡ true) }
         ensures had { IsSome (due_of (both self) key) }
@@ -265,7 +259,6 @@ impl Fork {
 impl Tree {
     ghost use Rattle.deferral.specs.Tree.{IsBeside, IsBoundsOf, IsForked, IsHalf, both, is_only, waiting_in};
 
-    /// What it tells of its keys.
     pub fn bounds(&self) -> Bounds
         ensures { IsBoundsOf result (waiting_in self.now) }
     {
@@ -289,7 +282,6 @@ impl Tree {
         }
     }
 
-    /// Whether it has this key.
     #[cycle(contains)]
     pub fn contains(&self, key: Key) -> bool
         ensures { IsTrue result ↔ IsSome (due_of (waiting_in self.now) key) }
@@ -309,7 +301,7 @@ impl Tree {
             ((key : ℕ) → first ≤ key → IsDue (waiting_in self.now) now key → ⊥) }
     {
         // A tree whose bounds rule it out is left at once. Any other has such a key, unless the first is within its
-        // bounds, and of those there is one at each depth at most.
+        // bounds, and at most one tree at each depth is like that.
         let Bounds { last, least, .. } = self.bounds();
         if last.is_below(first) || !is_by(least, now) {
             return None;
@@ -320,8 +312,7 @@ impl Tree {
         }
     }
 
-    /// The split of a fork over the tree and this key beside it; `None` where the key belongs below the tree's
-    /// fork.
+    /// The split of a fork over the tree and this key beside it; `None` if the key belongs below the tree's own fork.
     fn split_beside(&self, key: Key) -> Option<Key>
         requires { due_of (waiting_in self.now) key ≡ None }
         ensures some { IfSome result (λ split. IsBeside split key (waiting_in self.now)) }
@@ -336,7 +327,7 @@ impl Tree {
         }
     }
 
-    /// Puts a fork in its place, over the tree and a leaf beside it.
+    /// Replaces the tree by a fork over it and a leaf beside it.
     fn grow(&mut self, alloc: Global, entry: Entry, split: Key) -> Result<(), AllocError>
         requires { IsBeside split entry.key (waiting_in self.old) }
         ensures ok { OnOk result
@@ -365,7 +356,7 @@ impl Tree {
         }
     }
 
-    /// Puts a key in that it has not.
+    /// Puts in a key that it does not have.
     #[cycle(put)]
     pub fn put(&mut self, alloc: Global, entry: Entry) -> Result<(), AllocError>
         requires { due_of (waiting_in self.old) entry.key ≡ None }
@@ -382,7 +373,7 @@ impl Tree {
         }
     }
 
-    /// Puts the other side in the place of a fork in which this key is alone on one.
+    /// Replaces a fork in which this key is alone on one side by the other side.
     fn shrink(&mut self, key: Key)
         requires { IsHalf key self.old }
         ensures had { IsSome (due_of (waiting_in self.old) key) }
@@ -395,7 +386,7 @@ impl Tree {
         }
     }
 
-    /// Takes a key out, where it is not the only one; says whether the tree had it.
+    /// Takes out a key unless it is the only one; returns whether the tree had it.
     #[cycle(remove)]
     pub fn remove(&mut self, key: Key) -> bool
         requires { is_only key (waiting_in self.old) ≡ false }
@@ -415,7 +406,7 @@ impl Tree {
         }
     }
 
-    /// Gives a key another moment, or none; says whether the tree has it.
+    /// Gives a key another moment, or none; returns whether the tree has it.
     #[cycle(set)]
     pub fn set(&mut self, key: Key, due: Option<u64>) -> bool
         ensures was { IsTrue result ↔ IsSome (due_of (waiting_in self.old) key) }

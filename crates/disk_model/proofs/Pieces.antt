@@ -1,4 +1,4 @@
--- A transfer that goes on in pieces: a read, and a write that is given up in its midst.
+-- A transfer that goes on in pieces: a read, and a write that is given up in the middle.
 use Rattle.std.proofs.Common.{◌≡◌, ℕ, ◌+◌, ◌-◌, ◌≤◌, zero, suc, List, ◌++◌, length, take, Result}
 use Rattle.std.proofs.Common.{drop, slice_range, Err, refl, inl, inr, sym, ap, ◌∙◌, arith}
 use Rattle.std.proofs.Common.{length-take, length-drop}

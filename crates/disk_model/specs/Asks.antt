@@ -1,15 +1,15 @@
--- Which calls of the system a call of a disk makes (profile). What is known of one call of the system is a relation of
--- the file before it, what it answered, and the file behind it.
+-- Which system calls a call of a disk makes (profile). A system call is known by a relation of the file before it, its
+-- answer, and the file after it.
 use Rattle.std.specs.Prelude.{◌≡◌, ◌⊎◌, ◌+◌, ◌-◌, ◌^◌, ◌<◌, ℕ, min, Result, Ok, Err, MatchResult}
 use Rattle.disk_model.specs.declared.DiskFault.{DiskFault}
 use Rattle.disk_model.specs.declared.raw_file.RawFault.{RawFault}
 use Rattle.disk_model.specs.declared.raw_file.RawFault.TheVariants.{Interrupted, Failed}
 
--- how often one call is made, where each time it is interrupted
+-- how often one call is made, if it is interrupted each time
 abbrev pub most_tries : ℕ
 most_tries = 1000
 
--- So many calls were interrupted, one after another.
+-- This many calls were interrupted, one after another.
 pub data WereInterrupted {F : Type 0} (call : F → Result (Unit {0}) RawFault → F → Type 0) (old : F)
     : ℕ → F → Type 0 where
   None_yet : WereInterrupted call old 0 old
@@ -17,8 +17,8 @@ pub data WereInterrupted {F : Type 0} (call : F → Result (Unit {0}) RawFault �
       → WereInterrupted call old count between → call between (Err Interrupted) new
       → WereInterrupted call old (count + 1) new
 
--- What a call that is made again where it was interrupted, so many times at most, comes to: what the first that was not
--- interrupted came to; or a fault, where all of them were.
+-- What comes of a call that is made again while it is interrupted, at most this often: what came of the first that was
+-- not interrupted; or a fault, if all of them were.
 pub record Tries {F : Type 0} (call : F → Result (Unit {0}) RawFault → F → Type 0) (most : ℕ)
     (old : F) (result : Result (Unit {0}) DiskFault) (new : F) : Type 0 where
   pub count : ℕ
@@ -27,8 +27,8 @@ pub record Tries {F : Type 0} (call : F → Result (Unit {0}) RawFault → F →
   pub last : MatchResult result (λ done. (count < most) × call between (Ok done) new)
       (λ _. ((count < most) × call between (Err Failed) new) ⊎ ((count ≡ most) × (new ≡ between)))
 
--- So many calls went on with one transfer, and so many octets are done then: each call moved some, or was interrupted.
--- What they change is the file, and of a read what it reads into.
+-- This many calls continued one transfer, and this many octets are done then: each call moved some, or was interrupted.
+-- They change the file and, for a read, what is read into.
 pub data WentOn {S : Type 0} (call : S → (done : ℕ) → Result ℕ RawFault → S → Type 0) (old : S)
     : (calls done : ℕ) → S → Type 0 where
   Begins : WentOn call old 0 0 old
@@ -39,7 +39,7 @@ pub data WentOn {S : Type 0} (call : S → (done : ℕ) → Result ℕ RawFault 
       → WentOn call old calls done between → call between done (Err Interrupted) new
       → WentOn call old (calls + 1) done new
 
--- how many calls one transfer of so many octets makes at most
+-- how many calls one transfer of N octets makes at most
 abbrev pub most_calls : ℕ → ℕ
 most_calls total = min (total + most_tries) (2 ^ 64 - 1)
 
@@ -52,7 +52,7 @@ pub data Stops {S : Type 0} (call : S → (done : ℕ) → Result ℕ RawFault �
       → Stops call total calls done between new
   Too_many : (calls done : ℕ) (between : S) → calls ≡ most_calls total → Stops call total calls done between between
 
--- A transfer of so many octets: done where it ends so, else a fault where it goes no further.
+-- A transfer of N octets: done if it ends so, else a fault, and it goes no further.
 pub record Transfers {S : Type 0} (call : S → (done : ℕ) → Result ℕ RawFault → S → Type 0)
     (Ends : (done : ℕ) → S → S → Type 0) (total : ℕ)
     (old : S) (result : Result (Unit {0}) DiskFault) (new : S) : Type 0 where
@@ -62,7 +62,7 @@ pub record Transfers {S : Type 0} (call : S → (done : ℕ) → Result ℕ RawF
   pub went : WentOn call old calls done between
   pub last : MatchResult result (λ _. Ends done between new) (λ _. Stops call total calls done between new)
 
--- A read is done where all octets are in.
+-- A read is done once all octets are in.
 abbrev pub ReadsIn : {S : Type 0} → (S → (done : ℕ) → Result ℕ RawFault → S → Type 0) → (total : ℕ)
     → S → Result (Unit {0}) DiskFault → S → Type 0
 ReadsIn call total = Transfers call (λ done between new. (done ≡ total) × (new ≡ between)) total

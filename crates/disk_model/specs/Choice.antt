@@ -9,7 +9,7 @@ use Rattle.disk_model.specs.Disk.Event.{Made, Wrote, Tore, WasCut, FailedCut, Sy
 abbrev pub padded_write : List ℕ → ℕ → List ℕ → List ℕ
 padded_write old at octets = take at old ++ replicate (at - length old) 0 ++ octets ++ drop (at + length octets) old
 
--- how many operations stand behind the last sync: each write and each cut is one
+-- how many operations follow the last sync: each write and each cut is one
 abbrev pub pending : List Event → ℕ
 pending [] = 0
 pending (Made octets ∷ log) = 0
@@ -19,18 +19,18 @@ pending (WasCut len ∷ log) = pending log + 1
 pending (FailedCut len ∷ log) = pending log + 1
 pending (Synced ∷ log) = 0
 
--- whether the operation of this number, from 0, happened as asked: bit 63 tells of each from 63 on
+-- whether the operation of this number, from 0, happened as asked: bit 63 stands for each from 63 on
 abbrev pub happens : Choice → ℕ → Bool
 happens choice number = bit_at choice.happened (min number 63) == 1
 
--- what is left of an image by a write, as the choice has it for the operation of this number
+-- what a write leaves of an image, as the choice has it for the operation of this number
 abbrev pub chosen_write : Choice → ℕ → List ℕ → ℕ → List ℕ → List ℕ
 chosen_write choice number image at octets =
     if happens choice number then padded_write image at octets
     else (if choice.fill == 0 then image else padded_write image at (replicate (length octets) choice.fill))
 
--- The image that a choice names. A write that did not happen leaves all as it was where the fill is 0, and else its
--- range holds the fill. Octets between an image's end and a later write are 0. A failed write or cut did not happen.
+-- The image that a choice names. A write that did not happen leaves all as it was if the fill is 0, and else its range
+-- holds the fill. Octets between an image's end and a later write are 0. A failed write or cut did not happen.
 abbrev pub chosen_image : Choice → List Event → List ℕ
 chosen_image choice [] = []
 chosen_image choice (Made octets ∷ log) = octets

@@ -1,5 +1,5 @@
--- The disk model. What has happened to a disk is a list of events, the newest first. What a read gives, and what a
--- stop may leave, are functions of that list; a moment is a list that the disk has had.
+-- The disk model. What has happened to a disk is a list of events, newest first. What a read gives, and what a stop may
+-- leave, are functions of that list; a moment is a list that the disk has had.
 use Rattle.std.specs.Prelude.{◌≡◌, ◌⊎◌, ℕ, ◌+◌, ◌-◌, ◌^◌, ◌≤◌, min, max, List, [], ◌∷◌, ◌++◌, length, take, drop, Result, MatchResult, IsErr}
 use Rattle.disk_model.specs.declared.DiskFault.{DiskFault}
 
@@ -59,17 +59,17 @@ pub record IsOnly (log : List Event) (octets : List ℕ) : Type 0 where
   pub whole : content log ≡ octets
   pub images : EachImage (λ c. c ≡ octets) log
 
--- Each image at each moment from old to new has P, old and new among them; and new is a later moment than old.
+-- Each image at each moment from old to new, both included, has P; and new is a later moment than old.
 pub data Leaves (P : List ℕ → Type 0) (old : List Event) : List Event → Type 0 where
   at_start : EachImage P old → Leaves P old old
   at_next : (log : List Event) (event : Event) → Leaves P old log → EachImage P (event ∷ log) → Leaves P old (event ∷ log)
 
--- Until a first sync that succeeded: either nothing has happened since old, or a sync came first, and from it on each
--- image at each moment has P.
+-- Up to a first successful sync: either nothing has happened since old, or a sync came first, and from it on each image
+-- at each moment has P.
 abbrev pub FirstSync : (List ℕ → Type 0) → List Event → List Event → Type 0
 FirstSync P old new = (new ≡ old) ⊎ Leaves P (Synced ∷ old) new
 
--- At most one operation since old, then a sync that succeeded, and from it on each image at each moment has P.
+-- At most one operation since old, then a successful sync, and from it on each image at each moment has P.
 abbrev pub AfterSync : (List ℕ → Type 0) → List Event → List Event → Type 0
 AfterSync P old new = (new ≡ old) ⊎ ((event : Event) × ((new ≡ event ∷ old) ⊎ Leaves P (Synced ∷ event ∷ old) new))
 
@@ -85,7 +85,7 @@ abbrev pub Writes : ℕ → List ℕ → List Event → Result (Unit {0}) DiskFa
 Writes at octets old result new =
     MatchResult result (λ _. new ≡ Wrote at octets ∷ old) (λ _. FailsToWrite at octets old new)
 
--- a cut that fails has done nothing, or all of it, or it is told as failed
+-- a cut that fails has done nothing, or all of it, or is in the log as failed
 abbrev pub FailsToCut : ℕ → List Event → List Event → Type 0
 FailsToCut len old new = (new ≡ old) ⊎ (new ≡ WasCut len ∷ old) ⊎ (new ≡ FailedCut len ∷ old)
 
@@ -97,11 +97,11 @@ Cuts len old result new = MatchResult result (λ _. new ≡ WasCut len ∷ old) 
 abbrev pub Syncs : List Event → Result (Unit {0}) DiskFault → List Event → Type 0
 Syncs old result new = MatchResult result (λ _. new ≡ Synced ∷ old) (λ _. new ≡ old)
 
--- A fault was told: the count of faults rose, or stands at its greatest value.
+-- A fault was reported: the count of faults rose, or is at its greatest value.
 abbrev pub HasRisen : ℕ → ℕ → Type 0
 HasRisen before now = min (before + 1) (2 ^ 64 - 1) ≤ now
 
--- A count of faults doesn't fall, and it rises where a fault is told, or stands at its greatest value.
+-- A count of faults does not fall, and if a fault is reported it rises, or is at its greatest value.
 pub record CountsFaults {T : Type 0} (before now : ℕ) (result : Result T DiskFault) : Type 0 where
   pub later : before ≤ now
   pub rises : IsErr result → HasRisen before now

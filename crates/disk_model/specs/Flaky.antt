@@ -5,19 +5,19 @@ use Rattle.disk_model.specs.declared.DiskFault.{DiskFault}
 use Rattle.disk_model.specs.declared.flaky.FlakyDisk.{FlakyDisk}
 use Rattle.disk_model.specs.Disk.{CountsFaults}
 
--- how many calls it passes on yet before the one that fails, or none where that has come
+-- how many more calls it passes on before the one that fails, or none once that has come
 abbrev pub calls_before : {D : Type 0} → FlakyDisk D → Option ℕ
 calls_before disk = disk.left
 
--- the disk within
+-- the inner disk
 abbrev pub inner : {D : Type 0} → FlakyDisk D → D
 inner disk = disk.disk
 
--- how many faults it has told by itself
+-- how many faults it has reported by itself
 abbrev pub own_faults : {D : Type 0} → FlakyDisk D → ℕ
 own_faults disk = disk.faults
 
--- how many faults it has told in all, over a disk that counts its own so
+-- how many faults it has reported in all, over a disk that counts its own so
 abbrev pub all_faults : {D : Type 0} → (faults_of : D → ℕ) → FlakyDisk D → ℕ
 all_faults faults_of disk = min (own_faults disk + faults_of (inner disk)) (2 ^ 64 - 1)
 
@@ -26,13 +26,13 @@ abbrev pub is_due : Option ℕ → Bool
 is_due None = false
 is_due (Some left) = left == 0
 
--- how many are left behind a call
+-- how many are left after a call
 abbrev pub left_after : Option ℕ → Option ℕ
 left_after None = None
 left_after (Some left) = if left == 0 then None else Some (left - 1)
 
--- One call of read_at, write_at, cut or sync. The one that is due fails, counts that, and the disk within is not
--- asked. Any other asks the disk within, and fails only where that disk does.
+-- One call of read_at, write_at, cut or sync. The one that is due fails and is counted, and the inner disk is not
+-- asked. Any other asks the inner disk, and fails only if that does.
 pub record FailsOnce {D T : Type 0} (faults_of : D → ℕ) (old new : FlakyDisk D) (result : Result T DiskFault) : Type
     0 where
   pub counts_down : calls_before new ≡ left_after (calls_before old)

@@ -1,4 +1,4 @@
--- What a disk in memory says of itself beyond what each disk says (profile).
+-- What a disk in memory promises beyond what each disk does (profile).
 use Rattle.std.specs.Prelude.{◌≡◌, ℕ, ◌+◌, ◌-◌, ◌^◌, min, List, Result, OnOk, OnErr}
 use Rattle.disk_model.specs.declared.DiskFault.{DiskFault}
 use Rattle.disk_model.specs.declared.memory.MemDisk.{MemDisk}
@@ -13,11 +13,11 @@ events disk = log_of disk.moments.items
 abbrev pub held : MemDisk → List ℕ
 held disk = disk.octets.items
 
--- how many faults it has told
+-- how many faults it has reported
 abbrev pub faults_in : MemDisk → ℕ
 faults_in disk = disk.faults
 
--- One call that may be refused memory. A refused one changes nothing and is counted, and no other is.
+-- One call that may be refused memory. If it is refused, it changes nothing and is counted; no other call is counted.
 pub record IsRefusedWhole (old new : MemDisk) (result : Result (Unit {0}) DiskFault) : Type 0 where
   pub ok : OnOk result (faults_in new ≡ faults_in old)
   pub err : OnErr result (faults_in new ≡ min (faults_in old + 1) (2 ^ 64 - 1))

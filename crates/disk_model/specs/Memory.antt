@@ -1,4 +1,4 @@
--- A disk in memory keeps each moment, the oldest first.
+-- A disk in memory keeps each event, oldest first.
 use Rattle.std.specs.Prelude.{◌≡◌, Bool, true, false, List, [], ◌∷◌}
 use Rattle.disk_model.specs.declared.choice.Choice.{Choice}
 use Rattle.disk_model.specs.declared.disk_event.DiskEvent.{DiskEvent}
@@ -7,23 +7,23 @@ use Rattle.disk_model.specs.Disk.{Event, content}
 use Rattle.disk_model.specs.Disk.Event.{Made, Wrote, WasCut, Synced}
 use Rattle.disk_model.specs.Choice.{chosen_image, pending}
 
--- the event that a moment kept is of
+-- the event of the model that a kept event stands for
 abbrev pub event_of : DiskEvent → Event
 event_of (Began octets) = Made octets.items
 event_of (Write at octets) = Wrote at octets.items
 event_of (Cut len) = WasCut len
 event_of Sync = Synced
 
--- these moments after those events
+-- the log with these events after it
 abbrev pub logged : List Event → List DiskEvent → List Event
 logged past [] = past
 logged past (moment ∷ moments) = logged (event_of moment ∷ past) moments
 
--- what has happened, by the moments kept
+-- the log that the kept events make
 abbrev pub log_of : List DiskEvent → List Event
 log_of moments = logged [] moments
 
--- whether the content is the only image from a moment on
+-- whether the content is the only image from this event on
 abbrev pub is_settling : DiskEvent → Bool
 is_settling (Began octets) = true
 is_settling (Write at octets) = false

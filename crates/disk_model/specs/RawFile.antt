@@ -1,21 +1,21 @@
--- What one call of the system does to a file that keeps the disk model (profile). A write that goes out in pieces is
--- one write: until its last piece is out it counts as a write that failed there.
+-- What one system call does to a file that keeps the disk model (profile). A write that goes out in pieces is one
+-- write: until its last piece is out it counts as a write that failed at that point.
 use Rattle.std.specs.Prelude.{◌≡◌, ℕ, ◌+◌, ◌<◌, List, ◌∷◌, length, take, slice_range, Result, Err, MatchResult}
 use Rattle.disk_model.specs.declared.DiskFault.{DiskFault}
 use Rattle.disk_model.specs.declared.raw_file.RawFault.{RawFault}
 use Rattle.disk_model.specs.declared.raw_file.RawFault.TheVariants.{Interrupted, Failed}
 use Rattle.disk_model.specs.Disk.{Event, Wrote, Tore, WasCut, Synced, content, overwritten, Writes, Cuts}
 
--- the first so many octets of the slice are those of the content from this offset on
+-- the first `done` octets of the slice are those of the content from this offset on
 abbrev pub IsRead : (content : List ℕ) (at done : ℕ) (into : List ℕ) → Type 0
 IsRead octets at done into = take done into ≡ slice_range octets at (at + done)
 
--- In the midst of a write of these octets at this offset, of which so many are out; before it the log was this.
+-- In the middle of a write of these octets at this offset: `done` of them are out, and before it the log was this.
 pub record UnderWay (at : ℕ) (octets : List ℕ) (done : ℕ) (before log : List Event) : Type 0 where
   pub begins : done ≡ 0 → log ≡ before
   pub goes_on : 0 < done → log ≡ Tore at (length octets) (overwritten (content before) at (take done octets)) ∷ before
 
--- So many octets more went out: the write is done where these were the last, and else is under way.
+-- More octets went out: the write is done if these were the last, and else is under way.
 pub record Advances (at : ℕ) (octets : List ℕ) (done : ℕ) (before log : List Event) : Type 0 where
   pub whole : done ≡ length octets → log ≡ Wrote at octets ∷ before
   pub part : done < length octets → UnderWay at octets done before log
@@ -25,7 +25,7 @@ abbrev pub StopsWrite : ℕ → List ℕ → (before old : List Event) → RawFa
 StopsWrite at octets before old Interrupted new = new ≡ old
 StopsWrite at octets before old Failed new = (fault : DiskFault) → Writes at octets before (Err fault) new
 
--- what a call that goes on with a write, of which so many octets are out, does
+-- what a call does that continues a write of which N octets are out
 abbrev pub WritesOn : ℕ → List ℕ → ℕ → (before old : List Event) → Result ℕ RawFault → (new : List Event) → Type 0
 WritesOn at octets done before old result new =
     MatchResult result (λ n. Advances at octets (done + n) before new) (λ fault.

@@ -1,4 +1,4 @@
-// The directory in which tapes lie as files.
+// The directory that has tapes as files.
 use crate::file::FileDisk;
 use crate::tape_file::{FileFault, FirstFault, TapeFile};
 use std::alloc::Global;
@@ -8,13 +8,13 @@ use std::os::fd::AsRawFd;
 use std::rt::Files;
 use thiserror::Error;
 
-// The greatest descriptor of a standard stream.
+// The highest descriptor of a standard stream.
 const LAST_STREAM: i32 = 2;
 
-/// Why a directory is not to be had.
+/// Why a directory cannot be had.
 #[derive(Debug, Drop, Error)]
 pub enum DirectoryFault {
-    /// Another process, or another open of this one, works on it.
+    /// Another process, or another open in this one, has it locked.
     #[error("another process works on it")]
     Taken,
     /// It could not be opened or locked.
@@ -22,7 +22,7 @@ pub enum DirectoryFault {
     Failed(io::Error),
 }
 
-/// A directory of tapes, locked as long as this lives, so that no other process that locks it works on its files
+/// A directory of tapes, locked for as long as this lives, so that no other process that locks it works on its files
 /// (flock(2)).
 #[derive(Drop)]
 pub struct TapeDirectory {
@@ -33,10 +33,10 @@ pub struct TapeDirectory {
 }
 
 impl TapeDirectory {
-    /// Opens the directory at this path and locks it, without waiting. No directory is made.
+    /// Opens the directory at this path and locks it, without waiting. Does not make a directory.
     ///
     /// # Errors
-    /// `Taken` where it is locked already, else why it could not be opened or locked.
+    /// `Taken` if it is already locked, else `Failed`: why it could not be opened or locked.
     pub fn lock<R: AllocGlobal + Files<File = File>>(
         rt: &R,
         path: &str,
@@ -62,13 +62,13 @@ impl TapeDirectory {
         })
     }
 
-    /// Opens the file of this name in it as a disk, and makes it where it is missing.
+    /// Opens the file of this name in it as a disk, and makes it if it is missing.
     ///
-    /// What the system keeps of it in memory is made durable first and then given up, so that what is read is what the
-    /// device has: a sync that failed in an earlier process may have left the two different (fsync(2), NOTES).
+    /// What the system caches of it is made durable first and then dropped, so that reads return what the device has: a
+    /// sync that failed in an earlier process may have left the two different (fsync(2), NOTES).
     ///
     /// # Errors
-    /// The system's; `InvalidInput` if it is no regular file; `EBADF` if its descriptor would be that of a standard
+    /// The system's; `InvalidInput` if it is not a regular file; `EBADF` if its descriptor would be that of a standard
     /// stream, which was closed: what is printed would be written into the tape.
     pub fn open<R: Files<File = File>>(
         &self,
@@ -96,12 +96,12 @@ impl TapeDirectory {
         Ok(FileDisk::new(file))
     }
 
-    /// The first fault of the files that were opened in it, if one met a fault since: for a log.
+    /// The first fault of the files that were opened in it, if any met one since: for a log.
     pub fn first_fault(&self) -> Option<&FileFault> {
         self.first_fault.get()
     }
 
-    /// Makes the names of all files opened so far durable. It has to succeed before the first of them is written.
+    /// Makes the names of all files opened so far durable. It has to succeed before any of them is written.
     ///
     /// # Errors
     /// The system's.

@@ -1,4 +1,4 @@
-// What a disk in memory keeps of each thing that happened to it.
+// What a disk in memory keeps of each event.
 ghost use Rattle.std.specs.Prelude.{◌≡◌, ◌+◌, ℕ, List, ◌∷◌, false, OnOk};
 ghost use Rattle.disk_model.specs.Disk.{Event, content};
 ghost use Rattle.disk_model.specs.Choice.{chosen_image, pending};
@@ -11,9 +11,7 @@ use crate::octets::{overwrite, write_behind_zeros};
 pub(crate) enum DiskEvent {
     // It began with these octets.
     Began(Vec<u8>),
-    // These octets were written at this offset.
     Write { at: u64, octets: Vec<u8> },
-    // It was cut to this length.
     Cut { len: u64 },
     // A sync succeeded.
     Sync,
@@ -32,7 +30,6 @@ impl DiskEvent {
         }
     }
 
-    // Does to the content what it did.
     pub(crate) fn redo(&self, whole: &mut Vec<u8>) -> Result<(), NoMemory>
         ensures { OnOk result ((log : List Event) → whole.old.items ≡ content log
             → whole.new.items ≡ content (event_of self.now ∷ log)) }

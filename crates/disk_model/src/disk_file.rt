@@ -5,12 +5,12 @@ use std::cmp;
 
 /// A disk as a file. It is honest over an honest disk, so the rules of [`RawFile`] can be kept.
 ///
-/// Each call does all that it was asked for, but that a read ends where the disk does, or fails. So
-/// a write is under way at no time, and to go on with one fails.
+/// Each call does all that it was asked to or fails, except that a read ends at the end of the disk. So no write is
+/// ever under way, and to continue one fails.
 #[derive(Drop)]
 pub struct DiskFile<D: Disk>(pub D);
 
-/// Honest over an honest disk. What has happened to it is what has happened to the disk.
+/// Honest over an honest disk. Its log is the disk's.
 impl<D: Disk> RawFile for DiskFile<D> {
     ghost honest = { λ file. D.honest file.0 };
 

@@ -7,20 +7,20 @@ ghost use Rattle.disk_model.specs.Disk.{content, Writes, Cuts, Syncs, CountsFaul
 use crate::raw_file::{RawFault, RawFile};
 use crate::{Disk, DiskFault};
 
-// So many calls of one transfer may be interrupted.
+// How many calls of one transfer may be interrupted.
 const MOST_INTERRUPTIONS: u64 = 1_000;
 
 /// A file as a disk. It is honest over an honest file.
 ///
-/// Once a sync has failed every later one fails: the system may have forgotten what it could not write, and a later
-/// sync would not tell (fsync(2), NOTES). What the file has then is known only to who opens it anew.
+/// Once a sync has failed, every later one fails: the system may have forgotten what it could not write, and a later
+/// sync would not report it (fsync(2), NOTES). What the file has then is known only to whoever opens it again.
 #[derive(Drop)]
 pub struct FileDisk<F: RawFile> {
     file: F,
     len: u64,
     faults: u64,
     lost: bool,
-    // The length is asked for once, and again where a call has failed in part.
+    // The length is asked for once, and again after a call that failed in part.
     pub ghost len_is: { F.honest file → len ≡ length (content (F.log file)) },
 }
 
@@ -43,7 +43,6 @@ impl<F: RawFile> FileDisk<F> {
         }
     }
 
-    /// The file within.
     pub fn into_inner(self) -> F
         ensures { result ≡ file_of self }
     {
@@ -51,7 +50,6 @@ impl<F: RawFile> FileDisk<F> {
         file
     }
 
-    // Counts a fault.
     fn fault(&mut self) -> DiskFault
         ensures counts { HasRisen self.old.faults self.new.faults }
         ensures later { self.old.faults ≤ self.new.faults }
@@ -64,7 +62,6 @@ impl<F: RawFile> FileDisk<F> {
     }
 }
 
-// Reads until the slice is full.
 #[tactic(auto, using(crate::specs::Asks::Begins))]
 fn read_whole<F: RawFile>(file: &mut F, at: u64, into: &mut [u8]) -> Result<(), DiskFault>
     requires { at + length into.old < 2 ^ 64 }
@@ -84,7 +81,7 @@ fn read_whole<F: RawFile>(file: &mut F, at: u64, into: &mut [u8]) -> Result<(), 
             return Ok(());
         }
         match file.pread(at, into, done) {
-            // It ends here.
+            // The file ends here.
             Ok(0) => return Err(DiskFault),
             Ok(count) => done += count,
             Err(RawFault::Failed) => return Err(DiskFault),
@@ -94,7 +91,6 @@ fn read_whole<F: RawFile>(file: &mut F, at: u64, into: &mut [u8]) -> Result<(), 
     Err(DiskFault)
 }
 
-// Writes until all is out.
 #[tactic(auto, using(crate::specs::Asks::Begins))]
 fn write_whole<F: RawFile>(file: &mut F, at: u64, from: &[u8]) -> Result<(), DiskFault>
     requires { at + length from.now < 2 ^ 64 }
@@ -108,7 +104,7 @@ fn write_whole<F: RawFile>(file: &mut F, at: u64, from: &[u8]) -> Result<(), Dis
     for _call in 0..turns {
         match file.pwrite(at, from, done) {
             Ok(count) if done + count == from.len() => return Ok(()),
-            // It takes no more.
+            // The file takes no more.
             Ok(0) => return Err(DiskFault),
             Ok(count) => done += count,
             Err(RawFault::Failed) => return Err(DiskFault),
@@ -118,7 +114,7 @@ fn write_whole<F: RawFile>(file: &mut F, at: u64, from: &[u8]) -> Result<(), Dis
     Err(DiskFault)
 }
 
-// Cuts it, again where that was interrupted.
+// Cuts the file, and tries again if that was interrupted.
 fn cut_once<F: RawFile>(file: &mut F, len: u64) -> Result<(), DiskFault>
     ensures honest { F.honest file.old ↔ F.honest file.new }
     ensures log { F.honest file.old → Cuts len (F.log file.old) result (F.log file.new) }
@@ -135,7 +131,7 @@ fn cut_once<F: RawFile>(file: &mut F, len: u64) -> Result<(), DiskFault>
     Err(DiskFault)
 }
 
-// Syncs it, again where that was interrupted.
+// Syncs the file, and tries again if that was interrupted.
 fn sync_once<F: RawFile>(file: &mut F) -> Result<(), DiskFault>
     ensures honest { F.honest file.old ↔ F.honest file.new }
     ensures log { F.honest file.old → Syncs (F.log file.old) result (F.log file.new) }
@@ -151,7 +147,7 @@ fn sync_once<F: RawFile>(file: &mut F) -> Result<(), DiskFault>
     Err(DiskFault)
 }
 
-/// Honest over an honest file. What has happened to it is what has happened to the file.
+/// Honest over an honest file. Its log is the file's.
 impl<F: RawFile> Disk for FileDisk<F> {
     ghost use Rattle.disk_model.specs.File.{file_of, length_kept, faults_of, has_lost, LosesOnce};
     ghost use Rattle.std.specs.Prelude.{false};

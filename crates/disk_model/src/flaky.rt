@@ -1,17 +1,17 @@
-// A disk that fails at one call alone.
+// A disk that fails at a single call.
 ghost use Rattle.std.specs.Prelude.{◌≡◌, ◌+◌, ◌-◌, ◌≤◌, ◌↔◌, ◌^◌, length, min, true};
 ghost use Rattle.std.specs.Prelude.{false, OnOk, OnErr, slice_range};
 ghost use Rattle.disk_model.specs.Disk.{content, Writes, Cuts, Syncs, CountsFaults};
 
 use crate::{Disk, DiskFault};
 
-/// Passes calls of `read_at`, `write_at`, `cut` and `sync` on to a disk, but for one, which fails.
+/// Passes calls of `read_at`, `write_at`, `cut` and `sync` on to a disk, except for one, which fails.
 ///
-/// That call does not reach the disk within, and is counted as a fault. `len` and `faults` are free.
+/// That call does not reach the inner disk, and is counted as a fault. `len` and `faults` do not count as calls.
 #[derive(Drop)]
 pub struct FlakyDisk<D: Disk> {
     disk: D,
-    // How many calls are passed on before the one that fails, until that has come.
+    // How many calls are passed on before the one that fails; `None` once that has come.
     left: Option<u64>,
     faults: u64,
 }
@@ -19,7 +19,7 @@ pub struct FlakyDisk<D: Disk> {
 impl<D: Disk> FlakyDisk<D> {
     ghost use Rattle.disk_model.specs.Flaky.{calls_before, inner, own_faults, is_due, left_after};
 
-    /// A disk that passes this many calls on, fails the next one, and passes on all others.
+    /// A disk that passes this many calls on, fails the next one, and passes on all later ones.
     pub fn new(disk: D, calls: u64) -> Self
         ensures inner { inner result ≡ disk }
         ensures calls { calls_before result ≡ Some calls }
@@ -32,7 +32,6 @@ impl<D: Disk> FlakyDisk<D> {
         }
     }
 
-    /// The disk within.
     pub fn into_inner(self) -> D
         ensures { result ≡ inner self }
     {
@@ -40,7 +39,7 @@ impl<D: Disk> FlakyDisk<D> {
         disk
     }
 
-    // Counts a call, and tells a fault where it is the one that fails.
+    // Counts a call, and fails it if it is the one.
     fn count(&mut self) -> Result<(), DiskFault>
         ensures inner { inner self.new ≡ inner self.old }
         ensures left { calls_before self.new ≡ left_after (calls_before self.old) }
@@ -64,7 +63,7 @@ impl<D: Disk> FlakyDisk<D> {
     }
 }
 
-/// Honest over an honest disk. What has happened to it is what has happened to the disk within.
+/// Honest over an honest disk. Its log is the inner disk's.
 impl<D: Disk> Disk for FlakyDisk<D> {
     ghost use Rattle.disk_model.specs.Flaky.{inner, all_faults, FailsOnce};
 

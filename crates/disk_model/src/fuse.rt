@@ -5,15 +5,16 @@ ghost use Rattle.disk_model.specs.Disk.{content, Writes, Cuts, Syncs, CountsFaul
 
 use crate::{Disk, DiskFault};
 
-/// Passes a number of calls of `read_at`, `write_at`, `cut` and `sync` on to a disk, and then fails each of them.
+/// Passes a number of calls of `read_at`, `write_at`, `cut` and `sync` on to a disk, and fails all later ones.
 ///
-/// A call that fails so does not reach the disk within, and is counted as a fault. `len` and `faults` are free.
+/// A call that it fails does not reach the inner disk, and is counted as a fault. `len` and `faults` do not count as
+/// calls.
 #[derive(Drop)]
 pub struct FuseDisk<D: Disk> {
     disk: D,
     left: u64,
     faults: u64,
-    // It tells no fault of its own while it has calls left.
+    // It reports no fault of its own while it has calls left.
     pub ghost spent: { 0 < faults → left ≡ 0 },
 }
 
@@ -33,7 +34,6 @@ impl<D: Disk> FuseDisk<D> {
         }
     }
 
-    /// The disk within.
     pub fn into_inner(self) -> D
         ensures { result ≡ inner self }
     {
@@ -41,7 +41,7 @@ impl<D: Disk> FuseDisk<D> {
         disk
     }
 
-    // Takes one of the calls that are left, or tells a fault.
+    // Uses one of the calls that are left; a fault if none is left.
     fn spend(&mut self) -> Result<(), DiskFault>
         ensures inner { inner self.new ≡ inner self.old }
         ensures ok { OnOk result
@@ -60,7 +60,7 @@ impl<D: Disk> FuseDisk<D> {
     }
 }
 
-/// Honest over an honest disk. What has happened to it is what has happened to the disk within.
+/// Honest over an honest disk. Its log is the inner disk's.
 impl<D: Disk> Disk for FuseDisk<D> {
     ghost use Rattle.disk_model.specs.Fuse.{inner, all_faults, Burns};
 

@@ -1,9 +1,9 @@
-//! Disks, as a journal sees them: what a read gives, and what a stop at any moment may leave.
+//! Disks, as a journal sees them: what a read gives, and what a stop (a crash) at any moment may leave.
 //!
 //! Most of it may touch nothing but memory; `tape_file` and `directory` may touch files: each method of a `RawFile` is
-//! one call of the system.
+//! one system call.
 //! The crates above use the contract of [`Disk`] alone: content, images, moments, honesty, faults.
-//! The whole model is `specs/Disk.antt`; what proofs above it use is `specs/MomentLaws.antt`.
+//! The whole model is `specs/Disk.antt`; proofs above it use `specs/MomentLaws.antt`.
 #![tactic(auto)]
 
 ghost use Rattle.std.specs.Prelude.{◌≡◌, ◌+◌, ◌≤◌, ◌↔◌, ℕ, List, length, OnOk, slice_range};
@@ -35,26 +35,26 @@ pub use raw_file::{RawFault, RawFile};
 pub use std::alloc::AllocError as NoMemory;
 pub use tape_file::{FileFault, TapeFile};
 
-/// A disk refused a call. What a write or a cut that failed has left is told by [`Disk`].
+/// A disk refused a call. [`Disk`] says what a write or a cut that failed may have left.
 #[derive(Clone, Copy, Debug, PartialEq, Eq, Error)]
 #[error("the disk failed")]
 pub struct DiskFault;
 
 /// A disk of octets. A stop may come between any two calls and within each.
 ///
-/// The rules on what has happened to it bind an honest disk. Of another one it is only told that it answers, how long
-/// it says that it is, that a read that succeeded fills its slice, and that its count of faults rises with each fault.
+/// The rules on its log bind an honest disk. For any other, only this is promised: it answers; it reports a length; a
+/// read that succeeds fills its slice; and its count of faults rises with each fault.
 pub trait Disk {
     /// Whether it keeps the disk model. No call changes it.
     ghost honest: { Self → Type 0 };
 
-    /// What has happened to it, the newest first: content, images and moments are functions of this list.
+    /// What has happened to it, newest first: content, images and moments are functions of this list.
     ghost log: { Self → List Event };
 
-    /// Its length in octets, as it tells it.
+    /// The length that it reports, in octets.
     ghost size: { Self → ℕ };
 
-    /// How many faults it has told.
+    /// How many faults it has reported.
     ghost faults_of: { Self → ℕ };
 
     /// The length in octets.
@@ -62,7 +62,7 @@ pub trait Disk {
         ensures size { result ≡ size self.now }
         ensures content { honest self.now → result ≡ length (content (log self.now)) };
 
-    /// Fills the slice with the octets from this offset on. A read changes nothing.
+    /// Fills the slice with the octets from this offset on. Changes nothing.
     fn read_at(&mut self, at: u64, into: &mut [u8]) -> Result<(), DiskFault>
         requires { at + length into.old ≤ size self.old }
         ensures honest { honest self.old ↔ honest self.new }
@@ -73,7 +73,7 @@ pub trait Disk {
         ensures cause { CountsFaults (faults_of self.old) (faults_of self.new) result }
         ensures quiet { OnOk result (faults_of self.new ≡ faults_of self.old) };
 
-    /// Writes these octets at this offset, at most at the end. One that failed may have happened in part.
+    /// Writes these octets at this offset, which is at most the end. If it fails, it may have happened in part.
     fn write_at(&mut self, at: u64, from: &[u8]) -> Result<(), DiskFault>
         requires { at ≤ size self.old }
         ensures honest { honest self.old ↔ honest self.new }
@@ -81,7 +81,7 @@ pub trait Disk {
         ensures cause { CountsFaults (faults_of self.old) (faults_of self.new) result }
         ensures quiet { OnOk result (faults_of self.new ≡ faults_of self.old) };
 
-    /// Cuts it to this length. One that failed may have happened or not.
+    /// Cuts it to this length, in octets. If it fails, it may have happened or not.
     fn cut(&mut self, len: u64) -> Result<(), DiskFault>
         requires { len ≤ size self.old }
         ensures honest { honest self.old ↔ honest self.new }
@@ -89,14 +89,14 @@ pub trait Disk {
         ensures cause { CountsFaults (faults_of self.old) (faults_of self.new) result }
         ensures quiet { OnOk result (faults_of self.new ≡ faults_of self.old) };
 
-    /// Makes the content the only image. One that failed changes nothing.
+    /// Makes the content the only image. If it fails, nothing changes.
     fn sync(&mut self) -> Result<(), DiskFault>
         ensures honest { honest self.old ↔ honest self.new }
         ensures log { honest self.old → Syncs (log self.old) result (log self.new) }
         ensures cause { CountsFaults (faults_of self.old) (faults_of self.new) result }
         ensures quiet { OnOk result (faults_of self.new ≡ faults_of self.old) };
 
-    /// How many faults it has told. At the greatest `u64` the count stays, and a fault is told without a rise.
+    /// How many faults it has reported. At the greatest `u64` the count stays, and further faults do not raise it.
     fn faults(&self) -> u64
         ensures { result ≡ faults_of self.now };
 

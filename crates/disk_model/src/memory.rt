@@ -1,4 +1,4 @@
-// A disk in memory. It keeps what happened to it, and so each moment that it had.
+// A disk in memory. It keeps each event, and so each moment that it had.
 ghost use Rattle.std.specs.Prelude.{◌≡◌, ◌+◌, ◌-◌, ◌^◌, ◌≤◌, ℕ, List, [], ◌∷◌};
 ghost use Rattle.std.specs.Prelude.{◌++◌, length, min, false, take, vec_capacity, vec_len, IfOk, OnOk, OnErr};
 ghost use Rattle.std.specs.List.{All, AllWithin};
@@ -13,7 +13,7 @@ use crate::octets::overwrite;
 use crate::{Disk, DiskFault, NoMemory};
 use std::alloc::Global;
 
-/// A disk in memory. It is honest, and it keeps each thing that happened to it, so that any of its images can be made.
+/// A disk in memory. It is honest, and it keeps each event, so that any of its images can be made.
 #[derive(Drop)]
 pub struct MemDisk {
     alloc: Global,
@@ -23,7 +23,6 @@ pub struct MemDisk {
     ghost content_is: { octets.items ≡ content (log_of moments.items) },
 }
 
-// Adds a moment, or changes nothing.
 #[tactic(auto, using(crate::proofs::Kept::logged_push))]
 fn keep(moments: &mut Vec<DiskEvent>, moment: DiskEvent) -> Result<(), NoMemory>
     ensures ok { OnOk result
@@ -35,7 +34,7 @@ fn keep(moments: &mut Vec<DiskEvent>, moment: DiskEvent) -> Result<(), NoMemory>
     Ok(())
 }
 
-// How many moments there are up to the last that left one image, or none.
+// How many events there are up to the last that left a single image; 0 if there is none.
 fn settled_count(moments: &[DiskEvent]) -> usize
     ensures within { result ≤ length moments.now }
     ensures settled { IsSettled (log_of (take result moments.now)) }
@@ -51,7 +50,6 @@ fn settled_count(moments: &[DiskEvent]) -> usize
     count
 }
 
-// The content after these moments.
 fn content_after(alloc: Global, moments: &[DiskEvent]) -> Result<Vec<u8>, NoMemory>
     ensures { IfOk result (λ octets. octets.items ≡ content (log_of moments.now)) }
 {
@@ -62,7 +60,7 @@ fn content_after(alloc: Global, moments: &[DiskEvent]) -> Result<Vec<u8>, NoMemo
     Ok(octets)
 }
 
-// Does to an image what the choice has for each of these operations, which are all since the last sync.
+// Does to an image what the choice has for each of these operations, all of which came after the last sync.
 fn leave_each(image: &mut Vec<u8>, waiting: &[DiskEvent], choice: Choice) -> Result<(), NoMemory>
     requires { All (λ moment. is_settling moment ≡ false) waiting.now }
     ensures { OnOk result ((log : List Event) → pending log ≡ 0
@@ -75,7 +73,7 @@ fn leave_each(image: &mut Vec<u8>, waiting: &[DiskEvent], choice: Choice) -> Res
     Ok(())
 }
 
-// The image that this choice names after these moments.
+// The image that this choice names after these events.
 fn image_after(alloc: Global, moments: &[DiskEvent], choice: Choice) -> Result<Vec<u8>, NoMemory>
     ensures { IfOk result (λ image. image.items ≡ chosen_image choice (log_of moments.now)) }
 {
@@ -121,7 +119,7 @@ impl Disk for MemDisk {
         Ok(())
     }
 
-    /// Fails where memory is refused.
+    /// Fails if memory is refused.
     fn write_at(&mut self, at: u64, from: &[u8]) -> Result<(), DiskFault>
         requires { at ≤ length (held self.old) }
         ensures log { Writes at from.now (events self.old) result (events self.new) }
@@ -135,7 +133,7 @@ impl Disk for MemDisk {
         }
     }
 
-    /// Fails where memory is refused.
+    /// Fails if memory is refused.
     fn cut(&mut self, len: u64) -> Result<(), DiskFault>
         requires { len ≤ length (held self.old) }
         ensures log { Cuts len (events self.old) result (events self.new) }
@@ -149,7 +147,7 @@ impl Disk for MemDisk {
         }
     }
 
-    /// Fails where memory is refused.
+    /// Fails if memory is refused.
     fn sync(&mut self) -> Result<(), DiskFault>
         ensures log { Syncs (events self.old) result (events self.new) }
         ensures cause { CountsFaults (faults_in self.old) (faults_in self.new) result }
@@ -184,7 +182,7 @@ impl MemDisk {
     /// A disk with these octets, which are its only image. Nothing else has happened to it.
     ///
     /// # Errors
-    /// `NoMemory` where memory for the new disk is refused.
+    /// `NoMemory` if memory for the new disk was refused.
     pub fn holding(alloc: Global, octets: &[u8]) -> Result<Self, NoMemory>
         ensures log { IfOk result (λ disk. ⟦<MemDisk as Disk>⟧.log disk ≡ Made octets.now ∷ []) }
         ensures faults { IfOk result (λ disk. ⟦<MemDisk as Disk>⟧.faults_of disk ≡ 0) }
@@ -196,10 +194,12 @@ impl MemDisk {
         Ok(disk)
     }
 
-    /// A disk that holds what a stop at this moment may leave, by this choice, and nothing besides. This one stays.
+    /// A new disk that holds exactly what a stop at this moment may leave, by this choice. This one stays as it is.
     ///
-    /// It costs as much as all that was ever written to this disk. `NoMemory` comes where memory for the new disk is
-    /// refused.
+    /// It costs as much as all that was ever written to this disk.
+    ///
+    /// # Errors
+    /// `NoMemory` if memory for the new disk was refused.
     #[tactic(auto, using(crate::proofs::Chosen::chosen_is_image))]
     pub fn image(&self, choice: Choice) -> Result<MemDisk, NoMemory>
         ensures chosen { IfOk result
@@ -213,7 +213,6 @@ impl MemDisk {
         MemDisk::holding(self.alloc, &octets)
     }
 
-    // Counts a fault.
     fn fault(&mut self) -> DiskFault
         ensures faults { self.new.faults ≡ min (self.old.faults + 1) (2 ^ 64 - 1) }
         ensures later { self.old.faults ≤ self.new.faults }
@@ -223,7 +222,7 @@ impl MemDisk {
         DiskFault
     }
 
-    // All that may be refused comes before the first change.
+    // All that can be refused comes before the first change.
     fn try_write(&mut self, at: u64, from: &[u8]) -> Result<(), NoMemory>
         requires { at ≤ length self.old.octets.items }
         ensures ok { OnOk result

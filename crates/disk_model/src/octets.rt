@@ -1,12 +1,12 @@
-// Writes to octets in place. Each costs its own length, never that of what it is written to.
+// Writes to octets in place. Each costs the length of what is written, never that of what it is written to.
 ghost use Rattle.std.specs.Prelude.{◌≡◌, length, OnOk, OnErr};
 ghost use Rattle.disk_model.specs.Disk.{overwritten};
 ghost use Rattle.disk_model.specs.Choice.{padded_write};
 
 use crate::NoMemory;
 
-// These octets at this offset, or at the end where that comes first. The growth is the first thing that is done, so
-// a growth that is refused changes nothing.
+// Writes these octets at this offset, or at the end if that comes first. Growing comes first, so a refused growth
+// changes nothing.
 pub(crate) fn overwrite(octets: &mut Vec<u8>, at: usize, from: &[u8]) -> Result<(), NoMemory>
     ensures ok { OnOk result (octets.new.items ≡ overwritten octets.old.items at from.now) }
     ensures unchanged { OnErr result (octets.new.items ≡ octets.old.items) }
@@ -18,7 +18,6 @@ pub(crate) fn overwrite(octets: &mut Vec<u8>, at: usize, from: &[u8]) -> Result<
     Ok(())
 }
 
-// These octets at this offset, and zeros up to there.
 pub(crate) fn write_behind_zeros(
     octets: &mut Vec<u8>,
     at: usize,

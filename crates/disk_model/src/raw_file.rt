@@ -1,4 +1,4 @@
-// A file as the system has it: one call of the system a method.
+// A file as the system has it: each method is one system call.
 ghost use Rattle.std.specs.Prelude.{◌≡◌, ◌+◌, ◌<◌, ◌≤◌, ◌↔◌, ◌^◌, List, ℕ, Result};
 ghost use Rattle.std.specs.Prelude.{length, IfOk, OnErr, []};
 ghost use Rattle.disk_model.specs.Disk.{Event, content, Image};
@@ -7,12 +7,12 @@ ghost use Rattle.disk_model.specs.declared.raw_file.RawFault.{RawFault};
 
 use std::io::{self, ErrorKind};
 
-/// Why a call of the system did not do what it was asked for.
+/// Why a system call did not do what it was asked to.
 #[derive(Clone, Copy, Debug, PartialEq, Eq)]
 pub enum RawFault {
     /// A signal came first, and nothing was done.
     Interrupted,
-    /// It failed, in part or whole.
+    /// It failed, in part or as a whole.
     Failed,
 }
 
@@ -32,37 +32,37 @@ impl From<io::Error> for RawFault {
     }
 }
 
-/// A file, by calls of the system that may be short or interrupted.
+/// A file, through system calls that may be short or interrupted.
 ///
-/// The rules bind an honest file, one that keeps the disk model (`docs/DISK.md`). Of another one it is only told that a
-/// count of octets is at most what was asked for.
+/// The rules bind an honest file, one that keeps the disk model (`docs/DISK.md`). For any other, only this is promised:
+/// a count of octets is at most what was asked for.
 pub trait RawFile {
     /// Whether it keeps the disk model. No call changes it.
     ghost honest: { Self → Type 0 };
 
-    /// What has happened to it, the newest first, as to a disk.
+    /// What has happened to it, newest first, as for a disk.
     ghost log: { Self → List Event };
 
-    /// What a call of `pread` made of it and of the slice, and told, where more is known of it than the rules here say.
+    /// What a call of `pread` did to it and to the slice, and returned, if more is known of it than the rules here say.
     ghost reads: { Self → ℕ → List ℕ → ℕ → Result ℕ RawFault → List ℕ → Self
         → Type 0 } = { λ _ _ _ _ _ _ _. Unit {0} };
 
-    /// What a call of `pwrite` made of it, and told, in the same way.
+    /// What a call of `pwrite` did to it, and returned, in the same way.
     ghost writes: { Self → ℕ → List ℕ → ℕ → Result ℕ RawFault → Self
         → Type 0 } = { λ _ _ _ _ _ _. Unit {0} };
 
-    /// What a call of `truncate` made of it, and told, in the same way.
+    /// What a call of `truncate` did to it, and returned, in the same way.
     ghost truncates: { Self → ℕ → Result (Unit {0}) RawFault → Self → Type 0 } = { λ _ _ _ _. Unit {0} };
 
-    /// What a call of `sync` made of it, and told, in the same way.
+    /// What a call of `sync` did to it, and returned, in the same way.
     ghost syncs: { Self → Result (Unit {0}) RawFault → Self → Type 0 } = { λ _ _ _. Unit {0} };
 
     /// Its length in octets.
     fn len(&self) -> u64
         ensures { honest self.now → result ≡ length (content (log self.now)) };
 
-    /// Goes on with a read from this offset, of which so many octets are in already: reads some of the others behind
-    /// those, perhaps not all, and none at its end (pread(2)).
+    /// Continues a read from this offset, after `done` octets: reads some of those that follow, perhaps not all, and
+    /// none at the file's end (pread(2)).
     fn pread(&mut self, at: u64, into: &mut [u8], done: usize) -> Result<usize, RawFault>
         requires done { done ≤ length into.old }
         requires end { at + length into.old < 2 ^ 64 }
@@ -75,8 +75,8 @@ pub trait RawFile {
             → OnErr result (IsRead (content (log self.old)) at done into.new) }
         ensures log { honest self.old → log self.new ≡ log self.old };
 
-    /// Goes on with a write of these octets at this offset, of which so many are out already: writes some of the others
-    /// behind those, perhaps not all (pwrite(2)).
+    /// Continues a write of these octets at this offset, after `done` of them: writes some of those that follow,
+    /// perhaps not all (pwrite(2)).
     fn pwrite(&mut self, at: u64, from: &[u8], done: usize) -> Result<usize, RawFault>
         requires done { done ≤ length from.now }
         requires end { at + length from.now < 2 ^ 64 }
@@ -87,7 +87,7 @@ pub trait RawFile {
             → UnderWay at from.now done before (log self.old)
             → WritesOn at from.now done before (log self.old) result (log self.new) };
 
-    /// Cuts it to this length (ftruncate(2)).
+    /// Cuts it to this length, in octets (ftruncate(2)).
     fn truncate(&mut self, len: u64) -> Result<(), RawFault>
         ensures honest { honest self.old ↔ honest self.new }
         ensures truncates { truncates self.old len result self.new }

@@ -13,31 +13,31 @@ use std::sync::{Arc, OnceLock};
 pub struct FileFault {
     /// The file's name in its directory.
     pub name: String,
-    /// What the system said.
+    /// What the system reported.
     pub reason: String,
 }
 
-/// The first fault of the files of a directory, which they share.
+/// The first fault of the files of a directory, which share it.
 #[derive(Drop)]
 pub(crate) struct FirstFault {
     place: Arc<OnceLock<FileFault>>,
 }
 
 impl FirstFault {
-    /// There was none.
+    /// No fault yet.
     ///
     /// # Errors
-    /// Memory was refused.
+    /// `AllocError` if memory was refused.
     pub fn new(alloc: Global) -> Result<Self, AllocError> {
         Ok(FirstFault {
             place: Arc::new(alloc, OnceLock::new())?,
         })
     }
 
-    /// The same for one more file.
+    /// The same, for one more file.
     ///
     /// # Errors
-    /// Memory was refused, or there are too many files.
+    /// `AllocError` if memory was refused, or there are too many files.
     pub fn share(&self) -> Result<Self, AllocError> {
         Ok(FirstFault {
             place: Arc::try_clone(&self.place)?,
@@ -58,7 +58,7 @@ impl FirstFault {
     }
 }
 
-/// A file of a tape, as the system has it: one call of the system a method. The first fault of all files of its
+/// A file of a tape, as the system has it: each method is one system call. The first fault of all files of its
 /// directory is kept, for a log.
 #[derive(Drop)]
 pub struct TapeFile {
@@ -71,12 +71,12 @@ impl TapeFile {
     /// An open file of this name, by itself.
     ///
     /// # Errors
-    /// Memory was refused.
+    /// `AllocError` if memory was refused.
     pub fn new(alloc: Global, file: File, name: &str) -> Result<Self, AllocError> {
         TapeFile::among(alloc, file, name, FirstFault::new(alloc)?)
     }
 
-    // An open file of this name, among others that share the first fault.
+    // An open file of this name, one of those that share the first fault.
     pub(crate) fn among(
         alloc: Global,
         file: File,
@@ -90,7 +90,7 @@ impl TapeFile {
         })
     }
 
-    // Why a call was refused. What is no interruption is kept, if it is the first fault.
+    // Why a call was refused. Anything but an interruption is kept, if it is the first fault.
     fn refused(&self, error: io::Error) -> RawFault {
         if error.kind() != ErrorKind::Interrupted {
             self.first_fault.keep(&self.name, &error);
@@ -99,8 +99,7 @@ impl TapeFile {
     }
 }
 
-/// That a file of the system is honest is a premise, of which nothing can be proved: these bodies are to be read by
-/// eye.
+/// That a file of the system is honest is a premise, which cannot be proved: read these bodies by eye.
 impl RawFile for TapeFile {
     ghost honest = { λ _. ⊥ };
 
@@ -108,8 +107,8 @@ impl RawFile for TapeFile {
 
     ghost content_is_image = { λ _ no. absurd no };
 
-    // Of a file whose length the system does not tell it is the greatest: a read then fails at the file's end. One that
-    // was told as empty would be cut.
+    // If the system does not report the length, it is the greatest: a read then fails at the file's end. A file that
+    // was reported as empty would be cut.
     fn len(&self) -> u64 {
         self.file
             .metadata()

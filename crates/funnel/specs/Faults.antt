@@ -1,4 +1,4 @@
--- The words by which messages and scripts tell why a line is not good (profile).
+-- The words for the faults of a line in messages and scripts (profile).
 use Rattle.std.specs.Prelude.{ℕ, List, codes}
 use Rattle.funnel.specs.declared.line.LineFault.{LineFault}
 use Rattle.funnel.specs.declared.line.LineFault.TheVariants.{NoToken, BadToken, BadId, TooLong, NoMemory}

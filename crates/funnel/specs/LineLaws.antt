@@ -1,4 +1,4 @@
--- The laws of funnel lines: a line has one reading, or else one fault.
+-- Laws of funnel lines: a line has one reading, or else one fault.
 use Rattle.std.specs.Prelude.{◌≡◌, ◌≢◌, ◌<◌, ◌≤◌, ◌⊎◌, ◌↔◌, ℕ, true, false, cond, List, [], ◌∷◌, length, Option, Some}
 use Rattle.std.specs.Prelude.{None, Result, Err, refl, IsTrue, IsErrOf, filter}
 use Rattle.std.proofs.Common.{sym, ◌∙◌, ap, subst, arith, inl, inr}
@@ -9,12 +9,12 @@ use Rattle.funnel.specs.Names.{is_msg_id, is_token, is_peer_name}
 use Rattle.funnel.specs.Words.{HasWords, IsFirstWord, IsGap}
 use Rattle.funnel.specs.WordLaws.{has_words, words_from_first, words_once}
 
--- The line's own fault: it has it, and it is no want of memory.
+-- The line's own fault: the line has it, and it is not for want of memory.
 pub record IsFaultOf (line : List ℕ) (fault : LineFault) : Type 0 where
   pub has : HasFault line fault
   pub own : fault ≢ NoMemory
 
--- A line cut into its token, its message-id and what stands behind them.
+-- A line cut into its token, its message-id and what follows them.
 pub record HasParts (line token id others : List ℕ) : Type 0 where
   pub behind : List ℕ
   pub short : length line ≤ longest_line
@@ -29,7 +29,7 @@ pub record HasPeers (text : List ℕ) (peers : List (List ℕ)) : Type 0 where
   pub has : HasWords text words
   pub named : peers ≡ filter is_peer_name words
 
--- what is wrong behind a token
+-- what is wrong after a token
 abbrev pub fault_behind : List (List ℕ) → Option LineFault
 fault_behind [] = Some BadId
 fault_behind (word ∷ words) = cond (is_msg_id word) None (Some BadId)
@@ -39,7 +39,7 @@ abbrev pub fault_among : List (List ℕ) → Option LineFault
 fault_among [] = Some NoToken
 fault_among (word ∷ words) = cond (is_token word) (fault_behind words) (Some BadToken)
 
--- the line is short, and this is wrong with its words
+-- the line is not too long, and this is wrong with its words
 pub record IsShort (line : List ℕ) (found : Option LineFault) : Type 0 where
   pub short : length line ≤ longest_line
   pub words : List (List ℕ)
@@ -101,7 +101,7 @@ line_once line token id token' id' peers peers' g h =
     let others : g.others ≡ h.others = cc in
     (cc, cc, g.named ∙ ap (filter is_peer_name) others ∙ sym h.named)
 
--- a funnel line is a backlog file's line too, of the same article
+-- a funnel line is also a line of a backlog file, of the same article
 pub backlog_from_funnel : (line token id : List ℕ) (peers : List (List ℕ)) → IsFunnelLine line token id peers
     → IsBacklogLine line token id
 backlog_from_funnel line token id peers g = record {
@@ -112,7 +112,7 @@ backlog_from_funnel line token id peers g = record {
   id_form = g.id_form;
 }
 
--- and so is each of a backlog file a funnel line, of some peers
+-- and each line of a backlog file is a funnel line, of some peers
 pub funnel_from_backlog : (line token id : List ℕ) → IsBacklogLine line token id
     → (peers : List (List ℕ)) × IsFunnelLine line token id peers
 funnel_from_backlog line token id g = (
@@ -127,7 +127,7 @@ funnel_from_backlog line token id g = (
   },
 )
 
--- which has one reading
+-- it has one reading
 pub backlog_once : (line token id token' id' : List ℕ) → IsBacklogLine line token id → IsBacklogLine line token' id'
     → (token ≡ token') × (id ≡ id')
 backlog_once line token id token' id' g h =
@@ -136,14 +136,14 @@ backlog_once line token id token' id' g h =
     let same = line_once line token id token' id' one.0 other.0 one.1 other.1 in
     (same.0, same.1)
 
--- A call that answers the line's own fault says so of no other, and says so of each that the line has.
+-- A call that returns the line's own fault returns no other, and does so for each fault that the line has.
 pub refused : {T : Type 0} (line : List ℕ) (r : Result T LineFault) (a b : LineFault) → r ≡ Err a → IsFaultOf line a → b ≢ NoMemory → IsErrOf r b ↔ HasFault line b
 refused {T} line r a b is f own = (
   λ e. let same : a ≡ b = cc in subst (λ fault. HasFault line fault) same f.has,
   λ h. is ∙ ap (λ fault. Err fault) (fault_once line a b f (record { has = h; own = own })),
 )
 
--- A call that names no fault of a good line is right to.
+-- A call that reports no fault of a good line is right.
 pub unrefused : {T : Type 0} (line token id : List ℕ) (peers : List (List ℕ)) (r : Result T LineFault) (b : LineFault) → IsFunnelLine line token id peers
     → b ≢ NoMemory → (IsErrOf r b → ⊥) → IsErrOf r b ↔ HasFault line b
 unrefused line token id peers r b g own other =
@@ -181,7 +181,7 @@ id_fault line token behind id others short first form second bad =
     let all = words_from_first behind id others words.0 second words.1 in
     record { has = (short, token, id ∷ words.0, words_from_first (without_cr line) token behind (id ∷ words.0) first all, form, bad); own = λ e. cc }
 
--- a line with its parts is good: it has some reading
+-- a line with its parts is good: it has a reading
 pub parts_read : (line token id others : List ℕ) → HasParts line token id others → (peers : List (List ℕ)) × IsFunnelLine line token id peers
 parts_read line token id others p =
     let words = has_words others in

@@ -2,7 +2,7 @@
 use Rattle.std.specs.Prelude.{◌==◌, ◌-◌, ◌&&◌, ◌||◌, ℕ, Bool, not, List, length, nat_le, slice_index, count_by}
 use Rattle.std.specs.List.{list_all, list_any, slice_split}
 
--- an octet that shows: 33 to 126
+-- a visible octet: 33 to 126
 abbrev pub is_graphic : ℕ → Bool
 is_graphic octet = nat_le 33 octet && nat_le octet 126
 
@@ -13,11 +13,11 @@ is_msg_id octets =
     && slice_index octets 0 == 60 && slice_index octets (length octets - 1) == 62
     && count_by (λ octet. octet == 62) octets == 1 && list_all is_graphic octets
 
--- two dots, the name of the folder above
+-- two dots, the parent directory
 abbrev pub is_parent : List ℕ → Bool
 is_parent part = length part == 2 && list_all (λ octet. octet == 46) part
 
--- A token: 1 to 255 octets, all of 33 to 126, `/` not first, no part between slashes two dots (profile).
+-- A token: 1 to 255 octets, all of 33 to 126; the first is not `/`, and no part between slashes is two dots (profile).
 abbrev pub is_token : List ℕ → Bool
 is_token octets =
     nat_le 1 (length octets) && nat_le (length octets) 255 && list_all is_graphic octets

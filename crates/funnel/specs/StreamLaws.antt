@@ -1,4 +1,4 @@
--- The laws of lines in a stream of octets: one first line, and one more line behind others.
+-- Laws of lines in a stream of octets: there is one first line, and one more line can follow others.
 use Rattle.std.specs.Prelude.{◌≡◌, ◌≢◌, ℕ, List, [], ◌∷◌, ◌++◌, refl}
 use Rattle.std.proofs.Common.{sym, ◌∙◌, ap}
 use Rattle.std.proofs.lemmas.List.{append_assoc, append-nil}
@@ -12,7 +12,7 @@ unended_head octet octets unended = All-head (λ o. o ≢ 10) octet octets unend
 pub unended_tail : (octet : ℕ) (octets : List ℕ) → IsUnended (octet ∷ octets) → IsUnended octets
 unended_tail octet octets unended = All-tail (λ o. o ≢ 10) octet octets unended
 
--- octets have one first line, and one rest behind it
+-- octets have one first line, and one rest after it
 pub first_line_once : (a b x y : List ℕ) → IsUnended a → IsUnended b → a ++ 10 ∷ x ≡ b ++ 10 ∷ y → (a ≡ b) × (x ≡ y)
 first_line_once [] [] x y p q e = (refl, cc)
 first_line_once [] (o ∷ b) x y p q e = let same : o ≡ 10 = cc in absurd (unended_head o b q same)
@@ -33,7 +33,7 @@ whole_line_ends (o ∷ line) behind p = whole_line_ends line behind (unended_tai
 pub ended_first : (line : List ℕ) (lines : List (List ℕ)) (rest : List ℕ) → ended (line ∷ lines) ++ rest ≡ line ++ 10 ∷ (ended lines ++ rest)
 ended_first line lines rest = append_assoc (line ++ 10 ∷ []) (ended lines) rest ∙ append_assoc line (10 ∷ []) (ended lines ++ rest)
 
--- octets that are some lines and a rest, where one more line begins that rest
+-- octets that are some lines and a rest, if one more line begins that rest
 pub ended_push : (octets rest line behind : List ℕ) (lines : List (List ℕ)) → octets ≡ ended lines ++ rest → rest ≡ line ++ 10 ∷ behind → octets ≡ ended (lines ++ line ∷ []) ++ behind
 ended_push octets rest line behind lines whole parts =
     let last : ended (line ∷ []) ≡ line ++ 10 ∷ [] = append-nil (line ++ 10 ∷ []) in

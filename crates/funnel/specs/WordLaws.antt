@@ -1,4 +1,4 @@
--- The laws of words: a text has one first word, and a line has one list of words.
+-- Laws of words: a text has one first word, and a line has one list of words.
 use Rattle.std.specs.Prelude.{◌≡◌, ◌<◌, ◌≤◌, ◌+◌, ℕ, Bool, true, false, not, cond, List, [], ◌∷◌, ◌++◌, length, take}
 use Rattle.std.specs.Prelude.{drop, refl}
 use Rattle.std.specs.List.{list_all, prefix_len}
@@ -16,7 +16,7 @@ abbrev pub Stops : (ℕ → Bool) → List ℕ → Type 0
 Stops p [] = Unit {0}
 Stops p (octet ∷ rest) = p octet ≡ false
 
--- what passes at the front of a list, cut off where it stops
+-- the longest passing prefix of a list that goes on with something that stops it
 blank_prefix_len : (p : ℕ → Bool) (xs ys : List ℕ) → list_all p xs ≡ true → Stops p ys → prefix_len p (xs ++ ys)
     ≡ length xs
 blank_prefix_len p [] [] h s = refl
@@ -43,7 +43,7 @@ pub prefix_stops : (p : ℕ → Bool) (xs : List ℕ) → Stops p (drop (prefix_
 prefix_stops p [] = tt
 prefix_stops p (x ∷ xs) = prefix_stops_step p x xs (p x) refl (prefix_stops p xs)
 
--- what stands behind the blanks at the front
+-- what follows the blanks at the beginning
 abbrev pub behind_gap : List ℕ → List ℕ
 behind_gap text = drop (prefix_len is_blank text) text
 
@@ -68,7 +68,7 @@ word_stops_gap : (word rest : List ℕ) → IsWord word → Stops is_blank (word
 word_stops_gap [] rest w = absurd (omega (arith, w.some))
 word_stops_gap (octet ∷ word) rest w = false_from_not (is_blank octet) (and_parts (not (is_blank octet)) (list_all is_solid word) w.solid).0
 
--- the gap, the word and the rest are found by lengths
+-- the gap, the word and the rest are found by their lengths
 gap_is : (text word rest : List ℕ) (f : IsFirstWord text word rest) → behind_gap text ≡ word ++ rest
 gap_is text word rest f =
     let whole : text ≡ f.gap ++ (word ++ rest) = f.parts ∙ append_assoc f.gap word rest in
@@ -93,7 +93,7 @@ first_word_once text word rest word' rest' f g =
     let b = word_is text word' rest' g in
     (sym a.0 ∙ b.0, sym a.1 ∙ b.1)
 
--- a text with nothing behind the blanks at its front
+-- a text with nothing after its first blanks is a gap
 pub gap_alone : (text : List ℕ) → length (behind_gap text) ≡ 0 → IsGap text
 gap_alone text none =
     let n = prefix_len is_blank text in
@@ -127,7 +127,7 @@ gap_no_word text word rest blank f =
     let some : word ++ rest ≡ [] = sym (gap_is text word rest f) ∙ none in
     absurd (omega (arith, ap length some, length-append word rest, f.whole.some))
 
--- the words of a line, the first and then the others
+-- the words of a line: the first, then the others
 pub words_from_first : (text word rest : List ℕ) (words : List (List ℕ)) → IsFirstWord text word rest → HasWords rest words → HasWords text (word ∷ words)
 words_from_first text word rest words f h = (f.gap, rest, f.parts, f.blank, f.whole, f.ends, h)
 
@@ -148,7 +148,7 @@ words_once line (word ∷ words) (word' ∷ words') h k =
     let first : word ≡ word' = same.0 in
     cc
 
--- what stands behind a word is shorter
+-- what follows a word is shorter
 pub rest_shorter : (text word rest : List ℕ) → IsFirstWord text word rest → length rest < length text
 rest_shorter text word rest f =
     omega (arith, f.whole.some, ap length f.parts, length-append (f.gap ++ word) rest, length-append f.gap word)
@@ -166,6 +166,6 @@ has_words_below (suc n) text below =
       | inr none ↦ ([], gap_alone text (omega (arith, none)))
     ]
 
--- each line has words
+-- each line has a list of words
 pub has_words : (line : List ℕ) → (words : List (List ℕ)) × HasWords line words
 has_words line = has_words_below (suc (length line)) line (omega arith)

@@ -6,7 +6,7 @@ use Rattle.std.specs.List.{list_all}
 abbrev pub is_blank : ℕ → Bool
 is_blank octet = octet == 32 || octet == 9
 
--- nothing, or blanks alone
+-- nothing, or only blanks
 abbrev pub IsGap : List ℕ → Type 0
 IsGap octets = IsTrue (list_all is_blank octets)
 
@@ -15,12 +15,12 @@ pub record IsWord (octets : List ℕ) : Type 0 where
   pub some : 0 < length octets
   pub solid : IsTrue (list_all (λ octet. not (is_blank octet)) octets)
 
--- what may stand behind a word: nothing, or a blank first
+-- what may follow a word: nothing, or a blank first
 abbrev pub EndsWord : List ℕ → Type 0
 EndsWord [] = Unit {0}
 EndsWord (octet ∷ rest) = IsTrue (is_blank octet)
 
--- The text begins with this word, but for blanks before it, and behind the word stands this rest.
+-- The text begins with this word, except for blanks before it, and this rest follows the word.
 pub record IsFirstWord (text word rest : List ℕ) : Type 0 where
   pub gap : List ℕ
   pub parts : text ≡ gap ++ word ++ rest
@@ -28,7 +28,7 @@ pub record IsFirstWord (text word rest : List ℕ) : Type 0 where
   pub whole : IsWord word
   pub ends : EndsWord rest
 
--- the line has these words, in order, and blanks alone besides
+-- the line has these words, in order, and otherwise only blanks
 abbrev pub HasWords : List ℕ → List (List ℕ) → Type 0
 HasWords line [] = IsGap line
 HasWords line (word ∷ words) = (gap rest : List ℕ) × (line ≡ gap ++ word ++ rest) × IsGap gap × IsWord word × EndsWord rest × HasWords rest words

@@ -6,11 +6,11 @@ use crate::line::{LineFault, Parts};
 use crate::names::{MsgId, Token};
 use std::alloc::Global;
 
-/// Reads a line of a backlog file, the octets before its LF: an article's token and its message-id. Further words are
-/// left out, and one CR at the line's end is dropped.
+/// Reads a line of a backlog file, the octets before its LF: an article's token and its message-id. Any further words
+/// are ignored, and one CR at the end of the line is dropped.
 ///
 /// # Errors
-/// Those of `read_line`: the first fault that the line has, `TooLong` first; `NoMemory` only for a good line.
+/// Those of `read_line`: the first fault of the line, `TooLong` before all others; `NoMemory` only for a good line.
 pub fn read_backlog_line(alloc: Global, line: &[u8]) -> Result<(Token, MsgId), LineFault>
     ensures good { IfOk result (λ l. IsBacklogLine line.now l.0 l.1) }
     ensures too_long { IsErrOf result LineFault.TooLong ↔ HasFault line.now LineFault.TooLong }
@@ -25,7 +25,8 @@ pub fn read_backlog_line(alloc: Global, line: &[u8]) -> Result<(Token, MsgId), L
     Ok(article)
 }
 
-/// A line of a backlog file has one reading, one token and one message-id, and a funnel line is read as its own.
+/// A line of a backlog file has one reading, one token and one message-id. A funnel line is one too, of the same
+/// article.
 pub fn reads_backlog_once()
     ensures once { (line token id token' id' : List ℕ) → IsBacklogLine line token id
         → IsBacklogLine line token' id' → (token ≡ token') × (id ≡ id') }

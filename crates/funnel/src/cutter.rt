@@ -11,19 +11,19 @@ use std::collections::VecDeque;
 use std::marker::Model;
 use std::mem;
 
-// The octets that are kept of a line, one more than a good line may have before its LF.
+// How many octets of a line are kept: one more than a good line may have before its LF.
 const MOST_KEPT: usize = LONGEST_LINE + 1;
 
 /// A cutter of a stream of octets into lines, fed in pieces of any size.
 ///
-/// Of a line of over 8,192 octets before its LF, a CR among them, it keeps the first 8,193 octets, so that
-/// [`crate::read_line`] still tells [`crate::LineFault::TooLong`]; of the octets behind the last LF it keeps no more
-/// either. Each octet is searched once for an LF and copied once.
+/// If a line has more than 8,192 octets before its LF, a CR included, only its first 8,193 are kept, so that
+/// [`crate::read_line`] still reports [`crate::LineFault::TooLong`]. The same holds for the octets after the last LF.
+/// Each octet is searched once for an LF and copied once.
 #[derive(Debug, Drop)]
 pub struct LineCutter {
-    /// The whole lines, the oldest first.
+    /// The whole lines, oldest first.
     lines: VecDeque<Vec<u8>>,
-    /// What waits for its LF.
+    /// What follows the last LF.
     rest: Vec<u8>,
 }
 
@@ -38,7 +38,7 @@ impl Model for LineCutter {
 }
 
 impl LineCutter {
-    /// A cutter that was fed nothing. It takes its memory from here.
+    /// A cutter that was fed nothing. It takes its memory from `alloc`.
     pub fn new(alloc: Global) -> Self
         ensures { StandsFor result [] [] }
     {
@@ -48,10 +48,10 @@ impl LineCutter {
         }
     }
 
-    /// Takes in more octets, and makes the lines that they end.
+    /// Takes in more octets, and makes the lines that they complete.
     ///
     /// # Errors
-    /// `NoMemory` where memory was refused: the cutter is unchanged, and none of the octets is taken in.
+    /// `NoMemory` if memory was refused: the cutter is unchanged, and none of the octets is taken in.
     pub fn feed(&mut self, piece: &[u8]) -> Result<(), NoMemory>
         ensures fed { OnOk result
             ((fed : List ℕ) (given : List (List ℕ)) → StandsFor self.old fed given
@@ -64,7 +64,7 @@ impl LineCutter {
         }
     }
 
-    /// Gives the next whole line without its LF, or of a longer line its first 8,193 octets; `None` where no whole line
+    /// Returns the next whole line without its LF, or the first 8,193 octets of a longer one; `None` if no whole line
     /// is left. Takes no memory.
     pub fn next(&mut self) -> Option<Vec<u8>>
         ensures line { IfSome result
@@ -79,7 +79,7 @@ impl LineCutter {
         self.lines.pop_front()
     }
 
-    // Takes in the end of the line that is held, its LF, and the octets behind it. All that may be refused comes first.
+    // Takes in the end of the held line, its LF, and the octets after it. All that can be refused comes first.
     fn feed_lines(&mut self, end: &[u8], behind: &[u8]) -> Result<(), NoMemory>
         requires { IsUnended end.now }
         ensures fed { OnOk result
@@ -95,7 +95,6 @@ impl LineCutter {
         self.lines.append(&mut lines)
     }
 
-    // A cutter that was fed these octets.
     fn of(alloc: Global, octets: &[u8]) -> Result<Self, NoMemory>
         ensures { IfOk result (λ cutter. StandsFor cutter octets.now []) }
     {
@@ -110,13 +109,13 @@ impl LineCutter {
     }
 }
 
-/// Octets have one list of lines and one rest. So the same octets give the same lines, in whatever pieces they are fed.
+/// Octets have one list of lines and one rest. So the same octets give the same lines, whatever pieces they are fed in.
 pub fn splits_once()
     ensures { (fed : List ℕ) (a b : List (List ℕ)) (r s : List ℕ) → Splits fed a r → Splits fed b s
         → (a ≡ b) × (r ≡ s) }
 {}
 
-/// The first line without its LF, and what stands behind that; `None` where there is no LF.
+/// The first line without its LF, and what follows the LF; `None` if there is no LF.
 pub fn first_line(octets: &[u8]) -> Option<(&[u8], &[u8])>
     ensures line { MatchOption result (IsUnended octets.now)
         (λ p. BeginsWithLine octets.now p.0.now p.1.now) }
@@ -128,14 +127,13 @@ pub fn first_line(octets: &[u8]) -> Option<(&[u8], &[u8])>
     }
 }
 
-// Copies what is kept of a line.
 fn clip(alloc: Global, line: &[u8]) -> Result<Vec<u8>, NoMemory>
     ensures { IfOk result (λ kept. kept.items ≡ clipped line.now) }
 {
     Vec::from_slice(alloc, &line[..MOST_KEPT.min(line.len())])
 }
 
-// Puts more octets behind the first ones of a line, of which it holds what is kept.
+// Appends to what is kept of a line, up to `MOST_KEPT` octets.
 fn extend_clipped(kept: &mut Vec<u8>, octets: &[u8]) -> Result<(), NoMemory>
     ensures fed { OnOk result
         ((line : List ℕ) → kept.old.items ≡ clipped line

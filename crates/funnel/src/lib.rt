@@ -1,10 +1,10 @@
 //! The names and the lines of a news server's outgoing feed: message-ids, tokens, names of peers, funnel lines, and the
 //! lines of backlog files.
 //!
-//! May touch nothing but memory; it stands on `memchr` for the search for line ends. The crates above use the three
-//! names as lists of octets that keep their form (`specs/Names.antt`), `read_line` and `read_backlog_line`, which read
-//! a line exactly where `specs/Line.antt` has it and else name the first fault, `LineCutter`, which gives the lines of
-//! what it was fed however that was cut, and `first_line`, which takes one (`specs/Stream.antt`), and `next_word`,
+//! May touch nothing but memory; it stands on `memchr`, which finds line ends. The crates above use the three names, as
+//! lists of octets that keep their form (`specs/Names.antt`); `read_line` and `read_backlog_line`, which read exactly
+//! the lines of `specs/Line.antt` and report the first fault of any other; `LineCutter`, which returns the lines of
+//! what it was fed, whatever the pieces, and `first_line`, which takes one (`specs/Stream.antt`); and `next_word`,
 //! which takes the words of any text one by one (`specs/Words.antt`).
 #![tactic(auto)]
 

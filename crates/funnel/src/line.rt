@@ -10,24 +10,24 @@ use crate::words::next_word;
 use std::alloc::{AllocError, Global};
 use thiserror::Error;
 
-/// Why a funnel line is not good. The first that holds is told, `TooLong` before the others.
+/// Why a funnel line is not good: its first fault, `TooLong` before the others.
 #[derive(Clone, Copy, Debug, PartialEq, Eq, Error)]
 #[error("{}", self.name())]
 pub enum LineFault {
     /// It has no word.
     NoToken,
-    /// Its first word is no token.
+    /// Its first word is not a token.
     BadToken,
-    /// Its second word is no message-id, or is missing.
+    /// Its second word is missing or is not a message-id.
     BadId,
-    /// It has over 8,192 octets before its LF, a CR among them.
+    /// It has more than 8,192 octets before its LF, a CR included.
     TooLong,
     /// Memory was refused.
     NoMemory,
 }
 
 impl LineFault {
-    /// The word by which messages and scripts tell it.
+    /// The word for it in messages and scripts.
     pub fn name(self) -> &'static str
         ensures { result.now ≡ line_fault_name self }
     {
@@ -52,14 +52,13 @@ impl From<AllocError> for LineFault {
     }
 }
 
-/// A good funnel line: an article and the peers that are to have it (innfeed(8)).
+/// A good funnel line: an article, and the peers that are to get it (innfeed(8)).
 #[derive(Debug, Drop)]
 pub struct FunnelLine {
-    /// Where the article lies.
+    /// Where the article is stored.
     pub token: Token,
-    /// The article's message-id.
     pub id: MsgId,
-    /// The names of peers, as written: in order, a name as often as it stands there.
+    /// The names of peers as written: in order, and repeated if they are repeated there.
     pub peers: Vec<PeerName>,
 }
 
@@ -75,7 +74,7 @@ impl FunnelLine {
 /// Reads a funnel line, the octets before its LF. One CR at its end is dropped.
 ///
 /// # Errors
-/// The first fault that the line has, `TooLong` first; `NoMemory` only for a good line.
+/// The first fault of the line, `TooLong` before all others; `NoMemory` only for a good line.
 pub fn read_line(alloc: Global, line: &[u8]) -> Result<FunnelLine, LineFault>
     ensures good { IfOk result (λ l. IsFunnelLine line.now l.token l.id l.peers.items) }
     ensures too_long { IsErrOf result LineFault.TooLong ↔ HasFault line.now LineFault.TooLong }
@@ -97,10 +96,10 @@ pub fn reads_once()
         → (token ≡ token') × (id ≡ id') × (peers ≡ peers') }
 {}
 
-/// The most octets that a good line has before its LF.
+/// The length of the longest good line, in octets before its LF.
 pub const LONGEST_LINE: usize = 8192;
 
-// A good line, cut where its parts end.
+// A good line, cut into its parts.
 #[derive(Clone, Copy)]
 pub(crate) struct Parts<'a> {
     token: &'a [u8],
@@ -109,7 +108,7 @@ pub(crate) struct Parts<'a> {
 }
 
 impl<'a> Parts<'a> {
-    // Cuts a line, or tells its first fault. Allocates nothing.
+    // Cuts a line, or returns its first fault. Allocates nothing.
     pub(crate) fn cut(line: &'a [u8]) -> Result<Self, LineFault>
         ensures { MatchResult result (λ p. HasParts line.now p.token.now p.id.now p.others.now)
             (λ fault. IsFaultOf line.now fault) }
@@ -132,7 +131,6 @@ impl<'a> Parts<'a> {
         Ok(Parts { token, id, others })
     }
 
-    // Copies the token and the message-id.
     pub(crate) fn article(&self, alloc: Global) -> Result<(Token, MsgId), AllocError>
         requires token { IsTrue (is_token self.now.token.now) }
         requires id { IsTrue (is_msg_id self.now.id.now) }
@@ -144,7 +142,7 @@ impl<'a> Parts<'a> {
         Ok((token, id))
     }
 
-    // Copies the parts; of the other words it keeps those that are names of peers.
+    // Copies the parts. The other words are kept only if they are names of peers.
     fn keep(&self, alloc: Global) -> Result<FunnelLine, AllocError>
         requires token { IsTrue (is_token self.now.token.now) }
         requires id { IsTrue (is_msg_id self.now.id.now) }
@@ -158,9 +156,9 @@ impl<'a> Parts<'a> {
     }
 }
 
-/// A line without the one CR that may stand last: of two CRs at its end the first stays.
+/// A line without the one CR that may end it. If two CRs end it, the first stays.
 ///
-/// The line is what stands before its LF, so that one CR there belongs to the line's end (RFC 3977, section 3.1).
+/// The line is what comes before its LF, so one CR there belongs to the line's end (RFC 3977, section 3.1).
 pub fn without_cr(line: &[u8]) -> &[u8]
     ensures { result.now ≡ without_cr line.now }
 {
@@ -170,7 +168,6 @@ pub fn without_cr(line: &[u8]) -> &[u8]
     }
 }
 
-// The words that are names of peers, as written.
 fn read_peers(alloc: Global, text: &[u8]) -> Result<Vec<PeerName>, AllocError>
     ensures { IfOk result (λ peers. HasPeers text.now peers.items) }
 {

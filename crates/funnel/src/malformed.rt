@@ -4,19 +4,19 @@ ghost use Rattle.funnel.specs.Malformed.{first_of};
 
 use crate::line::LineFault;
 
-/// Lines that are malformed, at least one.
+/// Malformed lines, at least one.
 #[derive(Clone, Copy, Debug, PartialEq, Eq)]
 pub struct Malformed {
-    /// How many there are, up to the greatest u64.
+    /// How many there are, at most the greatest u64.
     pub lines: u64,
-    /// The number of the first of them.
+    /// The line number of the first of them.
     pub number: u64,
-    /// What is wrong with it.
+    /// What is wrong with the first of them.
     pub fault: LineFault,
 }
 
 impl Malformed {
-    /// With one line more, of this number, behind these.
+    /// The same with one more line, which has this number and comes after them.
     pub fn add(before: Option<Self>, number: u64, fault: LineFault) -> Self
         ensures { result ≡ first_of before number fault }
     {

@@ -8,11 +8,11 @@ ghost use Rattle.funnel.specs.Names.{is_token};
 use std::alloc::{AllocError, Global};
 use std::marker::{Model, PhantomData};
 
-/// A form that octets have or do not have.
+/// A form that octets may have.
 pub trait Form {
     ghost form: { List ℕ → Bool };
 
-    /// Whether octets have it.
+    /// Whether the octets have it.
     fn holds(octets: &[u8]) -> bool
         ensures { result ≡ form octets.now };
 }
@@ -35,10 +35,10 @@ impl<F: Form> Model for Name<F> {
 }
 
 impl<F: Form> Name<F> {
-    /// Reads a name, which is the whole of these octets; `None` where they do not have its form.
+    /// Reads a name, which is all of these octets; `None` if they do not have its form.
     ///
     /// # Errors
-    /// `NoMemory` where the octets have the form and memory was refused.
+    /// `NoMemory` if the octets have the form and memory was refused.
     pub fn read(alloc: Global, octets: &[u8]) -> Result<Option<Self>, AllocError>
         ensures found { IfOk result (λ o. IsSome o ↔ IsTrue (F.form octets.now)) }
         ensures value { IfOk result (λ o. IfSome o (λ name. name ≡ octets.now)) }
@@ -51,7 +51,6 @@ impl<F: Form> Name<F> {
         Ok(Some(name))
     }
 
-    // Copies octets that have the form.
     pub(crate) fn from_octets(alloc: Global, octets: &[u8]) -> Result<Self, AllocError>
         requires { IsTrue (F.form octets.now) }
         ensures { IfOk result (λ name. name ≡ octets.now) }
@@ -63,7 +62,6 @@ impl<F: Form> Name<F> {
         })
     }
 
-    /// Its octets.
     pub fn bytes(&self) -> &[u8]
         ensures value { result.now ≡ self.now }
         ensures form { IsTrue (F.form self.now) }
@@ -83,13 +81,13 @@ impl<F: Form> Clone for Name<F> {
 /// A message-id: 3 to 250 octets of 33 to 126, `<` first, `>` last and nowhere else (RFC 3977, section 3.6).
 pub type MsgId = Name<MsgIdForm>;
 
-/// A token, where an article lies: 1 to 255 octets of 33 to 126, no `/` first, and no part between slashes is `..`.
+/// A token, which says where an article is stored: 1 to 255 octets of 33 to 126; `/` is not the first, and no part
+/// between slashes is `..`.
 pub type Token = Name<TokenForm>;
 
-/// The name of a peer: 1 to 64 letters, digits, `.`, `-` and `_`, no `.` first.
+/// The name of a peer: 1 to 64 letters, digits, `.`, `-` and `_`; `.` is not the first.
 pub type PeerName = Name<PeerNameForm>;
 
-/// The form of a [`MsgId`].
 pub struct MsgIdForm;
 
 impl Form for MsgIdForm {
@@ -105,7 +103,6 @@ impl Form for MsgIdForm {
     }
 }
 
-/// The form of a [`Token`].
 pub struct TokenForm;
 
 impl Form for TokenForm {
@@ -120,7 +117,6 @@ impl Form for TokenForm {
     }
 }
 
-/// The form of a [`PeerName`].
 pub struct PeerNameForm;
 
 impl Form for PeerNameForm {
@@ -131,35 +127,32 @@ impl Form for PeerNameForm {
     }
 }
 
-// Whether the octet shows: no blank, no control, within ASCII.
+// Whether the octet is visible ASCII: neither a blank nor a control.
 fn is_graphic(octet: u8) -> bool
     ensures { result ≡ is_graphic octet }
 {
     33 <= octet && octet <= 126
 }
 
-// Whether each octet shows.
 fn all_graphic(octets: &[u8]) -> bool
     ensures { result ≡ list_all is_graphic octets.now }
 {
     octets.iter().all(|octet| is_graphic(*octet))
 }
 
-// Whether there is one `>`.
 fn has_one_end(octets: &[u8]) -> bool
     ensures { result ≡ (count_by (λ octet. octet == 62) octets.now == 1) }
 {
     octets.iter().filter(|octet| **octet == b'>').count() == 1
 }
 
-// Whether the part is the name of the folder above, `..`.
+// Whether the part is `..`, the parent directory.
 fn is_parent(part: &[u8]) -> bool
     ensures { result ≡ is_parent part.now }
 {
     part.len() == 2 && part.iter().all(|octet| *octet == b'.')
 }
 
-// Whether a part between slashes is `..`.
 fn has_parent(octets: &[u8]) -> bool
     ensures { result ≡ list_any is_parent (slice_split (λ octet. octet == 47) octets.now) }
 {
@@ -174,14 +167,12 @@ fn is_alphanumeric(octet: u8) -> bool
     octet.is_ascii_alphanumeric()
 }
 
-// Whether the octet may stand in the name of a peer.
 fn is_name_octet(octet: u8) -> bool
     ensures { result ≡ is_name_octet octet }
 {
     is_alphanumeric(octet) || octet == b'.' || octet == b'-' || octet == b'_'
 }
 
-// Whether each octet may stand in the name of a peer.
 fn all_name_octets(octets: &[u8]) -> bool
     ensures { result ≡ list_all is_name_octet octets.now }
 {

@@ -4,10 +4,10 @@ ghost use Rattle.std.specs.List.{prefix_len};
 ghost use Rattle.funnel.specs.Words.{is_blank, IsFirstWord, IsGap};
 ghost use Rattle.funnel.specs.WordLaws.{is_solid};
 
-/// The first word of a text, and all that stands behind it; `None` where the text has no word.
+/// The first word of a text, and all that follows it; `None` if the text has no word.
 ///
-/// A word is a longest run of octets other than space (32) and tab (9). What stands behind the word begins with a blank
-/// or is empty, so asking again of it gives the next word. Nothing is copied, and no memory is taken.
+/// A word is a longest run of octets other than space (32) and tab (9). What follows it begins with a blank or is
+/// empty, so another call on that returns the next word. Nothing is copied, and no memory is taken.
 pub fn next_word(text: &[u8]) -> Option<(&[u8], &[u8])>
     ensures word { MatchOption result (IsGap text.now) (λ p. IsFirstWord text.now p.0.now p.1.now) }
     ensures shorter { IfSome result (λ p. length p.1.now < length text.now) }
@@ -19,14 +19,12 @@ pub fn next_word(text: &[u8]) -> Option<(&[u8], &[u8])>
     Some(text.split_at(word_len(text)))
 }
 
-// Space or tab.
 fn is_blank(octet: u8) -> bool
     ensures { result ≡ is_blank octet }
 {
     octet == b' ' || octet == b'\t'
 }
 
-// How many blanks stand at the front.
 fn gap_len(text: &[u8]) -> usize
     ensures value { result ≡ prefix_len is_blank text.now }
     ensures bound { result ≤ length text.now }
@@ -34,7 +32,6 @@ fn gap_len(text: &[u8]) -> usize
     text.iter().take_while(|octet| is_blank(**octet)).count()
 }
 
-// How many octets stand before the first blank.
 fn word_len(text: &[u8]) -> usize
     ensures value { result ≡ prefix_len is_solid text.now }
     ensures bound { result ≤ length text.now }

@@ -42,7 +42,7 @@ no-rest read all octets rest are are' many split e =
     let left = together-rest read all rest are are' (omega (arith, many)) (e ∙ split) in
     omega (arith, ap length left.2, together-none left.0 (omega (arith, many, left.3)))
 
--- several notes are told by their count and their octets
+-- several notes are determined by their count and their octets
 pub several-split : (notes : List Note) (octets rest body : List ℕ) (count : ℕ) → count < 2 ^ 32 → AreSeveral notes
     → octets ≡ 11 ∷ rest → rest ≡ to_be_bytes w32 count ++ body → batch_spelling notes ≡ octets
     → (length notes ≡ count) × (together notes ≡ body)

@@ -1,4 +1,4 @@
--- Where the debts of a ledger stand.
+-- Where the notes of a ledger's debts are.
 use Rattle.std.proofs.Common.{◌≡◌, ℕ, ◌+◌, ◌-◌, ◌<◌, ◌≤◌, ◌^◌, List, [], ◌∷◌, ◌++◌, length, get_or, take, drop, min}
 use Rattle.std.proofs.Common.{Result, Ok, Err, refl, sym, ap, ◌∙◌, subst, arith, length-append, length-take}
 use Rattle.std.proofs.Common.{take-append-drop}
@@ -12,7 +12,7 @@ use Rattle.ledger_core.specs.Spots.{IsFound, PointsAt, StandsAt, debt_of, record
 use Rattle.ledger_core.specs.declared.note.Note.TheVariants.{Owe}
 use Rattle.ledger_core.specs.declared.spot.Entry.{Entry}
 
--- what was added points where it was told to
+-- what was added points where it was put
 pub points-new : (kept : ℕ) (payloads : List (List ℕ)) (number at slot within : ℕ) (entry : Entry) (token id : List ℕ)
     → entry.spot.at ≡ at → entry.spot.slot ≡ slot → entry.spot.within ≡ within
     → entry.token.value ≡ token → entry.id.value ≡ id

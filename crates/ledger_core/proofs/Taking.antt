@@ -514,7 +514,7 @@ stopped-with restoring payloads refused is index at taken =
       at_is = at ∙ stop.place.at_is;
     }
 
--- its debts are told of where they stand
+-- it says where its debts are
 pub indexed-all : (restoring : Restoring) (payloads : List (List ℕ)) → (restoring.stage ≡ Refused → ⊥)
     → HasTaken restoring payloads → Indexes (length payloads) payloads restoring.ledger
 indexed-all restoring payloads on taken = (going restoring payloads on taken).indexed (length payloads) (omega arith)

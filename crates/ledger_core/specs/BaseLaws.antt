@@ -1,4 +1,4 @@
--- Laws of Bases and of what stands behind them, for this crate and those above.
+-- Laws of Bases and of what follows them, for this crate and those above.
 use Rattle.std.specs.Prelude.{◌≡◌, ℕ, zero, suc, ◌+◌, ◌<◌, ◌^◌, List, [], ◌∷◌, ◌++◌, length}
 use Rattle.std.specs.Prelude.{◌==◌, Bool, true, false, not, if◌then◌else◌, take, drop, refl}
 use Rattle.std.proofs.Common.{inl, inr, sym, ◌∙◌, ap, subst, arith, length-append}
@@ -28,14 +28,14 @@ use Rattle.ledger_core.specs.SpellingLaws.{AreNotes-prefix, IsTagOf, head-apart,
 use Rattle.ledger_core.specs.SpellingLaws.{spellings-append, tag-told}
 use Rattle.ledger_core.specs.State.{IsPast, Owing, State, line_octets, keys_in, after, start}
 
--- ---- one spelling a Base
+-- ---- a Base has one spelling
 
 number-apart : (m n : ℕ) (xs ys : List ℕ) → m < 2 ^ 64 → n < 2 ^ 64
     → to_be_bytes w64 m ++ xs ≡ to_be_bytes w64 n ++ ys → (m ≡ n) × (xs ≡ ys)
 number-apart m n xs ys fits other e = head-apart 0 0 m n xs ys fits other
     (ap (λ (l : List ℕ). 0 ∷ l) e)
 
--- what is told of imports is told by its tag
+-- the tag says whether there is something to say of imports
 same-flag : (a b : Bool) → ◌≡◌ {A = ℕ} (if a then 10 else 4) (if b then 10 else 4) → a ≡ b
 same-flag true true e = refl
 same-flag false false e = refl
@@ -65,7 +65,7 @@ told-apart false false c n d m same fc fd fn fm none none' e =
 told-apart true false c n d m same fc fd fn fm none none' e = absurd (cc same)
 told-apart false true c n d m same fc fd fn fm none none' e = absurd (cc same)
 
--- so much of imports is told in one way
+-- what there is to say of imports is said in one way
 pub same-told : (c n d m : ℕ) → c < 2 ^ 32 → d < 2 ^ 32 → n < 2 ^ 64 → m < 2 ^ 64 → imports_tag c n ≡ imports_tag d m
     → told_imports c n ≡ told_imports d m → (c ≡ d) × (n ≡ m)
 same-told c n d m fc fd fn fm tags octets =
@@ -95,7 +95,7 @@ same-base one other is is' e =
     ∙ ap (λ n. record other { closed = n; import_mark = one.import_mark }) told.0
     ∙ ap (λ n. record other { import_mark = n }) told.1
 
--- no note has a Base's spelling
+-- no note has the spelling of a Base
 pub base-no-note : (base : Base) (note : Note) → base_spelling base ≡ spelling note → ⊥
 base-no-note base note e =
     by-tag note (imports_tag base.closed base.import_mark) (is_told base.closed base.import_mark) refl
@@ -230,7 +230,7 @@ parts (debt ∷ debts) (suc place) within =
       count = omega (arith, rest.count);
     }
 
--- where the debts end there are no more
+-- once the debts end there are no more
 pub ended : (marks : Marks) (behind : List (List ℕ)) (debts others : List Owing)
     → DebtsEnd marks behind debts → length debts < length others → HasDebts marks behind others → ⊥
 ended marks behind debts others end few has =
@@ -303,7 +303,7 @@ restores_once payloads generation other state left (inr a) (inr b) =
           a.4 there,
     )
 
--- where reading stops they are no tape
+-- if reading stops they are not a tape
 pub never_restored : (payloads : List (List ℕ)) (index generation : ℕ) (state : State)
     → RestoreStopsAt payloads index → Restores payloads generation state → ⊥
 never_restored payloads index generation state (inl stop) (inl whole) =

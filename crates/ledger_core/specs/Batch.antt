@@ -1,12 +1,12 @@
--- Batches (profile): notes under one gate. A note that comes alone is its plain payload. Several are one payload: a tag;
--- how many there are, in four octets, the greatest first; and then their payloads, one after another.
+-- Batches (profile): notes under one gate. A note that comes alone is its plain payload. Several are one payload: a
+-- tag; how many there are, in four octets, most significant first; and then their payloads, one after another.
 use Rattle.std.specs.Prelude.{◌≡◌, ◌==◌, ◌⊎◌, ℕ, ◌+◌, ◌<◌, ◌≤◌, List, [], ◌∷◌, ◌++◌, cond, drop, get_or, length}
 use Rattle.std.specs.Int.{to_be_bytes, w32}
 use Rattle.ledger_core.specs.declared.note.Note.{Note}
 use Rattle.ledger_core.specs.Note.{AreNotes, IsNote}
 use Rattle.ledger_core.specs.Spelling.{spelling}
 
--- the most octets that the payload of several notes has
+-- the length of the longest payload of several notes, in octets
 abbrev pub longest_batch : ℕ
 longest_batch = 65536
 
@@ -15,7 +15,7 @@ abbrev pub together : List Note → List ℕ
 together [] = []
 together (note ∷ notes) = spelling note ++ together notes
 
--- the payload that several notes are on a tape
+-- the payload of several notes on a tape
 abbrev pub batch_spelling : List Note → List ℕ
 batch_spelling notes = 11 ∷ (to_be_bytes w32 (length notes) ++ together notes)
 
@@ -29,13 +29,13 @@ pub record AreSeveral (notes : List Note) : Type 0 where
 abbrev pub SpellsNoBatch : List ℕ → Type 0
 SpellsNoBatch octets = (notes : List Note) → AreSeveral notes → batch_spelling notes ≡ octets → ⊥
 
--- ---- the note that stands first
+-- ---- the first note
 
--- where the text ends whose length stands here
+-- where the text ends whose length is here
 abbrev pub text_end : List ℕ → ℕ → ℕ
 text_end octets at = at + 1 + get_or octets at 0
 
--- how long a note is that begins so, by its tag and the lengths of its texts; 0 where none does
+-- how long a note is that begins so, by its tag and the lengths of its texts; 0 if none does
 abbrev pub prefix_length : List ℕ → ℕ
 prefix_length [] = 0
 prefix_length (tag ∷ rest) =
@@ -44,14 +44,14 @@ prefix_length (tag ∷ rest) =
     (cond (tag == 2) 11 (cond (tag == 7) 15 (cond (tag == 3) 10 (cond (tag == 8) 14
     (cond (tag == 5) 9 (cond (tag == 9) 5 0)))))))
 
--- ---- what stands behind one gate: a note, or several
+-- ---- what is under one gate: a note, or several
 
 abbrev pub IsBatch : List Note → Type 0
 IsBatch [] = ⊥
 IsBatch (note ∷ []) = IsNote note
 IsBatch (note ∷ next ∷ notes) = AreSeveral (note ∷ next ∷ notes)
 
--- the payload that they are on a tape
+-- their payload on a tape
 abbrev pub payload_of : List Note → List ℕ
 payload_of [] = []
 payload_of (note ∷ []) = spelling note
@@ -72,7 +72,7 @@ notes_of (batch ∷ batches) = batch ++ notes_of batches
 
 -- ---- the longest batches
 
--- with this note behind them notes would be too long for one payload
+-- with this note after them the notes would be too long for one payload
 abbrev pub IsFullFor : List Note → Note → Type 0
 IsFullFor batch note = longest_batch < length (batch_spelling (batch ++ note ∷ []))
 
@@ -93,14 +93,14 @@ pub record Cuts (notes : List Note) (batches : List (List Note)) : Type 0 where
   pub longest : AreLongest batches
   pub whole : notes_of batches ≡ notes
 
--- ---- where a note stands in its payload
+-- ---- where a note is in its payload
 
--- the octets of a payload that are notes: all of them, or what is behind the tag and the count of several
+-- the octets of a payload that are notes: all of them, or what follows the tag and the count of several
 abbrev pub body_of : List ℕ → List ℕ
 body_of [] = []
 body_of (tag ∷ rest) = cond (tag == 11) (drop 4 rest) (tag ∷ rest)
 
--- Behind so many octets of the notes of this payload stand these octets; behind others only in a payload of several.
+-- These octets come after `within` octets of the notes of this payload; after others only in a payload of several.
 pub record StandsIn (payload : List ℕ) (within : ℕ) (octets : List ℕ) : Type 0 where
   pub before : List ℕ
   pub behind : List ℕ

@@ -60,9 +60,9 @@ together-append (note ∷ one) other =
     ap (λ (l : List ℕ). spelling note ++ l) (together-append one other)
     ∙ sym (append_assoc (spelling note) (together one) (together other))
 
--- ---- the note that stands first
+-- ---- the first note
 
--- behind a tag and so many octets stand two texts
+-- after a tag and N octets come two texts
 texts-end : (tag : ℕ) (bytes token id x : List ℕ) (at : ℕ) → at ≡ 1 + length bytes
     → text_end ((tag ∷ (bytes ++ (sized_text token ++ sized_text id))) ++ x)
     (text_end ((tag ∷ (bytes ++ (sized_text token ++ sized_text id))) ++ x) at)
@@ -100,7 +100,7 @@ texts-end tag bytes token id x at is =
     behind-prefix one other n is =
         get_or-append_right one other n n 0 is (omega arith) ∙ ap (λ (k : ℕ). get_or other k 0) (minus-self n)
 
--- what holds of a line of the funnel and of any other holds of a key
+-- what holds of a funnel line's key and of any other holds of a key
 by-key : (line imported key : ℕ) (P : List ℕ → Type 0) → P (head line key)
     → P (imported ∷ (to_be_bytes w32 (source_of key) ++ to_be_bytes w64 (number_of key)))
     → P (key_head line imported key)
@@ -109,7 +109,7 @@ by-key line imported key P low far = elim (cases_lt key (2 ^ 64)) [
   | inr is ↦ subst P (sym (head-far line imported key is)) far
 ]
 
--- it is as long as its spelling, whatever stands behind it
+-- it is as long as its spelling, whatever follows
 pub prefix_length-note : (note : Note) (x : List ℕ) → prefix_length (spelling note ++ x) ≡ length (spelling note)
 prefix_length-note (Owe key token id) x =
     by-key 1 6 key (λ (h : List ℕ). prefix_length ((h ++ (sized_text token ++ sized_text id)) ++ x)
@@ -125,7 +125,7 @@ prefix_length-note (Drop key cause) x =
 prefix_length-note (Seen number) x = refl
 prefix_length-note (Closed source) x = refl
 
--- it is told from what is behind it
+-- its octets and what follows them determine it
 pub prefix-apart : (one other : Note) (x y : List ℕ) → IsNote one → IsNote other
     → spelling one ++ x ≡ spelling other ++ y → (one ≡ other) × (x ≡ y)
 prefix-apart one other x y a b e =
@@ -134,7 +134,7 @@ prefix-apart one other x y a b e =
     let parts = append-apart (spelling one) (spelling other) x y long e in
     (same-note one other a b parts.0, parts.1)
 
--- the octets of notes begin with those of some of them, and the rest is that of the others
+-- if the octets of notes begin with those of some of them, the rest is that of the others
 pub together-rest : (read all : List Note) (rest : List ℕ) → AreNotes read → AreNotes all → length read ≤ length all
     → together all ≡ together read ++ rest
     → (more : List Note) × AreNotes more × (together more ≡ rest) × (length all ≡ length read + length more)
@@ -149,7 +149,7 @@ together-rest (note ∷ read) (other ∷ all) rest a b few e =
     ap (λ (n : Note). n ∷ all) parts.0 ∙ ap (λ (l : List Note). note ∷ l) left.4 in
     (left.0, left.1, left.2, omega (arith, left.3), whole)
 
--- ---- one spelling a batch
+-- ---- a batch has one spelling
 
 pub length-together : (notes : List Note) → length notes ≤ length (together notes)
 length-together [] = omega arith
@@ -172,7 +172,7 @@ same-together (note ∷ one) (second ∷ other) a b l e =
     let rest : one ≡ other = same-together one other a.1 b.1 (omega (arith, l)) parts.1 in
     cc
 
--- the payload of several notes tells how many there are, and then which
+-- the payload of several notes says how many there are, and then which
 pub several-apart : (m n : ℕ) (x y : List ℕ) → m < 2 ^ 32 → n < 2 ^ 32
     → to_be_bytes w32 m ++ x ≡ to_be_bytes w32 n ++ y → (m ≡ n) × (x ≡ y)
 several-apart m n x y fits fits' e =
@@ -240,14 +240,14 @@ body-payload [] is = absurd is
 body-payload (note ∷ []) is = body-alone note ∙ sym (append-nil (spelling note))
 body-payload (note ∷ next ∷ notes) is = refl
 
--- with one note more behind them notes are several
+-- with one more note the notes are several
 pub joined-payload : (batch : List Note) (last : Note) → IsBatch batch
     → payload_of (batch ++ last ∷ []) ≡ batch_spelling (batch ++ last ∷ [])
 joined-payload [] last is = absurd is
 joined-payload (note ∷ []) last is = refl
 joined-payload (note ∷ next ∷ notes) last is = refl
 
--- and the octets of the payload grow by its own
+-- and the octets of the payload that are notes grow by its own
 pub body-joined : (batch : List Note) (last : Note) → IsBatch batch
     → body_of (payload_of (batch ++ last ∷ [])) ≡ body_of (payload_of batch) ++ spelling last
 body-joined batch last is =

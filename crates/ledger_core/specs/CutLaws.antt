@@ -49,7 +49,7 @@ goes-on (c ∷ a) (d ∷ b) note x y few e =
 batch-length : (notes : List Note) → length (batch_spelling notes) ≡ 5 + length (together notes)
 batch-length notes = omega (arith, length-append (to_be_bytes w32 (length notes)) (together notes))
 
--- of several notes none of the first is too long
+-- no prefix of several notes is too long
 prefix-short : (a b : List Note) (note : Note) → IsBatch b → Goes a b note → 0 < length a → IsFullFor a note → ⊥
 prefix-short a [] note is goes some full = is
 prefix-short a (c ∷ []) note is goes some full =
@@ -72,7 +72,7 @@ some-batch [] is = absurd is
 some-batch (note ∷ []) is = omega arith
 some-batch (note ∷ next ∷ notes) is = omega arith
 
--- behind a shorter first batch stands one for whose first note it is full
+-- a shorter first batch is followed by one whose first note is too long for it
 shorter : (a b : List Note) (one other : List (List Note)) → IsBatch a → IsBatch b → AreBatches one
     → AreLongest (a ∷ one) → a ++ notes_of one ≡ b ++ notes_of other → length a < length b → ⊥
 shorter a b [] other is is' are longest e few =

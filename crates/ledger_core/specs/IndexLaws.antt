@@ -25,7 +25,7 @@ use Rattle.ledger_core.specs.Spots.{IsFound, IsPlaced, PointsAt, StandsAt, Entri
 use Rattle.ledger_core.specs.State.{Owing, keys, keys_in}
 use Rattle.ledger_core.specs.declared.spot.Spot.{Spot}
 
--- what stands among payloads stands there when more stand behind them
+-- what is among payloads stays there when more follow them
 pub stands-more : (kept : ℕ) (payloads more : List (List ℕ)) (at slot : ℕ) (payload : List ℕ)
     → StandsAt kept payloads at slot payload → StandsAt kept (payloads ++ more) at slot payload
 stands-more kept payloads more at slot payload stands = record {
@@ -61,7 +61,7 @@ indexes-more kept payloads more ledger indexes =
     })
     ledger.debts.entries indexes
 
--- and of the same when what pended is on the tape
+-- and of the same when what was pending is on the tape
 pub indexes-flushed : (kept : ℕ) (payloads : List (List ℕ)) (ledger : Ledger) → Indexes kept payloads ledger
     → Indexes (length payloads) payloads ledger
 indexes-flushed kept payloads ledger indexes =
@@ -73,7 +73,7 @@ indexes-flushed kept payloads ledger indexes =
     })
     ledger.debts.entries indexes
 
--- a note that comes alone stands first in its payload
+-- a note that comes alone is first in its payload
 pub found-alone : (kept : ℕ) (payloads : List (List ℕ)) (at slot : ℕ) (note : Note)
     → StandsAt kept payloads at slot (spelling note) → IsFound kept payloads at slot 0 (spelling note)
 found-alone kept payloads at slot note stands = record {
@@ -88,7 +88,7 @@ found-alone kept payloads at slot note stands = record {
   };
 }
 
--- and one of several stands behind those before it
+-- and one of several comes after those before it
 pub found-among : (kept : ℕ) (payloads : List (List ℕ)) (at slot within : ℕ) (prefix : List Note) (note : Note)
     (behind : List Note) → StandsAt kept payloads at slot (batch_spelling (prefix ++ note ∷ behind))
     → within ≡ length (together prefix) → IsFound kept payloads at slot within (spelling note)
@@ -104,7 +104,7 @@ found-among kept payloads at slot within prefix note behind stands is = record {
   };
 }
 
--- and so do octets of several behind those before them
+-- and so do octets of several, after those before them
 pub found-inside : (kept : ℕ) (payloads : List (List ℕ)) (at slot within count : ℕ) (before octets behind : List ℕ)
     → StandsAt kept payloads at slot (11 ∷ (to_be_bytes w32 count ++ (before ++ (octets ++ behind))))
     → within ≡ length before → IsFound kept payloads at slot within octets
@@ -120,7 +120,7 @@ found-inside kept payloads at slot within count before octets behind stands is =
   };
 }
 
--- a note stands where it is found
+-- a note is where it is found
 pub placed : (kept : ℕ) (payloads : List (List ℕ)) (at slot within : ℕ) (note : Note)
     → IsFound kept payloads at slot within (spelling note) → IsPlaced kept payloads at slot within note
 placed kept payloads at slot within (Owe key token id) found = found
@@ -129,14 +129,14 @@ placed kept payloads at slot within (Drop key cause) found = tt
 placed kept payloads at slot within (Seen number) found = tt
 placed kept payloads at slot within (Closed source) found = tt
 
--- what comes behind all payloads stands there, and pends
+-- what comes after all payloads is there, and is pending
 pub stands-last : (kept : ℕ) (prefix : List (List ℕ)) (at slot : ℕ) (payload : List ℕ)
     → at ≡ min (records_length prefix) (2 ^ 64 - 1) → slot + kept ≡ length prefix
     → StandsAt kept (prefix ++ payload ∷ []) at slot payload
 stands-last kept prefix at slot payload at_is slot_is =
     record { prefix = prefix; behind = []; split = refl; at_is = at_is; slot_is = λ pends. slot_is }
 
--- records, one behind the others
+-- records, one after the others
 pub records_length-append : (prefix behind : List (List ℕ))
     → records_length (prefix ++ behind) ≡ records_length prefix + records_length behind
 records_length-append [] behind = omega arith
@@ -144,7 +144,7 @@ records_length-append (payload ∷ prefix) behind = omega (arith, records_length
 
 -- ---- the last payload grows
 
--- the one that stands here is one of the others, or the last
+-- the one here is one of the others, or the last
 record Before (others : List (List ℕ)) (prefix : List (List ℕ)) (payload last : List ℕ) (behind : List (List ℕ))
     : Type 0 where
   rest : List (List ℕ)
@@ -185,7 +185,7 @@ before_or_last (o ∷ others) (f ∷ prefix) behind payload last split =
       })
     ]
 
--- what stands in a payload stands there when more notes come behind
+-- what is in a payload stays there when more notes follow
 stands-in-more : (payload grown more octets : List ℕ) (within : ℕ) → body_of grown ≡ body_of payload ++ more
     → (rest : List ℕ) → grown ≡ 11 ∷ rest
     → StandsIn payload within octets → StandsIn grown within octets
@@ -199,7 +199,7 @@ stands-in-more payload grown more octets within longer rest headed stands = reco
   headed = inr (rest, headed);
 }
 
--- what is found is found where the last payload, which pends, has grown
+-- what is found is still found once the last payload, which is pending, has grown
 pub found-grown : (kept : ℕ) (others : List (List ℕ)) (last grown more : List ℕ) (at slot within : ℕ) (octets : List ℕ)
     → body_of grown ≡ body_of last ++ more → (rest : List ℕ) → grown ≡ 11 ∷ rest
     → IsFound kept (others ++ last ∷ []) at slot within octets
@@ -242,7 +242,7 @@ indexes-grown kept others last grown more ledger longer rest headed indexes =
     (spelling (owe (debt_of entry))) longer rest headed found)
     ledger.debts.entries indexes
 
--- and the new note is found behind those that were there
+-- and the new note is found after those that were there
 pub found-joined : (kept : ℕ) (others : List (List ℕ)) (batch : List Note) (note : Note) (at slot within : ℕ)
     → at ≡ min (records_length others) (2 ^ 64 - 1) → (kept ≤ length others → slot + kept ≡ length others)
     → within ≡ length (together batch)
@@ -257,7 +257,7 @@ find-step : (b : Bool) (first other : Owing) (rest : Option Owing) → b ≡ fal
     (Some first) rest ≡ Some other
 find-step b first other rest apart found = ap (λ (x : Bool). cond x (Some first) rest) apart ∙ found
 
--- where numbers rise, each debt is found by its own
+-- if numbers rise, each debt is found by its own
 found-at : (debts : List Owing) (k : ℕ) (e : Owing) → IsStrictlySortedBy nat_cmp (keys_in debts) → k < length debts
     → find (λ (debt : Owing). debt.0 == (get_or debts k e).0) debts ≡ Some (get_or debts k e)
 found-at [] k e sorted within = absurd (omega arith)
@@ -287,7 +287,7 @@ at-of (entry ∷ entries) (suc k) within =
     let there = at-of entries k (omega arith) in
     record { entry = there.entry; at = there.at }
 
--- where numbers rise, each of the spots is that of the debt in its place
+-- if numbers rise, each of the spots is that of the debt in its place
 pub spots-at : (ledger : Ledger) (k : ℕ) (d : ℕ × Spot) (e : Owing) → IsStrictlyIncreasing (keys (state_of ledger))
     → k < length (spots_of ledger)
     → IsSpotOf ledger (get_or (spots_of ledger) k d).0 (get_or (spots_of ledger) k d).1
@@ -351,7 +351,7 @@ stands-first : (payload octets behind : List ℕ) (len : ℕ) → length octets 
 stands-first [] octets behind len long split = (behind, split)
 stands-first (tag ∷ rest) octets behind len long split = prefix-case (tag == 11) tag rest octets behind len long split
 
--- at the front of the first octets
+-- at the beginning of the first octets
 pub stands-prefix : (payload octets : List ℕ) (len : ℕ) → length octets ≡ len → StandsIn payload 0 octets
     → StandsIn (take (len + 5) payload) 0 octets
 stands-prefix payload octets len long stands =
@@ -367,7 +367,7 @@ stands-prefix payload octets len long stands =
       headed = inl refl;
     }
 
--- behind others, in a payload of several
+-- after others, in a payload of several
 pub stands-behind : (payload octets : List ℕ) (within len : ℕ) → length octets ≡ len → StandsIn payload within octets
     → (within ≡ 0 → ⊥) → take len (drop (5 + within) payload) ≡ octets
 stands-behind payload octets within len long stands some =

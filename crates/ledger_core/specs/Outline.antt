@@ -25,8 +25,8 @@ shape_in outline =
 abbrev pub ordinals_in : Outline → List (ℕ × ℕ)
 ordinals_in outline = ordinals_of outline.debts.entries
 
--- A note is taken or refused so: the shape steps if the note is legal, and stays if it is refused, each refusal for its
--- own reason.
+-- How a note is taken or refused: the shape steps if the note is legal, and stays if it is refused, each refusal for
+-- its own reason.
 pub record StepsShape (result : Result (Unit {0}) LedgerFault) (old new : Shape) (note : Note) : Type 0 where
   pub ok : OnOk result (FitsShape old note × (new ≡ shape_step old note))
   pub old_number : IsErrOf result OldNumber ↔ IsOldForShape old note
@@ -35,7 +35,7 @@ pub record StepsShape (result : Result (Unit {0}) LedgerFault) (old new : Shape)
   pub no_memory : IsErrOf result NoMemory → IsOwe note × FitsShape old note
   pub unchanged : OnErr result (new ≡ old)
 
--- A note is judged so: good if it is legal, refused for its own reason otherwise.
+-- How a note is judged: good if it is legal, refused for its own reason otherwise.
 pub record JudgesShape (result : Result (Unit {0}) LedgerFault) (shape : Shape) (note : Note) : Type 0 where
   pub ok : IsOk result ↔ FitsShape shape note
   pub old_number : IsErrOf result OldNumber ↔ IsOldForShape shape note

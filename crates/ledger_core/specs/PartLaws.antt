@@ -83,7 +83,7 @@ found-step Greater key ordinal entry ordinals rest is found =
     tested : (entry.0 == key) ≡ false
     tested = grind (arith, nat_tests)
 
--- of a debt that a note owes it is the note's
+-- a debt that a note owes has the note's
 pub ordinal-owed : (ordinals : List Pair) (key ordinal : ℕ)
     → ordinal_at (insert_entry nat_cmp ordinals key ordinal) key ≡ Some ordinal
 ordinal-owed [] key ordinal = grind (arith, nat_tests)
@@ -119,7 +119,7 @@ pub ordinal-ended : (ordinals : List Pair) (key : ℕ) → ordinal_at (without_k
 ordinal-ended ordinals key =
     lookup-filter-keys (λ (k : ℕ). k == key) (λ (k : ℕ). not (k == key)) false (λ k e. ap not e) ordinals
 
--- and those of others stay then, too
+-- and those of others stay then too
 pub ordinal-kept : (ordinals : List Pair) (key other : ℕ) → (other ≡ key → ⊥)
     → ordinal_at (without_key key ordinals) other ≡ ordinal_at ordinals other
 ordinal-kept ordinals key other apart =

@@ -7,7 +7,7 @@ use Rattle.ledger_core.specs.declared.note.Note.{Note}
 use Rattle.ledger_core.specs.declared.note.Note.TheVariants.{Owe, Final, Drop, Seen, Closed}
 use Rattle.ledger_core.specs.Shape.{Size, without_key}
 
--- of each debt, by rising keys: the ordinal of the note that owed it, and its octets
+-- for each debt, by rising keys: the ordinal of the note that owed it, and its octets
 abbrev pub Parts : Type 0
 Parts = List (ℕ × (ℕ × ℕ))
 

@@ -12,8 +12,8 @@ use Rattle.ledger_core.specs.Owing.{OwesAll}
 use Rattle.ledger_core.specs.Spots.{records_length}
 use Rattle.ledger_core.specs.State.{State, start}
 
--- These payloads are a sound Base of this generation, by which so many debts were taken, and the first of its debts;
--- others are missing.
+-- These payloads are a sound Base of this generation, which counts this many debts as taken, and the first of its
+-- debts; others are missing.
 pub record IsOwing (generation taken : ℕ) (payloads : List (List ℕ)) (state : State) : Type 0 where
   pub base : Base
   pub behind : List (List ℕ)
@@ -24,7 +24,7 @@ pub record IsOwing (generation taken : ℕ) (payloads : List (List ℕ)) (state 
   pub taken_is : taken ≡ base.taken
   pub missing : state.taken < taken
 
--- these payloads, one or more, are a tape of this generation, and leave a state in which so many debts were taken
+-- these payloads, one or more, are a tape of this generation, and leave a state in which this many debts were taken
 pub record IsWhole (generation taken : ℕ) (payloads : List (List ℕ)) (state : State) : Type 0 where
   pub begun : 1 ≤ length payloads
   pub restores : Restores payloads generation state
@@ -37,7 +37,7 @@ HasRead (Begun generation taken) state payloads =
     IsOwing generation taken payloads state ⊎ IsWhole generation taken payloads state
 HasRead Refused state payloads = ⊥
 
--- so many payloads there are, and there the record after theirs begins; both are told up to the greatest number
+-- this is how many payloads there are, and where the record after theirs begins; both are at most the greatest number
 pub record IsPlace (payloads : List (List ℕ)) (index at : ℕ) : Type 0 where
   pub index_is : index ≡ min (length payloads) (2 ^ 64 - 1)
   pub at_is : at ≡ min (records_length payloads) (2 ^ 64 - 1)
@@ -48,7 +48,7 @@ pub record HasGoneOn (restoring : Restoring) (payloads : List (List ℕ)) : Type
   pub indexed : (kept : ℕ) → length payloads ≤ kept → Indexes kept payloads restoring.ledger
   pub place : IsPlace payloads restoring.index restoring.at
 
--- one of these payloads was refused, the first of which that holds
+-- one of these payloads was refused, the first for which that holds
 pub record HasStopped (restoring : Restoring) (payloads : List (List ℕ)) : Type 0 where
   pub stage_is : restoring.stage ≡ Refused
   pub stop : ℕ
@@ -60,7 +60,7 @@ pub record HasStopped (restoring : Restoring) (payloads : List (List ℕ)) : Typ
 abbrev pub HasTaken : Restoring → List (List ℕ) → Type 0
 HasTaken restoring payloads = HasGoneOn restoring payloads ⊎ HasStopped restoring payloads
 
--- Reading these payloads stops at this one, whose record begins there; or behind the last, if a debt is missing.
+-- Reading these payloads stops at this one, whose record begins there; or after the last, if a debt is missing.
 pub record StopsWith (payloads : List (List ℕ)) (refused : RefusedPayload) : Type 0 where
   pub index : ℕ
   pub stops : RestoreStopsAt payloads index

@@ -1,5 +1,5 @@
--- The shape of a ledger (profile): all that it counts, and no text. What a note makes of a ledger's shape, and whether
--- the note is legal, is told by the shape alone (ShapeLaws).
+-- The shape of a ledger (profile): all that it counts, and no text. The shape alone determines what a note makes of it,
+-- and whether the note is legal (ShapeLaws).
 use Rattle.std.specs.Prelude.{◌≡◌, ◌==◌, ℕ, ◌+◌, ◌<◌, ◌≤◌, ◌^◌, not, nat_lt, if◌then◌else◌, List, length, map, filter}
 use Rattle.std.specs.Prelude.{Option, sum_by, Contains}
 use Rattle.std.specs.BTreeMap.{insert_entry}
@@ -17,8 +17,8 @@ use Rattle.ledger_core.specs.State.{IsNext, Owing, State, line_octets}
 abbrev pub Size : Type 0
 Size = ℕ × ℕ
 
--- What a ledger is beside texts: how far the sources have come, the sizes of its debts by rising keys, and how many
--- were taken, answered and dropped.
+-- What a ledger has apart from texts: how far the sources have come, the sizes of its debts by rising keys, and how
+-- many were taken, answered and dropped.
 pub record Shape : Type 0 where
   pub mark : ℕ
   pub closed : ℕ
@@ -44,7 +44,7 @@ shape_of state =
       dropped = state.dropped;
     }
 
--- ---- what a shape tells
+-- ---- what a shape has
 
 -- how far the sources have come
 abbrev pub shape_marks : Shape → Marks
@@ -79,7 +79,7 @@ shape_totals shape =
 
 -- ---- after a note
 
--- all but what is kept by this key
+-- all but the entry of this key
 abbrev pub without_key : {V : Type 0} → ℕ → List (ℕ × V) → List (ℕ × V)
 without_key {V} key entries = filter (λ (entry : ℕ × V). not (entry.0 == key)) entries
 
@@ -101,8 +101,8 @@ shape_step shape (Closed source) = record shape { closed = source; import_mark =
 
 -- ---- which notes are legal
 
--- An Owe of a key that may not be noted next, a Seen of a number at or below the mark, or a Closed of another source
--- than the one that is open.
+-- An Owe of a key that may not be noted next, a Seen of a number at or below the mark, or a Closed of a source that is
+-- not the open one.
 abbrev pub IsOldForShape : Shape → Note → Type 0
 IsOldForShape shape (Owe key token id) = IsNext (shape_marks shape) key → ⊥
 IsOldForShape shape (Final key code) = ⊥
@@ -118,8 +118,8 @@ ShapeLacksDebt shape (Drop key cause) = IsSized shape key → ⊥
 ShapeLacksDebt shape (Seen number) = ⊥
 ShapeLacksDebt shape (Closed source) = ⊥
 
--- A note that is not old and would take a count, or the octets that are owed, past the greatest number; or would close
--- the last source, behind which none could be open.
+-- A note that is not old but would take a count, or the octets that are owed, past the greatest number; or would close
+-- the last source, after which none could be open.
 abbrev pub OverflowsShape : Shape → Note → Type 0
 OverflowsShape shape (Owe key token id) =
     IsNext (shape_marks shape) key
@@ -129,8 +129,8 @@ OverflowsShape shape (Drop key cause) = IsSized shape key × (shape.dropped + 1 
 OverflowsShape shape (Seen number) = ⊥
 OverflowsShape shape (Closed source) = (source ≡ shape.closed + 1) × (source + 1 < 2 ^ 32 → ⊥)
 
--- What makes a note legal: an Owe is of a key that may be noted next, a Seen above the mark, a Closed of the source
--- that is open, a Final or a Drop of a key that is owed, and no count passes the greatest number.
+-- What makes a note legal: an Owe is of a key that may be noted next, a Seen above the mark, a Closed of the open
+-- source, a Final or a Drop of a key that is owed, and no count passes the greatest number.
 abbrev pub FitsShape : Shape → Note → Type 0
 FitsShape shape (Owe key token id) =
     IsNext (shape_marks shape) key × (shape.taken + 1 < 2 ^ 64)

@@ -1,4 +1,4 @@
--- Laws of shapes, for this crate and those above: a note's step, and whether it is legal, are told by the shape.
+-- Laws of shapes, for this crate and those above: the shape determines a note's step, and whether it is legal.
 use Rattle.std.proofs.Common.{◌≡◌, ◌==◌, ◌↔◌, ℕ, ◌+◌, ◌<◌, ◌^◌, Bool, true, false, cond, not, List, [], ◌∷◌, map}
 use Rattle.std.proofs.Common.{refl, sym, ap, ◌∙◌, subst, arith}
 use Rattle.std.specs.Prelude.{nat_lt, if◌then◌else◌}
@@ -18,7 +18,7 @@ use Rattle.ledger_core.specs.Shape.{octets_sized, shape_marks, shape_of, shape_s
 use Rattle.ledger_core.specs.State.{IsLegal, IsNext, IsOld, IsOwed, LacksDebt, Overflows, Owing, State, keys_in}
 use Rattle.ledger_core.specs.State.{line_octets, marks_of, octets_of_debts, step, with_debt, without}
 
--- ---- entries by their keys, each value made another
+-- ---- entries by their keys, each value mapped
 
 abbrev pub valued : {V W : Type 0} (f : V → W) → ℕ × V → ℕ × W
 valued f entry = (entry.0, f entry.1)
@@ -91,7 +91,7 @@ sizes-octets (debt ∷ debts) =
 
 -- ---- a note
 
--- the shape of a ledger after a note is told by the shape before it
+-- the shape of a ledger determines its shape after a note
 pub shape-steps : (state : State) (note : Note) → shape_of (step state note) ≡ shape_step (shape_of state) note
 shape-steps state (Owe key token id) =
     ap (λ (l : List Size). record (shape_of state) {

@@ -109,7 +109,7 @@ rising-behind ns rising = λ k within.
     let next : suc k + 1 ≡ suc (k + 1) = omega arith in
     subst (λ n. get_or ns k 0 < get_or (0 ∷ ns) n 0) next (rising (suc k) (omega arith))
 
--- numbers from 1 up that rise, behind 0
+-- rising numbers from 1 up, after 0
 rising-zero : (ns : List ℕ) → IsStrictlyIncreasing ns → All (λ n. 0 < n) ns → IsStrictlyIncreasing (0 ∷ ns)
 rising-zero ns rising some zero within = some 0 0 (omega (arith, within))
 rising-zero ns rising some (suc k) within =
@@ -297,7 +297,7 @@ restored-whole payloads generation state (inr (base, behind, begins, is, leaves)
     subst IsWhole (sym notes.4) (whole-after (based_on base leaves.debts) (notes_of notes.0)
     (all-notes-are notes.0 notes.1) notes.3 whole)
 
--- ---- batches behind it
+-- ---- batches after it
 
 leaves-on : (first : State) (payloads : List (List ℕ)) (state : State) (batches : List (List Note))
     → LeavesFrom first payloads state → AreBatches batches → AllLegal state (notes_of batches)
@@ -320,7 +320,7 @@ no_base-append [] [] none = tt
 no_base-append [] (batch ∷ batches) none = λ base is same. base-no-batch base batch same
 no_base-append (first ∷ payloads) batches none = none
 
--- Batches whose notes are legal behind what payloads leave go on behind them.
+-- Batches whose notes are legal after what payloads leave continue these.
 pub restores-on : (payloads : List (List ℕ)) (generation : ℕ) (state : State) (batches : List (List Note))
     → Restores payloads generation state → AreBatches batches → AllLegal state (notes_of batches)
     → Restores (payloads ++ payloads_of batches) generation (after state (notes_of batches))
@@ -353,7 +353,7 @@ restores-on payloads generation state batches (inr (base, behind, begins, is, le
       },
     )
 
--- Notes that are legal behind what payloads leave go on behind them, one by one.
+-- Notes that are legal after what payloads leave continue these, one by one.
 pub restores-on-notes : (payloads : List (List ℕ)) (generation : ℕ) (state : State) (notes : List Note)
     → Restores payloads generation state → AreNotes notes → AllLegal state notes
     → Restores (payloads ++ spellings notes) generation (after state notes)

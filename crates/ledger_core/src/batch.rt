@@ -15,13 +15,13 @@ use crate::key::Key;
 use crate::note::Note;
 use std::alloc::{AllocError, Global};
 
-/// The greatest length of a payload of several notes, in octets.
+/// The length of the longest payload of several notes, in octets.
 pub const LONGEST_BATCH: usize = 65536;
 
 // The first octet of a payload of several notes.
 const BATCH: u8 = 11;
 
-// The length of its tag and its count.
+// The length of its tag and its count, in octets.
 const HEAD_LEN: usize = 5;
 
 /// The one payload of several notes.
@@ -63,8 +63,8 @@ pub fn one_batch_spelling()
         → batch_spelling one ≡ batch_spelling other → one ≡ other }
 {}
 
-/// The octets of a note of this length in its payload, after so many octets of other notes; `None` if the payload ends
-/// sooner. A note that is alone in its payload stands there after none.
+/// The octets of a note of this length in its payload, after `within` octets of other notes; `None` if the payload ends
+/// sooner. A note that is alone in its payload comes after none.
 pub fn note_in(payload: &[u8], within: u16, len: usize) -> Option<&[u8]>
     ensures note { (octets : List ℕ) → StandsIn payload.now within octets → length octets ≡ len
         → IsSome result × IfSome result (λ found. found.now ≡ octets) }
@@ -95,8 +95,8 @@ pub fn joined_len(payload: &[u8], len: usize) -> usize
     HEAD_LEN + body_of(payload).len() + len
 }
 
-/// Adds a note to the end of a payload, in place: a note that was alone in it is moved behind the tag and the count.
-/// The payload has room for it, so no memory is taken.
+/// Adds a note to the end of a payload, in place: a note that was alone in it is moved after the tag and the count. The
+/// payload has room for it, so no memory is taken.
 pub fn join(payload: &mut Vec<u8>, note: &[u8])
     requires room { length payload.old.items + 5 + length note.now ≤ payload.old.cap }
     ensures joined { (batch : List Note) (last : Note) → IsBatch batch
@@ -127,7 +127,6 @@ fn make_several(payload: &mut Vec<u8>)
     payload.rotate_right(HEAD_LEN);
 }
 
-// Counts one more note.
 fn raise_count(payload: &mut Vec<u8>)
     ensures octets { (count : ℕ) (body : List ℕ)
         → payload.old.items ≡ 11 ∷ (to_be_bytes w32 count ++ body) → count + 1 < 2 ^ 32
@@ -162,7 +161,6 @@ fn body_of(payload: &[u8]) -> &[u8]
     }
 }
 
-// Appends the spellings of notes, one after another.
 fn push_notes(octets: &mut Vec<u8>, notes: &[Note]) -> Result<(), AllocError>
     ensures octets { OnOk result (octets.new.items ≡ octets.old.items ++ together notes.now) }
     ensures notes { OnOk result (AreNotes notes.now) }
@@ -173,7 +171,7 @@ fn push_notes(octets: &mut Vec<u8>, notes: &[Note]) -> Result<(), AllocError>
     Ok(())
 }
 
-// The count that stands first, and what is behind it.
+// The count that stands first, and what follows it.
 fn count_at(octets: &[u8]) -> Option<(u32, &[u8])>
     ensures some { IfSome result
         (λ found. octets.now ≡ to_be_bytes w32 found.0 ++ found.1.now) }
@@ -184,7 +182,7 @@ fn count_at(octets: &[u8]) -> Option<(u32, &[u8])>
     Some((u32::from_be_bytes(*count), rest))
 }
 
-// How many notes a payload says that it has, if that is several, and the octets that it has for them.
+// How many notes a payload says that it has, if that is several, and the octets of these.
 pub(crate) fn several_in(payload: &[u8]) -> Option<(u32, &[u8])>
     ensures some { IfSome result
         (λ found. payload.now ≡ 11 ∷ (to_be_bytes w32 found.0 ++ found.1.now)) }
@@ -206,7 +204,7 @@ pub(crate) fn several_in(payload: &[u8]) -> Option<(u32, &[u8])>
     Some((count, body))
 }
 
-// The notes that these octets are, so many, one after another.
+// The notes that these octets are: `count` of them, one after another.
 fn notes_in(alloc: Global, count: u32, octets: &[u8]) -> Result<Option<Vec<Note>>, AllocError>
     ensures some { IfOk result (λ o. IfSome o (λ v. AreNotes v.items × (length v.items ≡ count)
         × (octets.now ≡ together v.items))) }
@@ -229,7 +227,7 @@ fn notes_in(alloc: Global, count: u32, octets: &[u8]) -> Result<Option<Vec<Note>
     }
 }
 
-// The note that stands first, and what is behind it.
+// The first note, and what follows it.
 fn first_note(alloc: Global, octets: &[u8]) -> Result<Option<(Note, &[u8])>, AllocError>
     ensures some { IfOk result (λ o. IfSome o
         (λ found. IsNote found.0 × (octets.now ≡ spelling found.0 ++ found.1.now))) }
@@ -245,7 +243,7 @@ fn first_note(alloc: Global, octets: &[u8]) -> Result<Option<(Note, &[u8])>, All
     }
 }
 
-// The octets of the note that stands first, if one does, and what is behind them.
+// The octets of the first note, if one stands first, and what follows them.
 pub(crate) fn first_in(octets: &[u8]) -> Option<(&[u8], &[u8])>
     ensures parts { IfSome result (λ found. octets.now ≡ found.0.now ++ found.1.now) }
     ensures first { (note : Note) (behind : List ℕ) → octets.now ≡ spelling note ++ behind
@@ -254,7 +252,7 @@ pub(crate) fn first_in(octets: &[u8]) -> Option<(&[u8], &[u8])>
     octets.split_at_checked(prefix_len(octets))
 }
 
-// How long the note is that stands first, by its tag and the lengths of its texts; 0 if none does.
+// How long the first note is, by its tag and the lengths of its texts; 0 if none stands first.
 fn prefix_len(octets: &[u8]) -> usize
     ensures { result ≡ prefix_length octets.now }
 {
@@ -271,7 +269,7 @@ fn prefix_len(octets: &[u8]) -> usize
     }
 }
 
-// Where the text ends whose length stands here.
+// Where the text ends whose length is here.
 fn text_end(octets: &[u8], at: usize) -> usize
     requires { at ≤ 1024 }
     ensures ends { result ≡ text_end octets.now at }

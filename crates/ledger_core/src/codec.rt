@@ -1,4 +1,4 @@
-// How a note is spelled on a tape, and how it is read from there.
+// How a note is spelled on a tape, and how it is read back.
 ghost use Rattle.std.specs.Prelude.{◌≡◌, ◌≢◌, ◌↔◌, ◌<◌, ◌≤◌, ◌^◌, ◌++◌, List};
 ghost use Rattle.std.specs.Prelude.{ℕ, IfNone, IfOk};
 ghost use Rattle.std.specs.Prelude.{IfSome, IsTrue, OnOk, length};
@@ -19,7 +19,7 @@ use std::alloc::{AllocError, Global};
 /// The one spelling of a note, in one allocation of its size.
 ///
 /// # Errors
-/// `NoMemory` where memory was refused.
+/// `NoMemory` if memory was refused.
 pub fn encode(alloc: Global, note: &Note) -> Result<Vec<u8>, AllocError>
     ensures octets { IfOk result (λ v. v.items ≡ spelling note.now) }
     ensures note { OnOk result (IsNote note.now) }
@@ -29,10 +29,10 @@ pub fn encode(alloc: Global, note: &Note) -> Result<Vec<u8>, AllocError>
     Ok(octets)
 }
 
-/// The note that these octets spell, all of them; `None` where they spell none.
+/// The note that these octets spell, all of them; `None` if they spell none.
 ///
 /// # Errors
-/// `NoMemory` where the octets spell an Owe and memory was refused.
+/// `NoMemory` if the octets spell an Owe and memory was refused.
 pub fn decode(alloc: Global, octets: &[u8]) -> Result<Option<Note>, AllocError>
     ensures some { IfOk result
         (λ o. IfSome o (λ note. IsNote note × (octets.now ≡ spelling note))) }
@@ -44,7 +44,7 @@ pub fn decode(alloc: Global, octets: &[u8]) -> Result<Option<Note>, AllocError>
     }
 }
 
-/// Whether these octets spell a note that owes a debt of this key, of texts of these lengths.
+/// Whether these octets spell a note that owes a debt of this key, with texts of these lengths.
 pub fn spells_owe(octets: &[u8], key: Key, token_len: u8, id_len: u8) -> bool
     ensures { IsTrue result ↔ SpellsOwe octets.now key token_len id_len }
 {
@@ -70,7 +70,7 @@ pub fn spells_owe(octets: &[u8], key: Key, token_len: u8, id_len: u8) -> bool
     rest.is_empty()
 }
 
-/// A note has one spelling, and no other note has it.
+/// A note has one spelling, which no other note has.
 pub fn one_spelling()
     ensures { (one other : Note) → IsNote one → IsNote other → spelling one ≡ spelling other
         → one ≡ other }
@@ -79,7 +79,7 @@ pub fn one_spelling()
 /// The spelling of the note that owes a debt, in one allocation of its size.
 ///
 /// # Errors
-/// `NoMemory` where memory was refused.
+/// `NoMemory` if memory was refused.
 pub fn encode_owe(alloc: Global, key: Key, token: &Token, id: &MsgId) -> Result<Vec<u8>, AllocError>
     ensures octets { IfOk result (λ v. v.items ≡ spelling (Note.Owe key token.now id.now)) }
     ensures note { OnOk result (IsNote (Note.Owe key token.now id.now)) }
@@ -89,14 +89,12 @@ pub fn encode_owe(alloc: Global, key: Key, token: &Token, id: &MsgId) -> Result<
     Ok(octets)
 }
 
-// The length of the spelling of a note that owes these texts.
 fn owe_len(key: Key, token: &Token, id: &MsgId) -> usize
     ensures { result ≡ length (spelling (Note.Owe key token.now id.now)) }
 {
     key_len(key) + 2 + token.bytes().len() + id.bytes().len()
 }
 
-// The length of a tag and a key.
 pub(crate) fn key_len(key: Key) -> usize
     ensures len { (line imported : ℕ) → result ≡ length (key_head line imported key) }
     ensures short { result ≤ 13 }
@@ -104,7 +102,6 @@ pub(crate) fn key_len(key: Key) -> usize
     if key.source() == 0 { 9 } else { 13 }
 }
 
-// The length of a note's spelling.
 pub(crate) fn spelled_len(note: &Note) -> usize
     ensures { result ≡ length (spelling note.now) }
 {
@@ -139,7 +136,6 @@ pub(crate) fn push_note(octets: &mut Vec<u8>, note: &Note) -> Result<(), AllocEr
     }
 }
 
-// Appends the spelling of the note that owes a debt.
 fn push_owe(octets: &mut Vec<u8>, key: Key, token: &Token, id: &MsgId) -> Result<(), AllocError>
     ensures octets { OnOk result
         (octets.new.items ≡ octets.old.items ++ spelling (Note.Owe key token.now id.now)) }
@@ -150,7 +146,7 @@ fn push_owe(octets: &mut Vec<u8>, key: Key, token: &Token, id: &MsgId) -> Result
     push_sized(octets, id.bytes())
 }
 
-// Appends a key: behind the first tag where it is a line's of the funnel, else behind the second.
+// Appends a key: after the first tag if it is a funnel line's, else after the second.
 fn push_key(octets: &mut Vec<u8>, line: u8, imported: u8, key: Key) -> Result<(), AllocError>
     ensures octets { OnOk result
         (octets.new.items ≡ octets.old.items ++ key_head line imported key) }
@@ -165,7 +161,6 @@ fn push_key(octets: &mut Vec<u8>, line: u8, imported: u8, key: Key) -> Result<()
     }
 }
 
-// Appends a tag and a number.
 pub(crate) fn push_head(octets: &mut Vec<u8>, tag: u8, number: u64) -> Result<(), AllocError>
     ensures { OnOk result (octets.new.items ≡ octets.old.items ++ head tag number) }
 {
@@ -173,14 +168,13 @@ pub(crate) fn push_head(octets: &mut Vec<u8>, tag: u8, number: u64) -> Result<()
     push_number(octets, number)
 }
 
-// Appends a number.
 pub(crate) fn push_number(octets: &mut Vec<u8>, number: u64) -> Result<(), AllocError>
     ensures { OnOk result (octets.new.items ≡ octets.old.items ++ to_be_bytes w64 number) }
 {
     octets.extend_from_slice(&number.to_be_bytes())
 }
 
-// Appends a text behind its length.
+// Appends a text, after its length.
 fn push_sized(octets: &mut Vec<u8>, text: &[u8]) -> Result<(), AllocError>
     requires { length text.now ≤ 255 }
     ensures { OnOk result (octets.new.items ≡ octets.old.items ++ sized_text text.now) }
@@ -189,7 +183,7 @@ fn push_sized(octets: &mut Vec<u8>, text: &[u8]) -> Result<(), AllocError>
     octets.extend_from_slice(text)
 }
 
-// The tag and the number at the front, and what is behind them.
+// The tag and the number at the beginning, and what follows them.
 pub(crate) fn head_at(octets: &[u8]) -> Option<(u8, u64, &[u8])>
     ensures some { IfSome result (λ found. octets.now ≡ head found.0 found.1 ++ found.2.now) }
     ensures none { IfNone result (length octets.now < 9) }
@@ -199,7 +193,7 @@ pub(crate) fn head_at(octets: &[u8]) -> Option<(u8, u64, &[u8])>
     Some((*tag, number, rest))
 }
 
-// The source and the number of the key at the front, behind the first of these tags or the second, and what is behind
+// The source and the number of the key at the beginning, after the first of these tags or the second, and what follows
 // it.
 fn key_at(octets: &[u8], line: u8, imported: u8) -> Option<(u32, u64, &[u8])>
     requires { line ≢ imported }
@@ -226,14 +220,12 @@ fn key_at(octets: &[u8], line: u8, imported: u8) -> Option<(u32, u64, &[u8])>
     Some((source, number, rest))
 }
 
-// Whether a key is this one.
 fn is_key(key: Key, source: u32, number: u64) -> bool
     ensures { IsTrue result ↔ key ≡ key_of source number }
 {
     key == Key::new(source, number)
 }
 
-// The source at the front, and what is behind it.
 pub(crate) fn source_at(octets: &[u8]) -> Option<(u32, &[u8])>
     ensures some { IfSome result
         (λ found. octets.now ≡ to_be_bytes w32 found.0 ++ found.1.now) }
@@ -243,7 +235,6 @@ pub(crate) fn source_at(octets: &[u8]) -> Option<(u32, &[u8])>
     Some((u32::from_be_bytes(*source), rest))
 }
 
-// The number at the front, and what is behind it.
 pub(crate) fn number_at(octets: &[u8]) -> Option<(u64, &[u8])>
     ensures some { IfSome result
         (λ found. octets.now ≡ to_be_bytes w64 found.0 ++ found.1.now) }
@@ -253,7 +244,7 @@ pub(crate) fn number_at(octets: &[u8]) -> Option<(u64, &[u8])>
     Some((u64::from_be_bytes(*number), rest))
 }
 
-// The text at the front, behind its length, and what is behind it.
+// The text at the beginning, after its length, and what follows it.
 fn sized_at(octets: &[u8]) -> Option<(&[u8], &[u8])>
     ensures some { IfSome result (λ found. octets.now ≡ sized_text found.0.now ++ found.1.now) }
     ensures none { IfNone result ((text rest : List ℕ) → octets.now ≡ sized_text text ++ rest → ⊥) }
@@ -262,8 +253,7 @@ fn sized_at(octets: &[u8]) -> Option<(&[u8], &[u8])>
     rest.split_at_checked(usize::from(*len))
 }
 
-// The source and the number of the key of the debt that these octets owe, if they spell an Owe, and its texts. It takes
-// no memory.
+// The source and the number of the debt's key, and its texts, if these octets spell an Owe. Takes no memory.
 pub(crate) fn owed_of(octets: &[u8]) -> Option<(u32, u64, &[u8], &[u8])>
     ensures some { IfSome result
         (λ owed. IsNote (Note.Owe (key_of owed.0 owed.1) owed.2.now owed.3.now)
@@ -280,7 +270,7 @@ pub(crate) fn owed_of(octets: &[u8]) -> Option<(u32, u64, &[u8], &[u8])>
     Some((source, number, token, id))
 }
 
-// The note that these octets spell if it is no Owe. It takes no memory.
+// The note that these octets spell, unless it is an Owe. Takes no memory.
 pub(crate) fn other_of(octets: &[u8]) -> Option<Note>
     ensures some { IfSome result (λ note. IsNote note × (octets.now ≡ spelling note)) }
     ensures none { IfNone result (SpellsNoOther octets.now) }
@@ -313,7 +303,7 @@ fn owe_of(alloc: Global, octets: &[u8]) -> Result<Option<Note>, AllocError>
     Ok(Some(Note::Owe { key, token, id }))
 }
 
-// The source and the number of the key of an Owe and its two texts, whatever octets they are.
+// The source and the number of the key of an Owe, and its two texts, whatever octets these are.
 fn owe_parts(octets: &[u8]) -> Option<(u32, u64, &[u8], &[u8])>
     ensures some { IfSome result (λ parts. IsKey (key_of parts.0 parts.1)
         × (octets.now ≡ spelling (Note.Owe (key_of parts.0 parts.1) parts.2.now parts.3.now))) }

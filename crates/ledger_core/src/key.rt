@@ -1,4 +1,4 @@
-// Which debt.
+// Keys: which debt.
 ghost use Rattle.std.specs.Prelude.{◌≡◌, ◌↔◌, ◌+◌, ◌++◌, ◌<◌, ◌≤◌, ◌^◌, IfNone};
 ghost use Rattle.std.specs.Prelude.{IfSome, IsTrue, OnOk, Some};
 ghost use Rattle.std.specs.Prelude.{decimal, min, max};
@@ -14,11 +14,11 @@ use std::marker::Model;
 
 const HALF: u64 = 4_294_967_296;
 
-/// Which debt: the source of its line, and the number of the line in it, from 1 up.
+/// Which debt: the source of its line, and the number of the line in that source, from 1 up.
 ///
 /// Source 0 is the funnel, each other one a backlog file that was taken in. Keys are ordered by source, then number.
-/// Contracts see a key as one number, in which the source counts 2 ^ 64 (`specs/Keys.antt`): that of a funnel's line is
-/// the line's number.
+/// Contracts see a key as one number, in which the source counts 2 ^ 64 (`specs/Keys.antt`): the key of a funnel line
+/// is the line's number.
 #[derive(Clone, Copy, Debug, Drop)]
 pub struct Key {
     source: u32,
@@ -61,7 +61,7 @@ impl Key {
         }
     }
 
-    // Each key is one.
+    // A key is in range because the types of its fields are.
     pub(crate) fn fits(self)
         ensures { IsKey self }
     {
@@ -82,28 +82,28 @@ impl Key {
         u64::from(self.high) * HALF + u64::from(self.low)
     }
 
-    /// Whether it goes before another.
+    /// Whether it comes before another.
     pub fn is_below(self, other: Key) -> bool
         ensures { IsTrue result ↔ self < other }
     {
         self < other
     }
 
-    /// The one of two that goes first.
+    /// The one of two that comes first.
     pub fn lesser(self, other: Key) -> Key
         ensures { result ≡ min self other }
     {
         if self.is_below(other) { self } else { other }
     }
 
-    /// The one of two that goes last.
+    /// The one of two that comes last.
     pub fn greater(self, other: Key) -> Key
         ensures { result ≡ max self other }
     {
         if self.is_below(other) { other } else { self }
     }
 
-    /// The key behind it, of whatever source; none behind the last.
+    /// The key after it, of whatever source; `None` after the last.
     pub fn next(self) -> Option<Key>
         ensures some { IfSome result (λ key. key ≡ self + 1) }
         ensures none { IfNone result (self + 1 ≡ 2 ^ 96) }
@@ -115,10 +115,10 @@ impl Key {
         }
     }
 
-    /// Adds its text: that of a funnel's line is its number, any other is its source, a slash and its number.
+    /// Appends its text: a funnel line's is its number, any other is its source, a slash and its number.
     ///
     /// # Errors
-    /// `NoMemory` if memory was refused; a part of it may have been added.
+    /// `NoMemory` if memory was refused; a part of it may have been appended.
     pub fn add_text(self, out: &mut Vec<u8>) -> Result<(), AllocError>
         ensures { OnOk result (out.new.items ≡ out.old.items ++ key_text self) }
     {
@@ -130,7 +130,6 @@ impl Key {
     }
 }
 
-// A number in decimal digits.
 fn add_decimal(out: &mut Vec<u8>, number: u64) -> Result<(), AllocError>
     ensures { OnOk result (out.new.items ≡ out.old.items ++ decimal number) }
 {

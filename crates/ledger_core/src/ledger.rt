@@ -22,23 +22,24 @@ use thiserror::Error;
 // How many octets a record has on a tape before its payload: a gate, and the payload's length.
 const RECORD_HEAD: u64 = 5;
 
-/// Why a note is refused. The ledger stays as it was.
+/// Why a note is refused. The ledger is unchanged.
 #[derive(Clone, Copy, Debug, PartialEq, Eq, Error)]
 #[error("{}", self.name())]
 pub enum LedgerFault {
-    /// An Owe of a line that may not be noted next: of the funnel at or below the mark, or of another source than the
-    /// one that is open, or of that at or below its mark. A Seen at or below the mark, or a Closed of another source.
+    /// An Owe of a line that may not be noted next: a funnel line at or below the mark, a line of a source that is not
+    /// the open one, or a line of the open source at or below its mark. A Seen at or below the mark, or a Closed of a
+    /// source that is not the open one.
     OldNumber,
     /// A Final or a Drop of a key that is not owed.
     NotOwed,
-    /// A count, or the octets that are owed, would pass the greatest u64; or the last source would be closed.
+    /// A count, or the octets that are owed, would exceed the greatest u64; or the last source would be closed.
     CountFull,
     /// Memory was refused.
     NoMemory,
 }
 
 impl LedgerFault {
-    /// The word by which messages and scripts tell it.
+    /// The word for it in messages and scripts.
     pub fn name(self) -> &'static str
         ensures { result.now ≡ ledger_fault_name self }
     {
@@ -73,11 +74,11 @@ impl<T: Drop> From<AllocFailed<T>> for LedgerFault {
     }
 }
 
-/// Why payloads are no list of legal notes.
+/// Why payloads are not a list of legal notes.
 #[derive(Clone, Copy, Debug, PartialEq, Eq, Error)]
 pub enum ReplayFault {
-    /// The payload at this index, from 0, is no note and no batch, or a note of it is refused by the ledger that those
-    /// before it leave.
+    /// The payload at this index, from 0, is neither a note nor a batch, or a note of it is refused by the ledger that
+    /// those before it leave.
     #[error("Refused {index}")]
     Refused { index: usize },
     /// Memory was refused.
@@ -96,25 +97,25 @@ impl From<AllocError> for ReplayFault {
     }
 }
 
-/// What a ledger counts. taken = owed + answered + dropped.
+/// What a ledger counts: taken = owed + answered + dropped.
 #[derive(Clone, Copy, Debug, PartialEq, Eq)]
 pub struct Totals {
-    /// The debts that were ever owed.
+    /// How many debts were ever owed.
     pub taken: u64,
-    /// The debts that were answered for good.
+    /// How many debts were answered for good.
     pub answered: u64,
-    /// The debts that were dropped.
+    /// How many debts were dropped.
     pub dropped: u64,
-    /// The debts that are owed.
+    /// How many debts are owed.
     pub owed: u64,
-    /// The sum over the debts that are owed of the octets of token and message-id, and 2.
+    /// The sum, over the debts that are owed, of the octets of token and message-id, plus 2.
     pub owed_bytes: u64,
 }
 
 /// What one peer is owed, and how many debts were taken, answered and dropped.
 ///
-/// Of a debt it keeps how long its texts are and where the note stands that owes it, and no text: that is read there
-/// (`specs/Index.antt`, `Indexes`). Clauses see the texts too.
+/// For each debt it keeps how long its texts are and where the note is that owes it, and no text: that is read from
+/// there (`specs/Index.antt`, `Indexes`). Clauses see the texts too.
 /// The cost of a call is logarithmic in what is owed, memory is linear in it.
 #[derive(Drop)]
 pub struct Ledger {
@@ -124,7 +125,7 @@ pub struct Ledger {
     pub(crate) answered: u64,
     pub(crate) dropped: u64,
     pub(crate) owed_bytes: u64,
-    // How many of its debts are of no line of the funnel.
+    // How many of its debts are not of a funnel line.
     pub(crate) imported: u64,
     ghost counted: { taken ≡ answered + dropped + length debts.entries },
     ghost summed: { owed_bytes ≡ octets_of_debts (debts_of debts.entries) },
@@ -150,7 +151,7 @@ impl Ledger {
     ghost use Rattle.std.specs.Int.{to_be_bytes, w32};
     ghost use Rattle.std.specs.Prelude.{◌∷◌, ◌++◌, List, None, map, vec_items};
 
-    /// The ledger of no note.
+    /// The ledger of no notes.
     pub fn new(alloc: Global) -> Self
         ensures start { state_of result ≡ start }
         ensures indexes { (kept : ℕ) (payloads : List (List ℕ)) → Indexes kept payloads result }
@@ -170,7 +171,7 @@ impl Ledger {
         }
     }
 
-    /// The greatest number of the funnel that was noted, 0 at first.
+    /// The greatest number of a funnel line that was noted, 0 at first.
     pub fn mark(&self) -> u64
         ensures { result ≡ (state_of self.now).mark }
     {
@@ -185,7 +186,7 @@ impl Ledger {
         self.marks.closed
     }
 
-    /// The greatest number that was noted of the source that is open, the one behind that which was closed last.
+    /// The greatest number that was noted of the open source, the one after `closed`.
     pub fn import_mark(&self) -> u64
         ensures { result ≡ (state_of self.now).import_mark }
     {
@@ -213,7 +214,7 @@ impl Ledger {
         self.debts.contains_key(&key)
     }
 
-    /// Where the debt of this key stands, where it is owed.
+    /// Where the note of the debt of this key is, if that is owed.
     pub fn spot(&self, key: Key) -> Option<Spot>
         ensures spot { IfSome result (IsSpotOf self.now key) }
         ensures owed { IsSome result ↔ IsOwed (state_of self.now) key }
@@ -226,7 +227,7 @@ impl Ledger {
     /// The keys that are owed, rising.
     ///
     /// # Errors
-    /// `NoMemory` where memory was refused.
+    /// `NoMemory` if memory was refused.
     pub fn keys(&self, alloc: Global) -> Result<Vec<Key>, AllocError>
         ensures items { IfOk result (λ v. v.items ≡ keys (state_of self.now)) }
         ensures rising { IfOk result (λ v. IsStrictlyIncreasing v.items) }
@@ -234,16 +235,16 @@ impl Ledger {
         self.debts.keys().copied().collect(alloc)
     }
 
-    /// Takes a note that stands nowhere.
+    /// Takes a note that is on no tape.
     ///
     /// # Errors
-    /// Tried in this order; the ledger stays as it was after each.
-    /// - `OldNumber` for an Owe of a line that may not be noted next, a Seen at or below the mark, or a Closed of
-    ///   another source than the one that is open.
+    /// Tried in this order; the ledger is unchanged after each.
+    /// - `OldNumber` for an Owe of a line that may not be noted next, a Seen at or below the mark, or a Closed of a
+    ///   source that is not the open one.
     /// - `NotOwed` for a Final or a Drop of a key that is not owed.
-    /// - `CountFull` where a count, or the octets that are owed, would pass the greatest u64, or the last source would
+    /// - `CountFull` if a count, or the octets that are owed, would exceed the greatest u64, or the last source would
     ///   be closed.
-    /// - `NoMemory` for an Owe where memory was refused. The others take none.
+    /// - `NoMemory` for an Owe if memory was refused. The others take none.
     pub fn apply(&mut self, note: &Note) -> Result<(), LedgerFault>
         ensures ok { OnOk result
             (IsLegal (state_of self.old) note.now
@@ -261,8 +262,8 @@ impl Ledger {
         self.apply_at(note, 0, 0, 0)
     }
 
-    /// Takes a note whose record is at this offset, or is pending in this slot, and that stands there after so many
-    /// octets of other notes: each debt stays told of where it stands.
+    /// Takes a note whose record is at this offset, or is pending in this slot, and which comes in it after `within`
+    /// octets of other notes. The ledger still says where each of its debts is.
     ///
     /// # Errors
     /// Those of `apply`.
@@ -299,7 +300,7 @@ impl Ledger {
         }
     }
 
-    /// Whether `apply` would take a note, if memory were not refused. It takes no memory and changes nothing.
+    /// Whether `apply` would take a note, if memory were not refused. Takes no memory and changes nothing.
     ///
     /// # Errors
     /// As `apply` would refuse it: `OldNumber`, `NotOwed` or `CountFull`, never `NoMemory`.
@@ -322,12 +323,12 @@ impl Ledger {
         }
     }
 
-    /// The ledger that these payloads leave: each is a note, or a batch of several, that are legal in their turn.
+    /// The ledger that these payloads leave: each is a note, or a batch of several, and their notes are legal in turn.
     ///
     /// # Errors
-    /// - `Refused` with the index of the first payload that is no note and no batch, or of which a note is not legal
-    ///   after those before it.
-    /// - `NoMemory` where memory was refused.
+    /// - `Refused` with the index of the first payload that is neither a note nor a batch, or has a note that is not
+    ///   legal after those before it.
+    /// - `NoMemory` if memory was refused.
     pub fn replay(alloc: Global, payloads: &[Vec<u8>]) -> Result<Ledger, ReplayFault>
         // What is read is a list of legal notes, and the ledger is its fold.
         ensures fold { IfOk result
@@ -339,7 +340,7 @@ impl Ledger {
         // The first payload that is no legal note.
         ensures refused { (index : ℕ) → IsErrOf result (ReplayFault.Refused index)
             → StopsAt (map vec_items payloads.now) index }
-        // Each of its debts is told of where it stands among them.
+        // It says where each of its debts is among them.
         ensures indexes { IfOk result (Indexes (length payloads.now) (map vec_items payloads.now)) }
     {
         let mut ledger = Ledger::new(alloc);
@@ -347,7 +348,7 @@ impl Ledger {
         Ok(ledger)
     }
 
-    // Takes the notes that these payloads spell, of which the first has this index, and its record this offset.
+    // Takes the notes that these payloads spell. The first has this index, and its record this offset.
     pub(crate) fn apply_payloads(
         &mut self,
         first: usize,
@@ -377,8 +378,8 @@ impl Ledger {
         Ok(())
     }
 
-    // Takes the notes that the payload at this index spells, whose record is at this offset; some of those of a batch
-    // if it is refused. No text is copied.
+    // Takes the notes that the payload at this index spells, whose record is at this offset; some of a batch's notes if
+    // it is refused. No text is copied.
     pub(crate) fn apply_payload(
         &mut self,
         index: usize,
@@ -401,7 +402,7 @@ impl Ledger {
         }
     }
 
-    // Takes so many notes, which are these octets of the batch at this index, whose record is at this offset.
+    // Takes `count` notes, which are these octets of the batch at this index, whose record is at this offset.
     fn apply_several(
         &mut self,
         index: usize,
@@ -435,8 +436,8 @@ impl Ledger {
         }
     }
 
-    // Takes the note that these octets of the payload at this index spell, whose record is at this offset, after so
-    // many octets of other notes.
+    // Takes the note that these octets of the payload at this index spell, whose record is at this offset, after
+    // `within` octets of other notes.
     fn apply_octets(
         &mut self,
         index: usize,
@@ -464,7 +465,6 @@ impl Ledger {
         }
     }
 
-    // Takes the note that owes a debt, as `apply_note` does.
     fn owe_read(
         &mut self,
         index: usize,
@@ -494,7 +494,7 @@ impl Ledger {
         }
     }
 
-    // Takes a note of the payload at this index, whose record is at this offset, after so many octets of other notes.
+    // Takes a note of the payload at this index, whose record is at this offset, after `within` octets of other notes.
     fn apply_note(
         &mut self,
         index: usize,
@@ -517,10 +517,10 @@ impl Ledger {
         }
     }
 
-    /// Whether `owe_at` would take a debt, if memory were not refused. It takes no memory and changes nothing.
+    /// Whether `owe_at` would take a debt, if memory were not refused. Takes no memory and changes nothing.
     ///
     /// # Errors
-    /// As `check` tells them of the note that owes it: `OldNumber` or `CountFull`.
+    /// As `check` refuses the note that owes it: `OldNumber` or `CountFull`.
     pub fn check_owe(&self, key: Key, token: &Token, id: &MsgId) -> Result<(), LedgerFault>
         ensures { IsJudged result (state_of self.now) (Note.Owe key token.now id.now) }
     {
@@ -539,8 +539,7 @@ impl Ledger {
         }
     }
 
-    // A debt that is owed was taken, and the count of those fits. So does the count of those that have ended, with this
-    // one.
+    // A debt that is owed was taken, and that count fits. So does the count of those that have ended, with this one.
     fn check_owed(&self, key: Key) -> Result<(), LedgerFault>
         ensures answered { (code : FinalCode)
             → IsJudged result (state_of self.now) (Note.Final key code) }
@@ -576,7 +575,7 @@ impl Ledger {
         Ok(())
     }
 
-    /// Takes the note that owes a debt, as `apply_at` does at the same place; its texts are looked at, and not kept.
+    /// Takes the note that owes a debt, as `apply_at` does at the same place; its texts are looked at, not kept.
     ///
     /// # Errors
     /// Those of `apply` for that note: `OldNumber`, `CountFull`, `NoMemory`.
@@ -600,7 +599,6 @@ impl Ledger {
         self.owe_texts(key, token.bytes(), id.bytes(), at, slot, within)
     }
 
-    // Takes the note that owes a debt of these texts, as `owe_at` does.
     fn owe_texts(
         &mut self,
         key: Key,
@@ -627,7 +625,7 @@ impl Ledger {
         self.put(marks, key, token, id, at, slot, within)
     }
 
-    // Puts a debt in that is not owed, and that stands at this place; the marks are these then.
+    // Puts in a debt that is not owed, at this place, and sets these marks.
     pub(crate) fn put(
         &mut self,
         marks: Marks,
@@ -722,7 +720,7 @@ impl Ledger {
         if source == u32::MAX {
             return Err(LedgerFault::CountFull);
         }
-        // It has 64 bits, so that all that was owed is below what comes next.
+        // It has 64 bits, so all that was owed is below what comes next.
         let _import_mark = self.marks.import_mark;
         self.marks.closed = source;
         self.marks.import_mark = 0;
@@ -730,7 +728,7 @@ impl Ledger {
     }
 }
 
-// The octets of a line that names this article alone.
+// The octets of a line that names only this article.
 fn line_octets(token: &[u8], id: &[u8]) -> u64
     requires token { length token.now ≤ 255 }
     requires id { length id.now ≤ 255 }
@@ -739,15 +737,15 @@ fn line_octets(token: &[u8], id: &[u8]) -> u64
     token.len() as u64 + id.len() as u64 + 2
 }
 
-// How a debt of this key counts among those of no line of the funnel.
+// What a debt of this key adds to the count of those that are not of a funnel line.
 fn import_count(key: Key) -> u64
     ensures { result ≡ import_count key }
 {
     if key.source() == 0 { 0 } else { 1 }
 }
 
-/// Where the record behind one of this payload begins, in octets from the segment's start, or the greatest u64; `at` is
-/// where that one begins.
+/// Where the record after one with this payload begins, in octets from the segment's start, or the greatest u64; `at`
+/// is where that one begins.
 pub fn offset_behind(at: u64, payload: &[u8]) -> u64
     ensures { result ≡ min (at + (5 + length payload.now)) (2 ^ 64 - 1) }
 {
@@ -755,7 +753,6 @@ pub fn offset_behind(at: u64, payload: &[u8]) -> u64
         .saturating_add(payload.len() as u64)
 }
 
-// Takes out the debt of this key, and gives its octets.
 fn remove_debt(debts: &mut BTreeMap<Key, Entry>, key: Key) -> Option<u64>
     ensures none { IfNone result
         ((Contains (keys_in (debts_of debts.old.entries)) key → ⊥)
@@ -776,7 +773,6 @@ fn remove_debt(debts: &mut BTreeMap<Key, Entry>, key: Key) -> Option<u64>
     Some(octets_of(&entry))
 }
 
-// The octets of a line that names the article of this debt alone.
 fn octets_of(entry: &Entry) -> u64
     ensures { result ≡ line_octets entry.now.token.value entry.now.id.value }
 {

@@ -6,19 +6,18 @@ ghost use Rattle.ledger_core.specs.State.{IsNext, IsPast};
 
 use crate::key::Key;
 
-/// How far the sources have come. The source that is open is the one behind that which was closed last.
+/// How far the sources have come. The open source is the one after `closed`.
 #[derive(Clone, Copy, Debug, PartialEq, Eq)]
 pub(crate) struct Marks {
-    // The greatest number of the funnel that was noted.
+    // The greatest number of a funnel line that was noted.
     pub(crate) mark: u64,
     // The source that was closed last, 0 at first.
     pub(crate) closed: u32,
-    // The greatest number that was noted of the source that is open.
+    // The greatest number that was noted of the open source.
     pub(crate) import_mark: u64,
 }
 
 impl Marks {
-    // Whether a debt of this key may be noted next.
     pub(crate) fn is_next(self, key: Key) -> bool
         requires { self.closed + 1 < 2 ^ 32 }
         ensures { IsTrue result ↔ IsNext self key }
@@ -44,7 +43,7 @@ impl Marks {
         key <= Key::new(self.closed + 1, self.import_mark)
     }
 
-    // With a debt of this key noted.
+    // The marks with a debt of this key noted.
     pub(crate) fn with(self, key: Key) -> Self
         ensures mark { result.mark ≡ (if nat_lt key (2 ^ 64) then key else self.mark) }
         ensures closed { result.closed ≡ self.closed }

@@ -1,4 +1,4 @@
-// A ledger without the texts of its debts, and without where these stand.
+// A ledger without the texts of its debts, and without where their notes are.
 ghost use Rattle.std.specs.Prelude.{◌≡◌, ◌+◌, ◌<◌, ◌^◌, ◌↔◌, ℕ, IfNone, IfOk, IfSome};
 ghost use Rattle.std.specs.Prelude.{IsErrOf, IsOk, IsSome, IsTrue, OnErr, OnOk, length};
 ghost use Rattle.std.specs.List.{All, Contains};
@@ -19,13 +19,13 @@ use funnel::{MsgId, Token};
 use std::alloc::{AllocError, Global};
 use std::collections::BTreeMap;
 
-/// What a ledger is beside texts: how far the sources have come, the counts, and of each debt that is owed its key, the
-/// octets that it counts, and which note owed it.
+/// What a ledger has apart from texts: how far the sources have come, the counts, and for each debt that is owed its
+/// key, the octets that it counts, and which note owed it.
 ///
-/// It takes and refuses the same notes as the ledger whose shape it has. Whoever gives it notes numbers them: the
-/// number of a note is its ordinal, and an outline tells of each debt the ordinal of the note that owed it.
-/// The cost of a call is logarithmic in what is owed. Memory is linear in it: 22 octets for each debt, of which the key
-/// has 12, beside what the map needs.
+/// It takes and refuses the same notes as a ledger of the same shape. Its caller numbers the notes: the number of a
+/// note is its ordinal, and an outline keeps for each debt the ordinal of the note that owed it.
+/// The cost of a call is logarithmic in what is owed. Memory is linear in it: 22 octets for each debt, 12 of them the
+/// key, apart from what the map needs.
 #[derive(Drop)]
 pub struct Outline {
     debts: BTreeMap<Key, Part>,
@@ -77,7 +77,7 @@ impl Outline {
         })
     }
 
-    /// The greatest number of the funnel that was noted, 0 at first.
+    /// The greatest number of a funnel line that was noted, 0 at first.
     pub fn mark(&self) -> u64
         ensures { result ≡ (shape_in self.now).mark }
     {
@@ -92,7 +92,7 @@ impl Outline {
         self.marks.closed
     }
 
-    /// The greatest number that was noted of the source that is open, the one behind that which was closed last.
+    /// The greatest number that was noted of the open source, the one after `closed`.
     pub fn import_mark(&self) -> u64
         ensures { result ≡ (shape_in self.now).import_mark }
     {
@@ -148,14 +148,14 @@ impl Outline {
         self.debts.keys().copied().collect(alloc)
     }
 
-    /// Takes a note of this ordinal.
+    /// Takes a note with this ordinal.
     ///
     /// # Errors
-    /// Tried in this order; the outline stays as it was after each.
-    /// - `OldNumber` for an Owe of a line that may not be noted next, a Seen at or below the mark, or a Closed of
-    ///   another source than the one that is open.
+    /// Tried in this order; the outline is unchanged after each.
+    /// - `OldNumber` for an Owe of a line that may not be noted next, a Seen at or below the mark, or a Closed of a
+    ///   source that is not the open one.
     /// - `NotOwed` for a Final or a Drop of a key that is not owed.
-    /// - `CountFull` if a count, or the octets that are owed, would pass the greatest u64, or the last source would
+    /// - `CountFull` if a count, or the octets that are owed, would exceed the greatest u64, or the last source would
     ///   be closed.
     /// - `NoMemory` for an Owe if memory was refused. The others take none.
     pub fn apply(&mut self, note: &Note, ordinal: u64) -> Result<(), LedgerFault>
@@ -183,7 +183,7 @@ impl Outline {
         }
     }
 
-    /// Whether `apply` would take a note, if memory were not refused. It takes no memory and changes nothing.
+    /// Whether `apply` would take a note, if memory were not refused. Takes no memory and changes nothing.
     ///
     /// # Errors
     /// As `apply` would refuse it: `OldNumber`, `NotOwed` or `CountFull`, never `NoMemory`.
@@ -206,7 +206,7 @@ impl Outline {
         }
     }
 
-    /// Takes the note of this ordinal that owes a debt. Its texts are looked at, and not kept.
+    /// Takes the note with this ordinal that owes a debt. Its texts are looked at, not kept.
     ///
     /// # Errors
     /// Those of `apply` for that note: `OldNumber`, `CountFull`, `NoMemory`.
@@ -229,10 +229,10 @@ impl Outline {
         }
     }
 
-    /// Whether `owe` would take a debt, if memory were not refused. It takes no memory and changes nothing.
+    /// Whether `owe` would take a debt, if memory were not refused. Takes no memory and changes nothing.
     ///
     /// # Errors
-    /// As `check` tells them of the note that owes it: `OldNumber` or `CountFull`.
+    /// As `check` refuses the note that owes it: `OldNumber` or `CountFull`.
     pub fn check_owe(&self, key: Key, token: &Token, id: &MsgId) -> Result<(), LedgerFault>
         ensures { JudgesShape result (shape_in self.now) (Note.Owe key token.now id.now) }
     {
@@ -248,8 +248,7 @@ impl Outline {
         }
     }
 
-    // A debt that is owed was taken, and the count of those fits. So does the count of those that have ended, with this
-    // one.
+    // A debt that is owed was taken, and that count fits. So does the count of those that have ended, with this one.
     fn check_owed(&self, key: Key) -> Result<(), LedgerFault>
         ensures answered { (code : FinalCode)
             → JudgesShape result (shape_in self.now) (Note.Final key code) }
@@ -285,7 +284,7 @@ impl Outline {
         Ok(())
     }
 
-    // Puts a debt in that may be noted next, and that can be counted.
+    // Puts in a debt that may be noted next and that can be counted.
     fn put(&mut self, key: Key, token: &Token, id: &MsgId, ordinal: u64) -> Result<(), LedgerFault>
         requires { FitsShape (shape_in self.old) (Note.Owe key token.now id.now) }
         ensures applied { StepsShape result (shape_in self.old) (shape_in self.new)
@@ -356,7 +355,7 @@ impl Outline {
         if source == u32::MAX {
             return Err(LedgerFault::CountFull);
         }
-        // It has 64 bits, so that all that was owed is below what comes next.
+        // It has 64 bits, so all that was owed is below what comes next.
         let _import_mark = self.marks.import_mark;
         self.marks.closed = source;
         self.marks.import_mark = 0;
@@ -364,14 +363,13 @@ impl Outline {
     }
 }
 
-// The octets of a line that names this article alone.
+// The octets of a line that names only this article.
 fn octets_of(token: &Token, id: &MsgId) -> u16
     ensures { result ≡ line_octets token.now id.now }
 {
     token.bytes().len() as u16 + id.bytes().len() as u16 + 2
 }
 
-// The octets of a line that names the article of this debt alone.
 fn octets_kept(entry: &Entry) -> u16
     ensures { result ≡ line_octets entry.now.token.value entry.now.id.value }
 {
@@ -383,7 +381,6 @@ fn octets_kept(entry: &Entry) -> u16
     u16::from(token_len) + u16::from(id_len) + 2
 }
 
-// Takes out the debt of this key, and gives its octets.
 fn take_out(debts: &mut BTreeMap<Key, Part>, key: Key) -> Option<u64>
     ensures none { IfNone result
         ((Contains (keys_of debts.old.entries) key → ⊥)

@@ -3,10 +3,10 @@ ghost use Rattle.std.specs.Prelude.{◌≡◌};
 
 use std::marker::Model;
 
-/// Which note owed a debt, and the octets that the debt counts. In 10 octets.
+/// Which note owed a debt, and the octets that the debt counts, in 10 octets.
 #[derive(Drop)]
 pub(crate) struct Part {
-    // A number of 64 bits, the high octet first. As octets it needs no room for alignment.
+    // A number of 64 bits, most significant octet first. As octets it needs no alignment.
     ordinal: [u8; 8],
     octets: u16,
 }
@@ -21,7 +21,6 @@ impl Model for Part {
 }
 
 impl Part {
-    // Of a debt that the note of this ordinal owed, and that counts so many octets.
     pub(crate) fn of(ordinal: u64, octets: u16) -> Self
         ensures { result ≡ (ordinal, octets) }
     {
@@ -31,14 +30,12 @@ impl Part {
         }
     }
 
-    // The ordinal of the note that owed the debt.
     pub(crate) fn ordinal(&self) -> u64
         ensures { result ≡ self.now.0 }
     {
         u64::from_be_bytes(self.ordinal)
     }
 
-    // The octets that the debt counts.
     pub(crate) fn octets(&self) -> u16
         ensures { result ≡ self.now.1 }
     {

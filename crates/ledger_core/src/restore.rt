@@ -13,7 +13,6 @@ use crate::{Ledger, ReplayFault};
 use std::alloc::Global;
 use std::collections::BTreeMap;
 
-// How many octets the record of a Base has on a tape.
 pub(crate) fn base_record_len(base: &Base) -> u64
     ensures { result ≡ 5 + length (base_spelling base.now) }
 {
@@ -23,9 +22,8 @@ pub(crate) fn base_record_len(base: &Base) -> u64
 /// What a tape's payloads leave.
 #[derive(Drop)]
 pub struct Restored {
-    /// The generation of the Base that stands first; 0 where none does.
+    /// The generation of the Base that stands first; 0 if none does.
     pub generation: u64,
-    /// The ledger.
     pub ledger: Ledger,
 }
 
@@ -51,14 +49,14 @@ impl Ledger {
     ghost use Rattle.ledger_core.specs.Spots.{IsPlaced, StandsAt};
     ghost use Rattle.ledger_core.specs.Owing.{Fits, SpellsNoFurther, TakesDebt, owing_more, owing_state};
 
-    /// The ledger that a tape's payloads leave: each a note, or a batch of several, whose notes are
-    /// legal in their turn; or a Base first, then its debts, each alone, and then such payloads.
+    /// The ledger that a tape's payloads leave: each is a note, or a batch of several, and their notes are legal in
+    /// turn; or a Base stands first, then its debts, each alone, and then such payloads.
     ///
     /// # Errors
-    /// - `Refused` with the index of the first payload at which no reading goes on: 0 for a Base of
-    ///   generation 0, of the last source, behind which none can be open, or whose counts don't add
-    ///   up; the number of payloads if a debt of the Base is missing.
-    /// - `NoMemory` where memory was refused.
+    /// - `Refused` with the index of the first payload at which no reading goes on: 0 for a Base of generation 0, of
+    ///   the last source, after which none can be open, or whose counts don't add up; the number of payloads if a debt
+    ///   of the Base is missing.
+    /// - `NoMemory` if memory was refused.
     pub fn restore(alloc: Global, payloads: &[Vec<u8>]) -> Result<Restored, ReplayFault>
         // What is read is such a tape.
         ensures ok { IfOk result
@@ -70,7 +68,7 @@ impl Ledger {
             (λ fault. fault ≡ ReplayFault.NoMemory) }
         ensures refused { (index : ℕ) → IsErrOf result (ReplayFault.Refused index)
             → RestoreStopsAt (map vec_items payloads.now) index }
-        // Each of its debts is told of where it stands among them.
+        // It says where each of its debts is among them.
         ensures indexes { IfOk result
             (λ r. Indexes (length payloads.now) (map vec_items payloads.now) r.ledger) }
     {
@@ -108,8 +106,8 @@ impl Ledger {
         }
     }
 
-    // Takes the debt of a Base that the payload at this index spells. Its record is at this offset. A batch is no debt:
-    // it is refused.
+    // Takes the debt of a Base that the payload at this index spells, whose record is at this offset. A batch is
+    // refused: it is not a debt.
     pub(crate) fn take_debt(
         &mut self,
         index: usize,
@@ -131,7 +129,7 @@ impl Ledger {
         self.take_owed(Key::new(source, number), token, id, index, at)
     }
 
-    // Takes the debt that was read at this index. Its record is at this offset.
+    // Takes the debt that was read at this index, whose record is at this offset.
     fn take_owed(
         &mut self,
         key: Key,
@@ -160,7 +158,6 @@ impl Ledger {
         self.put_read(key, token, id, index, at)
     }
 
-    // Whether a key is above all that are owed.
     fn is_above_all(&self, key: Key) -> bool
         ensures { IsTrue result ↔ All (λ other. other < key) (keys (state_of self.now)) }
     {

@@ -9,38 +9,37 @@ use crate::restore::{Restored, is_sound};
 use crate::{Ledger, ReplayFault};
 use std::alloc::{AllocError, Global};
 
-/// Where no reading of a tape goes on.
+/// The payload at which no reading of a tape goes on.
 #[derive(Clone, Copy, Debug, PartialEq, Eq)]
 pub struct RefusedPayload {
-    /// The index, from 0, of the first payload at which none does, or the number of payloads if a debt of the Base is
-    /// missing; the greatest usize if that is less.
+    /// The index, from 0, of the first such payload, or the number of payloads if a debt of the Base is missing; the
+    /// greatest usize if that is less.
     pub index: usize,
-    /// Where the record of that payload begins, in octets from the segment's start; or where that of the missing debt
-    /// would; the greatest u64 if that is less.
+    /// Where the record of that payload begins, or that of the missing debt would, in octets from the segment's start;
+    /// the greatest u64 if that is less.
     pub at: u64,
 }
 
 // How far the reading of a tape has come.
 #[derive(Clone, Copy, Debug, PartialEq, Eq)]
 pub(crate) enum Stage {
-    // No payload was read.
     Unread,
-    // The tape has this generation, 0 if no Base stands first. Payloads are debts of the Base until so many debts were
+    // The tape has this generation, 0 if no Base stands first. Payloads are debts of the Base until `taken` debts were
     // taken in all, and notes from then on.
     Begun { generation: u64, taken: u64 },
-    // A payload was refused. Those after it are passed over.
+    // A payload was refused. Those after it are skipped.
     Refused,
 }
 
 /// A ledger while the payloads of a tape are read, one after another.
 ///
-/// It keeps no payload: each is judged as it comes. From the first that is refused on it keeps that one's place alone.
+/// It keeps no payload: each is judged as it comes. Once one is refused, it keeps only the place of that one.
 #[derive(Drop)]
 pub struct Restoring {
     alloc: Global,
     ledger: Ledger,
     stage: Stage,
-    // The index of the next payload, or of the one that was refused; and where its record begins.
+    // The index of the next payload, or of the refused one, and where its record begins.
     index: usize,
     at: u64,
 }
@@ -55,7 +54,7 @@ impl Restoring {
     ghost use Rattle.ledger_core.specs.Spots.{StandsAt};
     ghost use Rattle.ledger_core.specs.State.{State, start};
 
-    /// No payload was read.
+    /// No payload was read yet.
     pub fn new(alloc: Global) -> Self
         ensures { HasTaken result [] }
     {
@@ -71,8 +70,7 @@ impl Restoring {
     /// Judges the next payload.
     ///
     /// # Errors
-    /// `AllocError` if memory was refused, and for nothing else. It is to be dropped then: a batch may have been taken
-    /// in part.
+    /// `AllocError` if memory was refused, and for nothing else. Drop this then: a batch may have been taken in part.
     pub fn take(&mut self, payload: &[u8]) -> Result<(), AllocError>
         ensures { (payloads : List (List ℕ)) → HasTaken self.old payloads
             → OnOk result (HasTaken self.new (payloads ++ payload.now ∷ [])) }
@@ -107,8 +105,8 @@ impl Restoring {
     /// The generation and the ledger that the payloads leave, if they are a tape.
     ///
     /// # Errors
-    /// The first payload at which no reading goes on, and where its record begins; or the number of payloads, and where
-    /// they end, if a debt of the Base is missing.
+    /// The first payload at which no reading goes on, and where its record begins; or, if a debt of the Base is
+    /// missing, the number of payloads, and where they end.
     pub fn finish(self) -> Result<Restored, RefusedPayload>
         // What is read is a tape.
         ensures ok { (payloads : List (List ℕ)) → HasTaken self payloads
@@ -119,7 +117,7 @@ impl Restoring {
             (λ r. (r.generation ≡ generation) × (state_of r.ledger ≡ state)) (λ _. ⊥) }
         ensures refused { (payloads : List (List ℕ)) → HasTaken self payloads
             → IfErr result (StopsWith payloads) }
-        // Each of its debts is told of where it stands among them.
+        // It says where each of its debts is among them.
         ensures indexes { (payloads : List (List ℕ)) → HasTaken self payloads
             → IfOk result (λ r. Indexes (length payloads) payloads r.ledger) }
     {
@@ -145,14 +143,13 @@ impl Restoring {
         }
     }
 
-    // Whether a payload was refused.
     fn is_refused(&self) -> bool
         ensures { IsTrue result ↔ self.now.stage ≡ Stage.Refused }
     {
         matches!(self.stage, Stage::Refused)
     }
 
-    // Reads the next payload. The place is left as it was.
+    // Reads the next payload. The place stays as it was.
     fn read(&mut self, payload: &[u8]) -> Result<(), ReplayFault>
         ensures reads { (payloads : List (List ℕ)) → HasGoneOn self.old payloads → OnOk result
             (HasRead self.new.stage (state_of self.new.ledger) (payloads ++ payload.now ∷ [])) }
@@ -203,7 +200,7 @@ impl Restoring {
         Ok(())
     }
 
-    // Reads a further payload: a debt of the Base if fewer than so many were taken, and else notes.
+    // Reads a further payload: a debt of the Base if fewer than `taken` debts were taken, else notes.
     fn read_next(&mut self, taken: u64, payload: &[u8]) -> Result<(), ReplayFault>
         ensures reads { (generation : ℕ) (payloads : List (List ℕ))
             → HasRead (Stage.Begun generation taken) (state_of self.old.ledger) payloads
@@ -227,7 +224,6 @@ impl Restoring {
         }
     }
 
-    // The next payload is the one behind this.
     fn step_over(&mut self, payload: &[u8])
         ensures ledger { self.new.ledger ≡ self.old.ledger }
         ensures stage { self.new.stage ≡ self.old.stage }
@@ -238,7 +234,7 @@ impl Restoring {
         self.at = offset_behind(self.at, payload);
     }
 
-    // Keeps the place of the payload that was refused, and no ledger.
+    // Keeps the place of the refused payload, and no ledger.
     fn refuse(&mut self)
         ensures stage { self.new.stage ≡ Stage.Refused }
         ensures place { (self.new.index ≡ self.old.index) × (self.new.at ≡ self.old.at) }

@@ -6,8 +6,8 @@ ghost use Rattle.ledger_core.specs.Shape.{FitsShape, IsOldForShape, OverflowsSha
 ghost use Rattle.ledger_core.specs.Shape.{shape_of, shape_step, shape_totals};
 ghost use Rattle.ledger_core.specs.State.{IsLegal, IsNext, IsOld, LacksDebt, Overflows, State, marks_of, step};
 
-/// The shape of a ledger after a note is told by the shape before it; so is whether the note is legal, and otherwise
-/// why not; and so is what the ledger counts.
+/// The shape of a ledger determines its shape after a note, whether the note is legal and otherwise why not, and what
+/// the ledger counts.
 pub fn shape_tells()
     ensures steps { (state : State) (note : Note)
         → shape_of (step state note) ≡ shape_step (shape_of state) note }

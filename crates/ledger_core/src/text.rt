@@ -3,8 +3,8 @@ ghost use Rattle.std.specs.Prelude.{◌≡◌, ◌≤◌, length};
 
 use std::marker::Model;
 
-// The octets of a text of at most 255, in a value that has a size, since a snapshot is taken of no slice. Nothing but a
-// snapshot is made of it, so a compiled program makes none.
+// The octets of a text of at most 255, in a value that has a size, since no snapshot can be taken of a slice. Only
+// snapshots are made of it, so a compiled program makes none.
 #[derive(Drop)]
 pub(crate) struct Text {
     len: u8,

@@ -1,4 +1,4 @@
--- A ledger that tells where its debts stand, as notes come and go.
+-- A ledger that says where its debts are, as notes come and go.
 use Rattle.std.proofs.Common.{◌≡◌, ℕ, ◌+◌, ◌-◌, ◌<◌, ◌≤◌, ◌^◌, List, [], ◌∷◌, ◌++◌, length, refl, ap, ◌∙◌, subst, arith}
 use Rattle.std.proofs.Common.{length-append}
 use Rattle.std.specs.Prelude.{min, Result, Ok, Err, OnErr}

@@ -15,7 +15,7 @@ use Rattle.recovery.proofs.Indexed.{records-long}
 use Rattle.recovery.proofs.Payloads.{length-records-take}
 
 module _ {D : Type 0} {g : Ghosts D} where
-  -- nothing has happened to the disk, which told no fault
+  -- nothing has happened to the disk, which reported no fault
   pub record IsSameDisk (old new : SegmentReader D g) : Type 0 where
     pub honest : g.honest old.disk ↔ g.honest new.disk
     pub log : g.honest old.disk → g.log new.disk ≡ g.log old.disk

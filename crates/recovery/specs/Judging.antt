@@ -17,7 +17,7 @@ module _ {D : Type 0} {g : Ghosts D} where
     pub ended : HasEnded reader payloads
     pub taken : HasTaken restoring payloads
 
-  -- the segment was read to its end, and its payloads leave this ledger, which tells where its debts stand among them
+  -- the segment was read to its end, and its payloads leave this ledger, which says where its debts are among them
   pub record LeavesLedger (reader : SegmentReader D g) (restored : Restored) : Type 0 where
     pub payloads : List (List ℕ)
     pub ended : HasEnded reader payloads

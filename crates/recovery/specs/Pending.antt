@@ -1,4 +1,4 @@
--- The notes that pend, in the payloads that a flush writes.
+-- The pending notes, in the payloads that a flush writes.
 use Rattle.std.specs.Prelude.{◌≡◌, ◌⊎◌, ℕ, ◌+◌, ◌-◌, ◌^◌, ◌<◌, ◌≤◌, min, List, [], ◌∷◌, ◌++◌, Some, length, map}
 use Rattle.std.specs.Prelude.{slice_get, vec_items, Vec}
 use Rattle.std.specs.declared.alloc.Global.{Global}
@@ -15,20 +15,20 @@ use Rattle.recovery.specs.declared.pending.Place.{Place}
 abbrev pub payloads_in : Pending → List (List ℕ)
 payloads_in pending = map vec_items pending.payloads.items
 
--- These notes pend, cut into the longest batches that fit.
+-- These notes are pending, cut into the longest batches that fit.
 pub record Holds (pending : Pending) (notes : List Note) : Type 0 where
   pub batches : List (List Note)
   pub cut : Cuts notes batches
   pub payloads : payloads_in pending ≡ payloads_of batches
 
--- There is room for a note of so many octets, in the last payload and for a payload of its own.
+-- There is room for a note of `len` octets, in the last payload and for a payload of its own.
 pub record HasRoom (pending : Pending) (len : ℕ) : Type 0 where
   pub begin : length pending.payloads.items < pending.payloads.cap
   pub joins : (last : Vec ℕ Global)
       → slice_get pending.payloads.items (length pending.payloads.items - 1) ≡ Some last
       → length last.items + 5 + len ≤ last.cap
 
--- A note came behind these payloads. It begins one of its own, where the last would be too long with it, or joins the last.
+-- A note came after these payloads. It begins one of its own, if the last would be too long with it, or joins the last.
 abbrev pub Begins : List (List ℕ) → List (List ℕ) → Note → Type 0
 Begins old new note =
     (new ≡ old ++ spelling note ∷ []) × ((prefix : List (List ℕ)) (batch : List Note) → IsBatch batch
@@ -45,13 +45,13 @@ pub record Joins (old new : List (List ℕ)) (note : Note) : Type 0 where
 abbrev pub Grows : List (List ℕ) → List (List ℕ) → Note → Type 0
 Grows old new note = Begins old new note ⊎ Joins old new note
 
--- Where the last record of what pends begins, and where one behind all of it will, behind those that are on the tape.
+-- Where the last pending record begins, and where one after all of them will, after those that are on the tape.
 pub record EndsAt (kept pending : List (List ℕ)) (last next : ℕ) : Type 0 where
   pub last_is : (prefix : List (List ℕ)) (payload : List ℕ) → pending ≡ prefix ++ payload ∷ []
       → last ≡ min (records_length (kept ++ prefix)) (2 ^ 64 - 1)
   pub next_is : next ≡ min (records_length (kept ++ pending)) (2 ^ 64 - 1)
 
--- A note has its place in these payloads that pend, and the ledger still tells where the others stand.
+-- A note has its place in these pending payloads, and the ledger still says where the others are.
 pub record Places (kept pending : List (List ℕ)) (ledger : Ledger) (note : Note) (place : Place) : Type 0 where
   pub indexes : Indexes (length kept) (kept ++ pending) ledger
   pub stands : IsPlaced (length kept) (kept ++ pending) place.at place.slot place.within note

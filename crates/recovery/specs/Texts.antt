@@ -1,4 +1,4 @@
--- What is read back of a debt (profile), whatever a disk gives.
+-- What is read back of a debt (profile), whatever a disk returns.
 use Rattle.std.specs.Prelude.{◌≡◌, ℕ, List, Option, option_map, length}
 use Rattle.ledger_core.specs.declared.ledger.Ledger.{Ledger}
 use Rattle.ledger_core.specs.declared.spot.Spot.{Spot}
@@ -12,12 +12,11 @@ use Rattle.ledger_core.specs.State.{Owing, State}
 abbrev pub lengths_of : Owing → ℕ × (ℕ × ℕ)
 lengths_of debt = (debt.0, (length debt.1.0, length debt.1.1))
 
--- what was read is a debt of this key exactly where it is owed, and its texts are as long as those that are owed
+-- what was read is a debt of this key exactly if it is owed, and its texts are as long as those that are owed
 abbrev pub HasLengths : State → ℕ → Option Owing → Type 0
 HasLengths state key debt = option_map lengths_of debt ≡ option_map lengths_of (debt_at state key)
 
--- where the ledger tells where its debts stand, this debt, of this key, stands at this spot, which tells how long its
--- texts are
+-- if the ledger says where its debts are, this debt, of this key, is at this spot, which says how long its texts are
 pub record IsAt (ledger : Ledger) (key : ℕ) (spot : Spot) (debt : Owing) : Type 0 where
   pub is : debt.0 ≡ key
   pub token_len : spot.token_len ≡ length debt.1.0

@@ -1,4 +1,4 @@
-// The notes that pend, in the payloads that a flush writes.
+// The pending notes, in the payloads that a flush writes.
 ghost use Rattle.std.specs.Prelude.{◌≡◌, ◌+◌, ◌-◌, ◌^◌, ◌<◌, ◌≤◌, ◌↔◌};
 ghost use Rattle.std.specs.Prelude.{◌++◌, ◌∷◌, [], ℕ, List, length};
 ghost use Rattle.std.specs.Prelude.{IfOk, IsTrue, OnErr, OnOk, Some, drop, min, take, Vec, map, slice_get, vec_items};
@@ -15,31 +15,30 @@ use std::alloc::{AllocError, Global};
 // How many octets a payload of several notes has before them.
 const HEAD_LEN: usize = 5;
 
-/// Where a note stands that comes behind all that pends.
+/// Where a note goes that comes after all pending ones.
 #[derive(Clone, Copy)]
 pub(crate) struct Place {
-    // The offset of its record, or the greatest u64 where that is less.
+    // The offset of its record, or the greatest u64 if that is less.
     pub(crate) at: u64,
-    // The index of its record among those that pend.
+    // The index of its record among the pending ones.
     pub(crate) slot: u32,
-    // The octets of the notes that stand before it in its record.
+    // How many octets of other notes come before it in its record.
     pub(crate) within: u16,
-    // Where the record behind it begins, or the greatest u64 where that is less.
+    // Where the record after it begins, or the greatest u64 if that is less.
     pub(crate) next: u64,
 }
 
-// Where the record behind one of so many octets of payload begins.
 fn record_behind(at: u64, len: usize) -> u64
     ensures { result ≡ min (at + (5 + len)) (2 ^ 64 - 1) }
 {
     at.saturating_add(5).saturating_add(len as u64)
 }
 
-/// The notes that pend: the payloads of the longest batches into which they fit, of which the last grows.
+/// The pending notes: the payloads of the longest batches into which they fit, of which the last grows.
 #[derive(Drop)]
 pub(crate) struct Pending {
     pub(crate) payloads: Vec<Vec<u8>>,
-    // How many notes they are.
+    // How many notes there are.
     pub(crate) count: usize,
     ghost fewer: { length payloads.items ≤ count },
     ghost fit: { All (λ octets. length octets ≤ longest_batch) (map vec_items payloads.items) },
@@ -51,7 +50,6 @@ impl Pending {
     ghost use Rattle.recovery.specs.Notes.{drops, most_pending};
     ghost use Rattle.recovery.specs.Pending.{EndsAt, Grows, HasRoom, Holds, Places, payloads_in};
 
-    // No note pends.
     pub(crate) fn new(alloc: Global) -> Self
         ensures payloads { result.payloads.items ≡ [] }
         ensures count { result.count ≡ 0 }
@@ -62,7 +60,6 @@ impl Pending {
         }
     }
 
-    // Lets go of all notes.
     pub(crate) fn clear(&mut self)
         ensures payloads { self.new.payloads.items ≡ [] }
         ensures count { self.new.count ≡ 0 }
@@ -71,14 +68,13 @@ impl Pending {
         self.count = 0;
     }
 
-    // The payloads, front to back.
     pub(crate) fn payloads(&self) -> &[Vec<u8>]
         ensures { result.now ≡ self.now.payloads.items }
     {
         &self.payloads
     }
 
-    // Whether a note of so many octets joins the last payload.
+    // Whether a note of `len` octets joins the last payload.
     pub(crate) fn joins(&self, len: usize) -> bool
         requires { len ≤ 1024 }
         ensures none { self.now.payloads.items ≡ [] → IsTrue result → ⊥ }
@@ -96,7 +92,7 @@ impl Pending {
         }
     }
 
-    // How long the last payload is with a note of so many octets behind it.
+    // How long the last payload is once a note of `len` octets has joined it.
     pub(crate) fn joined(&self, len: usize) -> usize
         requires { len ≤ 1024 }
         ensures { (prefix : List (Vec ℕ Global)) (last : Vec ℕ Global)
@@ -110,7 +106,7 @@ impl Pending {
         }
     }
 
-    // Makes room for a note of so many octets, and changes nothing else.
+    // Makes room for a note of `len` octets, and changes nothing else.
     pub(crate) fn make_room(&mut self, len: usize) -> Result<(), AllocError>
         requires { len ≤ 1024 }
         ensures room { OnOk result (HasRoom self.new len) }
@@ -124,7 +120,6 @@ impl Pending {
         }
     }
 
-    // Takes a note, for which there is room.
     pub(crate) fn push(&mut self, note: Vec<u8>)
         requires room { HasRoom self.old (length note.items) }
         requires short { length note.items ≤ 1024 }
@@ -148,8 +143,8 @@ impl Pending {
         }
     }
 
-    // Where a note of so many octets stands that comes behind what pends, of which the last record begins there, and
-    // one behind all of it would begin here.
+    // Where a note of `len` octets goes that comes after what is pending. The last pending record begins at `last`, and
+    // one after all of them would begin at `next`.
     pub(crate) fn place_for(&self, last: u64, next: u64, len: usize) -> Place
         requires short { len ≤ 1024 }
         requires few { self.now.count ≤ most_pending }
@@ -181,8 +176,8 @@ impl Pending {
         }
     }
 
-    // Takes a note, or makes part of the room for it. The last record of what pends begins there, and one behind all of
-    // it would begin here. Answers where they begin then.
+    // Takes a note, or makes part of the room for it. The last pending record begins at `last`, and one after all of
+    // them would begin at `next`. Returns what these are then.
     fn take(
         &mut self,
         alloc: Global,
@@ -214,7 +209,7 @@ impl Pending {
         Ok((place.at, place.next))
     }
 
-    // Takes the notes that drop these debts, or part of them, as `take` does.
+    // Takes the notes that drop these debts, or some of them, as `take` does.
     fn take_drops(
         &mut self,
         alloc: Global,
@@ -263,7 +258,7 @@ impl Pending {
         Ok(Pending { payloads, count })
     }
 
-    // Puts these payloads in the place of the last, or changes no octet.
+    // Replaces the last payload by these, or changes no octet.
     fn end_with(&mut self, tail: Pending) -> Result<(), AllocError>
         requires fewer { length self.old.payloads.items + length tail.payloads.items
             ≤ tail.count + 1 }
@@ -287,8 +282,8 @@ impl Pending {
         Ok(())
     }
 
-    // Takes the notes that drop these debts, all of them, or changes no octet. The last record of what pends begins
-    // there, and one behind all of it would begin here. Answers where they begin then.
+    // Takes the notes that drop these debts, all of them, or changes no octet. The last pending record begins at
+    // `last`, and one after all of them would begin at `next`. Returns what these are then.
     pub(crate) fn push_drops(
         &mut self,
         alloc: Global,

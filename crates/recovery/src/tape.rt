@@ -22,13 +22,13 @@ use ledger_core::{Cause, Key, Ledger, LedgerFault, Note, Outline, Totals, encode
 use std::alloc::{AllocError, Global};
 use tape_journal::{Journal, LONGEST_SEGMENT, SegmentReader};
 
-/// How many notes may pend.
+/// How many notes may be pending.
 pub const MOST_PENDING: usize = 65536;
 
-// The shortest segment for which a rotation is due is longer, in octets.
+// A rotation is due only for a segment longer than this, in octets.
 const LONG_SEGMENT: u64 = 65536;
 
-/// Two disks on which no tape was opened, handed back as the call left them.
+/// Two disks on which no tape was opened, returned as the call left them.
 #[derive(Drop)]
 pub struct RefusedTape<D: Disk> {
     /// The first disk.
@@ -43,7 +43,7 @@ pub struct RefusedTape<D: Disk> {
 impl<D: Disk> RefusedTape<D> {
     ghost use Rattle.recovery.specs.Pairs.{placed};
 
-    // The disks in their order, of which the second lives or the first.
+    // The disks in their order: the live one is the second, or else the first.
     fn of(second: bool, live: D, other: D, fault: TapeFault) -> Self
         requires { fault ≢ Broken }
         ensures disks { (result.a, result.b) ≡ placed second live other }
@@ -65,23 +65,22 @@ impl<D: Disk> RefusedTape<D> {
     }
 }
 
-/// What one peer is owed: its notes on two disks, those that pend, and the ledger that all of them leave.
+/// What one peer is owed: its notes on two disks, those that are pending, and the ledger that all of them leave.
 ///
-/// Each disk has a segment, and the one of greater generation lives: notes are added to it, until `rotate` writes the
-/// ledger into the other, which lives from then on.
+/// Each disk has a segment, and the one of greater generation is live: notes are added to it, until `rotate` writes the
+/// ledger into the other, which is live from then on.
 ///
-/// In memory is no text of a debt whose note is on the disk: `debt` and `rotate` read it there.
+/// Memory has no text of a debt whose note is on the disk: `debt` and `rotate` read it back.
 #[derive(Drop)]
 pub struct Tape<D: Disk> {
     pub(crate) alloc: Global,
     pub(crate) segments: Segments<D>,
     pub(crate) ledger: Ledger,
-    // The notes that pend.
     pub(crate) pending: Pending,
-    // The offset at which the last record of what pends will be, or the greatest u64 where that is less. It means
-    // nothing while nothing pends.
+    // The offset at which the last pending record will be, or the greatest u64 if that is less. It means nothing while
+    // nothing is pending.
     pub(crate) last: u64,
-    // The offset at which the record behind all of what pends will be, or the greatest u64 where that is less.
+    // The offset at which the record after all pending ones will be, or the greatest u64 if that is less.
     pub(crate) next: u64,
     // How many notes were put on the disks since the tape was opened.
     pub(crate) flushed: u64,
@@ -114,28 +113,31 @@ impl<D: Disk> Tape<D> {
     ghost use Rattle.recovery.specs.Words.{IsOpenFault, IsNoteFault};
     ghost use Rattle.recovery.specs.Tape.{StandsFor, contents_of};
 
-    /// Opens the tape of two disks, empty ones among them: of their segments the one of greater generation lives, on a
-    /// tie the first. Its ledger is what that leaves; all notes are acknowledged, and none pends. It has no place yet.
+    /// Opens the tape on two disks, which may be empty: the segment of greater generation is live, on a tie the first.
+    /// Its ledger is what that segment leaves; all notes are acknowledged, none is pending, and the tape has no place
+    /// yet.
     /// The disks are read and judged first, which changes nothing; then the other disk is synced, and the end of the
-    /// segment that lives is repaired. Linear in the segment that lives. Each payload is judged as it is read, and none
-    /// is kept: beside the ledger it takes room for a piece of the segment, of at most 131,072 octets.
+    /// live segment is repaired. Linear in the live segment. Each payload is judged as it is read, and none is kept:
+    /// apart from the ledger it takes room for a piece of the segment, of at most 131,072 octets.
     ///
     /// # Errors
-    /// The disks are handed back. Tried in this order: what the reading of the first record of the first disk meets,
-    /// and then of the second, `Damaged` at 0 where it tells no generation, `Disk`, or `NoMemory`; the same of the
-    /// reading of the segment that lives; `Damaged` at its first payload at which no reading goes on, or at its end
-    /// where a debt of its Base is missing, or `NoMemory` of judging. The segment is read on to its end before one of
-    /// the last two comes. These leave the disks as they were, octet for octet. Then `Disk` of the sync and the repair,
-    /// which leave a tape of the same ledger.
+    /// The disks are handed back. Tried in this order:
+    /// - what reading the first record of the first disk meets, and then of the second: `Damaged` at 0 if it gives no
+    ///   generation, `Disk`, or `NoMemory`;
+    /// - the same for reading the live segment;
+    /// - `Damaged` at its first payload at which no reading goes on, or at its end if a debt of its Base is missing, or
+    ///   `NoMemory` of the judging. The segment is read on to its end before one of these two comes;
+    /// - `Disk` of the sync and the repair, which leave a tape of the same ledger. All faults before this one leave the
+    ///   disks as they were, octet for octet.
     pub fn open(alloc: Global, mut a: D, mut b: D) -> Result<Tape<D>, RefusedTape<D>>
         ensures opens { D.honest a → D.honest b → Opens (λ tape. tape) (D.log a, D.log b) result }
 
-        // Whatever a stop left of a history is opened.
+        // Whatever a stop left of a history can be opened.
         ensures recovers { (h : History) → D.honest a → D.honest b
             → EachTape (Survives h) (D.log a, D.log b)
             → OpensWhatSurvives (λ tape. tape) h (D.log a, D.log b) result }
 
-        // Each fault has its cause; refused disks are as they were, but for a `Disk` of the repair.
+        // Each fault has its cause; refused disks are as they were, except after a `Disk` of the repair.
         ensures causes { D.honest a → D.honest b
             → IfErr result (HasCause (D.log a, D.log b) (D.faults_of a, D.faults_of b)) }
         ensures untouched { D.honest a → D.honest b → IfErr result
@@ -155,7 +157,7 @@ impl<D: Disk> Tape<D> {
         }
     }
 
-    // Opens the tape of a disk whose segment lives, that of the second or the first, and of the other.
+    // Opens the tape of a disk with the live segment, the second or else the first, and of the other disk.
     fn open_live(
         alloc: Global,
         second: bool,
@@ -225,11 +227,11 @@ impl<D: Disk> Tape<D> {
         }
     }
 
-    /// Takes a note, which pends until the next flush. Logarithmic in what is owed.
+    /// Takes a note, which is pending until the next flush. Logarithmic in what is owed.
     ///
     /// # Errors
     /// The note is handed back, and nothing changes. Tried in this order: `Broken`; `Note`, why the ledger refuses it;
-    /// `PendingFull` with 65,536 notes pending; `NoMemory`.
+    /// `PendingFull` if 65,536 notes are pending; `NoMemory`.
     pub fn note(&mut self, note: Note) -> Result<(), (Note, TapeFault)>
         ensures takes { (h : History) → StandsFor self.old h
             → Takes (note ∷ []) h self.new result }
@@ -281,7 +283,6 @@ impl<D: Disk> Tape<D> {
         self.pend_owe(key, token, id)
     }
 
-    // Takes a note, or changes nothing.
     fn try_note(&mut self, note: &Note) -> Result<(), TapeFault>
         ensures ok { (h : History) → StandsFor self.old h
             → OnOk result (StandsFor self.new (noted h note.now)) }
@@ -319,7 +320,7 @@ impl<D: Disk> Tape<D> {
         self.pend(note)
     }
 
-    // Takes a note that is legal, where one more may pend, or changes nothing.
+    // Takes a legal note, when one more may be pending, or changes nothing.
     fn pend(&mut self, note: &Note) -> Result<(), TapeFault>
         requires legal { IsLegal (ledger_of self.old) note.now }
         requires room { pending_of self.old < most_pending }
@@ -351,7 +352,7 @@ impl<D: Disk> Tape<D> {
         }
     }
 
-    // Takes the note that owes a debt and is legal, where one more may pend, or changes nothing.
+    // Takes the legal note that owes a debt, when one more may be pending, or changes nothing.
     fn pend_owe(&mut self, key: Key, token: &Token, id: &MsgId) -> Result<(), TapeFault>
         requires legal { IsLegal (ledger_of self.old) (Note.Owe key token.now id.now) }
         requires room { pending_of self.old < most_pending }
@@ -384,12 +385,12 @@ impl<D: Disk> Tape<D> {
         }
     }
 
-    /// Takes the note that drops each of these debts, in this order, all of them or none; they pend until the next
-    /// flush. Where the keys rise each costs the logarithm of what is owed.
+    /// Takes the notes that drop these debts, in this order, all of them or none; they are pending until the next
+    /// flush. If the keys rise, each costs the logarithm of what is owed.
     ///
     /// # Errors
-    /// Nothing changes. Tried in this order: `Broken`; `Note(NotOwed)` where one of them is not owed, or is named
-    /// twice; `PendingFull` where more than 65,536 notes would pend; `NoMemory`.
+    /// Nothing changes. Tried in this order: `Broken`; `Note(NotOwed)` if one of them is not owed, or is named twice;
+    /// `PendingFull` if more than 65,536 notes would be pending; `NoMemory`.
     pub fn drop_all(&mut self, keys: &[Key], cause: Cause) -> Result<(), TapeFault>
         ensures takes { (h : History) → StandsFor self.old h
             → Takes (drops cause keys.now) h self.new result }
@@ -430,7 +431,7 @@ impl<D: Disk> Tape<D> {
         true
     }
 
-    // Takes the drops of debts that are owed, where so many may pend, or changes nothing.
+    // Takes the drops of debts that are owed, when that many may be pending, or changes nothing.
     fn pend_drops(&mut self, keys: &[Key], cause: Cause) -> Result<(), TapeFault>
         requires owed { AreOwed (ledger_of self.old) [] keys.now }
         requires room { pending_of self.old + length keys.now ≤ most_pending }
@@ -452,15 +453,15 @@ impl<D: Disk> Tape<D> {
             .push_drops(self.alloc, keys, cause, self.last, self.next)?;
         self.last = ends.0;
         self.next = ends.1;
-        // What was taken, all of it, is a sum with what was dropped, so that no count passes the greatest number.
+        // All that was taken is a sum with what was dropped, so no count passes the greatest number.
         let _taken = taken_of(&self.ledger);
         apply_drops(&mut self.ledger, keys, cause);
         Ok(())
     }
 
-    /// Puts the notes that pend on the disk: from `Ok` on all notes are acknowledged. Answers the tape's place, and how
-    /// many notes of this opening are acknowledged now, or the greatest u64 where that is less. Where nothing pends it
-    /// makes no disk call. Linear in what pends.
+    /// Puts the pending notes on the disk: from `Ok` on all notes are acknowledged. Returns the tape's place, and how
+    /// many notes of this opening are acknowledged now, or the greatest u64 if that is less. If nothing is pending, it
+    /// makes no disk call. Linear in what is pending.
     ///
     /// # Errors
     /// Tried in this order: `Broken`; `TapeFull`; `NoMemory`; these change nothing. `Disk`: the tape is broken from now
@@ -491,7 +492,7 @@ impl<D: Disk> Tape<D> {
         self.pending.count == 0
     }
 
-    // Puts the notes that pend on the disk, where there are some and the tape is not broken.
+    // Puts the pending notes on the disk, when there are some and the tape is not broken.
     fn flush_pending(&mut self) -> Result<Flushed, TapeFault>
         requires works { IsBroken self.old → ⊥ }
         requires pends { pending_of self.old ≢ 0 }
@@ -513,8 +514,8 @@ impl<D: Disk> Tape<D> {
         }
     }
 
-    /// Whether a rotation is due: the segment that lives is longer than 65,536 octets, and than four times what a
-    /// rotation would write. In constant time.
+    /// Whether a rotation is due: the live segment is longer than 65,536 octets, and than four times what a rotation
+    /// would write. In constant time.
     pub fn rotate_due(&self) -> bool
         ensures { IsTrue result ↔ IsDue self.now }
     {
@@ -522,20 +523,20 @@ impl<D: Disk> Tape<D> {
         bytes > LONG_SEGMENT && bytes > self.rotated_len().saturating_mul(4)
     }
 
-    // How long the segment is that a rotation writes, or more than any disk.
+    // How long the segment is that a rotation writes, in octets, or more than any disk.
     pub(crate) fn rotated_len(&self) -> u64
         ensures { result ≡ min (rotated_length self.now) (2 ^ 64 - 1) }
     {
         self.ledger.written_len().saturating_add(1)
     }
 
-    /// Writes the ledger, the notes that pend in it, into the segment that doesn't live, which lives from then on: from
-    /// `Ok` on all notes are acknowledged, and none pends. Its first gate opens last, so that until then the other
-    /// lives, which is not written. Answers the new generation. Linear in what is owed.
+    /// Writes the ledger, with the pending notes in it, into the other segment, which is live from then on: from `Ok`
+    /// on all notes are acknowledged, and none is pending. Its first gate opens last, so until then the old segment,
+    /// which is not written, stays live. Returns the new generation. Linear in what is owed.
     ///
     /// # Errors
-    /// Tried in this order: `Broken`; `GenerationFull`; `TapeFull`; `NoMemory`; these change nothing. `Disk`, also
-    /// where a note that was read back is not that of its debt: the tape is broken from now on.
+    /// Tried in this order: `Broken`; `GenerationFull`; `TapeFull`; `NoMemory`; these change nothing. `Disk`, also if a
+    /// note that was read back is not that of its debt: the tape is broken from now on.
     pub fn rotate(&mut self) -> Result<u64, TapeFault>
         ensures rotates { (h : History) → StandsFor self.old h
             → Rotates TapeFault.Disk h self.old self.new result }
@@ -559,7 +560,7 @@ impl<D: Disk> Tape<D> {
         self.write_anew()
     }
 
-    /// Gives the tape a place among the tapes of other peers. The answer of each flush names it from now on, so that a
+    /// Gives the tape a place among the tapes of other peers. What each flush returns names it from now on, so that a
     /// caller can tell which tape was flushed. Nothing else changes.
     pub fn placed(&mut self, place: usize)
         ensures place { place_of self.new ≡ Some place }
@@ -571,15 +572,15 @@ impl<D: Disk> Tape<D> {
         self.place = Some(place);
     }
 
-    /// Its place among the tapes of other peers, none until it was given one.
+    /// Its place among the tapes of other peers, `None` until it is given one.
     pub fn place(&self) -> Option<usize>
         ensures { result ≡ place_of self.now }
     {
         self.place
     }
 
-    /// How many notes of this opening are acknowledged, or the greatest u64 where that is less: what a flush that has
-    /// nothing to put on the disk counts. A broken tape answers too.
+    /// How many notes of this opening are acknowledged, or the greatest u64 if that is less: what a flush returns that
+    /// has nothing to write. A broken tape answers too.
     pub fn flushed(&self) -> u64
         ensures flushed { result ≡ flushed_of self.now }
         ensures count { (h : History) → StandsFor self.now h
@@ -588,8 +589,8 @@ impl<D: Disk> Tape<D> {
         self.flushed
     }
 
-    /// What the debt of this key counts in owed bytes, where it is owed: the octets of token and message-id, and 2.
-    /// Takes no memory, and a broken tape answers too. Logarithmic in what is owed.
+    /// What the debt of this key counts in owed bytes, if it is owed: the octets of token and message-id, plus 2. Takes
+    /// no memory, and a broken tape answers too. Logarithmic in what is owed.
     pub fn octets(&self, key: Key) -> Option<u64>
         ensures octets { result ≡ option_map (λ (owing : Owing). line_octets owing.1.0 owing.1.1)
             (find (λ (owing : Owing). owing.0 == key) (ledger_of self.now).debts) }
@@ -606,7 +607,7 @@ impl<D: Disk> Tape<D> {
         self.ledger.owes(key)
     }
 
-    /// Whether a flush or a rotation failed on a disk, so that the tape is to be opened again.
+    /// Whether a flush or a rotation failed on a disk, so that the tape has to be opened again.
     pub fn is_broken(&self) -> bool
         ensures { IsTrue result ↔ IsBroken self.now }
     {
@@ -616,7 +617,7 @@ impl<D: Disk> Tape<D> {
     /// The keys that are owed, rising.
     ///
     /// # Errors
-    /// `NoMemory` where memory was refused.
+    /// `NoMemory` if memory was refused.
     pub fn keys(&self) -> Result<Vec<Key>, AllocError>
         ensures items { IfOk result (λ v. v.items ≡ keys (ledger_of self.now)) }
         ensures rising { IfOk result (λ v. IsStrictlyIncreasing v.items) }
@@ -624,18 +625,18 @@ impl<D: Disk> Tape<D> {
         self.ledger.keys(self.alloc)
     }
 
-    /// What its ledger is beside texts, in which each debt has the ordinal 0. A broken tape answers too. Linear in what
-    /// is owed.
+    /// What its ledger has apart from texts, with ordinal 0 for each debt. A broken tape answers too. Linear in what is
+    /// owed.
     ///
     /// # Errors
-    /// `NoMemory` where memory was refused.
+    /// `NoMemory` if memory was refused.
     pub fn outline(&self) -> Result<Outline, AllocError>
         ensures { IfOk result (λ outline. shape_in outline ≡ shape_of (ledger_of self.now)) }
     {
         Outline::of(self.alloc, &self.ledger)
     }
 
-    /// The greatest number of the funnel that was noted, 0 at first.
+    /// The greatest number of a funnel line that was noted, 0 at first.
     pub fn mark(&self) -> u64
         ensures { result ≡ (ledger_of self.now).mark }
     {
@@ -650,7 +651,7 @@ impl<D: Disk> Tape<D> {
         self.ledger.closed()
     }
 
-    /// The greatest number that was noted of the source that is open, 0 at first.
+    /// The greatest number that was noted of the open source, 0 at first.
     pub fn import_mark(&self) -> u64
         ensures { result ≡ (ledger_of self.now).import_mark }
     {
@@ -665,15 +666,15 @@ impl<D: Disk> Tape<D> {
         self.ledger.totals()
     }
 
-    /// How many more notes may pend.
+    /// How many more notes may be pending.
     pub fn room(&self) -> usize
         ensures { result + pending_of self.now ≡ most_pending }
     {
         MOST_PENDING - self.pending.count
     }
 
-    /// The disks beneath, the first and the second. Notes that pend are gone; a stop leaves of them what it could leave
-    /// of the tape.
+    /// The disks, the first and the second. Pending notes are gone; a stop leaves of the disks what it could leave of
+    /// the tape.
     pub fn into_disks(self) -> (D, D)
         ensures disks { result ≡ disks_of self }
         ensures faults { (D.faults_of result.0, D.faults_of result.1) ≡ faults_of self }
@@ -695,7 +696,7 @@ impl<D: Disk> Tape<D> {
     }
 }
 
-// Whether the key is one of these, of which none is above the greatest: a key above it is not looked for.
+// Whether the key is one of these, none of which is above the greatest: a key above it is not looked for.
 fn is_among(keys: &[Key], key: Key, greatest: Key) -> bool
     requires { All (λ k. k ≤ greatest) keys.now }
     ensures { IsTrue result ↔ Contains keys.now key }
@@ -716,14 +717,12 @@ fn apply_drops(ledger: &mut Ledger, keys: &[Key], cause: Cause)
     }
 }
 
-// Where the next record of a journal will be.
 pub(crate) fn end_of<D: Disk>(journal: &Journal<D>) -> u64
     ensures { result ≡ journal_end journal.now }
 {
     journal.bytes() - 1
 }
 
-// How many debts were taken: as many as were answered, dropped and are owed.
 fn taken_of(ledger: &Ledger) -> u64
     ensures { result ≡ (state_of ledger.now).answered + (state_of ledger.now).dropped
         + length (state_of ledger.now).debts }

@@ -1,4 +1,4 @@
-// Reading back the notes of debts, whose texts are on the tape alone.
+// Reads back the notes of debts, whose texts are only on the tape.
 ghost use Rattle.std.specs.Prelude.{◌≡◌, ◌≢◌, ◌+◌, ◌-◌, ◌^◌, ◌<◌, ◌≤◌, ◌↔◌};
 ghost use Rattle.std.specs.Prelude.{ℕ, IfErr, IfOk, IsErrOf, length};
 ghost use Rattle.ledger_core.specs.declared.spot.Spot.{Spot};
@@ -15,7 +15,7 @@ use ledger_core::{Debt, Key, Note, Spot, decode, encode_base, note_in, owed_len,
 use std::alloc::{AllocError, Global};
 use tape_journal::{Gathered, ReadFault};
 
-// The debt that a payload owes, where it is that of this key with texts of these lengths.
+// The debt that a payload owes, if it has this key and texts of these lengths.
 fn debt_of(alloc: Global, key: Key, spot: Spot, payload: &[u8]) -> Result<Debt, TapeFault>
     ensures debt { (debt : Owing) → IsNote (owe debt) → payload.now ≡ spelling (owe debt)
         → debt.0 ≡ key
@@ -41,7 +41,6 @@ fn debt_of(alloc: Global, key: Key, spot: Spot, payload: &[u8]) -> Result<Debt, 
     }
 }
 
-// The debt, where it is that of this key with texts of these lengths.
 fn debt_as(key: Key, spot: Spot, debt: Debt) -> Result<Debt, TapeFault>
     ensures ok { IfOk result
         (λ d. (d ≡ debt) × (debt.0 ≡ key) × (length debt.1.0 ≡ spot.token_len)
@@ -83,11 +82,11 @@ impl<D: Disk> Tape<D> {
     ghost use Rattle.recovery.specs.Words.{IsBroken, IsDebtFault, OneHasRisen, Writes, generation_of, ledger_of};
     ghost use Rattle.recovery.specs.Words.{live_segment, faults_of};
 
-    /// The debt of this key, where it is owed. Its note is read back from the disk, unless it pends. Logarithmic in
-    /// what is owed, and one reading of the disk.
+    /// The debt of this key, if it is owed. Its note is read back from the disk, unless it is pending. Logarithmic in
+    /// what is owed, and one read of the disk.
     ///
     /// # Errors
-    /// Tried in this order: `Broken`; `NoMemory`; `Disk`, where the reading failed, or gave another note than was put
+    /// Tried in this order: `Broken`; `NoMemory`; `Disk`, if the read failed, or gave another note than was written
     /// there, which an honest disk never does. None of them changes anything, or breaks the tape.
     pub fn debt(&mut self, key: Key) -> Result<Option<Debt>, TapeFault>
         // It is the debt that was noted.
@@ -122,7 +121,7 @@ impl<D: Disk> Tape<D> {
         }
     }
 
-    // The payload of the note that owes the debt of this key, which stands there.
+    // The payload of the note that owes the debt of this key, at this spot.
     fn note_at(&mut self, key: Key, spot: Spot) -> Result<Vec<u8>, TapeFault>
         requires works { IsBroken self.old → ⊥ }
         requires spot { IsSpotOf self.old.ledger key spot }
@@ -147,8 +146,7 @@ impl<D: Disk> Tape<D> {
         }
     }
 
-    // The octets of the note that owes the debt of this key, which stands at this spot: on the disk, or among what
-    // pends.
+    // The octets of the note that owes the debt of this key, at this spot: on the disk, or pending.
     fn note_octets(&mut self, key: Key, spot: Spot) -> Result<Vec<u8>, TapeFault>
         requires works { IsBroken self.old → ⊥ }
         ensures note { (h : History) (debt : Owing) → StandsFor self.old h
@@ -183,7 +181,7 @@ impl<D: Disk> Tape<D> {
         }
     }
 
-    // So many octets at most, from this one on, of the payload of the record at this offset of the disk.
+    // At most `most` octets, from `from` on, of the payload of the record at this offset of the disk.
     fn part_of(&mut self, at: u64, from: u32, most: u32) -> Result<Vec<u8>, TapeFault>
         requires works { IsBroken self.old → ⊥ }
         ensures part { (prefix more : List (List ℕ)) (payload : List ℕ)
@@ -203,12 +201,12 @@ impl<D: Disk> Tape<D> {
             Ok(part) => Ok(part),
             Err(ReadFault::NoMemory) => Err(TapeFault::NoMemory),
             Err(ReadFault::Disk) => Err(TapeFault::Disk),
-            // The journal works.
+            // It cannot come: the journal works.
             Err(ReadFault::Broken) => Err(TapeFault::Disk),
         }
     }
 
-    // The octets of a note in the payload that pends in this slot.
+    // The octets of a note in the pending payload in this slot.
     fn pending_note(&self, slot: u32, within: u16, len: usize) -> Result<Vec<u8>, TapeFault>
         ensures note { (octets : List ℕ) → slot < length (payloads_in self.now.pending) → StandsIn
             (slice_index_or (payloads_in self.now.pending) slot []) within octets
@@ -225,7 +223,6 @@ impl<D: Disk> Tape<D> {
         Ok(Vec::from_slice(self.alloc, note)?)
     }
 
-    // The keys that are owed, rising, each with where it stands.
     pub(crate) fn spots(&self) -> Result<Vec<(Key, Spot)>, AllocError>
         ensures items { IfOk result (λ v. v.items ≡ spots_of self.now.ledger) }
         ensures rising { OnOk result (IsStrictlyIncreasing (keys (ledger_of self.now))) }
@@ -233,8 +230,8 @@ impl<D: Disk> Tape<D> {
         self.ledger.spots(self.alloc)
     }
 
-    // Reads back the notes of all debts, whose spots are these, behind the Base of the next generation. The segment
-    // that lives is read in pieces.
+    // Reads back the notes of all debts, which are at these spots, after the Base of the next generation. The live
+    // segment is read in pieces.
     pub(crate) fn read_back(&mut self, spots: &[(Key, Spot)]) -> Result<Gathered, TapeFault>
         requires works { IsBroken self.old → ⊥ }
         requires room { generation_of self.old < 2 ^ 64 - 1 }
@@ -256,7 +253,6 @@ impl<D: Disk> Tape<D> {
         read
     }
 
-    // Has the segment that lives read ahead.
     fn read_ahead(&mut self) -> Result<(), AllocError>
         ensures reads { IsRead self.old self.new }
         ensures faults { faults_of self.new ≡ faults_of self.old }
@@ -264,7 +260,6 @@ impl<D: Disk> Tape<D> {
         self.segments.live.read_ahead()
     }
 
-    // Has it read ahead no more.
     fn read_singly(&mut self)
         ensures reads { IsRead self.old self.new }
         ensures faults { faults_of self.new ≡ faults_of self.old }
@@ -272,7 +267,7 @@ impl<D: Disk> Tape<D> {
         self.segments.live.read_singly();
     }
 
-    // Reads back the notes of all debts, whose spots are these, behind the Base of the next generation, one by one.
+    // Reads back the notes of all debts, which are at these spots, after the Base of the next generation, one by one.
     fn read_each(&mut self, spots: &[(Key, Spot)]) -> Result<Gathered, TapeFault>
         requires works { IsBroken self.old → ⊥ }
         requires room { generation_of self.old < 2 ^ 64 - 1 }

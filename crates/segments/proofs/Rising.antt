@@ -1,4 +1,4 @@
--- Rising lists of numbers: where a number parts them, and one more number in its place.
+-- Rising lists of numbers: how a number parts one, and one more number in its place.
 use Rattle.std.proofs.Common.{arith, ◌≡◌, ◌⊎◌, ℕ, zero, suc, ◌+◌, ◌-◌, ◌<◌, ◌≤◌, ◌^◌, min, Option, Ok, Err, true}
 use Rattle.std.proofs.Common.{false, leb, leb-true, leb-false}
 use Rattle.std.proofs.Common.{List, [], ◌∷◌, length, get_or, refl, sym, ap, subst, ◌∙◌, inl, inr, ⊎_elim}

@@ -8,7 +8,7 @@ pub record AreFirsts (firsts : List ℕ) : Type 0 where
   pub rising : IsStrictlyIncreasing firsts
   pub within : All (λ first. (1 ≤ first) × (first < 2 ^ 64)) firsts
 
--- new has this one and what old has
+-- new has this one and those of old
 abbrev pub JoinsOne : List ℕ → ℕ → List ℕ → Type 0
 JoinsOne old first new = (other : ℕ) → Contains new other ↔ ((other ≡ first) ⊎ Contains old other)
 

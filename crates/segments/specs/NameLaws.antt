@@ -11,7 +11,7 @@ use Rattle.segments.specs.Names.{ComesBefore, IsNameOf}
 octet_is : (x : ℕ) → digit_value x < 10 → digit_value x + 48 ≡ x
 octet_is x h = digit_value_digit x (digit_from_value x h)
 
--- as many digits that write the same, after two numbers, are the same, and so are the numbers
+-- if digits, equally many, write the same after two numbers, they are the same, and so are the numbers
 same_after : (m n : ℕ) (xs ys : List ℕ) → length xs ≡ length ys → AllDigits 10 xs → AllDigits 10 ys
     → digits_value_after 10 m xs ≡ digits_value_after 10 n ys → (m ≡ n) × (xs ≡ ys)
 same_after m n [] [] l a b e = (e, refl)
@@ -38,7 +38,8 @@ one_name one other number is same =
     (same_after 0 0 one other (is.digits.twenty ∙ sym same.digits.twenty) is.digits.digits same.digits.digits
     (is.value ∙ sym same.value)).1
 
--- of as many digits after two numbers, those that write less come first, unless the number before them is less
+-- if digits, equally many, write less after one number than after another, that number is less, or they are equal and
+-- its digits come first
 first_after : (m n : ℕ) (xs ys : List ℕ) → length xs ≡ length ys → AllDigits 10 xs → AllDigits 10 ys
     → digits_value_after 10 m xs < digits_value_after 10 n ys → (m < n) ⊎ ((m ≡ n) × ComesBefore xs ys)
 first_after m n [] [] l a b h = inl h

@@ -7,11 +7,11 @@ pub record State : Type 0 where
   pub lines : ℕ
   -- the last line that is acknowledged, as all before it are
   pub mark : ℕ
-  -- the first line of each segment that was named, since the last crash or before and left by it
+  -- the first line of each segment named since the last crash, or named before and left by it
   pub named : List ℕ
-  -- of each whose name is in the directory
+  -- the first line of each whose name is in the directory
   pub there : List ℕ
-  -- of each whose name is there after any crash
+  -- the first line of each whose name is there after any crash
   pub sure : List ℕ
 
 -- nothing is written, and the first segment is synced
@@ -29,7 +29,7 @@ pub data Event : Type 0 where
   Acknowledge : ℕ → Event
   -- the segment that begins with this line is removed
   Remove : ℕ → Event
-  -- the system stops: these names are left, and so many lines
+  -- the system stops: these names are left, and this many lines
   Crash : List ℕ → ℕ → Event
 
 -- the segment has all lines from its first to this one: no other one begins between them; or it begins right after it

@@ -1,9 +1,9 @@
 //! The segments of a funnel: files of one directory that have its lines one after another, each named after its first.
 //!
 //! May touch nothing but memory: the directory and its files are the caller's. The crates above use [`read_name`] and
-//! [`name_of`], which are the two ways between names and numbers (`specs/Names.antt`), and [`Segments`] as the rising
-//! list of the numbers of first lines (`specs/Firsts.antt`): which segment has the next line, which comes after one,
-//! and which lie before one. `specs/Stops.antt` says why the next line is found whatever a crash leaves.
+//! [`name_of`], which go from names to numbers and back (`specs/Names.antt`), and [`Segments`] as the rising list of
+//! the numbers of first lines (`specs/Firsts.antt`): which segment has the next line, which comes after one, and which
+//! come before one. `specs/Stops.antt` says why the next line is found whatever a crash leaves.
 #![tactic(auto)]
 
 mod name;

@@ -12,7 +12,7 @@ use thiserror::Error;
 /// How many digits a name has.
 const DIGITS: usize = 20;
 
-/// Why a name of 20 digits is no segment's.
+/// Why a name of 20 digits is not a segment's.
 #[derive(Clone, Copy, Debug, PartialEq, Eq, Error)]
 pub enum NameFault {
     /// 20 zeros: lines are numbered from 1.
@@ -55,7 +55,6 @@ pub fn name_of(first: u64) -> [u8; 20]
     name
 }
 
-// Whether these are 20 digits.
 fn is_number(name: &[u8]) -> bool
     ensures { IsTrue result ↔ IsNumber name.now }
 {
@@ -68,7 +67,7 @@ fn are_digits(octets: &[u8]) -> bool
     octets.iter().all(|octet| octet.is_ascii_digit())
 }
 
-// The number that these digits write; nothing if it is 2 ^ 64 or more.
+// The number that these digits write; `None` if it is 2 ^ 64 or more.
 fn value_of(digits: &[u8]) -> Option<u64>
     requires { AllDigits 10 digits.now }
     ensures { MatchOption result (2 ^ 64 ≤ digits_value 10 digits.now)

@@ -1,6 +1,6 @@
 // Where the line after a mark is.
 
-/// Where the line after a mark is: in this segment, behind so many of its lines, or not yet written.
+/// Where the line after a mark is: in this segment, after `skipped` of its lines, or not yet written.
 #[derive(Clone, Copy, Debug, PartialEq, Eq)]
 pub struct Place {
     /// The number of the segment's first line.

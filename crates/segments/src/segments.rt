@@ -12,10 +12,10 @@ use std::alloc::{AllocError, Global};
 use std::marker::Model;
 use thiserror::Error;
 
-/// Why a name was not taken in.
+/// Why a name was refused.
 #[derive(Debug, Drop, PartialEq, Eq, Error)]
 pub enum AddFault {
-    /// The name is 20 digits, but no segment's.
+    /// The name is 20 digits, but not a segment's.
     #[error("{0}")]
     Name(NameFault),
     /// Memory was refused.
@@ -23,10 +23,10 @@ pub enum AddFault {
     NoMemory,
 }
 
-/// The segments that a directory has.
+/// The segments of a directory.
 ///
-/// Contracts see it as the list of the numbers of their first lines, which rise. A question takes a logarithm of steps
-/// of how many there are.
+/// Contracts see the rising list of the numbers of their first lines. A query takes a logarithm of steps of how many
+/// there are.
 #[derive(Drop)]
 pub struct Segments {
     firsts: Vec<u64>,
@@ -45,7 +45,7 @@ impl Model for Segments {
 }
 
 impl Segments {
-    /// There is none.
+    /// No segments.
     pub fn new(alloc: Global) -> Self
         ensures { result ≡ [] }
     {
@@ -54,11 +54,11 @@ impl Segments {
         }
     }
 
-    /// Takes in a name of the directory; `false` if it is no segment's. A name that comes twice counts once.
+    /// Takes in a name of the directory; `false` if it is not a segment's. A name that comes twice counts once.
     ///
     /// # Errors
-    /// `Name` if the name is 20 digits but no segment's; `NoMemory` if it is a segment's and memory was refused. What
-    /// there is stays as it was.
+    /// `Name` if the name is 20 digits but not a segment's; `NoMemory` if it is a segment's and memory was refused.
+    /// Nothing changes.
     pub fn add(&mut self, name: &[u8]) -> Result<bool, AddFault>
         ensures ok { result ≡ Ok true
             → (first : ℕ) × IsFirstOf name.now first × JoinsOne self.old first self.new }
@@ -79,7 +79,6 @@ impl Segments {
         }
     }
 
-    // Takes in the segment whose first line has this number, unless it is there.
     fn put(&mut self, first: u64) -> Result<(), AllocError>
         requires { 1 ≤ first }
         ensures ok { OnOk result (JoinsOne self.old first self.new) }
@@ -94,15 +93,14 @@ impl Segments {
         }
     }
 
-    /// Whether there is none.
     pub fn is_empty(&self) -> bool
         ensures { IsTrue result ↔ (self.now ≡ []) }
     {
         self.firsts.is_empty()
     }
 
-    /// Where the line after this mark is: in the last segment that begins at or below it, or behind that one's last
-    /// line, if the line is not written yet. `None` if all begin after the line.
+    /// Where the line after this mark is: in the last segment that begins at or below it, or after that one's last
+    /// line, if the line is not yet written. `None` if all begin after the line.
     pub fn place_of(&self, mark: u64) -> Option<Place>
         ensures some { IfSome result (IsPlaceOf self.now mark) }
         ensures none { IfNone result
@@ -137,7 +135,7 @@ impl Segments {
         &self.firsts[..self.count_up_to(first.saturating_sub(1))]
     }
 
-    // How many begin at or below this number: those that come first.
+    // How many begin at or below this number: they come first.
     fn count_up_to(&self, number: u64) -> usize
         ensures within { result ≤ length self.now }
         ensures up_to { (k : ℕ) → k < result → slice_index self.now k ≤ number }

@@ -1,4 +1,4 @@
--- What came out of a writer if it failed in the middle of a text.
+-- What a writer holds if it failed in the middle of a text.
 use Rattle.std.specs.Prelude.{◌≡◌, ℕ, List, Option, ◌++◌}
 use Rattle.std.specs.Io.KnownBytes.{Appends}
 

@@ -9,12 +9,10 @@ use crate::put::put;
 use funnel::PeerName;
 use std::io::Write;
 
-// The widest column.
 const COLUMN_MAX_OCTETS: usize = 20;
 
 const SPACES: [u8; COLUMN_MAX_OCTETS] = [b' '; COLUMN_MAX_OCTETS];
 
-// Writes a name at the left of a column.
 pub(crate) fn put_name<W: Write>(
     out: &mut W,
     width: usize,

@@ -2,8 +2,8 @@
 //!
 //! May touch nothing but the writer that it is given, and takes no memory; it stands on `funnel` for names and on
 //! `ledger_core` for what a ledger counts.
-//! The crates above use `report`: its clauses give the whole text (`specs/Report.antt`), and after a fault of the
-//! writer a prefix of it was written.
+//! The crates above use `report`: its clauses give the whole text (`specs/Report.antt`); if the writer fails, a prefix
+//! of it was written.
 #![tactic(auto)]
 
 mod columns;

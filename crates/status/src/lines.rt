@@ -17,7 +17,6 @@ const HEADER: &[u8] =
 /// The figures of one peer.
 #[derive(Clone, Copy)]
 pub struct PeerStatus<'a> {
-    /// Its name.
     pub name: &'a PeerName,
     /// What its ledger counts.
     pub totals: Totals,
@@ -46,7 +45,6 @@ pub fn report<W: Write>(peers: &[PeerStatus<'_>], out: &mut W) -> Result<(), Rep
     put_peers(out, peers)
 }
 
-// Writes the line of each peer.
 fn put_peers<W: Write>(out: &mut W, peers: &[PeerStatus<'_>]) -> Result<(), ReportFault>
     ensures whole { OnOk result
         (Appends (W.contents out.old) (W.contents out.new) (flat_map peer_text peers.now)) }
@@ -59,7 +57,6 @@ fn put_peers<W: Write>(out: &mut W, peers: &[PeerStatus<'_>]) -> Result<(), Repo
     Ok(())
 }
 
-// Writes the line of a peer.
 fn put_peer<W: Write>(out: &mut W, peer: &PeerStatus<'_>) -> Result<(), ReportFault>
     ensures whole { OnOk result
         (Appends (W.contents out.old) (W.contents out.new) (peer_text peer.now)) }

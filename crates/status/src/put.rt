@@ -1,4 +1,4 @@
-// Writes texts so that after a fault a prefix of them was written.
+// Writes texts; if the writer fails, a prefix of them was written.
 ghost use Rattle.std.specs.Prelude.{◌≤◌, length, take, IfOk, OnOk, OnErr};
 ghost use Rattle.std.specs.Io.KnownBytes.{Appends};
 ghost use Rattle.status.specs.Prefixes.{AppendsPrefix};

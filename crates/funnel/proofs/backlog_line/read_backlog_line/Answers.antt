@@ -1,4 +1,4 @@
--- The cut tells the line's own fault, and a line that was cut is good.
+-- The cut returns the line's own fault, and a line that was cut is good.
 use Rattle.std.proofs.Common.{List, ℕ, ◌∙◌, ap, subst, sym, Err}
 use Rattle.std.proofs.lemmas.Result.{err_from_is_err_and}
 use Rattle.funnel.specs.Line.{IsBacklogLine}

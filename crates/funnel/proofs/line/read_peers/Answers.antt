@@ -1,4 +1,4 @@
--- A word is put behind the peers so far or passed over, and at the end blanks alone are left.
+-- A word is added to the peers so far or skipped, and at the end only blanks are left.
 use Rattle.std.proofs.Common.{◌≡◌, ℕ, true, false, List, [], ◌∷◌, ◌++◌, subst, sym, refl, ◌∙◌, ap, append_assoc}
 use Rattle.std.proofs.Common.{append-nil}
 use Rattle.std.proofs.lemmas.Bool.{false_from_ne_true, false≢true}

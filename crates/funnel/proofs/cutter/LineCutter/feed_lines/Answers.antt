@@ -1,4 +1,4 @@
--- The line that was held with its end, the lines behind it, and the new rest.
+-- The held line with its end, the lines after it, and the new rest.
 use Rattle.std.proofs.Common.{ℕ, ap, ◌∙◌}
 use Rattle.std.proofs.lemmas.Result.{on_ok_weaker}
 use Rattle.std.specs.declared.vec.Vec.{Vec}

@@ -1,4 +1,4 @@
--- The two faults that a word has, of the line's text without its CR.
+-- The two faults that a word may have, in the line's text without its CR.
 use Rattle.std.proofs.Common.{sym, ◌∙◌, subst}
 use Rattle.funnel.specs.LineLaws.{token_fault, id_fault}
 use Rattle.funnel.specs.Words.{IsFirstWord}

@@ -1,4 +1,4 @@
--- What is written anew has a Base, and of each debt what owed bytes count, and some octets more.
+-- What a rewrite writes: a Base, and for each debt what owed bytes count, and some octets more.
 use Rattle.std.proofs.Common.{◌≡◌, ◌+◌, ◌-◌, ◌^◌, ◌*◌, ℕ, ap, arith, length, min, sym, ◌∙◌}
 use Rattle.ledger_core.specs.Base.{base_spelling}
 use Rattle.ledger_core.specs.Ledger.{state_of}

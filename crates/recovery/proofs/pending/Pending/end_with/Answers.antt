@@ -1,4 +1,4 @@
--- Payloads in the place of the last.
+-- Payloads that replace the last.
 use Rattle.std.proofs.Common.{Ok, Err, ◌≡◌, ◌-◌, ◌≤◌, ◌++◌, ℕ, List, true, length, length-append, length-take, take}
 use Rattle.std.proofs.Common.{map, sym, ap, ◌∙◌, subst, arith}
 use Rattle.std.specs.Prelude.{Result, Vec, if◌then◌else◌, is_ok, vec_items}

@@ -1,4 +1,4 @@
--- Drops of several debts behind what pends.
+-- Drops of several debts after what is pending.
 use Rattle.std.proofs.Common.{◌≡◌, ◌-◌, ◌++◌, ℕ, List, length, length-drop, length-take, take, drop, take-append-drop}
 use Rattle.std.proofs.Common.{sym, ap, ◌∙◌, subst, arith}
 use Rattle.std.specs.Prelude.{Vec}

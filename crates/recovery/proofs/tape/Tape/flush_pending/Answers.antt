@@ -1,4 +1,4 @@
--- What pended is on the disk, and nothing pends; or the tape broke, and stands for what it stood for.
+-- What was pending is on the disk, and nothing is pending; or the tape broke, and stands for what it stood for.
 use Rattle.std.proofs.Common.{rules, suc, ◌≡◌, ℕ, List, ◌++◌, length, length-drop, take, drop, take-append-drop, Err}
 use Rattle.std.proofs.Common.{refl, sym, ap, ◌∙◌, subst, arith}
 use Rattle.ledger_core.specs.declared.note.Note.{Note}

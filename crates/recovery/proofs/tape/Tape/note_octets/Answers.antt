@@ -1,4 +1,4 @@
--- The octets of a note, on the disk or among what pends.
+-- The octets of a note, on the disk or pending.
 use Rattle.std.proofs.Common.{◌∷◌, take, drop, sym, ◌≡◌, ◌+◌, ◌-◌, ◌<◌, ◌≤◌, ◌^◌, ◌++◌, ◌==◌, ℕ, List, length, ap, ◌∙◌, subst}
 use Rattle.std.proofs.Common.{Bool, true, false, [], arith, cond, length-append, refl}
 use Rattle.std.proofs.lemmas.Result.{IfOk-weaker}

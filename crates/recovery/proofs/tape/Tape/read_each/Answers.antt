@@ -107,7 +107,7 @@ notes_at [] k e are within = absurd (omega arith)
 notes_at (debt ∷ debts) zero e are within = are.0
 notes_at (debt ∷ debts) (suc k) e are within = notes_at debts k e are.1 (omega arith)
 
--- if a fault of the disk is told for a payload that was not gathered, it was too long
+-- if a fault of the disk is reported for a payload that was not gathered, it was too long
 is_too_long : (fault : GatherFault) (e : TapeFault) (r : Result Gathered TapeFault) → r ≡ Err e → e ≡ gather_fault fault
     → r ≡ Err Disk → fault ≡ PayloadTooLong
 is_too_long PayloadTooLong e r is from told = refl

@@ -1,4 +1,4 @@
--- It is there, or goes where the search for it ended.
+-- It is there, or goes to the place at which the search for it ended.
 use Rattle.std.proofs.Common.{refl, sym, subst}
 use Rattle.segments.specs.Firsts.{AreFirsts, JoinsOne}
 use Rattle.segments.proofs.Rising.{Slot, is_there, is_slot, joins, joins_none, still_firsts}
