@@ -1,4 +1,4 @@
--- Maps whose keys are octets: what a change under one token leaves under each other.
+-- Maps whose keys are octets: what a change under one token leaves under every other.
 use Rattle.std.proofs.Common.{◌≡◌, ◌≢◌, ℕ, true, false, List, sym, ◌∙◌}
 use Rattle.std.specs.Cmp.{eq_by_cmp_equiv}
 use Rattle.std.specs.Cmp.Lexicographic.{slice_cmp}
@@ -13,7 +13,7 @@ use Rattle.std.proofs.lemmas.Slice.Eq.{bytes_eq-Decides}
 same : (a b : List ℕ) → is_eq (slice_cmp nat_cmp a b) ≡ true → a ≡ b
 same a b h = (bytes_eq-Decides a b).0 (sym (is_eq-slice_cmp a b) ∙ h)
 
--- no key is both of two tokens
+-- no key equals two tokens
 apart : (token other key : List ℕ) → other ≢ token → is_eq (slice_cmp nat_cmp token key) ≡ true → is_eq (slice_cmp nat_cmp other key) ≡ false
 apart token other key differ h =
     false_from_ne_true (is_eq (slice_cmp nat_cmp other key)) (λ e. differ (same other key e ∙ sym (same token key h)))

@@ -10,11 +10,11 @@ use Rattle.article_store.specs.declared.store.Found.TheVariants.{Article, Gone, 
 use Rattle.article_store.specs.Finds.{IsFound}
 use Rattle.article_store.specs.Reads.{IsReadAs}
 
--- a list with a front of another is as long as that front
+-- a list with a prefix of another is at least as long as that prefix
 pub front_within : (xs ys : List ℕ) (f : ℕ) → f ≤ length xs → take f ys ≡ take f xs → f ≤ length ys
 front_within xs ys f within front = omega (arith, length-take f ys, length-take f xs, ap length front)
 
--- xs is filled up to f, and ys has that front and n octets more
+-- xs is filled up to f, and ys has that prefix and n octets more
 pub filled_more : (a b c : Option (List ℕ)) (xs ys : List ℕ) (f n : ℕ) → take f ys ≡ take f xs
     → Consumes a b (take f xs) → Consumes b c (take n (drop f ys)) → Consumes a c (take (f + n) ys)
 filled_more a b c xs ys f n front before read =
@@ -38,7 +38,7 @@ no_longer : (text front : List ℕ) (b : Option (List ℕ)) → Consumes (Some t
 no_longer text front None p = absurd p
 no_longer text front (Some rest) p = omega (arith, ap length p, length-append front rest)
 
--- what was read is what the text is: the whole text, or so much of it that it is too long
+-- the text was read as it is: whole, or so much of it that it is too long
 pub read_as : (a b : Option (List ℕ)) (front : List ℕ) (found : Found) → Consumes a b front
     → (length front < 16777217 → IsAtEnd b) → IsFound found → IsReadAs front found
     → IfSome a (λ text. IsReadAs text found)

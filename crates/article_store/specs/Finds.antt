@@ -10,8 +10,8 @@ IsFound (Article text) = IsSendable text
 IsFound Gone = Unit {0}
 IsFound Unsendable = Unit {0}
 
--- What was found, where the store says this of the texts that stand under the token, or of none: the very text, that there
--- is none, or that there is one with no written form (profile).
+-- What was found, if the store says this of the texts under the token: the very text, that there is none, or that
+-- there is one without a written form (profile).
 abbrev pub IsSaidBy : (Option (List ℕ) → Type 0) → Found → Type 0
 IsSaidBy says (Article text) = says (Some text)
 IsSaidBy says Gone = says None

@@ -1,4 +1,4 @@
--- What a text that was read from a file is as an article, and what it means that a file can't be read.
+-- A text that was read from a file, as an article, and the result if a file cannot be read.
 use Rattle.std.specs.Prelude.{◌≡◌, ◌≤◌, ℕ, List, length, Option, Result, Ok, Err}
 use Rattle.std.specs.Io.KnownBytes.{Consumes}
 use Rattle.std.specs.declared.io.ErrorKind.{ErrorKind}
@@ -9,18 +9,18 @@ use Rattle.article_store.specs.declared.store.Found.TheVariants.{Article, Gone, 
 use Rattle.article_store.specs.declared.store.StoreFault.{StoreFault}
 use Rattle.article_store.specs.declared.store.StoreFault.TheVariants.{Disk, NoMemory}
 
--- What was found, where a reader has this text left: the very text, whole, or that it has no written form. A text that
+-- What was found, if a reader has this text left: the very text, whole, or that it has no written form. A text that
 -- was read is never gone (profile).
 abbrev pub IsReadAs : List ℕ → Found → Type 0
 IsReadAs text (Article read) = read ≡ text
 IsReadAs text Gone = ⊥
 IsReadAs text Unsendable = ¬ (IsSendable text)
 
--- known octets lost so many at most, from the front
+-- known octets lost a prefix of at most this many
 abbrev pub ConsumesAtMost : ℕ → Option (List ℕ) → Option (List ℕ) → Type 0
 ConsumesAtMost most old new = (octets : List ℕ) × Consumes old new octets × (length octets ≤ most)
 
--- what it means that a file could not be opened or read (profile)
+-- the result if a file could not be opened or read (profile)
 abbrev pub answer_to : ErrorKind → Result Found StoreFault
 answer_to NotFound = Ok Gone
 answer_to NotADirectory = Ok Gone

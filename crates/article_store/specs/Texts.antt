@@ -6,6 +6,6 @@ use Rattle.std.specs.Ordering.{nat_cmp}
 use Rattle.std.specs.Vec.{vec_items}
 use Rattle.article_store.specs.declared.mem.MemArticles.{MemArticles}
 
--- the text that stands under the token
+-- the text under the token
 abbrev pub text_at : MemArticles → List ℕ → Option (List ℕ)
 text_at store token = get_by (λ key. slice_cmp nat_cmp token (vec_items key)) store.texts

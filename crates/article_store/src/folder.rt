@@ -16,15 +16,15 @@ use std::io::{self, ErrorKind, Read};
 use std::rt::Files;
 use std::str;
 
-// One octet more than the longest text that is sent: what is so long is not read on.
+// One octet more than the longest text that can be sent: a text of this length is not read further.
 const MOST: usize = 16_777_217;
 
-// The room that is made for the first file, in octets; most articles fit.
+// The room made for the first file, in octets; most articles fit.
 const FIRST_ROOM: usize = 65_536;
 
-/// Articles that are files below a directory: the text of a token is the file at the directory's path, `/`, the token.
-/// Each fetch looks at, opens, reads and closes one file, and copies its text once. The path and the text are built in
-/// two buffers that are kept: of the longest path, and of at most 16,777,217 octets.
+/// Articles that are files below a directory: the text of a token is in the file whose path is the directory's, `/`
+/// and the token. Each fetch looks at, opens, reads and closes one file, and copies its text once. The path and the
+/// text are built in two buffers that are reused: one of the longest path, one of at most 16,777,217 octets.
 #[derive(Drop)]
 pub struct Folder<F: Files + Drop> {
     files: F,
@@ -32,15 +32,15 @@ pub struct Folder<F: Files + Drop> {
     root: String,
     path: String,
     buffer: Vec<u8>,
-    // Why the last fetch failed that did.
+    // The error of the last fetch that failed.
     reason: Option<io::Error>,
 }
 
 impl<F: Files + Drop> Folder<F> {
-    /// The files below the directory at this path, which is looked at by no call but `fetch`.
+    /// A store over the files below the directory at this path. Only `fetch` looks at the directory.
     ///
     /// # Errors
-    /// `NoMemory` where memory was refused.
+    /// `NoMemory` if memory was refused.
     pub fn new(files: F, alloc: Global, directory: &str) -> Result<Self, AllocError>
         ensures { IfOk result (λ folder. root_of folder ≡ directory.now ++ 47 ∷ []) }
     {
@@ -59,7 +59,7 @@ impl<F: Files + Drop> Folder<F> {
     /// The path of a token's file, for a log.
     ///
     /// # Errors
-    /// [`StoreFault::NoMemory`] where memory was refused.
+    /// [`StoreFault::NoMemory`] if memory was refused.
     pub fn path_of(&mut self, token: &Token) -> Result<&str, StoreFault>
         ensures { IfOk result (λ path. path.now ≡ root_of self.old ++ token.now) }
     {
@@ -68,12 +68,13 @@ impl<F: Files + Drop> Folder<F> {
 }
 
 impl<F: Files + Drop> Articles for Folder<F> {
-    /// What the file of the token has, as [`read_article`] tells it. `Gone` if there is no such file: if the system
-    /// tells that there is nothing, or a directory, or a path through what is none.
+    /// The article in the token's file, as [`read_article`] returns it. `Gone` if there is no such file: the system
+    /// reports that the path does not exist, is a directory, or leads through a file that is not a directory.
     ///
     /// # Errors
-    /// [`StoreFault::NoMemory`] if memory was refused; [`StoreFault::Disk`] if the file could not be looked at, opened
-    /// or read for any other reason, or is neither a regular file nor a directory: opening a FIFO might never end.
+    /// [`StoreFault::NoMemory`] if memory was refused; [`StoreFault::Disk`] if the file could not be looked at,
+    /// opened or read for any other reason, or is neither a regular file nor a directory: opening a FIFO might never
+    /// end.
     fn fetch(&mut self, token: &Token) -> Result<Found, StoreFault>
         ensures sendable { IfOk result IsFound }
     {
@@ -108,13 +109,13 @@ impl<F: Files + Drop> SpoolDirectory for Folder<F> {
     }
 }
 
-/// What a reader gives, as an article: the whole text up to the reader's end, whatever its length is said to be, so
-/// that no part of a text is an article. Of more than 16,777,216 octets the first 16,777,217 are read, and no more:
-/// it is `Unsendable`. An interrupted read is tried again. The text is read into the buffer, which grows to that
-/// length at most, and is copied from there once. It is never `Gone`.
+/// Reads an article from a reader: the whole text up to the reader's end, whatever its length is said to be, so that
+/// a part of a text is never an article. If there are more than 16,777,216 octets, the first 16,777,217 are read, and
+/// the result is `Unsendable`. An interrupted read is tried again. The text is read into the buffer, which grows to
+/// that length at most, and is copied from there once. The result is never `Gone`.
 ///
 /// # Errors
-/// The reader's, where a read failed; [`ErrorKind::OutOfMemory`] where memory was refused.
+/// The reader's error if a read failed; [`ErrorKind::OutOfMemory`] if memory was refused.
 pub fn read_article<R: Read>(
     alloc: Global,
     reader: &mut R,
@@ -129,7 +130,7 @@ pub fn read_article<R: Read>(
     Ok(judge(alloc, &buffer[..count])?)
 }
 
-// Builds the path of a token's file. A token is ASCII, so its octets are text.
+// A token is ASCII, so its octets are text.
 fn build_path<'p>(path: &'p mut String, root: &String, token: &Token) -> Result<&'p str, StoreFault>
     ensures { IfOk result (λ built. built.now ≡ string_bytes root.now ++ token.now) }
 {
@@ -142,7 +143,7 @@ fn build_path<'p>(path: &'p mut String, root: &String, token: &Token) -> Result<
     Ok(path.as_str())
 }
 
-// Reads to the reader's end, but no more than `MOST` octets, into the front of a buffer, and tells how many came.
+// Reads to the reader's end, but at most `MOST` octets, into a prefix of the buffer, and returns how many came.
 fn read_front<R: Read>(reader: &mut R, buffer: &mut Vec<u8>) -> io::Result<usize>
     ensures within { IfOk result (λ count. count ≤ length buffer.new.items) }
     ensures short { IfOk result (λ count. count ≤ 16777217) }
@@ -166,7 +167,7 @@ fn read_front<R: Read>(reader: &mut R, buffer: &mut Vec<u8>) -> io::Result<usize
     Err(io::Error::from(ErrorKind::TimedOut))
 }
 
-// One read behind the octets that are filled, and how many came: none at the reader's end alone.
+// One read after the octets that are filled. It returns how many came: 0 only at the reader's end.
 fn read_more<R: Read>(reader: &mut R, buffer: &mut Vec<u8>, filled: usize) -> io::Result<usize>
     requires within { filled ≤ length buffer.old.items }
     requires short { filled < 16777217 }
@@ -185,7 +186,7 @@ fn read_more<R: Read>(reader: &mut R, buffer: &mut Vec<u8>, filled: usize) -> io
     read_at(reader, buffer.as_mut_slice(), filled, end)
 }
 
-// One read into a part of a buffer, which has room.
+// One read into a part of a buffer that has room.
 fn read_at<R: Read>(
     reader: &mut R,
     buffer: &mut [u8],
@@ -215,7 +216,7 @@ fn make_room(buffer: &mut Vec<u8>) -> Result<(), AllocError>
     buffer.resize(room, 0)
 }
 
-// What a whole text is: an article where it has a written form.
+// A whole text is an article if it has a written form.
 fn judge(alloc: Global, text: &[u8]) -> Result<Found, AllocError>
     ensures sendable { IfOk result IsFound }
     ensures said { IfOk result (IsReadAs text.now) }
@@ -227,7 +228,7 @@ fn judge(alloc: Global, text: &[u8]) -> Result<Found, AllocError>
     }
 }
 
-// What it means that a file could not be looked at, opened or read.
+// The result if a file could not be looked at, opened or read.
 fn missing(kind: ErrorKind) -> Result<Found, StoreFault>
     ensures { result ≡ answer_to kind }
 {

@@ -1,10 +1,10 @@
-//! Article texts under their tokens: what a store hands out for a token, a store in memory for drills and tests, and a
-//! store of files below a directory.
+//! Article texts under their tokens: a trait for stores, a store in memory for drills and tests, and a store of files
+//! below a directory.
 //!
-//! May touch memory, and `Folder` the files of its directory, which it only reads; it stands on `funnel` for tokens, on
-//! `dot_codec` for which texts have a written form, and on `bytes`, by which a text is shared and not copied.
-//! The crates above use the trait `Articles`, whose `fetch` hands out texts with a written form alone, and its member
-//! `says`, by which a store says what stands under a token (`specs/Finds.antt`).
+//! May touch memory, and `Folder` the files of its directory, which it only reads; it stands on `funnel` for tokens,
+//! on `dot_codec` for which texts have a written form, and on `bytes`, by which a text is shared and not copied.
+//! The crates above use the trait `Articles`: its `fetch` hands out only texts that have a written form, and by its
+//! member `says` a store says which text is under a token (`specs/Finds.antt`).
 #![tactic(auto)]
 
 mod folder;

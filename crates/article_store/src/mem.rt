@@ -12,7 +12,7 @@ use funnel::Token;
 use std::alloc::{AllocError, Global};
 use std::collections::BTreeMap;
 
-/// A store of articles in memory, for drills and tests. It takes any text, also one with no written form.
+/// A store of articles in memory, for drills and tests. It takes any text, even one without a written form.
 #[derive(Drop)]
 pub struct MemArticles {
     alloc: Global,
@@ -20,7 +20,6 @@ pub struct MemArticles {
 }
 
 impl MemArticles {
-    /// A store with no article.
     pub fn new(alloc: Global) -> Self
         ensures { (token : List ℕ) → text_at result token ≡ None }
     {
@@ -30,10 +29,10 @@ impl MemArticles {
         }
     }
 
-    /// Puts a text under the token, in place of the one that stood there. The text is shared and not copied.
+    /// Puts a text under the token, in place of the one that was there. The text is shared and not copied.
     ///
     /// # Errors
-    /// `NoMemory` where memory was refused; then each text stays as it was.
+    /// `NoMemory` if memory was refused; then all texts stay as they were.
     pub fn insert(&mut self, token: &Token, text: Bytes) -> Result<(), AllocError>
         ensures ok { OnOk result (text_at self.new token.now ≡ Some text) }
         ensures keeps_others { OnOk result
@@ -47,7 +46,7 @@ impl MemArticles {
         Ok(())
     }
 
-    /// Takes the text under the token out, and tells whether there was one.
+    /// Removes the text under the token, and returns whether there was one.
     pub fn remove(&mut self, token: &Token) -> bool
         ensures found { result ≡ is_some (text_at self.old token.now) }
         ensures gone { text_at self.new token.now ≡ None }
@@ -61,11 +60,10 @@ impl MemArticles {
 impl Articles for MemArticles {
     ghost says = { λ store token text. text_at store token ≡ text };
 
-    /// What stands under the token, which stays there: the text itself where it has a written form. It is shared and
-    /// not copied.
+    /// The text under the token, if it has a written form; the store keeps it. It is shared and not copied.
     ///
     /// # Errors
-    /// [`StoreFault::NoMemory`] where a text with a written form stands there and memory was refused. Never
+    /// [`StoreFault::NoMemory`] if there is a text with a written form and memory was refused. Never
     /// [`StoreFault::Disk`].
     fn fetch(&mut self, token: &Token) -> Result<Found, StoreFault>
         ensures sendable { IfOk result IsFound }

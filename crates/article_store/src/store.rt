@@ -1,4 +1,4 @@
-// What a store of articles is.
+// The trait of stores of articles, and what a store hands out.
 ghost use Rattle.std.specs.Prelude.{◌↔◌, ℕ, List, Option, IfOk};
 ghost use Rattle.article_store.specs.Finds.{IsFound, IsSaidBy};
 
@@ -13,13 +13,13 @@ use thiserror::Error;
 pub enum Found {
     /// The text of the article, which has a written form: `dot_codec::to_block` makes its block.
     Article(Bytes),
-    /// There is no such article, or it is there no more.
+    /// There is no such article, or no longer.
     Gone,
-    /// There is an article, and its text has no written form.
+    /// There is an article, but its text has no written form.
     Unsendable,
 }
 
-/// Why a store could not tell what it has under a token.
+/// Why a store could not hand out what it has under a token.
 #[derive(Clone, Copy, Debug, PartialEq, Eq, Error)]
 pub enum StoreFault {
     /// The disk could not be read.
@@ -43,15 +43,15 @@ impl From<AllocError> for StoreFault {
 
 /// A store of article texts under their tokens.
 pub trait Articles {
-    /// What the store says of a token: that this text stands under it, or with `None` that none does. A store whose
-    /// texts lie outside the program says nothing, as the default does: then it holds of all texts.
+    /// What the store says of a token: that this text is under it, or with `None` that no text is. A store whose
+    /// texts lie outside the program says nothing, as the default does: that holds for all texts.
     ghost says: { Self → List ℕ → Option (List ℕ) → Type 0 } = { λ _ _ _. Unit {0} };
 
     /// What the store has under the token. What it says of its tokens stays as it was.
     ///
     /// # Errors
-    /// [`StoreFault::Disk`] where the store lies on a disk that could not be read.
-    /// [`StoreFault::NoMemory`] where memory was refused.
+    /// [`StoreFault::Disk`] if the store lies on a disk that could not be read.
+    /// [`StoreFault::NoMemory`] if memory was refused.
     fn fetch(&mut self, token: &Token) -> Result<Found, StoreFault>
         ensures sendable { IfOk result IsFound }
         ensures said { IfOk result (IsSaidBy (says self.old token.now)) }
@@ -59,11 +59,11 @@ pub trait Articles {
             ↔ says self.new other text };
 }
 
-/// A store whose articles lie below a directory, which may be missing itself, as a file system that is not mounted.
+/// A store whose articles lie below a directory that may itself be missing, as when a file system is not mounted.
 pub trait SpoolDirectory: Articles {
-    /// Whether that directory is there. If it is not, `Gone` of an article says nothing about the article.
+    /// Whether that directory is there. If it is not, `Gone` says nothing about an article.
     fn is_there(&self) -> bool;
 
-    /// Why the last fetch that answered `Disk` did so, for a log: it is told once.
+    /// The error of the last fetch that returned `Disk`, for a log; each error is returned once.
     fn take_reason(&mut self) -> Option<io::Error>;
 }

@@ -1,4 +1,4 @@
--- The mode that is held is that of the transcript.
+-- The mode in the state is that of the transcript.
 use Rattle.std.proofs.Common.{◌≡◌, List, refl, Option, Some, None}
 use Rattle.conn_core.specs.History.{Event, reason}
 use Rattle.conn_core.specs.Mode.{mode, mode_at}

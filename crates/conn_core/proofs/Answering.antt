@@ -21,7 +21,7 @@ and-left : (a b : Bool) → (a && b) ≡ true → a ≡ true
 and-left true b e = refl
 and-left false b e = e
 
--- what can be answered by a reply, its code belongs to
+-- a reply can answer only a command whose answer its code can be
 can_answer-belongs : (mode : Mode) (held : List Held) (reply : Given) (ask : Awaited)
     → can_answer mode held reply ask ≡ true → is_some (meaning ask.verb reply.code) ≡ true
 can_answer-belongs InStreaming held reply ask e = and-left _ _ e
@@ -41,7 +41,7 @@ module _ (s : State) (mode : Mode) (reply : Given) (ask : Awaited)
     has_answered = true;
   }
 
-  -- by parts
+  -- the answer, case by case
   pub answered-is : (m : Option Meaning) (x : Option Held) → meaning ask.verb reply.code ≡ m → find (is_at ask.ticket) s.held ≡ x
       → answered_with s mode reply ≡ told (counted_by (answered_state (let_go ask.verb s.blocks)) (counts reply.code)) m ask (first_block s.blocks) x
   answered-is m x e f = rw (found, e, f) refl

@@ -1,4 +1,5 @@
--- An article handed in, a call to quit, a broken connection and octets sent keep it that the connection stands for its transcript.
+-- A connection still stands for its transcript after an article is handed in, a call to quit, a break, and octets
+-- sent.
 use Rattle.std.proofs.Common.{◌≡◌, ℕ, ◌≤◌, ◌<◌, Bool, true, false, List, [], ◌∷◌, ◌++◌, length, refl, sym, ap, subst}
 use Rattle.std.proofs.Common.{◌∙◌, arith, find, Option, Some, None, drop}
 use Rattle.std.specs.Prelude.{is_some, option_map, nat_lt, ◌||◌}
@@ -25,7 +26,7 @@ use Rattle.conn_core.proofs.Ties.{met-free, tied-ended, tied-met}
 use Rattle.conn_core.proofs.Steps.{goes_on, shut_by, put_ask, stands_quit, with_quit-close}
 
 module _ (options : Options) where
-  -- the wants for which none was handed in
+  -- the wants for which no article was handed in
   wanted-step : (h : List Event) (number : ℕ) (o : Option (ℕ × Want)) → first_want (story options h) number ≡ o
       → remove_key (is_of number) (wanted options h) ≡ left_from 0 (story options h).wants (with_ticket o (story options h).handed)
   wanted-step h number None e =
@@ -36,7 +37,7 @@ module _ (options : Options) where
   unfolding story
   wanted-handed h number handing = sym (wanted-step h number (first_want (story options h) number) refl)
 
-  -- the first want of that key is what the value holds of it
+  -- the first want of that key is the one in the state
   pub wanted_first : (s : State) (h : List Event) (number : ℕ) → Matches options s h → reason options h ≡ None
       → find (is_of number) s.wanted ≡ option_map (λ (want : ℕ × Want). want.1) (first_want (story options h) number)
   wanted_first s h number st running =
@@ -101,7 +102,7 @@ module _ (options : Options) where
       (option_map (λ (y : Held). y.debt.1.1) (find (is_at x.ticket) s.held) ≡ Some x.debt.1.1)
       × (claims (window options h) (remove_key (is_of number) s.wanted) x.ticket ≡ 0) × (x.ticket < s.accepted)
 
-  -- the debt for which an article is handed in has neither a command without an answer nor a want any more
+  -- the debt whose article was handed in has no want left, and no command without an answer
   want-free : (s : State) (h : List Event) (number : ℕ) (x : Held) (want : Option Want)
       → find (is_of number) s.wanted ≡ want → held_for s.held want ≡ Some x
       → MatchesWhileOpen options s h → IsFreed s h number x

@@ -43,7 +43,7 @@ module _ {A : Type 0} where
   none-step true test x xs e rest = cc
   none-step false test x xs e rest = ap (λ ys. x ∷ ys) (rest e)
 
-  -- where none passes, none is removed
+  -- if none passes, none is removed
   pub remove-none : (test : A → Bool) (xs : List A) → find test xs ≡ None → remove_key test xs ≡ xs
   remove-none test [] e = refl
   remove-none test (x ∷ xs) e = none-step (test x) test x xs e (remove-none test xs)
@@ -52,11 +52,11 @@ pub kept-append : (xs ys : List Ask) → kept_blocks (xs ++ ys) ≡ kept_blocks 
 kept-append [] ys = refl
 kept-append (x ∷ xs) ys = ap (λ bs. kept_for x.verb x.block ++ bs) (kept-append xs ys) ∙ sym (append_assoc (kept_for x.verb x.block) (kept_blocks xs) (kept_blocks ys))
 
--- one command more
+-- one more command
 pub kept-more : (xs : List Ask) (ask : Ask) → kept_blocks (xs ++ ask ∷ []) ≡ kept_blocks xs ++ kept_for ask.verb ask.block
 kept-more xs ask = kept-append xs (ask ∷ []) ∙ ap (λ bs. kept_blocks xs ++ bs) (append-nil (kept_for ask.verb ask.block))
 
--- its own block is let go
+-- its own block is dropped
 let_go-own : (v : Verb) (block : List ℕ) (bs : List (List ℕ)) → let_go v (kept_for v block ++ bs) ≡ bs
 let_go-own Check block bs = refl
 let_go-own Takethis block bs = refl
@@ -115,7 +115,7 @@ pub kept-first : (test : Ask → Bool) (xs : List Ask) (ask : Ask) → find test
 kept-first test [] ask e v first = cc
 kept-first test (x ∷ xs) ask e v first = first-step (test x) test x xs ask refl e v first (λ f. kept-first test xs ask f v first)
 
--- where no command keeps a block, none is an IHAVE
+-- if no command keeps a block, none is an IHAVE
 no_block-head : (v : Verb) (block : List ℕ) (bs : List (List ℕ)) → kept_for v block ++ bs ≡ [] → (bs ≡ []) × (v ≡ Ihave → ⊥)
 no_block-head Check block bs e = (e, λ v. cc)
 no_block-head Takethis block bs e = (e, λ v. cc)
@@ -166,7 +166,7 @@ block-sends false true c e = cc
 block-sends false false true e = cc
 block-sends false false false e = cc
 
--- a block is sent for an IHAVE alone
+-- only an IHAVE is answered by sending a block
 pub sends-ihave : (v : Verb) (code : ℕ) → meaning v code ≡ Some SendBlock → v ≡ Ihave
 sends-ihave Check code e = absurd (check-sends (code == 238) (code == 431) (code == 438) e)
 sends-ihave Takethis code e = absurd (takethis-sends (code == 239) (code == 439) e)

@@ -1,4 +1,4 @@
--- A tick keeps it that the connection stands for its transcript.
+-- A connection still stands for its transcript after a tick.
 use Rattle.std.proofs.Common.{◌≡◌, ℕ, Bool, true, false, List, [], ◌∷◌, ◌++◌, refl, sym, ap, subst, ◌∙◌, Option, Some, None}
 use Rattle.std.specs.Prelude.{◌&&◌, ◌||◌, ◌-◌, not, nat_le}
 use Rattle.std.proofs.lemmas.List.{append-nil}

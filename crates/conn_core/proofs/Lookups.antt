@@ -1,4 +1,4 @@
--- The first element that passes, found by its index in a queue, looked at or taken out.
+-- The first element that passes, found by its index in a queue, looked at or removed.
 use Rattle.std.proofs.Common.{◌≡◌, ℕ, suc, zero, ◌+◌, ◌<◌, Bool, true, false, List, [], ◌∷◌, length, get_or, refl, sym, ap, ◌∙◌, arith, find, Option, Some, None, cond, Bor}
 use Rattle.std.specs.Prelude.{not, is_some, IsSome, IfSome, OnSome, nat_lt}
 use Rattle.std.specs.List.{position, position_or_len, remove}
@@ -23,7 +23,7 @@ module _ {X : Type 0} where
       let rest = first-at p xs i d (omega arith) here (λ k q. before (suc k) (omega arith)) in
       (rw no (ap (λ ys. x ∷ ys) rest.0), rw no rest.1)
 
-  -- at an index that `position` gives
+  -- the element at the index that `position` returns
   position-found : (p : X → Bool) (xs : List X) (i : ℕ) (d : X) → position p xs ≡ Some i
       → (i < length xs) × (remove xs i ≡ remove_key p xs) × (find p xs ≡ Some (get_or xs i d))
   position-found p xs i d e =
@@ -46,12 +46,12 @@ module _ {X : Type 0} where
       let no : nat_lt (position_or_len p xs) (length xs) ≡ false = lt-none _ _ e in
       none-passes p xs (grind (arith, nat_tests, prefix_len-le-length (λ x. not (p x)) xs))
 
-  -- an index that `position` gives is there
+  -- an index that `position` returns is within the list
   index-in : (p : X → Bool) (xs : List X) (i : ℕ) → Some i ≡ position p xs → i < length xs
   index-in p [] i e = cc
   index-in p (x ∷ xs) i e = (position-found p (x ∷ xs) i x (sym e)).0
 
-  -- what is taken out there
+  -- what is removed there
   pub taken-value : (p : X → Bool) (xs : List X) (i n : ℕ) (r : Option X) → Some i ≡ position p xs → n ≡ length xs → (i < n → IsSome r)
       → IfSome r (λ y. y ≡ get_or xs i y) → r ≡ find p xs
   taken-value p xs i n None e len some value = let h = index-in p xs i e in absurd (false≢true (some (omega arith)))
@@ -68,7 +68,7 @@ module _ {X : Type 0} where
   seen-value p xs i n None e len some value = let h = index-in p xs i e in absurd (false≢true (some (omega arith)))
   seen-value p xs i n (Some y) e len some value = ap Some value ∙ sym (position-found p xs i y.now (sym e)).2
 
-  -- where `position` gives nothing
+  -- `position` returns nothing
   pub taken-none : (p : X → Bool) (xs : List X) → None ≡ position p xs → (None ≡ find p xs) × (xs ≡ remove_key p xs)
   taken-none p xs e = let n = position-none p xs (sym e) in (sym n.0, sym n.1)
 

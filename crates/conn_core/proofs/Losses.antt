@@ -43,7 +43,7 @@ untold-closed s closed none = rw (closed, none) refl
 open-held : (s : State) (held : List Held) → is_some s.closed ≡ true → s.closed ≡ None → held ≡ s.held
 open-held s held closed e = let no : false ≡ true = ap is_some (sym e) ∙ closed in absurd (false≢true no)
 
--- once closed, where all that was found is taken, the debt that was offered first comes back
+-- once closed, if all that was found is taken, the debt that was offered first comes back
 pub takes-back : (s t : State) (x : Held) → length s.found ≡ 0 → is_some s.closed ≡ true → s.found ≡ t.found
     → s.held ≡ x ∷ t.held
     → t ≡ record s { found = t.found; held = t.held } → TakesOne s (Some (Back x.debt)) t

@@ -1,4 +1,4 @@
--- In streaming mode no command keeps a block for its answer: no IHAVE is put out there, nor before.
+-- In streaming mode no command keeps a block for its answer: no IHAVE is put out then, nor before.
 use Rattle.std.proofs.Common.{◌≡◌, ℕ, ◌<◌, Bool, true, false, List, [], ◌∷◌, ◌++◌, refl, ◌∙◌, arith, Option, Some, None}
 use Rattle.std.specs.Prelude.{◌==◌, ◌&&◌, if◌then◌else◌, nat_lt, is_some}
 use Rattle.std.proofs.lemmas.Bool.{ltb-true}
@@ -26,7 +26,7 @@ Plain Streaming commands = kept_blocks commands ≡ []
 Plain OneByOne commands = Unit {0}
 Plain Leaving commands = Unit {0}
 
--- the same, and before a mode stands no debt was accepted and none was asked about
+-- the same, and before a mode is agreed no debt was accepted and none was asked about
 abbrev pub Calm : Phase → List Owing → List Ask → Type 0
 Calm Greeting debts commands = (debts ≡ []) × (commands ≡ [])
 Calm Asking debts commands = (debts ≡ []) × (commands ≡ [])
@@ -41,7 +41,7 @@ calm-plain Streaming debts commands c = c
 calm-plain OneByOne debts commands c = tt
 calm-plain Leaving debts commands c = tt
 
--- which commands leave it so
+-- the commands that keep it so
 abbrev IsCalm : Phase → Command → Type 0
 IsCalm p ModeStream = Unit {0}
 IsCalm p Quit = Unit {0}
@@ -119,7 +119,7 @@ puts-on_reply streaming Streaming reply done commands = puts-answer reply.code _
 puts-on_reply streaming OneByOne reply done commands = puts-answer_one reply.code _
 puts-on_reply streaming Leaving reply done commands = tt
 
--- an article puts out nothing where no debt is held
+-- an article puts out nothing if no debt is held
 puts-none : (handing : Handing) (gone : List ℕ) (o : Option Want) (p : Phase) (debts : List Owing) → debts ≡ [] → AreCalm p (puts_article false handing (held_for (held_from 0 debts gone) o))
 puts-none handing gone o p debts e = rw e (none handing o)
   where
@@ -155,7 +155,7 @@ puts-handed Streaming debts commands handing gone o c = puts-takethis handing _
 puts-handed OneByOne debts commands handing gone o c = puts-ihave handing _
 puts-handed Leaving debts commands handing gone o c = puts-leaving handing _
 
--- a debt is accepted only where a mode stands
+-- a debt is accepted only if a mode is agreed
 ready-room : (b q has_room : Bool) → ready_when b q has_room ≡ Yes → has_room ≡ true
 ready-room true q has_room e = cc
 ready-room false true has_room e = cc
@@ -188,7 +188,7 @@ puts-check OneByOne false x e = (tt, tt)
 puts-check Leaving false x e = cc
 
 module _ (options : Options) where
-  -- so it is at a transcript
+  -- it is so at a transcript
   abbrev pub IsCalmAt : List Event → Type 0
   IsCalmAt h = Calm (phase options h) (accepted h) (asks h)
 

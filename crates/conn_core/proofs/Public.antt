@@ -1,4 +1,4 @@
--- From a step of what a connection holds to the transcript, as the public calls promise it.
+-- From a step of the state to the transcript, as the public calls promise it.
 use Rattle.std.proofs.Common.{◌≡◌, ℕ, suc, zero, ◌+◌, ◌<◌, ◌≤◌, Bool, true, false, List, [], ◌∷◌, length, refl, sym, ap}
 use Rattle.std.proofs.Common.{subst, ◌∙◌, arith, Option, Some, None, find, drop, take, add-one}
 use Rattle.std.specs.Prelude.{is_some, option_map, slice_get, if◌then◌else◌, not}
@@ -37,7 +37,7 @@ ready-stays true q has_room e = cc
 ready-stays false true has_room e = cc
 ready-stays false false has_room e = refl
 
--- one just made stands for the empty transcript
+-- a new connection stands for the empty transcript
 pub fresh-stands : (options : Options) → Matches options (fresh options) []
 unfolding story
 fresh-stands options = record {
@@ -76,7 +76,7 @@ pub offered-stands : (options : Options) (s : State) (h : List Event) (debt : Ow
     → Matches options (offered s debt) (after options h (Offered debt))
 offered-stands options s h debt st running is_ready = stands_offered options s h debt st running (ready-stays _ (is_leaving h) _ is_ready)
 
--- a reply comes in; what the calls were matters, since no IHAVE is awaited in streaming mode
+-- a reply comes in; which calls came before matters, since no IHAVE is awaited in streaming mode
 pub on_reply-stands : (options : Options) (s : State) (h : List Event) (reply : Given) → Arises options h → Matches options s h → reason options h ≡ None
     → Matches options (on_reply s reply) (after options h (Came reply))
 on_reply-stands options s h reply arises st running = stands_came options s h reply (arises-plain options h arises) st running
@@ -101,7 +101,7 @@ pub broke-stands : (options : Options) (s : State) (h : List Event) → Matches 
     → Matches options (close Broken s) (after options h Broke)
 broke-stands options s h st running = stands_broke options s h st running
 
--- it is to quit
+-- the connection is asked to quit
 pub quit_if_due-stands : (options : Options) (s : State) (h : List Event) → Matches options s h → reason options h ≡ None
     → Matches options (asked_to_quit s) (after options h Leave)
 quit_if_due-stands options s h st running = stands_leave options s h st running
@@ -111,7 +111,7 @@ pub sent-stands : (options : Options) (s : State) (h : List Event) (count : ℕ)
     → Matches options (sent_off s count) (Sent count ∷ h)
 sent-stands options s h count st running few = stands_sent options s h count st running few
 
--- only what is still to be told has changed
+-- only what is still to be taken has changed
 told-stands : (options : Options) (old new : State) (o : Option Outcome) (h g : List Event) → Matches options old h → TakesOne old o new
     → reason options g ≡ reason options h → is_leaving g ≡ is_leaving h → accepted g ≡ accepted h → counted options g ≡ counted options h
     → has_answered options g ≡ has_answered options h → first_unanswered options g ≡ first_unanswered options h
@@ -173,7 +173,7 @@ taken-stands options old new h outcome st t =
           }),
     )
 
--- or all were
+-- or all were taken
 pub none_taken-stands : (options : Options) (old new : State) (h : List Event) → Matches options old h → TakesOne old None new
     → (taken h ≡ length (outcomes options h)) × Matches options new h
 none_taken-stands options old new h st t =
@@ -184,7 +184,7 @@ none_taken-stands options old new h st t =
       told-stands options old new None h h st t refl refl refl refl refl refl told few (λ w. w),
     )
 
--- what it holds tells what the transcript says
+-- why the state is closed is what the transcript says
 pub closed-is : (options : Options) (s : State) (h : List Event) → Matches options s h → s.closed ≡ reason options h
 closed-is options s h st = st.closed_is
 
@@ -248,7 +248,7 @@ wanted_number-step options s h None e st =
     rw (e, ← o.held_is, ← o.wanted_is) (number-step s.held s.wanted tied)
 wanted_number-step options s h (Some why) e st = rw e refl
 
--- the debt whose article came to be wanted first has the key that is needed
+-- the debt whose article has been wanted longest has the key that is needed
 pub wanted_number-is : (options : Options) (s : State) (h : List Event) → Matches options s h
     → option_map (λ (debt : Owing). debt.0) (first_wanted options h) ≡ need options h
 wanted_number-is options s h st = wanted_number-step options s h (reason options h) refl st
@@ -267,7 +267,7 @@ needed-step : (options : Options) (s : State) (h : List Event) (number : ℕ) (r
 needed-step options s h number None e st = rw (st.closed_is, e) (wanted_first options s h number st e)
 needed-step options s h number (Some why) e st = rw (st.closed_is, e) refl
 
--- the want of that key, where its article is wanted
+-- the want of that key, if its article is wanted
 pub needed-is : (options : Options) (s : State) (h : List Event) (number : ℕ) → Matches options s h
     → (if is_some s.closed then None else find (is_of number) s.wanted) ≡ option_map (λ (want : ℕ × Want). want.1) (needed options h number)
 needed-is options s h number st = needed-step options s h number (reason options h) refl st

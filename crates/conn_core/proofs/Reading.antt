@@ -33,7 +33,7 @@ module _ (options : Options) (conn new : Holding) (waiting : List ℕ) (h : List
     on_reply-now = subst (λ v. Matches options v (after options h (Came reply))) (sym state)
         (on_reply-stands options conn.state h reply open_now.arises open_now.stands open_now.running)
 
-    -- a reply was read: the result tells whether it is still open
+    -- a reply was read; the result says whether the connection is still open
     pub reads-reply : (more : Bool) → is_some new.state.closed ≡ not more → ReadsOne options waiting h new more
     reads-reply true e =
         let running = sym on_reply-now.closed_is ∙ none-of new.state.closed e in
@@ -94,7 +94,7 @@ ahead-more options start waiting rest h later reply ahead running begins = recor
 pub at-work : (r : Reading) (waiting : List ℕ) (P : List ℕ → Type 0) → r ≡ Working waiting → AtWork r P → P waiting
 at-work r waiting P e w = subst (λ s. AtWork s P) e w
 
--- a reply makes what is left to read less
+-- a reply leaves less to read
 pub shorter-reply : (r new : Reading) (reply : Given) → GivesReply r new reply → size_of new < size_of r
 shorter-reply r new reply g = rw (g.waited, g.waits) (size-rest g.unread g.rest reply g.begins)
 
@@ -143,7 +143,7 @@ stops-at-once options conn new unread octets h st running state = (
   record { arises = arises-of options conn unread h st; stands = subst (λ v. Matches options v h) (sym state) (state-of options conn unread h st); running = running },
 )
 
--- memory was refused behind some of the replies
+-- memory was refused after some of the replies
 pub refuses-later : {T E : Type 0} (r : Result T E) (conn new : Holding) (octets : List ℕ)
     → ((options : Options) (unread : List ℕ) (h : List Event) → StandsFor options conn unread h → reason options h ≡ None
     → (later : List Event) × ReceivesSome options (unread ++ octets) h later × IsLeftOpen options new later)

@@ -1,4 +1,4 @@
--- A reply keeps it that the connection stands for its transcript.
+-- A connection still stands for its transcript after a reply.
 use Rattle.std.proofs.Common.{◌≡◌, ℕ, ◌<◌, Bool, true, false, List, [], ◌∷◌, ◌++◌, refl, sym, ap, subst, ◌∙◌, arith}
 use Rattle.std.proofs.Common.{inl, inr, find, Option, Some, None, map, take}
 use Rattle.std.specs.Prelude.{◌==◌, ◌&&◌, if◌then◌else◌, option_map, ◌⊎◌}
@@ -37,7 +37,7 @@ use Rattle.conn_core.proofs.Steps.{goes_on, shut_by, put_mode, put_ask, stands_q
 goes-streaming : (code : ℕ) → (code == 203) ≡ true → ends_all code ≡ false
 goes-streaming code e = let same : code ≡ 203 = eqb-true code 203 e in rw same refl
 
--- in a mode, a reply closes only where it answers nothing, and the mode stays
+-- in a mode, a reply closes only if it answers no command, and the mode stays
 mode-stray : (p : Phase) (code : ℕ) → is_mode p ≡ true → closes_in p None code ≡ Some (stray code)
 mode-stray Greeting code e = cc
 mode-stray Asking code e = cc
@@ -79,7 +79,7 @@ module _ (options : Options) where
       → held options (Came reply ∷ h) ≡ held options h
   held-quiet h reply stays none = rw (ends-on_reply h reply stays, none, append-nil (ends options h)) refl
 
-  -- a reply that answers no command, and does not close, moves the phase alone
+  -- a reply that answers no command and does not close moves only the phase
   phase_moves : (s : State) (h : List Event) (reply : Given) (p : Phase) → Matches options s h → reason options h ≡ None → closes options h (Came reply) ≡ None
       → answered_ask options h reply ≡ None → p ≡ phase options (Came reply ∷ h) → Matches options (record s { stirred = true; phase = p }) (Came reply ∷ h)
   unfolding story
@@ -181,7 +181,7 @@ module _ (options : Options) (s : State) (h : List Event) (reply : Given) (found
 
   module _ (recent : List Bool) (off : Bool) (recent_same : recent ≡ take options.check_filter (counted options (Came reply ∷ h)))
       (off_same : off ≡ are_off options (counted options (Came reply ∷ h))) where
-    -- the rest of what is held against the transcript
+    -- the rest of the state agrees with the transcript
     answer : (next : State) → next ≡ record (less recent off) { held = next.held; wanted = next.wanted; found = next.found }
         → next.found ≡ s.found ++ map (λ x. x.outcome) (ends_by_answer (held options h) reply.code (answered_ask options h reply))
         → next.held ≡ held options (Came reply ∷ h)
@@ -319,7 +319,7 @@ module _ (options : Options) where
       shut_reply options s h reply (stray reply.code) st running now (rw now (mode-stray (phase options h) reply.code mode))
   in_mode s h reply test (Some found) now first st running mode passes = answer_counted options s h reply found st running mode test now first (passes found first)
 
-  -- the first of the awaited commands that it fits is the one that it answers
+  -- the first of the awaited commands that the reply fits is the one that it answers
   first_awaited : (s : State) (h : List Event) (test : Awaited → Bool) → MatchesWhileOpen options s h
       → find test s.window ≡ option_map (λ (x : ℕ × Ask). awaited_of x.1) (first_left (λ ask. test (awaited_of ask)) (answered options h) 0 (asks h))
   first_awaited s h test o =

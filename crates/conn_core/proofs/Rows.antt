@@ -203,7 +203,7 @@ gone : outcomes defaults (run in_flight (about 238 xy ∷ Handed 1 Gone ∷ []))
 unfolding after story
 gone = refl
 
--- QUIT goes out once nothing is held, and once
+-- QUIT goes out once nothing is held, and only once
 quits : put_octets (run in_flight (Leave ∷ about 438 xy ∷ Sent 3 ∷ Leave ∷ [])) ≡ codes "MODE STREAM" ++ crlf ++ codes "CHECK <x@y>" ++ crlf ++ codes "QUIT" ++ crlf
 unfolding after story
 quits = refl

@@ -1,4 +1,5 @@
--- Each event keeps it that the connection stands for its transcript: one that goes on, one that closes, and what is put out.
+-- A connection still stands for its transcript after each event: one that leaves it open, one that closes it, and a
+-- command that is put out.
 use Rattle.std.proofs.Common.{◌≡◌, ℕ, ◌+◌, ◌≤◌, ◌<◌, Bool, true, false, List, [], ◌∷◌, ◌++◌, length, refl, sym, ap}
 use Rattle.std.proofs.Common.{subst, ◌∙◌, arith, Option, Some, None, drop, take, map, length-append}
 use Rattle.std.specs.Prelude.{◌&&◌, not, if◌then◌else◌, is_none, is_some, slice_get}
@@ -29,15 +30,15 @@ pub first_reason-none : (r : Option Reason) → first_reason r None ≡ r
 first_reason-none None = refl
 first_reason-none (Some reason) = refl
 
--- while a connection is open, nothing but what was found is told
+-- while a connection is open, only what was found is still to be taken
 pub untold_open : (s : State) → s.closed ≡ None → untold s ≡ s.found
 untold_open s e = rw e (append-nil s.found)
 
--- more at the end
+-- a longer list without its first items
 pub drop-more : {A : Type 0} (n : ℕ) (xs ys : List A) → n ≤ length xs → drop n xs ++ ys ≡ drop n (xs ++ ys)
 drop-more n xs ys h = sym (drop-append-le n xs ys h)
 
--- the octets of one command more
+-- the octets of one more command
 octets-more : (commands : List Command) (command : Command) → flat_map octets (commands ++ command ∷ []) ≡ flat_map octets commands ++ octets command
 octets-more commands command = flat_map-append octets commands (command ∷ []) ∙ ap (λ xs. flat_map octets commands ++ xs) (append-nil (octets command))
 
@@ -84,7 +85,7 @@ module _ (options : Options) where
   unanswered-step h e None running still = rw (running, still) (sym (unanswered-open h running))
   unanswered-step h e (Some why) closed still = rw closed refl
 
-  -- an event that does not close changes nothing of it
+  -- an event that does not close leaves it unchanged
   pub unanswered-same : (h : List Event) (e : Event) → closes options h e ≡ None
       → first_unanswered options (e ∷ h) ≡ first_unanswered options h
   unanswered-same h e still = unanswered-step h e (reason options h) refl still
@@ -97,7 +98,7 @@ module _ (options : Options) where
       ∙ ap (λ (ws : List Awaited). number_awaited (held options h) (slice_get ws 0)) o.window_is
       ∙ number-first (held options h) (window options h)
 
-  -- outcomes that come behind those that there are
+  -- outcomes that follow those that are there
   outcomes-more : (s : State) (h : List Event) (more : List End) → Matches options s h → reason options h ≡ None
       → s.found ++ map (λ x. x.outcome) more ≡ drop (taken h) (map (λ x. x.outcome) (ends options h ++ more))
   outcomes-more s h more st running =
@@ -108,7 +109,7 @@ module _ (options : Options) where
   few-more n h more f =
       rw (map-append (λ (x : End). x.outcome) (ends options h) more) (omega (arith, length-append (outcomes options h) (map (λ (x : End). x.outcome) more)))
 
-  -- an event that does not close, by which these come out
+  -- an event that does not close, and brings these out
   pub goes_on : (s next : State) (h : List Event) (e : Event) (more : List End) → Matches options s h → reason options h ≡ None → closes options h e ≡ None
       → ends options (e ∷ h) ≡ ends options h ++ more → taken (e ∷ h) ≡ taken h
       → next.options ≡ s.options → next.closed ≡ s.closed → next.quitting ≡ is_leaving (e ∷ h) → next.accepted ≡ length (accepted (e ∷ h))
@@ -130,7 +131,7 @@ module _ (options : Options) where
         while_open = λ _. o;
       }
 
-  -- an event that closes, by which all that is held comes out
+  -- an event that closes, and brings out all that is held
   pub shut_by : (s : State) (h : List Event) (e : Event) (why : Reason) (stirs : Bool) (moment : Option ℕ) → Matches options s h → reason options h ≡ None → closes options h e ≡ Some why
       → ends options (e ∷ h) ≡ ends options h ++ backs (held options h) → taken (e ∷ h) ≡ taken h
       → is_leaving (e ∷ h) ≡ is_leaving h → accepted (e ∷ h) ≡ accepted h → counted options (e ∷ h) ≡ counted options h
@@ -230,7 +231,7 @@ module _ (options : Options) where
       (λ r o. subst (λ asks. AreTied s.held asks s.wanted s.accepted) (sym (window-same h Quit (append-nil (asks h))))
       o.tied)
 
-  -- whether QUIT is due can be told from what is held
+  -- what is held decides whether QUIT is due
   same_due : (s : State) (h : List Event) → Matches options s h → (r : Option Reason) → reason options h ≡ r
       → (s.quitting && (is_mode s.phase && (is_empty s.held && is_none s.closed))) ≡ is_quit_due options h
   same_due s h st None e = let o = st.while_open e in rw (st.quitting_is, o.phase_is, o.held_is, st.closed_is) refl
@@ -242,7 +243,7 @@ module _ (options : Options) where
   quit-step s h st false = st
   quit-step s h st true = put_quit s h st
 
-  -- QUIT goes out where it is due
+  -- QUIT goes out if it is due
   pub stands_quit : (s : State) (h : List Event) → Matches options s h → Matches options (quit_if_due s) (with_quit options h)
   stands_quit s h st = rw (same_due s h st _ refl) (quit-step s h st (is_quit_due options h))
 
@@ -297,7 +298,8 @@ module _ (options : Options) where
       wanted-step true e = rw e (sym (left_from-append (story options h).handed 0 (story options h).wants (want_of (newcomer h debt)) (λ k q. handed_below options h k (omega arith))))
       wanted-step false e = rw e (append-nil (left_from 0 (story options h).wants (story options h).handed))
 
-  -- and it is asked for by CHECK, or its article is wanted at once; QUIT is not due where it was not to quit
+  -- it is asked about by CHECK, or its article is wanted at once; QUIT is not due unless the connection was asked to
+  -- quit
   offered-step : (s : State) (h : List Event) (debt : Owing) (b : Bool) → (is_streaming (phase options h) && checks options h) ≡ b
       → Matches options s h → reason options h ≡ None → is_leaving h ≡ false
       → Matches options (

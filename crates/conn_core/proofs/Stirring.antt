@@ -1,4 +1,4 @@
--- That something came in changes nothing of what a reply makes of a connection.
+-- What a reply makes of a connection does not depend on whether something came in before.
 use Rattle.std.proofs.Common.{◌≡◌, ℕ, Bool, true, false, List, [], ◌∷◌, refl, ap, Option, Some, None, ◌∙◌}
 use Rattle.std.specs.Prelude.{◌==◌, find, if◌then◌else◌}
 use Rattle.std.specs.Set.{remove_key}
@@ -61,6 +61,6 @@ dispatch_reply-stir s reply Streaming = answered_by-stir s (fits_awaited s.held 
 dispatch_reply-stir s reply OneByOne = answered_by-stir s (belongs_to_awaited reply) reply.code (find (belongs_to_awaited reply) s.window)
 dispatch_reply-stir s reply Leaving = refl
 
--- a reply, stirring last
+-- a reply, with the mark that something came in set last
 pub on_reply-is : (s : State) (reply : Given) → on_reply s reply ≡ quit_if_due (stir (dispatch_reply s reply s.phase))
 on_reply-is s reply = ap quit_if_due (dispatch_reply-stir s reply s.phase)

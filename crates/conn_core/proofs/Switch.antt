@@ -1,4 +1,4 @@
--- The check switch, from the last of the counted answers alone.
+-- The check switch, computed from the last of the counted answers alone.
 use Rattle.std.proofs.Common.{◌≡◌, ℕ, suc, zero, ◌<◌, ◌≤◌, Bool, true, false, List, [], ◌∷◌, ◌++◌, length, refl, sym, ap, ◌∙◌, arith, take, inl, inr}
 use Rattle.std.specs.Prelude.{◌==◌, ◌&&◌, ◌||◌, not, ◌⊎◌, nat_le, if◌then◌else◌}
 use Rattle.std.proofs.lemmas.Bool.{le-leb, cases_lt}
@@ -25,7 +25,7 @@ high-last options xs = rw (take-take options.check_filter options.check_filter x
 low-last : (options : Options) (xs : List Bool) → is_low options (take options.check_filter xs) ≡ is_low options xs
 low-last options xs = rw (take-take options.check_filter options.check_filter xs (omega arith)) refl
 
--- so many of the newest answers decide
+-- the newest answers, as many as the share is taken over, decide
 off-last : (options : Options) (xs : List Bool) (off : Bool) → are_off_with options off (take options.check_filter xs) ≡ are_off_with options off xs
 off-last options xs off =
     let e = enough options.check_filter xs in
@@ -36,7 +36,7 @@ off-last options xs off =
     ∙ ap (λ b. nat_le options.check_filter (length xs) && (b || (not (is_low options last) && off))) g
     ∙ ap (λ b. nat_le options.check_filter (length xs) && (is_high options xs || (not b && off))) k
 
--- what an answer counts as is one answer or none
+-- an answer counts as one answer or none
 pub counts_one : (code : ℕ) → (counts code ≡ []) ⊎ ((answer : Bool) × (counts code ≡ answer ∷ []))
 counts_one code = by_tests (code == 239) (code == 438 || code == 439)
   where

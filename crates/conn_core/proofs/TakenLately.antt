@@ -7,7 +7,7 @@ use Rattle.conn_core.specs.Checks.{taken_among}
 use Rattle.conn_core.specs.Machine.{are_off_with}
 use Rattle.conn_core.specs.declared.options.Options.{Options}
 
--- of one answer too many, the last goes
+-- if there is one answer too many, the last goes
 pub taken_among-take : (n : ℕ) (xs : List Bool) → length xs ≤ n + 1 → taken_among (take n xs) + taken_among (option_to_list (slice_get xs n)) ≡ taken_among xs
 taken_among-take zero [] h = refl
 taken_among-take (suc n) [] h = refl
@@ -19,7 +19,7 @@ at-most-step : (x : Bool) (n m : ℕ) → n ≤ m → taken_among (x ∷ []) + n
 at-most-step true n m h = omega arith
 at-most-step false n m h = omega arith
 
--- no more are taken than there are
+-- no more are taken than there are answers
 pub taken_among-le : (xs : List Bool) → taken_among xs ≤ length xs
 taken_among-le [] = omega arith
 taken_among-le (x ∷ xs) = let step = at-most-step x (taken_among xs) (length xs) (taken_among-le xs) in omega (arith, step)
@@ -43,7 +43,7 @@ module _ (took : Bool) (answers : List Bool) (capacity taken : ℕ) (gone : Opti
       let same = ap (λ g. taken_among (option_to_list g)) is_gone in
       omega (arith, whole, same, count)
 
-  -- what goes was counted
+  -- what goes had been counted
   pub gone-le : taken_among (option_to_list gone) ≤ taken_among (took ∷ []) + taken
   gone-le = omega (arith, split-at)
 

@@ -1,4 +1,4 @@
--- Debts whose tickets rise: a search by halves finds the first at a ticket.
+-- Debts whose tickets rise: a binary search finds the first at a ticket.
 use Rattle.std.proofs.Common.{◌≡◌, ℕ, suc, zero, ◌+◌, ◌<◌, ◌≤◌, Bool, true, false, List, [], ◌∷◌, ◌++◌, length, drop}
 use Rattle.std.proofs.Common.{get_or, refl, sym, ap, arith}
 use Rattle.std.proofs.Common.{Some, None, Result, Ok, Err, inl, inr}
@@ -60,7 +60,7 @@ module _ (held : List Held) (t : ℕ) (rising : AllPairs (λ (x y : Held). x.tic
       sym (position-none (is_at t) held
       (no-index (is_at t) held (λ k d within. ne_eqb (get_or held k d).ticket t (none k d within))))
 
-  -- what a search by ticket answers
+  -- what a search by ticket returns
   pub searched : (r : Result ℕ ℕ) → IsSearchInRange r (length held)
       → IsBinarySearchResult (λ (x : Held). nat_cmp x.ticket t) held r
       → result_ok r ≡ position (is_at t) held
@@ -87,7 +87,7 @@ AreRising held = AllPairs (λ (x y : Held). x.ticket < y.ticket) held
 abbrev AreBelow : List Held → ℕ → Type 0
 AreBelow held n = All (λ (x : Held). x.ticket < n) held
 
--- they rise with one more, at the next ticket
+-- tickets still rise with one more, at the next ticket
 pub rising-more : (held : List Held) (n : ℕ) (x : Held) → x.ticket ≡ n → AreRising held × AreBelow held n
     → AreRising (held ++ x ∷ []) × AreBelow (held ++ x ∷ []) (n + 1)
 rising-more held n x e old = (

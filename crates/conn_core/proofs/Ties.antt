@@ -54,7 +54,7 @@ module _ {A : Type 0} where
       omega arith
   removed-step false f x a xs others first t e rest = let less = rest e in omega arith
 
-  -- how often a ticket is there, without the first item that passes
+  -- how often a ticket is there without the first item that passes
   times-removed : (f : A → ℕ) (test : A → Bool) (xs : List A) (a : A) (t : ℕ) → find test xs ≡ Some a
       → times (map f (remove_key test xs)) t + times (f a ∷ []) t ≡ times (map f xs) t
   times-removed f test [] a t e = cc
@@ -109,7 +109,7 @@ module _ {A : Type 0} (part : Held → A) where
   more-step true x first more a e rest = e
   more-step false x first more a e rest = rest e
 
-  -- a debt that is held still is with one more
+  -- a debt that is held still is with one more held
   find-more : (k : ℕ) (held later : List Held) (a : A) → option_map part (find (is_at k) held) ≡ Some a
       → option_map part (find (is_at k) (held ++ later)) ≡ Some a
   find-more k [] later a e = cc
@@ -324,7 +324,7 @@ pub accepted-own : (held : List Held) (x : Held) → AllBelow (tickets held) x.t
     → option_map id_of (find (is_at x.ticket) (held ++ x ∷ [])) ≡ Some x.debt.1.1
 accepted-own held x below = ap (option_map id_of) (find-last x.ticket held x refl (below x.ticket (omega arith)))
 
--- and it is the one that its own want is about
+-- and it is the debt that its own want is about
 pub accepted-want : (held : List Held) (x : Held) → AllBelow (tickets held) x.ticket
     → IsWantOfDebt (held ++ x ∷ []) (want_of x)
 accepted-want held x below = ap (option_map key_in) (find-last x.ticket held x refl (below x.ticket (omega arith)))

@@ -2,20 +2,20 @@
 use Rattle.std.specs.Prelude.{ℕ, ◌+◌, ◌*◌, ◌==◌, ◌&&◌, ◌||◌, Bool, true, false, not, nat_lt, nat_le, if◌then◌else◌, List, [], ◌∷◌, length, take}
 use Rattle.conn_core.specs.declared.options.Options.{Options}
 
--- what an answer of this code counts as: the article was taken, or not, or it does not count (profile)
+-- what an answer of this code counts as: the article was taken, or it was not, or the answer does not count (profile)
 abbrev pub counts : ℕ → List Bool
 counts code = if code == 239 then true ∷ [] else if code == 438 || code == 439 then false ∷ [] else []
 
--- how many of these are taken articles (profile)
+-- how many of these are true: articles that were taken (profile)
 abbrev pub taken_among : List Bool → ℕ
 taken_among [] = 0
 taken_among (answer ∷ answers) = (if answer then 1 else 0) + taken_among answers
 
--- how many articles were taken, of the last of these answers, newest first (innfeed.conf(5), no-check-filter)
+-- how many articles were taken by the last of these answers, newest first (innfeed.conf(5), no-check-filter)
 abbrev pub taken_lately : Options → List Bool → ℕ
 taken_lately options answers = taken_among (take options.check_filter answers)
 
--- whether the share of taken articles is at the upper mark or above (innfeed.conf(5), no-check-high)
+-- whether the share of taken articles is at or above the upper mark (innfeed.conf(5), no-check-high)
 abbrev pub is_high : Options → List Bool → Bool
 is_high options answers = nat_le (options.check_high * options.check_filter) (taken_lately options answers * 10000)
 
@@ -23,8 +23,8 @@ is_high options answers = nat_le (options.check_high * options.check_filter) (ta
 abbrev pub is_low : Options → List Bool → Bool
 is_low options answers = nat_lt (taken_lately options answers * 10000) (options.check_low * options.check_filter)
 
--- whether checks are off after these answers, newest first: so many have come, and the share is high, or it is not low and they
--- were off before the newest (profile)
+-- whether checks are off after these answers, newest first: there are enough, and the share is high, or it is not low
+-- and they were off before the newest (profile)
 abbrev pub are_off : Options → List Bool → Bool
 are_off options [] = false
 are_off options (answer ∷ older) =

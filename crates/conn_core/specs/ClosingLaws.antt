@@ -22,7 +22,7 @@ pub first_reason-none : (r : Option Reason) → first_reason r None ≡ r
 first_reason-none None = refl
 first_reason-none (Some reason) = refl
 
--- what is put out changes neither why it is closed nor what is held
+-- putting something out changes neither why it is closed nor what is held
 reason-puts : (options : Options) (commands : List Command) (h : List Event)
     → reason options (with_puts commands h) ≡ reason options h
 reason-puts options [] h = refl
@@ -110,7 +110,7 @@ unfolding story
 tick-empty options h now None e some = cc
 tick-empty options h now (Some why) e some = rw e (back-empty options h)
 
--- behind a reason to close nothing is held
+-- after a reason to close nothing is held
 closing-empty : (options : Options) (h : List Event) (e : Event) → is_some (closes options h e) ≡ true
     → held options (e ∷ h) ≡ []
 unfolding story
@@ -137,7 +137,7 @@ none_held-event options h e before (Some why) q closed =
     let close : is_some (reason options h) ≡ true = rw q refl in
     rw q (before close)
 
--- an event that does not, while it is open
+-- an event that does not, while the connection is open
 none_held-open : (options : Options) (h : List Event) (e : Event) → closes options h e ≡ None → reason options h ≡ None
     → is_some (reason options (after options h e)) ≡ true → held options (after options h e) ≡ []
 none_held-open options h e still running closed =

@@ -1,4 +1,4 @@
--- The codes of replies: what each says to the command that awaits it.
+-- The codes of replies: what each means to the command that awaits it.
 use Rattle.std.specs.Prelude.{ℕ, Bool, false, ◌==◌, ◌&&◌, ◌||◌, Option, Some, None, is_some, if◌then◌else◌, List}
 use Rattle.std.specs.Str.{bytes_eq}
 use Rattle.reply_reader.specs.Stream.{Given}
@@ -10,8 +10,8 @@ use Rattle.conn_core.specs.declared.codes.Meaning.TheVariants.{Wanted, SendBlock
 use Rattle.conn_core.specs.declared.reason.Reason.{Reason}
 use Rattle.conn_core.specs.declared.reason.Reason.TheVariants.{Unmatched, Ended}
 
--- What a code says to a command; None: it does not belong to it (CHECK and TAKETHIS: RFC 4644, sections 2.4 and 2.5;
--- IHAVE and its block: RFC 3977, section 6.3.2).
+-- The meaning of a code to a command; None if it is no answer to it (CHECK and TAKETHIS: RFC 4644, sections 2.4 and
+-- 2.5; IHAVE and its block: RFC 3977, section 6.3.2).
 abbrev pub meaning : Verb → ℕ → Option Meaning
 meaning Check code =
     if code == 238 then Some Wanted else if code == 431 then Some Later else if code == 438 then Some (Final CheckNotWanted) else None
@@ -26,11 +26,11 @@ meaning Block code =
 abbrev pub is_welcome : ℕ → Bool
 is_welcome code = code == 200 || code == 201
 
--- whether the code ends the connection wherever it answers nothing (RFC 3977, section 3.2.1)
+-- whether the code ends the connection if it answers no command (RFC 3977, section 3.2.1)
 abbrev pub ends_all : ℕ → Bool
 ends_all code = code == 400 || code == 480 || code == 502
 
--- why a reply of this code that answers nothing closes the connection (profile)
+-- why a reply of this code closes the connection if it answers no command (profile)
 abbrev pub stray : ℕ → Reason
 stray code = if ends_all code then Ended code else Unmatched
 
@@ -39,10 +39,11 @@ abbrev pub names : Option (List ℕ) → List ℕ → Bool
 names None id = false
 names (Some named) id = bytes_eq named id
 
--- whether the code of a reply belongs to the command (RFC 3977, section 3.2)
+-- whether the code of a reply is an answer to the command (RFC 3977, section 3.2)
 abbrev pub belongs : Given → Verb → Bool
 belongs reply verb = is_some (meaning verb reply.code)
 
--- whether a reply of streaming mode can be the answer to a command: it names the id too (RFC 4644, sections 2.4 and 2.5)
+-- whether a reply of streaming mode can be the answer to a command: it names the id too (RFC 4644, sections 2.4 and
+-- 2.5)
 abbrev pub fits : Given → Verb → List ℕ → Bool
 fits reply verb id = belongs reply verb && names reply.id id

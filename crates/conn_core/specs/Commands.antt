@@ -1,4 +1,4 @@
--- What is put out, and what is said of debts.
+-- What is put out, and what comes of debts.
 use Rattle.std.specs.Prelude.{◌==◌, ℕ, Bool, true, false, Option, Some, None, List, [], ◌∷◌, ◌++◌, codes, find}
 use Rattle.reply_reader.specs.Stream.{Given}
 use Rattle.ledger_core.specs.State.{Owing}
@@ -79,8 +79,8 @@ want_of x = record { ticket = x.ticket; key = x.debt.0 }
 abbrev pub check_of : Held → Ask
 check_of x = record { verb = Check; ticket = x.ticket; id = x.debt.1.1; block = [] }
 
--- the command that offers or sends an article whose block is there: TAKETHIS while streaming, else IHAVE (RFC 4644, section
--- 2.5; RFC 3977, section 6.3.2)
+-- the command that offers or sends an article with this block: TAKETHIS while streaming, otherwise IHAVE (RFC 4644,
+-- section 2.5; RFC 3977, section 6.3.2)
 abbrev pub ask_with : (streaming : Bool) → Held → (block : List ℕ) → Ask
 ask_with true x block = record { verb = Takethis; ticket = x.ticket; id = x.debt.1.1; block = block }
 ask_with false x block = record { verb = Ihave; ticket = x.ticket; id = x.debt.1.1; block = block }
@@ -104,7 +104,7 @@ outcome_by SendBlock debt = []
 outcome_by Later debt = Deferred (record { debt = debt }) ∷ []
 outcome_by (Final code) debt = Ended_by (record { debt = debt; code = code }) ∷ []
 
--- what is lost by an article that is not there (profile)
+-- the loss of a debt whose article is not there (profile)
 abbrev pub loss_of : Handing → Owing → List Outcome
 loss_of (Sendable block) debt = []
 loss_of Gone debt = Lost debt Missing ∷ []

@@ -1,4 +1,4 @@
--- The debts held: each that was accepted and has not come out, by its ticket.
+-- The debts held, by ticket: each that was accepted and has not come out.
 use Rattle.std.proofs.Common.{◌≡◌, ℕ, ◌+◌, ◌<◌, ◌≤◌, Bool, true, false, List, [], ◌∷◌, ◌++◌, length, refl, sym, ap}
 use Rattle.std.proofs.Common.{◌∙◌, arith, find, Option, Some, cond, map, inl, inr}
 use Rattle.std.specs.Prelude.{◌==◌, ◌||◌, if◌then◌else◌}
@@ -61,7 +61,7 @@ none-step : (b : Bool) (k : ℕ) (y : Held) (left : List Held) → (y.ticket ≡
 none-step true k y left other e = e
 none-step false k y left other e = rw (ne_eqb y.ticket k other) (ap (λ ys. y ∷ ys) e)
 
--- and no debt stands at an earlier ticket
+-- and there is no debt at an earlier ticket
 remove_key-earlier : (k : ℕ) (gone : List ℕ) (n : ℕ) (debts : List Owing) → k < n
     → remove_key (is_at k) (held_from n debts gone) ≡ held_from n debts gone
 remove_key-earlier k gone n [] h = refl
@@ -79,7 +79,7 @@ remove-step b c k y left other here there =
       | inr other_ticket ↦ (let p = there other_ticket.1 in rw p.0 (elim b as (λ v. (if v then other else y ∷ other) ≡ remove_key (is_at k) (if v then left else y ∷ left)) [ true ↦ p.1 | false ↦ rw other_ticket.0 (ap (λ ys. y ∷ ys) p.1) ]))
     ]
 
--- one debt less is held
+-- one debt fewer is held
 pub held_from-gone : (k : ℕ) (gone : List ℕ) (n : ℕ) (debts : List Owing)
     → held_from n debts (gone ++ k ∷ []) ≡ remove_key (is_at k) (held_from n debts gone)
 held_from-gone k gone n [] = refl

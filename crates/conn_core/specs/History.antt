@@ -1,5 +1,5 @@
--- The transcript of a connection, newest event first, and what it says. Each definition reads the whole list, and none of
--- them keeps a window of unanswered commands.
+-- The transcript of a connection, newest event first, and what it says. Each definition reads the whole list, and
+-- none of them keeps a window of commands without an answer.
 use Rattle.std.specs.Prelude.{ℕ, ◌+◌, ◌-◌, Bool, true, false, ◌==◌, ◌&&◌, ◌||◌, not, nat_lt, nat_le, Option, Some, None, is_some, is_none, option_map, if◌then◌else◌, List, [], ◌∷◌, ◌++◌, length, find, map, drop, slice_get}
 use Rattle.std.specs.List.{flat_map}
 use Rattle.reply_reader.specs.Stream.{Given}
@@ -26,10 +26,10 @@ pub data Event : Type 0 where
   Came : (reply : Given) → Event  -- a whole reply line comes in
   Faulted : (fault : ReplyFault) → Event  -- what comes in is no reply line
   Handed : (number : ℕ) → (handing : Handing) → Event  -- an article is handed in for a wanted key
-  Sent : (count : ℕ) → Event  -- so many octets of the output count as sent
+  Sent : (count : ℕ) → Event  -- this many octets of the output count as sent
   Tick : (now : ℕ) → Event  -- the moment, in seconds
   Broke : Event  -- the connection broke
-  Leave : Event  -- the connection is to quit
+  Leave : Event  -- the connection is asked to quit
   Taken : Event  -- an outcome is taken
 
 -- the debts accepted, in the order offered; a debt's ticket is its index here, from 0 (profile)
@@ -38,7 +38,7 @@ accepted [] = []
 accepted (Offered debt ∷ h) = accepted h ++ debt ∷ []
 accepted (e ∷ h) = accepted h
 
--- the command, where it is about a debt (profile)
+-- the command, if it is about a debt (profile)
 abbrev pub ask_in : Command → List Ask
 ask_in ModeStream = []
 ask_in (Asks ask) = ask ∷ []
@@ -78,8 +78,9 @@ is_leaving [] = false
 is_leaving (Leave ∷ h) = true
 is_leaving (e ∷ h) = is_leaving h
 
--- what is awaited behind a reply: a good greeting makes it ask for streaming, where that is set; 203 gives streaming mode, any
--- other answer IHAVE mode (RFC 4644, section 2.3; RFC 3977, section 5.1)
+-- what is awaited after a reply: after a good greeting the answer to MODE STREAM, if streaming is set; after 203
+-- streaming mode is agreed, after any other answer to MODE STREAM IHAVE mode (RFC 4644, section 2.3; RFC 3977,
+-- section 5.1)
 abbrev pub phase_after : (streaming : Bool) → Phase → ℕ → Phase
 phase_after streaming Greeting code = if is_welcome code then (if streaming then Asking else OneByOne) else Greeting
 phase_after streaming Asking code = if code == 203 then Streaming else OneByOne
@@ -87,13 +88,13 @@ phase_after streaming Streaming code = Streaming
 phase_after streaming OneByOne code = OneByOne
 phase_after streaming Leaving code = Leaving
 
--- what is awaited behind a command (RFC 3977, section 5.4)
+-- what is awaited after a command (RFC 3977, section 5.4)
 abbrev pub phase_put : Phase → Command → Phase
 phase_put phase ModeStream = phase
 phase_put phase (Asks ask) = phase
 phase_put phase Quit = Leaving
 
--- whether streaming mode stands (RFC 4644, section 2.3)
+-- whether the mode is streaming (RFC 4644, section 2.3)
 abbrev pub is_streaming : Phase → Bool
 is_streaming Greeting = false
 is_streaming Asking = false
@@ -101,7 +102,7 @@ is_streaming Streaming = true
 is_streaming OneByOne = false
 is_streaming Leaving = false
 
--- whether a mode stands, and QUIT is not out (profile)
+-- whether a mode is agreed and QUIT is not out (profile)
 abbrev pub is_mode : Phase → Bool
 is_mode Greeting = false
 is_mode Asking = false
@@ -109,7 +110,7 @@ is_mode Streaming = true
 is_mode OneByOne = true
 is_mode Leaving = false
 
--- how many debts may be held: so many as are set while streaming, one in IHAVE mode (innfeed.conf(5), max-queue-size)
+-- how many debts may be held: as many as are set while streaming, one in IHAVE mode (innfeed.conf(5), max-queue-size)
 abbrev pub room : Options → Phase → ℕ
 room options Greeting = 0
 room options Asking = 0
@@ -122,13 +123,13 @@ abbrev pub first_reason : Option Reason → Option Reason → Option Reason
 first_reason None now = now
 first_reason (Some reason) now = Some reason
 
--- the quiet moment behind a tick: it stays where all was still, else it is the moment of the tick (profile)
+-- the quiet moment after a tick: it stays if all was still, otherwise it is the moment of the tick (profile)
 abbrev pub moment : Option ℕ → (still : Bool) → (now : ℕ) → ℕ
 moment None still now = now
 moment (Some quiet) still now = if still then quiet else now
 
--- the command that a reply answers: in streaming mode the first unanswered one that it fits, in IHAVE mode the first to which
--- its code belongs, else none (RFC 4644, sections 2.4 and 2.5; RFC 3977, section 3.5)
+-- the command that a reply answers: in streaming mode the first without an answer that it fits, in IHAVE mode the
+-- first whose answer its code can be, otherwise none (RFC 4644, sections 2.4 and 2.5; RFC 3977, section 3.5)
 abbrev pub answered_now : Phase → Given → List ℕ → List Ask → Option (ℕ × Ask)
 answered_now Greeting reply answered asks = None
 answered_now Asking reply answered asks = None
@@ -136,8 +137,8 @@ answered_now Streaming reply answered asks = first_left (fits_ask reply) answere
 answered_now OneByOne reply answered asks = first_left (belongs_to reply) answered 0 asks
 answered_now Leaving reply answered asks = None
 
--- why a reply closes the connection: a bad greeting, 400, 480 or 502 in place of a mode, a reply that answers no command, any
--- reply behind QUIT (RFC 3977, sections 3.2.1, 5.1 and 5.4; RFC 4644, section 2.3)
+-- why a reply closes the connection: a bad greeting, 400, 480 or 502 in place of a mode, a reply that answers no
+-- command, any reply after QUIT (RFC 3977, sections 3.2.1, 5.1 and 5.4; RFC 4644, section 2.3)
 abbrev pub closes_in : Phase → Option (ℕ × Ask) → ℕ → Option Reason
 closes_in Greeting command code = if is_welcome code then None else Some (BadGreeting code)
 closes_in Asking command code = if ends_all code then Some (Ended code) else None
@@ -174,8 +175,8 @@ module _ (options : Options) where
   abbrev pub window : List Event → List Ask
   window h = left_from 0 (asks h) (answered h)
 
-  -- whether a reply has answered a command about a debt as it should: neither the greeting nor the answer to MODE STREAM
-  -- is such an answer, nor is a reply behind QUIT (RFC 4644, sections 2.3 to 2.5; RFC 3977, section 6.3.2)
+  -- whether a reply has answered a command about a debt with one of its codes; the greeting, the answer to MODE
+  -- STREAM and a reply after QUIT do not count (RFC 4644, sections 2.3 to 2.5; RFC 3977, section 6.3.2)
   abbrev pub has_answered : List Event → Bool
   has_answered [] = false
   has_answered (Came reply ∷ h) = is_some (answered_ask h reply) || has_answered h
@@ -217,7 +218,8 @@ module _ (options : Options) where
   abbrev pub is_late : List Event → ℕ → Bool
   is_late h now = awaits h && nat_le options.response_timeout (now - moment (quiet h) (is_still h) now)
 
-  -- why this event, coming now, closes the connection (RFC 3977, section 3.2.1; innfeed.conf(5), response-timeout)
+  -- why this event, if it comes now, closes the connection (RFC 3977, section 3.2.1; innfeed.conf(5),
+  -- response-timeout)
   abbrev pub closes : List Event → Event → Option Reason
   closes h (Came reply) = closes_in (phase h) (answered_ask h reply) reply.code
   closes h (Faulted fault) = Some (Reader fault)
@@ -245,7 +247,7 @@ held_from n [] gone = []
 held_from n (debt ∷ later) gone =
     if has gone n then held_from (n + 1) later gone else record { ticket = n; debt = debt } ∷ held_from (n + 1) later gone
 
--- the debt comes out as this, where it does (profile)
+-- the debt comes out as this, if it does (profile)
 abbrev pub end_of : Held → List Outcome → List End
 end_of x outcomes = map (λ outcome. record { ticket = x.ticket; outcome = outcome }) outcomes
 
@@ -255,7 +257,7 @@ ends_by_meaning says None = []
 ends_by_meaning None (Some x) = []
 ends_by_meaning (Some says) (Some x) = end_of x (outcome_by says x.debt)
 
--- what a reply ends, where it answers this command (profile)
+-- what a reply ends, if it answers this command (profile)
 abbrev pub ends_by_answer : List Held → ℕ → Option (ℕ × Ask) → List End
 ends_by_answer held code None = []
 ends_by_answer held code (Some command) = ends_by_meaning (meaning command.1.verb code) (find (is_at command.1.ticket) held)
@@ -269,7 +271,7 @@ ends_by_loss handing (Some x) = end_of x (loss_of handing x.debt)
 abbrev pub backs : List Held → List End
 backs held = map (λ x. record { ticket = x.ticket; outcome = Back x.debt }) held
 
--- and they do where there is a reason to close (profile)
+-- and they do if there is a reason to close (profile)
 abbrev pub ends_at_close : Option Reason → List Held → List End
 ends_at_close None held = []
 ends_at_close (Some reason) held = backs held
@@ -279,7 +281,7 @@ abbrev pub number_asked : List Held → Option Ask → Option ℕ
 number_asked held None = None
 number_asked held (Some ask) = option_map (λ (x : Held). x.debt.0) (find (is_at ask.ticket) held)
 
--- and that is the first without an answer, where there is a reason to close (profile)
+-- and that is the first without an answer, if there is a reason to close (profile)
 abbrev pub unanswered_at_close : Option Reason → List Held → List Ask → Option ℕ
 unanswered_at_close None held asks = None
 unanswered_at_close (Some reason) held asks = number_asked held (slice_get asks 0)
@@ -293,7 +295,7 @@ wants_by_meaning (Some SendBlock) x = []
 wants_by_meaning (Some Later) x = []
 wants_by_meaning (Some (Final code)) x = []
 
--- what a reply makes wanted, where it answers this command (RFC 4644, section 2.4)
+-- what a reply makes wanted, if it answers this command (RFC 4644, section 2.4)
 abbrev pub wants_by_answer : List Held → ℕ → Option (ℕ × Ask) → List Want
 wants_by_answer held code None = []
 wants_by_answer held code (Some command) = wants_by_meaning (meaning command.1.verb code) (find (is_at command.1.ticket) held)
@@ -317,7 +319,7 @@ first_want story number = first_left (is_of number) story.handed 0 story.wants
 abbrev pub held_wanting : List Event → Story → ℕ → Option Held
 held_wanting h story number = held_for (held_in h story) (option_map (λ (want : ℕ × Want). want.1) (first_want story number))
 
--- the story, with more that came out (profile)
+-- the story, with these debts that came out as well (profile)
 abbrev pub with_ends : Story → List End → Story
 with_ends story more = record story { ends = story.ends ++ more }
 
@@ -340,12 +342,12 @@ puts_block (Some SendBlock) ask = Asks (block_of ask) ∷ []
 puts_block (Some Later) ask = []
 puts_block (Some (Final code)) ask = []
 
--- what a reply puts out, where it answers this command (RFC 3977, section 6.3.2)
+-- what a reply puts out, if it answers this command (RFC 3977, section 6.3.2)
 abbrev pub puts_answer : ℕ → Option (ℕ × Ask) → List Command
 puts_answer code None = []
 puts_answer code (Some command) = puts_block (meaning command.1.verb code) command.1
 
--- a good greeting puts MODE STREAM out, where streaming is set (RFC 4644, section 2.3)
+-- a good greeting puts MODE STREAM out, if streaming is set (RFC 4644, section 2.3)
 abbrev pub puts_greeting : (streaming : Bool) → Phase → ℕ → List Command
 puts_greeting streaming Greeting code = if is_welcome code && streaming then ModeStream ∷ [] else []
 puts_greeting streaming Asking code = []
@@ -405,26 +407,27 @@ module _ (options : Options) where
   abbrev pub wanted : List Event → List Want
   wanted h = left_from 0 (story h).wants (story h).handed
 
-  -- the key of the debt whose command was the first without an answer when it closed: none while it is open, and if
-  -- each command had its answer (profile)
+  -- the key of the debt whose command was the first without an answer when the connection closed; none while it is
+  -- open, and if each command had its answer (profile)
   abbrev pub first_unanswered : List Event → Option ℕ
   first_unanswered [] = None
   first_unanswered (e ∷ h) =
       if is_some (reason options h) then first_unanswered h
       else unanswered_at_close (closes options h e) (held h) (window options h)
 
-  -- what an event puts out at once, but for QUIT (RFC 4644, section 2; RFC 3977, section 6.3.2)
+  -- what an event puts out at once, apart from QUIT (RFC 4644, section 2; RFC 3977, section 6.3.2)
   abbrev pub puts : List Event → Event → List Command
   puts h (Offered debt) = if wants_at_once h then [] else Asks (check_of (newcomer h debt)) ∷ []
   puts h (Came reply) = puts_greeting options.streaming (phase options h) reply.code ++ puts_answer reply.code (answered_ask options h reply)
   puts h (Handed number handing) = puts_article (is_streaming (phase options h)) handing (held_wanting h (story h) number)
   puts h e = []
 
-  -- QUIT is due once it was asked to quit, a mode stands, nothing is held, and it is not closed (RFC 3977, section 5.4)
+  -- QUIT is due if the connection was asked to quit, a mode is agreed, nothing is held, and it is not closed (RFC
+  -- 3977, section 5.4)
   abbrev pub is_quit_due : List Event → Bool
   is_quit_due h = is_leaving h && (is_mode (phase options h) && (is_empty (held h) && is_none (reason options h)))
 
-  -- QUIT is put out where it is due (RFC 3977, section 5.4)
+  -- QUIT is put out if it is due (RFC 3977, section 5.4)
   abbrev pub with_quit : List Event → List Event
   with_quit h = if is_quit_due h then Put Quit ∷ h else h
 
@@ -432,15 +435,15 @@ module _ (options : Options) where
   unfoldable pub after : List Event → Event → List Event
   after h e = with_quit (with_puts (puts h e) (e ∷ h))
 
-  -- the same, but once closed no notice is taken (profile)
+  -- the same, but once closed the event is ignored (profile)
   abbrev pub outside : List Event → Event → List Event
   outside h e = if is_some (reason options h) then h else after h e
 
-  -- the transcript after an event that makes nothing due; once closed no notice is taken (profile)
+  -- the transcript after an event that makes nothing due; once closed the event is ignored (profile)
   abbrev pub noted : List Event → Event → List Event
   noted h e = if is_some (reason options h) then h else e ∷ h
 
-  -- the octets put out and not sent: none, once closed (profile)
+  -- the octets put out and not sent; none once closed (profile)
   abbrev pub output : List Event → List ℕ
   output h = if is_some (reason options h) then [] else drop (sent h) (put_octets h)
 
@@ -448,11 +451,11 @@ module _ (options : Options) where
   abbrev pub needed : List Event → ℕ → Option (ℕ × Want)
   needed h number = if is_some (reason options h) then None else first_want (story h) number
 
-  -- the key whose article came to be wanted first: none, once closed (profile)
+  -- the key whose article has been wanted longest; none once closed (profile)
   abbrev pub need : List Event → Option ℕ
   need h = if is_some (reason options h) then None else option_map (λ (want : Want). want.key) (slice_get (wanted h) 0)
 
-  -- the debt whose article came to be wanted first: none, once closed (profile)
+  -- the debt whose article has been wanted longest; none once closed (profile)
   abbrev pub first_wanted : List Event → Option Owing
   first_wanted h =
       if is_some (reason options h) then None

@@ -15,18 +15,18 @@ use Rattle.conn_core.specs.declared.machine.articles.Loss.TheVariants.{Missing, 
 use Rattle.conn_core.specs.declared.mode.Mode.{Mode}
 use Rattle.conn_core.specs.declared.mode.Mode.TheVariants.{Streaming, Ihave}
 
--- whether a reply can be the answer to an awaited command: in streaming mode it names the id of its debt too (RFC 4644,
--- sections 2.4 and 2.5)
+-- whether a reply can be the answer to an awaited command: in streaming mode it must also name the id of its debt
+-- (RFC 4644, sections 2.4 and 2.5)
 abbrev pub can_answer : Mode → List Held → Given → Awaited → Bool
 can_answer Streaming held reply = fits_awaited held reply
 can_answer Ihave held reply = belongs_to_awaited reply
 
--- a reply in a mode
+-- a reply once a mode is agreed
 abbrev pub answered_with : State → Mode → Given → State
 answered_with s mode reply = answered_by s (can_answer mode s.held reply) reply.code
     (find (can_answer mode s.held reply) s.window)
 
--- what an answer of this meaning makes of the debt at that ticket, where it is held
+-- what an answer of this meaning makes of the debt at that ticket, if it is held
 abbrev pub parted_by : State → ℕ → Meaning → Option Held → State
 parted_by s ticket meaning None = s
 parted_by s ticket meaning (Some x) = parted s ticket (outcome_by meaning x.debt)
@@ -39,7 +39,7 @@ settled_by s (Some SendBlock) ticket x = s
 settled_by s (Some Later) ticket x = parted_by s ticket Later x
 settled_by s (Some (Final code)) ticket x = parted_by s ticket (Final code) x
 
--- what is handed in by an article that is not there (profile)
+-- what is handed in for an article that is not there (profile)
 abbrev pub handing_of : Loss → Handing
 handing_of Missing = Gone
 handing_of Unfit = Unsendable

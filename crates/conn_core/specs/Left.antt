@@ -7,7 +7,7 @@ use Rattle.conn_core.specs.Stands.{Arises, StandsFor, Matches}
 use Rattle.conn_core.specs.State.{Holding}
 use Rattle.conn_core.specs.declared.options.Options.{Options}
 
--- it is open, and stands for this transcript, whatever its reader holds
+-- the connection is open, and stands for this transcript, whatever its reader holds
 pub record IsLeftOpen (options : Options) (conn : Holding) (h : List Event) : Type 0 where
   pub arises : Arises options h
   pub stands : Matches options conn.state h
@@ -29,7 +29,7 @@ abbrev pub size_of : Reading → ℕ
 size_of (Working waiting) = length waiting + 1
 size_of Broken = 0
 
--- what is received behind the second transcript, where these octets wait, is received behind the first
+-- what is received after the second transcript while these octets wait is received after the first
 pub record IsAhead (options : Options) (start : List ℕ) (h : List Event) (waiting : List ℕ) (later : List Event) : Type 0 where
   pub all : (last : List Event) (left : List ℕ) → Receives options waiting later last left → Receives options start h last left
   pub some : (last : List Event) → ReceivesSome options waiting later last → ReceivesSome options start h last

@@ -1,5 +1,5 @@
--- One step of what a connection holds, for each event. Only the private code cites these steps; what they mean over a whole
--- transcript is said in History.
+-- The steps of the state of a connection, one for each event. Only the private code cites them; History says what
+-- they mean over a whole transcript.
 use Rattle.std.specs.Prelude.{◌≡◌, ℕ, ◌+◌, ◌-◌, Bool, true, false, ◌==◌, ◌&&◌, ◌||◌, not, nat_lt, nat_le, Option, Some, None, is_some, is_none, if◌then◌else◌, List, [], ◌∷◌, ◌++◌, length, find, drop, take, option_to_list}
 use Rattle.std.specs.Prelude.{option_map, slice_get}
 use Rattle.std.specs.Set.{remove_key}
@@ -75,7 +75,7 @@ quit_if_due s =
     then record s { phase = Leaving; output = s.output ++ octets Quit }
     else s
 
--- the debt at that ticket leaves with what became of it, where something did
+-- the debt at that ticket leaves with what became of it, if something did
 abbrev pub parted : State → ℕ → List Outcome → State
 parted s ticket [] = s
 parted s ticket (outcome ∷ outcomes) = record s { held = remove_key (is_at ticket) s.held; found = s.found ++ outcome ∷ outcomes }
@@ -118,7 +118,7 @@ abbrev pub first_block : List (List ℕ) → List ℕ
 first_block [] = []
 first_block (block ∷ blocks) = block
 
--- an answered IHAVE keeps its block no more
+-- an IHAVE with an answer no longer keeps its block
 abbrev pub let_go : Verb → List (List ℕ) → List (List ℕ)
 let_go Check blocks = blocks
 let_go Takethis blocks = blocks
@@ -143,7 +143,7 @@ told s (Some Later) awaited block (Some x) = parted s awaited.ticket (outcome_by
 told s (Some (Final code)) awaited block None = s
 told s (Some (Final code)) awaited block (Some x) = parted s awaited.ticket (outcome_by (Final code) x.debt)
 
--- a reply in a mode, and the first of the awaited commands that it fits by this test
+-- a reply once a mode is agreed, and the first of the awaited commands that it fits by this test
 abbrev pub answered_by : State → (Awaited → Bool) → ℕ → Option Awaited → State
 answered_by s test code None = close (stray code) s
 answered_by s test code (Some awaited) =
@@ -213,11 +213,11 @@ ticked s now =
 abbrev pub asked_to_quit : State → State
 asked_to_quit s = quit_if_due (record s { quitting = true })
 
--- so many octets at the front of the output count as sent
+-- this many of the first octets of the output count as sent
 abbrev pub sent_off : State → ℕ → State
 sent_off s count = record s { output = drop count s.output; stirred = nat_lt 0 count || s.stirred }
 
--- an outcome is taken: nothing else changes than what is still to be told
+-- an outcome is taken: nothing changes but what is still to be taken
 pub record TakesOne (old : State) (outcome : Option Outcome) (new : State) : Type 0 where
   pub first : untold old ≡ option_to_list outcome ++ untold new
   pub others : new ≡ record old { found = new.found; held = new.held }

@@ -40,9 +40,9 @@ BeginsWithFault waiting NoCode = BeginsWithNoReply waiting
 BeginsWithFault waiting NoMemory = ⊥
 BeginsWithFault waiting Failed = ⊥
 
--- What octets that wait to be read make of a transcript, and which of them are held back: the whole replies are taken one
--- after another, up to a fault or the close, behind which nothing is taken and nothing held back; what is left is part of a
--- reply (RFC 3977, section 3.1).
+-- What octets that wait to be read make of a transcript, and which of them are held back. The whole replies are taken
+-- one after another, up to a fault or the close; after that nothing is taken and nothing held back. What is left is
+-- part of a reply (RFC 3977, section 3.1).
 pub data Receives (options : Options) : List ℕ → List Event → List Event → List ℕ → Type 0 where
   Is_closed : (waiting : List ℕ) (h : List Event) → is_some (reason options h) ≡ true → Receives options waiting h h []
   Waits : (waiting : List ℕ) (h : List Event) → reason options h ≡ None → IsShort waiting → Receives options waiting h h waiting
@@ -52,7 +52,7 @@ pub data Receives (options : Options) : List ℕ → List Event → List Event �
   Fails : (waiting : List ℕ) (h : List Event) (fault : ReplyFault) → reason options h ≡ None
       → BeginsWithFault waiting fault → Receives options waiting h (after options h (Faulted fault)) []
 
--- the transcript after some of the whole replies that wait, from the first on, with which it is still open (profile)
+-- the transcript after some of the whole replies that wait, from the first on, while it is still open (profile)
 pub data ReceivesSome (options : Options) : List ℕ → List Event → List Event → Type 0 where
   Stops : (waiting : List ℕ) (h : List Event) → reason options h ≡ None → ReceivesSome options waiting h h
   Reads_on : (waiting rest : List ℕ) (h later : List Event) (reply : Given) → reason options h ≡ None

@@ -1,4 +1,4 @@
--- What it is that a connection stands for a transcript.
+-- When a connection stands for a transcript.
 use Rattle.std.specs.Prelude.{◌≡◌, ℕ, ◌+◌, ◌≤◌, ◌<◌, Bool, true, false, Option, None, Some, is_some, if◌then◌else◌}
 use Rattle.std.specs.Prelude.{List, [], ◌∷◌, length, drop, find, take, map, nat_lt, option_map, slice_get}
 use Rattle.std.specs.List.{AllByRecursion}
@@ -18,29 +18,30 @@ use Rattle.conn_core.specs.declared.offer.OfferFault.TheVariants.{Busy, Closed, 
 use Rattle.conn_core.specs.declared.article.ArticleFault.{ArticleFault}
 use Rattle.conn_core.specs.declared.article.ArticleFault.TheVariants.{NotNeeded, NoMemory as NoArticleMemory}
 
--- Shut once closed or asked to quit, else Yes where there is room (profile)
+-- Shut if closed or asked to quit, otherwise Yes if there is room (profile)
 abbrev pub ready_when : (closed quitting has_room : Bool) → Ready
 ready_when true quitting has_room = Shut
 ready_when false true has_room = Shut
 ready_when false false true = Yes
 ready_when false false false = NotNow
 
--- whether a debt can be offered: there is room while fewer are held than the mode allows (innfeed.conf(5), max-queue-size)
+-- whether a debt can be offered: there is room while fewer are held than the mode allows (innfeed.conf(5),
+-- max-queue-size)
 abbrev pub ready_of : Options → List Event → Ready
 ready_of options h = ready_when (is_some (reason options h)) (is_leaving h) (nat_lt (length (held options h)) (room options (phase options h)))
 
--- which refusal of a debt comes when (profile)
+-- when each refusal of a debt comes (profile)
 abbrev pub Refuses : OfferFault → Ready → Type 0
 Refuses Busy ready = ready ≡ NotNow
 Refuses Closed ready = ready ≡ Shut
 Refuses NoMemory ready = ready ≡ Yes
 
--- which refusal of an article comes when (profile)
+-- when each refusal of an article comes (profile)
 abbrev pub RefusesArticle : ArticleFault → Option (ℕ × Want) → Type 0
 RefusesArticle NotNeeded want = want ≡ None
 RefusesArticle NoArticleMemory want = is_some want ≡ true
 
--- whether a call may bring this event: a debt where there is room, an article that is wanted, a count of octets that are
+-- whether a call may bring this event: a debt if there is room, an article that is wanted, a count of octets that are
 -- put out, an outcome that is left; what comes from outside always, and a command never (profile)
 abbrev pub Allows : (options : Options) (h : List Event) → Event → Type 0
 Allows options h (Offered debt) = ready_of options h ≡ Yes
@@ -87,7 +88,7 @@ pub record AreTied (held : List Held) (asks : List Ask) (wants : List Want) (acc
   pub once : (ticket : ℕ) → claims asks wants ticket ≤ 1
   pub below : (ticket : ℕ) → accepted ≤ ticket → claims asks wants ticket ≡ 0
 
--- what is held against the transcript while it is open (profile)
+-- the state agrees with the transcript while the connection is open (profile)
 pub record MatchesWhileOpen (options : Options) (s : State) (h : List Event) : Type 0 where
   pub phase_is : s.phase ≡ phase options h
   pub held_is : s.held ≡ held options h
@@ -100,7 +101,7 @@ pub record MatchesWhileOpen (options : Options) (s : State) (h : List Event) : T
   pub quiet_is : s.quiet ≡ quiet options h
   pub tied : AreTied s.held (window options h) s.wanted s.accepted
 
--- what is held against the transcript (profile)
+-- the state agrees with the transcript (profile)
 pub record Matches (options : Options) (s : State) (h : List Event) : Type 0 where
   pub options_is : s.options ≡ options
   pub closed_is : s.closed ≡ reason options h
@@ -114,23 +115,23 @@ pub record Matches (options : Options) (s : State) (h : List Event) : Type 0 whe
   pub taken_few : taken h ≤ length (outcomes options h)
   pub while_open : reason options h ≡ None → MatchesWhileOpen options s h
 
--- what is held back of a reply: nothing once closed, else what waits in the reader, with no whole line and not too
--- much for one (RFC 3977, section 3.1)
+-- what is held back of a reply: nothing once closed, otherwise what waits in the reader, with no whole line and not
+-- too much for one (RFC 3977, section 3.1)
 abbrev pub HoldsBack : (closed : Bool) → Reading → List ℕ → Type 0
 HoldsBack true reader unread = unread ≡ []
 HoldsBack false reader unread = (reader ≡ Working unread) × IsShort unread
 
--- the octets held back behind a transcript: none, once closed (profile)
+-- the octets held back after a transcript; none once closed (profile)
 abbrev pub left_behind : Options → List ℕ → List Event → List ℕ
 left_behind options unread h = if is_some (reason options h) then [] else unread
 
--- a connection with these options stands for this transcript and these octets that it holds back: the calls can have made
--- them, and it holds what they say (profile)
+-- A connection with these options stands for this transcript and holds these octets back: calls can have made the
+-- transcript, and the connection holds what it says (profile).
 unfoldable pub StandsFor : Options → Holding → (unread : List ℕ) → List Event → Type 0
 StandsFor options conn unread h =
     Arises options h × HoldsBack (is_some (reason options h)) conn.reader unread × Matches options conn.state h
 
--- an outcome is taken, the first that was not; or all were, and nothing changes (profile)
+-- an outcome is taken, the first that was not; or all were taken, and nothing changes (profile)
 abbrev pub Takes : Options → (unread : List ℕ) → List Event → Option Outcome → Holding → Type 0
 Takes options unread h None new = (taken h ≡ length (outcomes options h)) × StandsFor options new unread h
 Takes options unread h (Some outcome) new =

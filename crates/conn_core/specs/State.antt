@@ -1,4 +1,4 @@
--- What a connection holds at a moment, in plain lists.
+-- The state of a connection, in plain lists.
 use Rattle.std.specs.Prelude.{ℕ, Bool, Option, is_some, if◌then◌else◌, List, [], ◌∷◌, ◌++◌, map}
 use Rattle.reply_reader.specs.Stream.{Held as Reading}
 use Rattle.conn_core.specs.Commands.{Ask, Held, Want}
@@ -11,7 +11,7 @@ use Rattle.conn_core.specs.declared.reason.Reason.{Reason}
 use Rattle.conn_core.specs.declared.outcome.Outcome.{Outcome}
 use Rattle.conn_core.specs.declared.outcome.Outcome.TheVariants.{Back}
 
--- a command whose answer is awaited, and the ticket of the debt that it is about: its octets are not kept (profile)
+-- a command whose answer is awaited, and the ticket of its debt: its octets are not kept (profile)
 pub record Awaited : Type 0 where
   pub verb : Verb
   pub ticket : ℕ
@@ -32,7 +32,7 @@ abbrev pub kept_blocks : List Ask → List (List ℕ)
 kept_blocks [] = []
 kept_blocks (ask ∷ asks) = kept_for ask.verb ask.block ++ kept_blocks asks
 
--- what a connection holds, but for its number and its reader (profile)
+-- the state of a connection, without its number and its reader (profile)
 pub record State : Type 0 where
   pub options : Options
   pub phase : Phase
@@ -52,7 +52,7 @@ pub record State : Type 0 where
   pub stirred : Bool
   pub quiet : Option ℕ
 
--- what a connection holds: its number, its reader with the octets that wait, and the rest (profile)
+-- a whole connection: its number, its reader with the octets that wait, and the rest (profile)
 pub record Holding : Type 0 where
   pub id : CxnId
   pub reader : Reading
@@ -62,14 +62,14 @@ pub record Holding : Type 0 where
 abbrev pub untold : State → List Outcome
 untold s = s.found ++ (if is_some s.closed then map (λ (x : Held). Back x.debt) s.held else [])
 
--- the octets that are still to be sent: none, once closed (profile)
+-- the octets that are still to be sent; none once closed (profile)
 abbrev pub output_of : State → List ℕ
 output_of s = if is_some s.closed then [] else s.output
 
--- the octets that a connection has still to send (profile)
+-- the octets that a connection still has to send (profile)
 abbrev pub output_at : Holding → List ℕ
 output_at conn = output_of conn.state
 
--- the outcomes that a connection has still to give (profile)
+-- the outcomes that a connection still has to give (profile)
 abbrev pub untold_at : Holding → List Outcome
 untold_at conn = untold conn.state

@@ -1,5 +1,5 @@
--- What holds of every transcript: only commands that were put out are answered, an article is handed in only where one was
--- wanted, and only debts that were accepted come out.
+-- What holds of every transcript: only commands that were put out are answered, an article is handed in only if one
+-- was wanted, and only debts that were accepted come out.
 use Rattle.std.proofs.Common.{◌≡◌, ℕ, ◌<◌, ◌≤◌, Bool, true, false, List, [], ◌∷◌, ◌++◌, length, refl, ap, arith, find}
 use Rattle.std.proofs.Common.{Option, Some, None, length-append}
 use Rattle.std.specs.Prelude.{if◌then◌else◌}
@@ -71,7 +71,7 @@ by_loss-below : (handing : Handing) (held : List Held) (o : Option Want) (n : �
 by_loss-below handing held None n below = λ k q. refl
 by_loss-below handing held (Some want) n below = loss-below handing held want.ticket n _ refl below
 
--- a want more
+-- one more want
 wants-step : (b : Bool) (story : Story) (want : Want) → AllBelow story.handed (length story.wants)
     → AllBelow (if b then record story { wants = story.wants ++ want ∷ [] } else story).handed (length (if b then record story { wants = story.wants ++ want ∷ [] } else story).wants)
 wants-step true story want below = AllBelow-more _ _ _ (omega (arith, length-append story.wants (want ∷ []))) below
@@ -101,7 +101,7 @@ module _ (options : Options) where
   unfolding story
   ends-offered h debt = ends-step (wants_at_once options h) (story options h) _
 
-  -- an article is handed in only where one was wanted
+  -- an article is handed in only if one was wanted
   pub handed_below : (h : List Event) → AllBelow (story options h).handed (length (story options h).wants)
   unfolding story
   handed_below [] = λ k q. refl

@@ -1,4 +1,4 @@
--- A list whose items are used up one by one: what is left, without the ticket of each item, and how often a ticket is
+-- A list whose items are used up one by one: what is left, what is left without one ticket, and how often a ticket is
 -- there.
 use Rattle.std.proofs.Common.{◌≡◌, ℕ, suc, zero, ◌+◌, ◌<◌, ◌≤◌, Bool, true, false, List, [], ◌∷◌, ◌++◌, length, refl}
 use Rattle.std.proofs.Common.{sym, ap, ◌∙◌, arith, find, Option, Some, None}
@@ -98,7 +98,7 @@ module _ {A : Type 0} where
       (λ f. let p = first_left-ticket test used (n + 1) xs i a f in (has-cons_other i n used (λ s. omega arith), left_from-used test used (n + 1) xs i a f))
       (λ s. (has-cons_same i n used s, left_from-earlier i used (n + 1) xs (omega arith)))
 
-  -- one ticket more, of an item of the list, is below the length too
+  -- with the ticket of one more item of the list, all are still below the length
   pub AllBelow-with_ticket : (test : A → Bool) (used : List ℕ) (xs : List A) (found : Option (ℕ × A))
       → first_left test used 0 xs ≡ found → AllBelow used (length xs) → AllBelow (with_ticket found used) (length xs)
   AllBelow-with_ticket test used xs None e below k h = below k h
@@ -155,7 +155,7 @@ module _ {A : Type 0} where
   first_left-is test used n [] i a e = cc
   first_left-is test used n (x ∷ xs) i a e = is_first-step (has used n) (test x) test used n i x a xs _ refl refl e (first_left-is test used (n + 1) xs i a)
 
--- what holds of each item, and of each of more
+-- what holds of each item of two lists holds of each item of both, one after the other
 pub All-append : {X : Type 0} (P : X → Type 0) (xs ys : List X) → AllByRecursion P xs → AllByRecursion P ys
     → AllByRecursion P (xs ++ ys)
 All-append P [] ys p q = q
@@ -166,7 +166,7 @@ pub All-map : {X : Type 0} (P Q : X → Type 0) → ((x : X) → P x → Q x) �
 All-map P Q f [] p = tt
 All-map P Q f (x ∷ xs) p = (f x p.0, All-map P Q f xs p.1)
 
--- how often a ticket is among these and those
+-- how often a ticket is among both
 pub times-append : (xs ys : List ℕ) (ticket : ℕ) → times (xs ++ ys) ticket ≡ times xs ticket + times ys ticket
 times-append [] ys ticket = omega arith
 times-append (x ∷ xs) ys ticket = omega (arith, times-append xs ys ticket)

@@ -4,7 +4,7 @@ use thiserror::Error;
 /// Why an article was not taken.
 #[derive(Clone, Copy, Debug, PartialEq, Eq, Error)]
 pub enum ArticleFault {
-    /// No article of this key is wanted.
+    /// No article is wanted under this key.
     #[error("NotNeeded")]
     NotNeeded,
     /// Memory was refused.

@@ -10,12 +10,12 @@ use circular_buffer::HeapCircularBuffer;
 use std::alloc::{AllocError, Global};
 use std::marker::Model;
 
-// The last of the counted answers, and what they make of the switch.
+// The counted answers that the share is taken over, and what they make of the switch.
 #[derive(Drop)]
 pub(crate) struct CheckSwitch {
-    // Whether the article was taken, newest first: as many answers as the share is taken over.
+    // Whether the article was taken, newest first: at most `no-check-filter` answers.
     recent: HeapCircularBuffer<bool>,
-    // How many of these were taken, so that an answer costs the same over however many the share is taken.
+    // How many of these are true, so that an answer costs the same however many there are.
     taken: u64,
     off: bool,
 }
@@ -34,7 +34,7 @@ impl Model for CheckSwitch {
 }
 
 impl CheckSwitch {
-    // A switch with checks on, which shares are taken over so many answers.
+    // A switch with checks on, whose share is taken over `filter` answers.
     pub(crate) fn new(alloc: Global, filter: u64) -> Result<Self, AllocError>
         ensures { IfOk result (λ s. s ≡ record { filter = filter; recent = []; off = false }) }
     {
@@ -45,14 +45,13 @@ impl CheckSwitch {
         })
     }
 
-    // Whether checks are on.
     pub(crate) fn checks(&self) -> bool
         ensures { result ≡ not self.now.off }
     {
         !self.off
     }
 
-    // An answer that counts: whether it took the article.
+    // Counts an answer: `took` if the peer took the article.
     pub(crate) fn count(&mut self, options: &Options, took: bool)
         requires { self.old.filter ≡ options.now.check_filter }
         ensures filter { self.new.filter ≡ self.old.filter }
@@ -71,15 +70,15 @@ impl CheckSwitch {
     }
 }
 
-// Whether checks are off, where so many answers have come: at the upper mark, or not below the lower one where they
-// were off.
+// Checks are off once there are `filter` answers and the share is at the upper mark, or is not below the lower one
+// and they were off before.
 fn is_off(full: bool, high: bool, kept: bool, off: bool) -> bool
     ensures { result ≡ (full && (high || (kept && off))) }
 {
     full && (high || (kept && off))
 }
 
-// How many are taken with one more answer and without the one that went.
+// The count with one more answer and without the one that it pushes out. `few` keeps the sum from overflowing.
 fn taken_after(taken: u64, took: bool, gone: Option<bool>) -> u64
     requires few { taken < 2 ^ 63 }
     requires among { taken_among (option_to_list gone) ≤ taken_among (took ∷ []) + taken }
@@ -92,7 +91,8 @@ fn taken_after(taken: u64, took: bool, gone: Option<bool>) -> u64
     }
 }
 
-// Whether the share of the taken, of so many, is at this mark or above, in hundredths of a per cent. No product wraps.
+// Whether the share `taken / filter` is at least this mark, in hundredths of a per cent. No product of u128
+// overflows.
 fn is_at_least(taken: u64, mark: u64, filter: u64) -> bool
     ensures { result ≡ nat_le (mark * filter) (taken * 10000) }
 {

@@ -1,4 +1,4 @@
-// Commands about an article, and what a code says to each.
+// Commands about an article, and what each code means as an answer.
 ghost use Rattle.std.specs.Prelude.{◌≡◌, Some, option_to_list};
 ghost use Rattle.conn_core.specs.Codes.{ends_all, is_welcome, meaning, stray};
 ghost use Rattle.conn_core.specs.Checks.{counts};
@@ -6,7 +6,7 @@ ghost use Rattle.conn_core.specs.Checks.{counts};
 use crate::reason::Reason;
 use ledger_core::FinalCode;
 
-// What is asked or told of an article (RFC 3977, section 6.3.2; RFC 4644, section 2).
+// A command about an article (RFC 3977, section 6.3.2; RFC 4644, section 2).
 #[derive(Clone, Copy, Debug, PartialEq, Eq)]
 pub(crate) enum Verb {
     Check,
@@ -16,8 +16,8 @@ pub(crate) enum Verb {
     Block,
 }
 
-/// What a code says to a command (RFC 3977, section 6.3.2; RFC 4644, section 2). No call gives it out: the laws on
-/// transcripts speak of it.
+/// What a code means as an answer to a command (RFC 3977, section 6.3.2; RFC 4644, section 2). No call returns it: it
+/// is public for the laws on transcripts.
 #[derive(Clone, Copy, Debug, PartialEq, Eq)]
 pub enum Meaning {
     /// The article is wanted.
@@ -30,7 +30,7 @@ pub enum Meaning {
     Final(FinalCode),
 }
 
-// What a code says to a command; `None` where it does not belong to it (CHECK and TAKETHIS: RFC 4644, sections 2.4 and
+// The meaning of a code; `None` if it is no answer to this command (CHECK and TAKETHIS: RFC 4644, sections 2.4 and
 // 2.5; IHAVE and its block: RFC 3977, section 6.3.2).
 pub(crate) fn meaning_of(verb: Verb, code: u16) -> Option<Meaning>
     ensures value { result ≡ meaning verb code }
@@ -64,21 +64,21 @@ pub(crate) fn meaning_of(verb: Verb, code: u16) -> Option<Meaning>
     }
 }
 
-// Whether a greeting is good (RFC 3977, section 5.1).
+// Whether a greeting is good: 200 or 201 (RFC 3977, section 5.1).
 pub(crate) fn is_welcome(code: u16) -> bool
     ensures { result ≡ is_welcome code }
 {
     code == 200 || code == 201
 }
 
-// Whether the code ends the connection wherever it answers nothing (RFC 3977, section 3.2.1).
+// Whether the code ends the connection if it answers no command (RFC 3977, section 3.2.1).
 pub(crate) fn ends_all(code: u16) -> bool
     ensures { result ≡ ends_all code }
 {
     code == 400 || code == 480 || code == 502
 }
 
-// Why a reply of this code that answers nothing closes the connection.
+// Why a reply of this code closes the connection if it answers no command.
 pub(crate) fn stray(code: u16) -> Reason
     ensures { result ≡ stray code }
 {
@@ -89,7 +89,7 @@ pub(crate) fn stray(code: u16) -> Reason
     }
 }
 
-// Whether an answer of this code took the article; `None` where it does not count for the check switch
+// Whether an answer of this code took the article; `None` if it does not count for the check switch
 // (innfeed.conf(5)).
 pub(crate) fn counted(code: u16) -> Option<bool>
     ensures { option_to_list result ≡ counts code }

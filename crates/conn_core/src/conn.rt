@@ -1,4 +1,4 @@
-// One connection, as the crates above see it: what each call promises is said of the whole transcript.
+// One connection, as the crates above see it: the contract of each call speaks of the whole transcript.
 ghost use Rattle.std.specs.Prelude.{◌≡◌, ◌↔◌, ◌≤◌, ◌<◌, ◌++◌, ℕ, List, [], ◌∷◌};
 ghost use Rattle.std.specs.Prelude.{Option, Some, None, length, is_some, option_to_list, true, IfNone, IfOk, IfErr};
 ghost use Rattle.std.specs.Prelude.{IsOk, OnOk, OnErr};
@@ -36,7 +36,7 @@ pub struct Conn {
     id: CxnId,
     reader: ReplyReader,
     machine: Machine,
-    // The reply that closed it, if one did for another reason than QUIT. Contracts do not see it.
+    // The reply that closed it, if `refusal` keeps it. Contracts do not see it.
     refused: Option<Reply>,
 }
 
@@ -48,7 +48,7 @@ impl Model for Conn {
     ghost view = { λ conn. record { id = conn.id; reader = conn.reader; state = conn.machine } };
 }
 
-// The reply, if it closed the connection for one of the reasons that a log is to tell it for.
+// The reply, if it closed the connection for one of the reasons for which a log names it.
 fn refusal(closed: Option<Reason>, reply: Reply) -> Option<Reply> {
     match closed {
         Some(Reason::Greeting(_) | Reason::Ended(_) | Reason::Unmatched) => Some(reply),
@@ -57,10 +57,10 @@ fn refusal(closed: Option<Reason>, reply: Reply) -> Option<Reply> {
 }
 
 impl Conn {
-    /// A connection with this number and these options, at its start. It allocates from `alloc`.
+    /// A new connection with this number and these options. It allocates from `alloc`.
     ///
     /// # Errors
-    /// `NoMemory` where memory was refused.
+    /// `NoMemory` if memory was refused.
     pub fn new(alloc: Global, id: CxnId, options: Options) -> Result<Self, AllocError>
         ensures ok { IfOk result (λ conn. StandsFor options conn [] []) }
         ensures id { IfOk result (λ conn. conn.id ≡ id) }
@@ -73,7 +73,6 @@ impl Conn {
         })
     }
 
-    /// Its number.
     pub fn id(&self) -> CxnId
         ensures { result ≡ self.now.id }
     {
@@ -88,7 +87,7 @@ impl Conn {
         self.machine.ready()
     }
 
-    /// The mode that its peer has agreed to: `None` before that, once QUIT is out, and once it is closed.
+    /// The mode that its peer has agreed to: `None` before that, after QUIT is out, and once it is closed.
     pub fn mode(&self) -> Option<Mode>
         ensures { (options : Options) (unread : List ℕ) (h : List Event)
             → StandsFor options self.now unread h → result ≡ mode options h }
@@ -99,8 +98,9 @@ impl Conn {
     /// Takes a debt: a CHECK goes out, or its article is wanted.
     ///
     /// # Errors
-    /// The debt comes back, and nothing changes. `Closed` where it is closed or was asked to quit, else `Busy` where no
-    /// mode stands or as many are held as the mode allows, else `NoMemory` where memory was refused.
+    /// The debt comes back, and nothing changes. `Closed` if the connection is closed or was asked to quit; otherwise
+    /// `Busy` if no mode is agreed or as many debts are held as the mode allows; otherwise `NoMemory` if memory was
+    /// refused.
     pub fn offer(&mut self, debt: Debt) -> Result<(), Back>
         ensures ok { OnOk result
             ((options : Options) (unread : List ℕ) (h : List Event)
@@ -139,7 +139,7 @@ impl Conn {
         Ok(())
     }
 
-    /// The key whose article came to be wanted first. None where none is wanted, and once closed.
+    /// The key whose article has been wanted longest. `None` if no article is wanted, and once closed.
     pub fn need(&self) -> Option<Key>
         ensures { (options : Options) (unread : List ℕ) (h : List Event)
             → StandsFor options self.now unread h → result ≡ need options h }
@@ -147,8 +147,8 @@ impl Conn {
         self.machine.need()
     }
 
-    /// The debt whose article came to be wanted first. None if none is wanted, and once closed. Its key is that of
-    /// [`Conn::need`].
+    /// The debt whose article has been wanted longest. `None` if no article is wanted, and once closed. Its key is
+    /// that of [`Conn::need`].
     pub fn wanted(&self) -> Option<&Debt>
         ensures value { (options : Options) (unread : List ℕ) (h : List Event)
             → StandsFor options self.now unread h
@@ -163,8 +163,8 @@ impl Conn {
     /// Takes the article for the first want of that key: it goes out, by TAKETHIS or IHAVE, or the debt is lost.
     ///
     /// # Errors
-    /// What was found comes back, and nothing changes. `NotNeeded` where no article of that key is wanted, also once
-    /// closed, else `NoMemory` where the text can be sent and memory was refused.
+    /// What was found comes back, and nothing changes. `NotNeeded` if no article of that key is wanted, or the
+    /// connection is closed; otherwise `NoMemory` if the text can be sent and memory was refused.
     pub fn article(&mut self, key: Key, found: Found) -> Result<(), (Found, ArticleFault)>
         ensures ok { OnOk result
             ((options : Options) (unread : List ℕ) (h : List Event)
@@ -191,11 +191,11 @@ impl Conn {
         Ok(())
     }
 
-    /// Takes octets from the server: each whole reply, in order, and what is left of one is held back. Behind a fault
+    /// Takes octets from the server: each whole reply, in order; the beginning of another is held back. After a fault
     /// of the reader, or once closed, the octets are dropped.
     ///
     /// # Errors
-    /// `NoMemory` where memory was refused while it was open: some of the whole replies were taken, from the first on,
+    /// `NoMemory` if memory was refused while it was open: some of the whole replies were taken, from the first on,
     /// and it is closed as by [`Conn::broken`].
     pub fn input(&mut self, octets: &[u8]) -> Result<(), AllocError>
         ensures ok { OnOk result
@@ -226,7 +226,7 @@ impl Conn {
         }
     }
 
-    // Takes each whole reply in, while it is open. Where memory was refused it still is.
+    // Takes each whole reply while the connection is open. It stays open if memory was refused.
     fn take_in(&mut self, octets: &[u8]) -> Result<(), AllocError>
         ensures ok { OnOk result
             ((options : Options) (unread : List ℕ) (h : List Event)
@@ -246,7 +246,7 @@ impl Conn {
         Ok(())
     }
 
-    // Takes the first whole reply in, and tells whether there may be another.
+    // Takes the first whole reply, and returns whether there may be another.
     fn read_one(&mut self) -> Result<bool, AllocError>
         ensures read { IfOk result
             (λ more. (options : Options) (waiting : List ℕ) (h : List Event)
@@ -278,7 +278,7 @@ impl Conn {
         }
     }
 
-    /// The moment is this, in seconds. It closes where an answer is late; a closed connection stays as it is.
+    /// Sets the time, in seconds. The connection closes if an answer is late; a closed connection stays as it is.
     pub fn tick(&mut self, now: u64)
         ensures stands { (options : Options) (unread : List ℕ) (h : List Event)
             → StandsFor options self.old unread h
@@ -289,7 +289,7 @@ impl Conn {
         self.machine.tick(now)
     }
 
-    /// The connection broke: it closes. A closed one stays as it is.
+    /// Closes the connection because its link broke. A closed one stays as it is.
     pub fn broken(&mut self)
         ensures stands { (options : Options) (unread : List ℕ) (h : List Event)
             → StandsFor options self.old unread h
@@ -299,7 +299,7 @@ impl Conn {
         self.machine.broken()
     }
 
-    /// No debt is taken any more, and QUIT goes out once none is held and a mode stands.
+    /// From now on no debt is taken, and QUIT goes out once none is held and a mode is agreed.
     pub fn quit(&mut self)
         ensures stands { (options : Options) (unread : List ℕ) (h : List Event)
             → StandsFor options self.old unread h
@@ -317,7 +317,7 @@ impl Conn {
         self.machine.checks()
     }
 
-    /// The octets that are still to be sent, in order: none, once closed.
+    /// The octets that are still to be sent, in order; none once closed.
     pub fn output(&self) -> &[u8]
         ensures stands { (options : Options) (unread : List ℕ) (h : List Event)
             → StandsFor options self.now unread h → result.now ≡ output options h }
@@ -326,8 +326,7 @@ impl Conn {
         self.machine.output()
     }
 
-    /// So many octets at the front of the output count as sent, at most all of them: none, once closed, and a closed
-    /// connection stays as it is.
+    /// Counts the first `count` octets of the output as sent. A closed connection has no output and stays as it is.
     pub fn sent(&mut self, count: usize)
         requires { count ≤ length (output_at self.old) }
         ensures stands { (options : Options) (unread : List ℕ) (h : List Event)
@@ -338,7 +337,7 @@ impl Conn {
         self.machine.sent(count)
     }
 
-    /// The next outcome, oldest first.
+    /// The next outcome, oldest first; `None` if there is none now.
     pub fn outcome(&mut self) -> Option<Outcome>
         ensures stands { (options : Options) (unread : List ℕ) (h : List Event)
             → StandsFor options self.old unread h → Takes options unread h result self.new }
@@ -357,14 +356,14 @@ impl Conn {
         self.machine.closed()
     }
 
-    /// The reply that closed it, if it closed for [`Reason::Greeting`], [`Reason::Ended`] or [`Reason::Unmatched`]:
-    /// for a log. `None` while it is open, and if it closed for another reason.
+    /// The reply that closed it, for a log, if it closed for [`Reason::Greeting`], [`Reason::Ended`] or
+    /// [`Reason::Unmatched`]. `None` while it is open, and if it closed for another reason.
     pub fn refused(&self) -> Option<&Reply> {
         self.refused.as_ref()
     }
 
-    /// The key of the debt whose command was the first without an answer when it closed. `None` while it is open,
-    /// and if each command had its answer. Outcomes that are taken change nothing of it.
+    /// The key of the debt whose command was the first without an answer when it closed. `None` while it is open, and
+    /// if each command had its answer. Taking outcomes does not change it.
     pub fn first_unanswered(&self) -> Option<Key>
         ensures { (options : Options) (unread : List ℕ) (h : List Event)
             → StandsFor options self.now unread h → result ≡ first_unanswered options h }
@@ -372,8 +371,8 @@ impl Conn {
         self.machine.unanswered()
     }
 
-    /// Whether the peer has answered a command about a debt as it should (238, 335, 431 and so on), also once closed.
-    /// The greeting and the answer to MODE STREAM are no such answers, nor is a reply that closed it.
+    /// Whether the peer has answered a command about a debt with one of its codes (238, 335, 431 and so on), also
+    /// once closed. The greeting and the answer to MODE STREAM do not count, nor does a reply that closed it.
     pub fn has_answered(&self) -> bool
         ensures { (options : Options) (unread : List ℕ) (h : List Event)
             → StandsFor options self.now unread h → result ≡ has_answered options h }

@@ -1,5 +1,5 @@
-// The debts held, in the order offered. Each is found by its ticket, its index among those accepted: the tickets rise,
-// so that a search halves what is left.
+// The debts held, in the order offered. Each is found by its ticket, its index among those accepted: tickets rise, so
+// a binary search finds one.
 ghost use Rattle.std.specs.Prelude.{◌≡◌, ◌+◌, ◌<◌, ◌++◌, [], ◌∷◌, find, length, position};
 ghost use Rattle.std.specs.Prelude.{IfNone, MatchOption, option_map, option_to_list, OnOk};
 ghost use Rattle.std.specs.Option.{option_copied};
@@ -13,11 +13,10 @@ use std::alloc::{AllocError, Global};
 use std::collections::VecDeque;
 use std::marker::Model;
 
-// The debts held.
 #[derive(Drop)]
 pub(crate) struct HeldDebts {
     debts: VecDeque<HeldDebt>,
-    // How many were accepted, which is the next ticket.
+    // The number of debts accepted so far, which is the next ticket.
     accepted: u64,
 }
 
@@ -41,7 +40,6 @@ impl Model for HeldDebts {
 }
 
 impl HeldDebts {
-    // None is held, and none was accepted.
     pub(crate) fn new(alloc: Global) -> Self
         ensures debts { result.debts ≡ [] }
         ensures accepted { result.accepted ≡ 0 }
@@ -64,14 +62,13 @@ impl HeldDebts {
         self.debts.is_empty()
     }
 
-    // The ticket of the next debt.
     pub(crate) fn next_ticket(&self) -> u64
         ensures { result ≡ self.now.accepted }
     {
         self.accepted
     }
 
-    // Makes room for one more debt. An `Err` changes nothing: memory was refused, or no ticket is left.
+    // Makes room for one more debt. An `Err` changes nothing: memory was refused, or there is no ticket left.
     pub(crate) fn reserve(&mut self) -> Result<(), AllocError>
         ensures room { OnOk result (length self.new.debts < self.new.capacity) }
         ensures ticket { OnOk result (self.new.accepted < u64.MAX) }
@@ -84,7 +81,7 @@ impl HeldDebts {
         self.debts.reserve(1)
     }
 
-    // Takes a debt, where there is room for it.
+    // Takes a debt; there must be room for it.
     pub(crate) fn put(&mut self, debt: Debt)
         requires room { length self.old.debts < self.old.capacity }
         requires ticket { self.old.accepted < u64.MAX }
@@ -97,7 +94,6 @@ impl HeldDebts {
         self.accepted += 1;
     }
 
-    // The index of the debt at that ticket.
     fn index_of(&self, ticket: u64) -> Option<usize>
         ensures { result ≡ position (is_at ticket) self.now.debts }
     {
@@ -106,7 +102,6 @@ impl HeldDebts {
             .ok()
     }
 
-    // The debt at that ticket.
     pub(crate) fn get(&self, ticket: u64) -> Option<&HeldDebt>
         ensures { option_copied result ≡ find (is_at ticket) self.now.debts }
     {
@@ -116,7 +111,6 @@ impl HeldDebts {
         }
     }
 
-    // The debt at that ticket, without its ticket.
     pub(crate) fn debt_at(&self, ticket: u64) -> Option<&Debt>
         ensures { option_copied result
             ≡ option_map (λ (x : Held). x.debt) (find (is_at ticket) self.now.debts) }
@@ -127,7 +121,6 @@ impl HeldDebts {
         }
     }
 
-    // The key of the debt at that ticket.
     pub(crate) fn key_at(&self, ticket: u64) -> Option<Key>
         ensures { result
             ≡ option_map (λ (x : Held). x.debt.0) (find (is_at ticket) self.now.debts) }
@@ -138,7 +131,6 @@ impl HeldDebts {
         }
     }
 
-    // Takes out the debt at that ticket.
     pub(crate) fn take(&mut self, ticket: u64) -> Option<HeldDebt>
         ensures found { result ≡ find (is_at ticket) self.old.debts }
         ensures rest { self.new.debts ≡ remove_key (is_at ticket) self.old.debts }
@@ -153,7 +145,7 @@ impl HeldDebts {
         }
     }
 
-    // Takes out the debt that was offered first.
+    // Removes the debt that was offered first.
     pub(crate) fn take_first(&mut self) -> Option<HeldDebt>
         ensures items { self.old.debts ≡ option_to_list result ++ self.new.debts }
         ensures accepted { self.new.accepted ≡ self.old.accepted }

@@ -1,4 +1,4 @@
-// What is kept of debts: those held, the commands awaited, the articles wanted.
+// What is kept about debts: those held, the commands without an answer, the articles wanted.
 ghost use Rattle.std.specs.Prelude.{◌≡◌};
 
 use crate::codes::Verb;
@@ -47,7 +47,7 @@ impl HeldDebt {
     }
 }
 
-// A command whose answer is awaited, with the ticket of the debt that it is about.
+// A command whose answer is awaited, with the ticket of its debt.
 #[derive(Debug, Drop)]
 pub(crate) struct AwaitedAsk {
     verb: Verb,
@@ -82,7 +82,7 @@ impl AwaitedAsk {
     }
 }
 
-// A wanted article, with the place of its debt.
+// A wanted article, with the ticket of its debt.
 #[derive(Debug, Drop)]
 pub(crate) struct WantedArticle {
     ticket: u64,

@@ -1,9 +1,9 @@
 //! One NNTP connection of a feeder as a value: debts, replies and articles go in; commands and outcomes come out.
 //!
 //! May touch nothing but memory; it stands on `reply_reader` for replies, on `dot_codec` for blocks, on `ledger_core`
-//! for debts. The crates above use `Conn`: each call says what it makes of every transcript that the connection stands
-//! for (`specs/Stands.antt`, over the transcript of `specs/History.antt`). What holds over whole transcripts is in the
-//! crate `conn_laws`.
+//! for debts. The crates above use `Conn`: each call says what it makes of every transcript that the connection
+//! stands for (`specs/Stands.antt`, over the transcript of `specs/History.antt`). What holds over whole transcripts
+//! is in the crate `conn_laws`.
 #![tactic(auto)]
 
 mod article;

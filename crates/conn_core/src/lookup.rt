@@ -1,4 +1,4 @@
-// The first command or want that passes, looked up or taken out: one walk each, which ends there.
+// The first command or want that passes a test, looked up or removed in one walk that ends there.
 ghost use Rattle.std.specs.Prelude.{◌≡◌, ◌+◌, Bool, find, position, is_some, IfNone, MatchOption};
 ghost use Rattle.std.specs.Option.{option_copied};
 ghost use Rattle.std.specs.Set.{remove_key};
@@ -27,8 +27,8 @@ fn names_debt(named: &Option<MsgId>, held: &HeldDebts, ticket: u64) -> bool
     }
 }
 
-// Whether a reply can be the answer to this command: in streaming mode it names the id of its debt too (RFC 4644,
-// sections 2.4 and 2.5).
+// Whether a reply can be the answer to this command: in streaming mode it must also name the id of its debt (RFC
+// 4644, sections 2.4 and 2.5).
 fn can_answer(reply: &Reply, ask: &AwaitedAsk, held: &HeldDebts, mode: Mode) -> bool
     ensures { result ≡ can_answer mode held.now.debts (given_of reply.now) ask.now }
 {
@@ -59,7 +59,6 @@ fn first_of(wanted: &VecDeque<WantedArticle>, key: Key) -> Option<usize>
     wanted.iter().position(|want| want.key() == key)
 }
 
-// Whether there is a want of that key.
 pub(crate) fn is_wanted(wanted: &VecDeque<WantedArticle>, key: Key) -> bool
     ensures { result ≡ is_some (find (is_of key) wanted.now.items) }
 {
@@ -69,7 +68,7 @@ pub(crate) fn is_wanted(wanted: &VecDeque<WantedArticle>, key: Key) -> bool
     }
 }
 
-// Takes out the first command that the reply can answer.
+// Removes the first command that the reply can answer.
 pub(crate) fn take_answered(
     window: &mut VecDeque<AwaitedAsk>,
     held: &HeldDebts,
@@ -91,7 +90,6 @@ pub(crate) fn take_answered(
     }
 }
 
-// The first want of that key.
 fn wanted_of(wanted: &VecDeque<WantedArticle>, key: Key) -> Option<&WantedArticle>
     ensures { option_copied result ≡ find (is_of key) wanted.now.items }
 {
@@ -116,7 +114,6 @@ pub(crate) fn debt_wanting<'a>(
     }
 }
 
-// Takes out the first want of that key.
 pub(crate) fn take_wanted(wanted: &mut VecDeque<WantedArticle>, key: Key) -> Option<WantedArticle>
     ensures found { result ≡ find (is_of key) wanted.old.items }
     ensures rest { wanted.new.items ≡ remove_key (is_of key) wanted.old.items }

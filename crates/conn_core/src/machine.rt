@@ -1,4 +1,4 @@
-// What a connection holds, and one step of it for each event.
+// The state of a connection, and one step of it for each event.
 ghost use Rattle.std.specs.Prelude.{◌≡◌, ◌≤◌, ◌<◌, ◌&&◌, ◌++◌, [], ◌∷◌};
 ghost use Rattle.std.specs.Prelude.{if◌then◌else◌, Option, None, not, length, option_map, slice_get, is_none};
 ghost use Rattle.std.specs.Prelude.{is_some, find, IfOk, IfErr, OnOk, OnErr};
@@ -36,21 +36,20 @@ use std::marker::Model;
 mod answers;
 mod articles;
 
-// What a connection holds at a moment.
 #[derive(Drop)]
 pub(crate) struct Machine {
     options: Options,
     phase: Phase,
     held: HeldDebts,
-    // In the order put out.
+    // In the order in which they were put out.
     window: VecDeque<AwaitedAsk>,
-    // The blocks that unanswered IHAVEs keep.
+    // The blocks of the IHAVEs that have no answer yet.
     blocks: VecDeque<Bytes>,
     // In the order in which they came to be wanted.
     wanted: VecDeque<WantedArticle>,
-    // What is still to be sent. There is room for a QUIT, until it is out.
+    // What is still to be sent. It keeps room for a QUIT until that is out.
     output: BytesMut,
-    // There is room for an outcome of each debt held.
+    // It has room for an outcome of each debt held.
     found: VecDeque<Outcome>,
     closed: Option<Reason>,
     // The key of the debt whose command was the first without an answer when it closed.
@@ -95,7 +94,7 @@ impl Model for Machine {
         × (m.switch.filter ≡ m.options.check_filter) };
 }
 
-// Whether streaming mode stands (RFC 4644, section 2.3).
+// Whether the mode is streaming (RFC 4644, section 2.3).
 fn is_streaming(phase: Phase) -> bool
     ensures { result ≡ is_streaming phase }
 {
@@ -105,7 +104,7 @@ fn is_streaming(phase: Phase) -> bool
     }
 }
 
-// Whether a mode stands, and QUIT is not out.
+// Whether a mode is agreed and QUIT is not out.
 fn is_mode(phase: Phase) -> bool
     ensures { result ≡ is_mode phase }
 {
@@ -115,7 +114,7 @@ fn is_mode(phase: Phase) -> bool
     }
 }
 
-// How many debts may be held (innfeed.conf(5), max-queue-size).
+// The number of debts that may be held (innfeed.conf(5), max-queue-size).
 fn room(options: &Options, phase: Phase) -> u64
     ensures { result ≡ room options.now phase }
 {
@@ -138,7 +137,6 @@ fn mode_in(phase: Phase) -> Option<Mode>
 }
 
 impl Machine {
-    // A machine that holds nothing.
     pub(crate) fn new(alloc: Global, options: Options) -> Result<Self, AllocError>
         ensures { IfOk result (λ m. m ≡ fresh options) }
     {
@@ -160,7 +158,6 @@ impl Machine {
         })
     }
 
-    // Whether a debt can be offered.
     pub(crate) fn ready(&self) -> Ready
         ensures { result ≡ ready_at self.now }
     {
@@ -174,7 +171,7 @@ impl Machine {
         }
     }
 
-    // The mode that stands: none, once closed.
+    // `None` once closed.
     pub(crate) fn mode(&self) -> Option<Mode>
         ensures { result ≡ mode_at self.now }
     {
@@ -184,7 +181,7 @@ impl Machine {
         mode_in(self.phase)
     }
 
-    // Takes a debt, while it is ready. An `Err` hands it back and changes nothing.
+    // Takes a debt if it is ready. An `Err` hands the debt back and changes nothing.
     pub(crate) fn offer(&mut self, debt: Debt) -> Result<(), Debt>
         ensures ok { OnOk result (self.new ≡ offered self.old debt) }
         ensures unchanged { OnErr result (self.new ≡ self.old) }
@@ -197,7 +194,7 @@ impl Machine {
         }
     }
 
-    // Takes a debt, and puts its CHECK out (RFC 4644, section 2.4).
+    // Takes a debt and puts its CHECK out (RFC 4644, section 2.4).
     fn offer_asking(&mut self, debt: Debt) -> Result<(), Debt>
         ensures ok { OnOk result
             (self.new ≡ asked (with_newly self.old debt) (check_of (newly self.old debt))) }
@@ -219,7 +216,7 @@ impl Machine {
         Ok(())
     }
 
-    // Takes a debt, and wants its article at once.
+    // Takes a debt whose article is wanted at once.
     fn offer_wanting(&mut self, debt: Debt) -> Result<(), Debt>
         ensures ok { OnOk result
             (self.new ≡ record (with_newly self.old debt)
@@ -239,7 +236,7 @@ impl Machine {
         Ok(())
     }
 
-    // The key of the first want: none, once closed.
+    // The key of the first want; `None` once closed.
     pub(crate) fn need(&self) -> Option<Key>
         ensures { result
             ≡ (if is_some self.now.closed then None else option_map (λ (want : Want). want.key)
@@ -254,7 +251,7 @@ impl Machine {
         }
     }
 
-    // The debt that the first want is about: none, once closed.
+    // The debt of the first want; `None` once closed.
     pub(crate) fn wanted(&self) -> Option<&Debt>
         ensures { option_copied result
             ≡ (if is_some self.now.closed then None else option_map (λ (x : Held). x.debt)
@@ -269,7 +266,6 @@ impl Machine {
         }
     }
 
-    // Whether it is open and an article of this key is wanted.
     pub(crate) fn needs(&self, key: Key) -> bool
         ensures { result ≡ (is_none self.now.closed
             && is_some (find (is_of key) self.now.wanted)) }
@@ -277,7 +273,7 @@ impl Machine {
         self.closed.is_none() && is_wanted(&self.wanted, key)
     }
 
-    // Puts QUIT out where it is due (RFC 3977, section 5.4).
+    // Puts QUIT out if it is due (RFC 3977, section 5.4).
     fn quit_if_due(&mut self)
         ensures { self.new ≡ quit_if_due self.old }
     {
@@ -287,7 +283,7 @@ impl Machine {
         }
     }
 
-    // Closes for this reason: all that is held comes out from now on.
+    // Closes for this reason: from now on all that is held comes out.
     fn close(&mut self, reason: Reason)
         ensures { self.new ≡ close reason self.old }
     {
@@ -306,28 +302,27 @@ impl Machine {
         }
     }
 
-    // The key of the debt whose command was the first without an answer when it closed.
     pub(crate) fn unanswered(&self) -> Option<Key>
         ensures { result ≡ self.now.unanswered }
     {
         self.unanswered
     }
 
-    // A fault of the reader, while it is open.
+    // The reader found a fault while the connection was open.
     pub(crate) fn on_fault(&mut self, fault: ReplyFault)
         ensures { self.new ≡ on_fault self.old fault }
     {
         self.close(Reason::Reader(fault));
     }
 
-    // Whether an answer is awaited: the greeting, the mode, or that of a command.
+    // Whether an answer is awaited: the greeting, or the answer to MODE STREAM or to a command.
     fn is_awaiting(&self) -> bool
         ensures { result ≡ is_awaiting self.now }
     {
         !is_mode(self.phase) || !self.window.is_empty()
     }
 
-    // A tick: once closed nothing changes.
+    // Once closed, nothing changes.
     pub(crate) fn tick(&mut self, now: u64)
         ensures { self.new ≡ (if is_some self.old.closed then self.old else ticked self.old now) }
     {
@@ -342,7 +337,7 @@ impl Machine {
         self.quit_if_due();
     }
 
-    // It broke: once closed nothing changes.
+    // Once closed, nothing changes.
     pub(crate) fn broken(&mut self)
         ensures { self.new ≡ (if is_some self.old.closed then self.old else close Broken self.old) }
     {
@@ -351,7 +346,7 @@ impl Machine {
         }
     }
 
-    // It is to quit: once closed nothing changes.
+    // Once closed, nothing changes.
     pub(crate) fn quit(&mut self)
         ensures { self.new
             ≡ (if is_some self.old.closed then self.old else asked_to_quit self.old) }
@@ -363,21 +358,19 @@ impl Machine {
         self.quit_if_due();
     }
 
-    // Whether checks are on.
     pub(crate) fn checks(&self) -> bool
         ensures { result ≡ not self.now.off }
     {
         self.switch.checks()
     }
 
-    // Whether a reply answered a command about a debt.
     pub(crate) fn has_answered(&self) -> bool
         ensures { result ≡ self.now.has_answered }
     {
         self.has_answered
     }
 
-    // The octets to be sent: none, once closed.
+    // The octets to be sent; none once closed.
     pub(crate) fn output(&self) -> &[u8]
         ensures { result.now ≡ output_of self.now }
     {
@@ -387,7 +380,7 @@ impl Machine {
         self.output.as_slice()
     }
 
-    // So many of them count as sent: once closed nothing changes.
+    // The first `count` octets count as sent. Once closed, nothing changes.
     pub(crate) fn sent(&mut self, count: usize)
         requires { count ≤ length (output_of self.old) }
         ensures { self.new
@@ -400,7 +393,6 @@ impl Machine {
         skip(&mut self.output, count);
     }
 
-    // The next outcome.
     pub(crate) fn outcome(&mut self) -> Option<Outcome>
         ensures { TakesOne self.old result self.new }
     {

@@ -2,10 +2,10 @@
 use ledger_core::Debt;
 use thiserror::Error;
 
-/// Why a debt was not taken. A closed connection is told first, then a busy one, then the want of memory.
+/// Why a debt was not taken. If several hold, the fault is `Closed` before `Busy` before `NoMemory`.
 #[derive(Clone, Copy, Debug, PartialEq, Eq, Error)]
 pub enum OfferFault {
-    /// No mode stands yet, or as many debts are held as the mode allows.
+    /// No mode is agreed yet, or as many debts are held as the mode allows.
     #[error("Busy")]
     Busy,
     /// The connection is closed, or was asked to quit.

@@ -1,11 +1,11 @@
-// The quiet moment of a connection, from which an answer may be late.
+// The quiet moment of a connection: a wait for an answer is counted from it.
 ghost use Rattle.std.specs.Prelude.{◌≡◌, ◌-◌, ◌&&◌, not, Some, None, false};
 ghost use Rattle.conn_core.specs.History.{moment};
 
-// What ticks go by. The quiet moment is `None` before the first tick.
+// What ticks look at. The quiet moment is `None` before the first tick.
 #[derive(Debug, Drop)]
 pub(crate) struct Clock {
-    // Whether a reply came in, or octets went out, since the last tick.
+    // Whether a reply came in or octets went out since the last tick.
     pub(crate) stirred: bool,
     // In seconds.
     pub(crate) quiet: Option<u64>,
@@ -21,7 +21,7 @@ impl Clock {
         }
     }
 
-    // The moment is this, in seconds. The result is for how long nothing came, where an answer is awaited.
+    // Sets the time, in seconds, and returns for how many seconds nothing came while an answer was awaited.
     pub(crate) fn tick(&mut self, awaiting: bool, now: u64) -> u64
         ensures quiet { self.new
             ≡ record {

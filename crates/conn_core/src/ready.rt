@@ -3,9 +3,9 @@
 /// Whether a debt can be offered.
 #[derive(Clone, Copy, Debug, PartialEq, Eq)]
 pub enum Ready {
-    /// It is taken, where memory suffices.
+    /// It is taken, unless memory is refused.
     Yes,
-    /// Not now: no mode stands yet, or as many are held as the mode allows.
+    /// Not now: no mode is agreed yet, or as many are held as the mode allows.
     Busy,
     /// Never again: the connection is closed, or was asked to quit.
     Shut,

@@ -2,13 +2,13 @@
 use reply_reader::ReplyFault;
 use thiserror::Error;
 
-/// Why a connection closed: the first reason that there was.
+/// Why a connection closed; if there were several reasons, the first.
 #[derive(Clone, Copy, Debug, PartialEq, Eq, Error)]
 pub enum Reason {
-    /// The greeting had this code, and that is neither 200 nor 201 (RFC 3977, section 5.1).
+    /// The greeting had this code, which is neither 200 nor 201 (RFC 3977, section 5.1).
     #[error("unexpected greeting {0}")]
     Greeting(u16),
-    /// What came in is no reply line.
+    /// What came in is not a reply line.
     #[error("not an NNTP reply")]
     Reader(ReplyFault),
     /// A reply answers no command.
@@ -20,7 +20,7 @@ pub enum Reason {
     /// An answer did not come in time.
     #[error("no answer in time")]
     Timeout,
-    /// The caller said that the connection broke, or memory was refused for what came in.
+    /// The caller reported that the link broke, or memory was refused for what came in.
     #[error("connection broken")]
     Broken,
     /// A reply came after QUIT.

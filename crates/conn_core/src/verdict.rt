@@ -3,7 +3,7 @@ ghost use Rattle.std.specs.Prelude.{◌≡◌};
 
 use ledger_core::{Debt, FinalCode};
 
-/// A debt that the peer answered for good, and the answer. A connection alone makes one.
+/// A debt that the peer answered for good, and the answer. Only a connection makes one.
 #[derive(Debug, Drop)]
 pub struct Verdict {
     debt: Debt,
@@ -11,7 +11,6 @@ pub struct Verdict {
 }
 
 impl Verdict {
-    // A verdict of these.
     pub(crate) fn new(debt: Debt, code: FinalCode) -> Self
         ensures debt { result.debt ≡ debt }
         ensures code { result.code ≡ code }
@@ -19,14 +18,12 @@ impl Verdict {
         Verdict { debt, code }
     }
 
-    /// The debt.
     pub fn debt(&self) -> &Debt
         ensures { result.now ≡ self.now.debt }
     {
         &self.debt
     }
 
-    /// The answer.
     pub fn code(&self) -> FinalCode
         ensures { result ≡ self.now.code }
     {

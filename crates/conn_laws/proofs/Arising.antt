@@ -1,5 +1,4 @@
--- What holds of the empty transcript, and goes on holding with each event, holds of every transcript that calls can
--- make.
+-- What holds of the empty transcript and stays true with each event holds of every transcript that calls can make.
 use Rattle.std.proofs.Common.{◌≡◌, ℕ, ◌<◌, Bool, true, false, List, [], ◌∷◌, refl, arith, Option, Some, None}
 use Rattle.std.specs.Prelude.{if◌then◌else◌, is_some, nat_lt}
 use Rattle.std.proofs.lemmas.Bool.{ltb-true}
@@ -53,7 +52,7 @@ quiet-closes options h (Tick now) q = absurd q
 quiet-closes options h Broke q = absurd q
 quiet-closes options h Leave q = absurd q
 
--- a debt is accepted only where a mode stands
+-- a debt is accepted only if a mode is agreed
 abbrev pub MayCome : Options → List Event → Event → Type 0
 MayCome options h (Offered debt) = is_mode (phase options h) ≡ true
 MayCome options h (Put command) = Unit {0}

@@ -1,4 +1,5 @@
--- What holds of a transcript, and whatever is put out that is about no debt, holds behind what an event puts out besides.
+-- If something holds of a transcript, and still does whatever is put out that is about no debt, it holds after all
+-- else that an event puts out.
 use Rattle.std.proofs.Common.{◌≡◌, ℕ, Bool, true, false, List, [], ◌∷◌, ◌++◌, refl, sym, subst, append-nil, Some, None}
 use Rattle.std.specs.Prelude.{◌&&◌, if◌then◌else◌}
 use Rattle.reply_reader.specs.Stream.{Given}

@@ -1,4 +1,4 @@
--- Each command about a debt goes out directly behind its cause.
+-- Each command about a debt goes out directly after its cause.
 use Rattle.std.proofs.Common.{◌≡◌, ℕ, Bool, true, false, List, [], ◌∷◌, ◌++◌, length, length-append, refl, sym, ap}
 use Rattle.std.proofs.Common.{subst, ◌∙◌, arith, find, Option, Some, None, inl, inr, ◌⊎◌}
 use Rattle.std.specs.Prelude.{◌==◌, ◌&&◌, if◌then◌else◌, is_some, not, option_map}

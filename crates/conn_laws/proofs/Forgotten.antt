@@ -335,7 +335,7 @@ event-open : (options : Options) (g : List Event) (e : Event) → ((p : ℕ) →
 event-open options g e all step q running p =
     step (first-none (reason options g) (closes options g e) q (sym (reason-after options g e) ∙ running)) p
 
--- the same, where no notice is taken once closed
+-- the same, if the event is ignored once closed
 outside-open : (options : Options) (g : List Event) (e : Event) → (reason options g ≡ None → (p : ℕ) → Matches options p g)
     → (closes options g e ≡ None → ((p : ℕ) → Matches options p g) → (p : ℕ) → Matches options p (after options g e))
     → (r : Option Reason) → reason options g ≡ r → reason options (outside options g e) ≡ None → (p : ℕ) → Matches options p (outside options g e)

@@ -1,4 +1,4 @@
--- A reply that comes in a mode answers the first open command that it fits, and is a stray where it fits none.
+-- A reply that comes in a mode answers the first open command that it fits, and is a stray if it fits none.
 use Rattle.std.proofs.Common.{◌≡◌, ℕ, suc, zero, ◌+◌, ◌<◌, Bool, true, false, List, [], ◌∷◌, refl, sym, ◌∙◌, arith}
 use Rattle.std.proofs.Common.{Option, Some, None}
 use Rattle.std.specs.Prelude.{◌↔◌, ◌&&◌, if◌then◌else◌, not, slice_get}
@@ -25,7 +25,7 @@ module _ {A : Type 0} where
   later-step true b n x rest target gone e = rw (gone refl) e
   later-step false b n x rest target gone e = e
 
-  -- the first of the items that pass and are not used up is the one that is found
+  -- the first item that passes and is not used up is the one that is found
   pub first_left-from : (test : A → Bool) (used : List ℕ) (n : ℕ) (xs : List A) (k : ℕ) (a : A)
       → slice_get xs k ≡ Some a → test a ≡ true → has used (n + k) ≡ false
       → ((j : ℕ) (y : A) → j < k → slice_get xs j ≡ Some y → test y ≡ true → has used (n + j) ≡ true)
@@ -52,7 +52,7 @@ module _ {A : Type 0} where
   none-step true false n x rest e = cc
   none-step false b n x rest e = (λ f. absurd (false≢true f), e)
 
-  -- where none is found, each item that passes is used up
+  -- if none is found, each item that passes is used up
   pub first_left-none : (test : A → Bool) (used : List ℕ) (n : ℕ) (xs : List A) → first_left test used n xs ≡ None
       → (k : ℕ) (y : A) → slice_get xs k ≡ Some y → test y ≡ true → has used (n + k) ≡ true
   first_left-none test used n [] e k y f good = cc
@@ -66,7 +66,7 @@ module _ {A : Type 0} where
       first_left-none test used (n + 1) xs (none-step (test x) (has used n) n x _ e).1 k y f good in
       rw there at rest
 
-  -- and the other way round
+  -- the converse
   pub first_left-all : (test : A → Bool) (used : List ℕ) (n : ℕ) (xs : List A)
       → ((k : ℕ) (y : A) → slice_get xs k ≡ Some y → test y ≡ true → has used (n + k) ≡ true)
       → first_left test used n xs ≡ None

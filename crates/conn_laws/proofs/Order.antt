@@ -1,4 +1,4 @@
--- What was found comes out first, and behind it, in the order offered, what comes back at the close.
+-- What was found comes out first; what comes back at the close follows it, in the order offered.
 use Rattle.std.proofs.Common.{◌≡◌, ℕ, suc, zero, ◌+◌, ◌<◌, ◌≤◌, Bool, true, false, List, [], ◌∷◌, ◌++◌, refl, sym, ap}
 use Rattle.std.proofs.Common.{◌∙◌, arith, find, Option, Some, None, append_assoc, append-nil}
 use Rattle.std.specs.Prelude.{if◌then◌else◌, slice_index}
@@ -93,7 +93,7 @@ loss-found (Sendable block) (Some x) = tt
 loss-found Gone (Some x) = (refl, tt)
 loss-found Unsendable (Some x) = (refl, tt)
 
--- what comes out by an event but for the close
+-- what an event brings out, apart from the close
 abbrev found_by : Options → List Event → Event → List End
 found_by options h (Came reply) = ends_by_answer (held options h) reply.code (answered_ask options h reply)
 found_by options h (Handed number handing) = ends_by_loss handing (held_wanting h (story options h) number)
@@ -189,7 +189,7 @@ order-starts options = record {
   while_open = λ _. refl;
 }
 
--- of every transcript that calls can make
+-- this holds of every transcript that calls can make
 pub returns_last : (options : Options) (h : List Event) → Arises options h → ReturnsLast options h
 returns_last options h a =
     of-arising options (ReturnsLast options) (order-starts options) (order-quiet options)

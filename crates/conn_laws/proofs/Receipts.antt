@@ -1,4 +1,5 @@
--- Octets that come in are received in one way, in whatever pieces they come; and a found article is handed in as one thing.
+-- Octets that come in are received in one way only, in whatever pieces they come; and a found article is handed in as
+-- one thing only.
 use Rattle.std.proofs.Common.{◌≡◌, ℕ, true, List, [], ◌∷◌, ◌++◌, refl, sym, ap, subst, ◌∙◌, Option, Some, None}
 use Rattle.std.proofs.Common.{append_assoc}
 use Rattle.std.specs.Prelude.{is_some}
@@ -33,7 +34,7 @@ answer-once line line' a b e p q =
     let same = line-once line a.code b.code a.id b.id a.text b.text p.1 moved in
     ap (λ code. made code a.id a.text) same.0 ∙ ap (λ id. made b.code id a.text) same.1 ∙ ap (λ text. made b.code b.id text) same.2
 
--- octets begin with one reply at most
+-- octets begin with at most one reply
 reply-once : (waiting rest rest' : List ℕ) (a b : Given) → BeginsWithReply waiting a rest → BeginsWithReply waiting b rest' → (a ≡ b) × (rest ≡ rest')
 reply-once waiting rest rest' a b (line, parts, says) (line', parts', says') =
     let cut = first_line_once line line' rest rest' says.0.line says'.0.line (sym parts ∙ parts') in
@@ -59,7 +60,7 @@ reply-no-fault waiting rest reply NoCode (line, parts, says) (line', rest', part
 reply-no-fault waiting rest reply NoMemory says f = f
 reply-no-fault waiting rest reply Failed says f = f
 
--- octets begin with one fault at most
+-- octets begin with at most one fault
 fault-once : (waiting : List ℕ) (a b : ReplyFault) → BeginsWithFault waiting a → BeginsWithFault waiting b → a ≡ b
 fault-once waiting TooLong TooLong p q = refl
 fault-once waiting TooLong NoCode p (line, rest, parts, few, none) = absurd (short-is-not-long waiting line rest parts few p)
@@ -76,7 +77,7 @@ shut-not-open : (r : Option Reason) → is_some r ≡ true → r ≡ None → �
 shut-not-open None e q = false≢true e
 shut-not-open (Some why) e q = cc
 
--- behind the close nothing is taken and nothing held back
+-- after the close nothing is taken and nothing held back
 closed-still : (options : Options) (waiting left : List ℕ) (h later : List Event) → Receives options waiting h later left → is_some (reason options h) ≡ true
     → (later ≡ h) × (left ≡ [])
 closed-still options waiting left h later (Is_closed w g shut) e = (refl, refl)
@@ -93,7 +94,7 @@ fault-shuts : (options : Options) (h : List Event) (fault : ReplyFault) → is_s
 fault-shuts options h fault =
     subst (λ (r : Option Reason). is_some r ≡ true) (sym (reason-after options h (Faulted fault))) (some-now (reason options h) (Reader fault))
 
--- more octets behind
+-- more octets at the end
 begins-more : (waiting rest second : List ℕ) (reply : Given) → BeginsWithReply waiting reply rest → BeginsWithReply (waiting ++ second) reply (rest ++ second)
 begins-more waiting rest second reply (line, parts, says) = (line, ap (λ u. u ++ second) parts ∙ append_assoc line (10 ∷ rest) second, says)
 
@@ -146,7 +147,7 @@ reads-once options waiting rest behind h last reply (Reads w other l g end reply
     (subst (λ b. Receives options b (after options g (Came reply')) end l) same.1 more)
 reads-once options waiting rest behind h last reply (Fails w g fault running begins) still says = absurd (reply-no-fault w behind reply fault says begins)
 
--- a fault is told
+-- a fault is found
 fails-once : (options : Options) (waiting rest : List ℕ) (h last : List Event) (fault : ReplyFault) → Receives options waiting h last rest → reason options h ≡ None
     → BeginsWithFault waiting fault → (last ≡ after options h (Faulted fault)) × (rest ≡ [])
 fails-once options waiting rest h last fault (Is_closed w g shut) still fails = absurd (shut-not-open (reason options g) shut still)

@@ -1,5 +1,5 @@
--- Each verdict and each deferral is what a reply says to an unanswered command of that debt, each loss is what was
--- handed in for it, and what comes back was held as the connection was closed.
+-- Each verdict and each deferral is what a reply says to a command of that debt without an answer, each loss is what
+-- was handed in for it, and what comes back was held when the connection was closed.
 use Rattle.std.proofs.Common.{◌≡◌, ℕ, ◌+◌, Bool, true, false, List, [], ◌∷◌, refl, sym, ap, subst, ◌∙◌, arith, find}
 use Rattle.std.proofs.Common.{Option, Some, None}
 use Rattle.std.specs.Prelude.{◌==◌, ◌||◌, if◌then◌else◌, is_some, option_map}
@@ -94,7 +94,7 @@ right-more options h e ticket (Back debt) r = returned-more options h e ticket r
 abbrev IsRight : Options → List Event → End → Type 0
 IsRight options h x = IsRightAt options h x.ticket x.outcome
 
--- an answer comes only where a mode stands
+-- an answer comes only if a mode is agreed
 answer-mode : (p : Phase) (reply : Given) (done : List ℕ) (sent : List Ask) (command : ℕ × Ask)
     → answered_now p reply done sent ≡ Some command → is_mode p ≡ true
 answer-mode Greeting reply done sent command e = cc
@@ -314,7 +314,7 @@ right-starts : (options : Options) → AllRight options []
 unfolding story
 right-starts options = tt
 
--- of every transcript that calls can make
+-- this holds of every transcript that calls can make
 pub all_right : (options : Options) (h : List Event) → Arises options h → AllRight options h
 all_right options h a =
     of-arising options (AllRight options) (right-starts options)

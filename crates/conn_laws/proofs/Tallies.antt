@@ -1,4 +1,4 @@
--- Sums over the items of a list of which some are used up, and over the commands and the wants of a transcript.
+-- Sums over a list some of whose items are used up, and over the commands and the wants of a transcript.
 use Rattle.std.proofs.Common.{◌≡◌, ℕ, ◌+◌, ◌≤◌, Bool, true, false, List, [], ◌∷◌, ◌++◌, length, refl, sym, ap, subst}
 use Rattle.std.proofs.Common.{◌∙◌, arith, find, Option, Some, None, cond, map}
 use Rattle.std.specs.Prelude.{◌==◌, ◌&&◌, if◌then◌else◌, option_map}
@@ -39,14 +39,14 @@ module _ {A : Type 0} where
   tally-removed f test [] a e = cc
   tally-removed f test (x ∷ xs) a e = removed-step (test x) f x a _ xs (remove_key test xs) e (tally-removed f test xs a)
 
-  -- one ticket more is used up
+  -- one more ticket is used up
   pub tally-used : (f : A → ℕ) (test : A → Bool) (used : List ℕ) (xs : List A) (i : ℕ) (a : A) → first_left test used 0 xs ≡ Some (i, a)
       → tally f (left_from 0 xs (i ∷ used)) + f a ≡ tally f (left_from 0 xs used)
   tally-used f test used xs i a e =
       let at : find test (left_from 0 xs used) ≡ Some a = find-left_from test used 0 xs ∙ ap (λ (o : Option (ℕ × A)). option_map (λ (x : ℕ × A). x.1) o) e in
       subst (λ left. tally f left + f a ≡ tally f (left_from 0 xs used)) (sym (left_from-used test used 0 xs i a e)) (tally-removed f test (left_from 0 xs used) a at)
 
-  -- one item more is left
+  -- one more item is left
   pub tally-more : (f : A → ℕ) (used : List ℕ) (xs : List A) (x : A) → AllBelow used (length xs)
       → tally f (left_from 0 (xs ++ x ∷ []) used) ≡ tally f (left_from 0 xs used) + f x
   tally-more f used xs x below =
@@ -58,7 +58,7 @@ module _ {A : Type 0} where
   times-tally ticket [] p = refl
   times-tally ticket (x ∷ xs) p = ap (λ n. (if ticket x == p then 1 else 0) + n) (times-tally ticket xs p)
 
--- what a command counts that is about the debt at a ticket and has such a verb
+-- 1 for a command about the debt at a ticket with such a verb
 abbrev pub asked : (Verb → Bool) → ℕ → Ask → ℕ
 asked test p ask = if test ask.verb && ask.ticket == p then 1 else 0
 

@@ -1,4 +1,4 @@
--- Nothing is put out twice: what is still to come of a debt, with what is out, is one of each.
+-- Nothing is put out twice: what may still come of a debt, with what is out, is one of each.
 use Rattle.std.proofs.Common.{◌≡◌, ℕ, ◌+◌, ◌≤◌, Bool, true, false, List, [], ◌∷◌, ◌++◌, length, refl, sym, ap, subst}
 use Rattle.std.proofs.Common.{◌∙◌, arith, find, Option, Some, None, cond, append-nil, length-append}
 use Rattle.std.specs.Prelude.{◌==◌, ◌&&◌, if◌then◌else◌, is_some, nat_lt, option_map}
@@ -46,7 +46,7 @@ record Budget (p count : ℕ) (out open_ones : List Ask) (wants : List Want) : T
   blocks : to_come p count + tally (asked (is_verb Check) p) open_ones + tally (wants_at p) wants + tally (asked (is_verb Ihave) p) open_ones
       + tally (asked sends_block p) out ≤ 1
 
--- and there is room for one command more
+-- there is room for one more command
 record Room (p count : ℕ) (out open_ones : List Ask) (wants : List Want) (ask : Ask) : Type 0 where
   checks : to_come p count + (tally (asked (is_verb Check) p) out + asked (is_verb Check) p ask) ≤ 1
   offered : to_come p count + (tally (asked (is_verb Check) p) open_ones + asked (is_verb Check) p ask) + tally (wants_at p) wants
@@ -79,7 +79,7 @@ unfolding story
 put-other options p g command same b =
     subst (λ xs. Budget p (length (accepted g)) xs (left_from 0 xs (answered options g)) (wanted options g)) (sym same) b
 
--- one debt more is accepted
+-- one more debt is accepted
 come-less : (p n : ℕ) → to_come p (n + 1) + one_at p n ≡ to_come p n
 come-less p n = grind (arith, nat_tests)
 
@@ -103,7 +103,7 @@ new-check p m out open_ones wants x e b =
     let z = b.blocks in
     record { checks = omega (arith, less, k); offered = omega (arith, less, o); blocks = omega (arith, less, z) }
 
--- what is wanted behind a debt that is accepted
+-- what is wanted after a debt is accepted
 pub offered-wanted : (options : Options) (h : List Event) (debt : Owing) (b : Bool) → wants_at_once options h ≡ b
     → wanted options (Offered debt ∷ h) ≡ left_from 0 (if b then (story options h).wants ++ want_of (newcomer h debt) ∷ [] else (story options h).wants) (story options h).handed
 unfolding story
@@ -184,7 +184,7 @@ module _ (p n : ℕ) (out old new : List Ask) (wants : List Want) (a : Ask)
       let one : asked (is_verb Ihave) p a ≡ one_at p a.ticket = asked-is Ihave p a refl is_ihave in
       record { checks = omega (arith, k); offered = omega (arith, checks_less, o); blocks = omega (arith, checks_less, ihaves_less, one, z) }
 
--- what is wanted behind a reply
+-- what is wanted after a reply
 pub came-wanted : (options : Options) (h : List Event) (reply : Given) (o : Option (ℕ × Ask)) → answered_ask options h reply ≡ o
     → wanted options (Came reply ∷ h) ≡ left_from 0 ((story options h).wants ++ wants_by_answer (held options h) reply.code o) (story options h).handed
 unfolding story
@@ -356,7 +356,7 @@ keeps options p h (Goes_on g Leave a can) =
 keeps options p h (Goes_on g (Put command) a never) = absurd never
 keeps options p h (Goes_on g Taken a few) = taken-keeps options p g (keeps options p g a)
 
--- one of two verbs is the other
+-- of two verbs, one is the other
 less-step : (a b c : Bool) → (a ≡ true → b ≡ true) → (if a && c then 1 else 0) ≤ (if b && c then 1 else 0)
 less-step false b c e = omega arith
 less-step true b c e = rw (e refl) (omega arith)

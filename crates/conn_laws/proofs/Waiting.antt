@@ -1,5 +1,5 @@
 -- Octets that wait are part of a reply line, or begin with a fault or a reply, and only one of these; a line of the
--- funnel is good or has a fault.
+-- funnel is valid or has a fault.
 use Rattle.std.proofs.Common.{◌≡◌, ◌≢◌, ◌⊎◌, ℕ, ◌≤◌, List, [], ◌∷◌, ◌++◌, length, refl, sym, ap, ◌∙◌, arith, subst, inl}
 use Rattle.std.proofs.Common.{inr}
 use Rattle.std.specs.Prelude.{IsTrue, filter}

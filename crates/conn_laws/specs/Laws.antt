@@ -49,13 +49,13 @@ AllNameTheirDebt h =
 abbrev pub AllAreTheirOwn : Options → List Event → Type 0
 AllAreTheirOwn options h = AllByRecursion (λ (x : End). slice_get (accepted h) x.ticket ≡ Some (debt_in x.outcome)) (ends options h)
 
--- whether a reply fits a command: in streaming mode by its code and its id, else by its code (RFC 4644, sections 2.4 and
--- 2.5; RFC 3977, section 6.3.2)
+-- whether a reply fits a command: in streaming mode by its code and its id, otherwise by its code (RFC 4644, sections
+-- 2.4 and 2.5; RFC 3977, section 6.3.2)
 abbrev pub fits_in : (streaming : Bool) → Given → Ask → Bool
 fits_in streaming reply ask = if streaming then fits_ask reply ask else belongs_to reply ask
 
--- a mode stands, and of the commands put out this is the first that the reply fits and that no earlier reply answers (RFC
--- 4644, sections 2.4 and 2.5)
+-- a mode is agreed, and of the commands put out this is the first that the reply fits and that no earlier reply
+-- answers (RFC 4644, sections 2.4 and 2.5)
 pub record IsFirstOpen (options : Options) (h : List Event) (reply : Given) (command : ℕ × Ask) : Type 0 where
   pub mode : is_mode (phase options h) ≡ true
   pub is_command : slice_get (asks h) command.0 ≡ Some command.1
@@ -84,14 +84,14 @@ pub record IsAnswered (options : Options) (h : List Event) (ticket : ℕ) (code 
   pub code_is : reply.code ≡ code
   pub meant : meaning command.1.verb code ≡ Some says
 
--- why a debt is lost by what is handed in for it: the article is gone, or its text can't be sent (profile)
+-- why what is handed in for a debt loses it: the article is gone, or its text cannot be sent (profile)
 abbrev pub cause_of : Handing → Option Cause
 cause_of (Sendable block) = None
 cause_of Gone = Some Missing
 cause_of Unsendable = Some Unfit
 
--- an article of the debt's key was handed in for that very debt, whose want was the first of the key, and this was why it is
--- lost (profile)
+-- an article of the debt's key was handed in for that very debt, whose want was the first of the key, and this is why
+-- it was lost (profile)
 pub record IsLost (options : Options) (h : List Event) (ticket : ℕ) (debt : Owing) (cause : Cause) : Type 0 where
   pub later : List Event
   pub earlier : List Event
@@ -115,8 +115,9 @@ pub record IsReturned (options : Options) (h : List Event) (ticket : ℕ) : Type
   pub closing : is_some (closes options earlier event) ≡ true
   pub was_held : times_held options earlier ticket ≡ 1
 
--- an outcome is right: a final answer says what the verdict says, and a later answer what the deferral does; an article that is
--- lost was handed in as that; what comes back was held as the connection was closed (RFC 3977, section 6.3.2; RFC 4644, section 2)
+-- An outcome is right: a final answer says what the verdict says, and an answer that asks for it later what the
+-- deferral says; an article that is lost was handed in as that; what comes back was held when the connection was
+-- closed (RFC 3977, section 6.3.2; RFC 4644, section 2).
 abbrev pub IsRightAt : Options → List Event → ℕ → Outcome → Type 0
 IsRightAt options h ticket (Ended_by verdict) = IsAnswered options h ticket (code_number verdict.code) (Final verdict.code)
 IsRightAt options h ticket (Deferred deferral) = (code : ℕ) × IsAnswered options h ticket code Later
@@ -134,8 +135,8 @@ is_back (Deferred deferral) = false
 is_back (Lost debt cause) = false
 is_back (Back debt) = true
 
--- first comes out what was found, and behind it, in the order offered, what came back: nothing, while the connection is open
--- (profile)
+-- What was found comes out first; what came back follows it, in the order offered; nothing comes back while the
+-- connection is open (profile).
 pub record ReturnsLast (options : Options) (h : List Event) : Type 0 where
   pub found : List End
   pub returned : List End
@@ -167,8 +168,8 @@ pub record IsCheckOf (options : Options) (h : List Event) (debt : Owing) (ask : 
   pub on : checks options h ≡ true
   pub check : ask ≡ check_of (newcomer h debt)
 
--- a TAKETHIS while streaming, else an IHAVE, with the block that is handed in now for the first want of that key, which is of
--- that very debt (RFC 4644, section 2.5; RFC 3977, section 6.3.2)
+-- a TAKETHIS while streaming, otherwise an IHAVE, with the block that is handed in now for the first want of that
+-- key, which is that very debt's (RFC 4644, section 2.5; RFC 3977, section 6.3.2)
 pub record IsHandedFor (options : Options) (h : List Event) (number : ℕ) (handing : Handing) (ask : Ask) : Type 0 where
   pub want : ℕ × Want
   pub first : first_want (story options h) number ≡ Some want
@@ -199,7 +200,7 @@ IsCausedBy options (Broke ∷ h) ask = ⊥
 IsCausedBy options (Leave ∷ h) ask = ⊥
 IsCausedBy options (Taken ∷ h) ask = ⊥
 
--- each command about a debt went out directly behind its cause (profile)
+-- each command about a debt went out directly after its cause (profile)
 abbrev pub AllHaveTheirCause : Options → List Event → Type 0
 AllHaveTheirCause options [] = Unit {0}
 AllHaveTheirCause options (Put (Asks ask) ∷ h) = IsCausedBy options h ask × AllHaveTheirCause options h

@@ -1,12 +1,12 @@
 //! What holds of one connection over its whole transcript, whatever calls come in whatever order: each debt comes out
-//! once, as what was answered, and in the order offered where it comes back; none is forgotten; nothing is put out
+//! once, as what it was answered, and in the order offered if it comes back; none is forgotten; nothing is put out
 //! twice or without its cause; and octets may come in any pieces. `readings` has the same for what is read: one
 //! reading, or one fault.
 //!
 //! Runs nothing: each function has an empty body, and its contract is a law on the definitions of `conn_core`, above
 //! all `StandsFor` (`conn_core/specs/Stands.antt`), by which each call of `Conn` says what it makes of a transcript.
-//! The words that the laws add are in `specs/Laws.antt`. The crate stands beside the station and not below it: whoever
-//! promises something of a whole exchange, and not of one call, cites these laws.
+//! The definitions that the laws add are in `specs/Laws.antt`. The crate stands beside `peer_queue` and not below it:
+//! a crate that promises something of a whole exchange, and not of one call, cites these laws.
 #![tactic(auto)]
 
 pub mod readings;
@@ -29,8 +29,8 @@ ghost use Rattle.conn_laws.specs.Laws.{FitsNoneOpen, IsFirstOpen, ReturnsLast};
 ghost use Rattle.conn_laws.specs.Laws.{is_mode_stream, is_quit, is_verb, offers_article, sends_block};
 ghost use Rattle.conn_laws.specs.Laws.{open_commands, open_wants, times_asked, times_held, times_out, times_put};
 
-/// Each debt accepted is held or came out, once: so it comes out at most once, and once closed exactly once. What
-/// comes out is the debt that was accepted.
+/// Each debt accepted is held or came out, once: it comes out at most once, and exactly once if the connection is
+/// closed. What comes out is the debt that was accepted.
 pub fn each_debt_comes_out_once()
     ensures at_most { (options : Options) (h : List Event) (ticket : ℕ)
         → times_out options h ticket ≤ 1 }
@@ -44,18 +44,18 @@ pub fn each_debt_comes_out_once()
     ensures own { (options : Options) (h : List Event) → AllAreTheirOwn options h }
 {}
 
-/// What was found comes out first, and behind it, in the order offered, what comes back: nothing does while the
+/// What was found comes out first; what comes back follows it, in the order offered. Nothing comes back while the
 /// connection is open.
 pub fn returns_come_last_in_order()
     ensures { (options : Options) (conn : Holding) (unread : List ℕ) (h : List Event)
         → StandsFor options conn unread h → ReturnsLast options h }
 {}
 
-/// A verdict is a final answer to a command about that very debt which had none, a deferral a later one; for a debt
-/// that is lost an article of its key was handed in, and that was gone or could not be sent; and a debt that comes
-/// back was held as the connection was closed. A reply answers a command exactly where a mode stands and it is the
-/// first that the reply fits of those without an answer; and in a mode the reply is a stray, and closes the connection
-/// as one, exactly where it fits none.
+/// A verdict rests on a final answer to a command about that very debt which had none before, a deferral on an answer
+/// that asks for it later. If a debt is lost, an article of its key was handed in for it that was gone or could not
+/// be sent. A debt that comes back was held when the connection was closed. A reply answers a command exactly if a
+/// mode is agreed and the command is the first without an answer that the reply fits; in a mode the reply is a stray,
+/// and closes the connection as one, exactly if it fits none.
 pub fn verdicts_are_right()
     ensures right { (options : Options) (conn : Holding) (unread : List ℕ) (h : List Event)
         → StandsFor options conn unread h → AllRight options h }
@@ -67,10 +67,10 @@ pub fn verdicts_are_right()
         → FitsNoneOpen options h reply ↔ closes options h (Came reply) ≡ Some (stray reply.code) }
 {}
 
-/// Each command about a debt goes out directly behind its cause: a CHECK behind the debt's acceptance, in streaming
-/// mode while checks are on; a TAKETHIS or an IHAVE behind the article that is handed in for that very debt, whose
-/// article was wanted since its acceptance, where no CHECK goes before it, or since a 238 to its CHECK; a block behind
-/// a 335 to its IHAVE.
+/// Each command about a debt goes out directly after its cause: a CHECK after the debt's acceptance, in streaming
+/// mode while checks are on; a TAKETHIS or an IHAVE after the article that is handed in for that very debt, whose
+/// article was wanted since its acceptance if no CHECK goes before it, or since a 238 to its CHECK; a block after a
+/// 335 to its IHAVE.
 pub fn commands_have_their_cause()
     ensures { (options : Options) (conn : Holding) (unread : List ℕ) (h : List Event)
         → StandsFor options conn unread h → AllHaveTheirCause options h }
@@ -92,7 +92,7 @@ pub fn no_debt_is_forgotten()
 {}
 
 /// Nothing is put out twice: no command of one verb about one debt, no block of one debt, neither MODE STREAM nor
-/// QUIT. And a debt gets a TAKETHIS or an IHAVE, never both.
+/// QUIT. A debt gets a TAKETHIS or an IHAVE, never both.
 pub fn nothing_is_put_out_twice()
     ensures asks { (options : Options) (conn : Holding) (unread : List ℕ) (h : List Event)
         (ticket : ℕ) (verb : Verb) → StandsFor options conn unread h
@@ -109,8 +109,8 @@ pub fn nothing_is_put_out_twice()
         → StandsFor options conn unread h → times_put is_quit (put_out h) ≤ 1 }
 {}
 
-/// The octets that come in decide, and not the pieces that they come in: two pieces, one after another, are what they
-/// are as one. And octets are received in one way only.
+/// The octets that come in decide, and not the pieces in which they come: two pieces, one after another, give what
+/// they give as one. Octets are received in one way only.
 pub fn cut_anyhow()
     ensures joined { (options : Options) (unread first left second rest : List ℕ)
         (h later last : List Event) → Receives options (unread ++ first) h later left
@@ -121,7 +121,7 @@ pub fn cut_anyhow()
         → (later ≡ last) × (left ≡ rest) }
 {}
 
-/// What a found article is handed in as.
+/// A found article is handed in as one thing only.
 pub fn handed_once()
     ensures { (found : Found) (handing other : Handing)
         → IsHandedAs found handing → IsHandedAs found other → handing ≡ other }

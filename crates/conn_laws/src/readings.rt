@@ -1,12 +1,12 @@
-// What is read has one reading or one fault: octets that wait for a reply, and the lines of the funnel.
+// What is read has one reading or one fault: octets that wait for a reply, and lines of the funnel.
 ghost use Rattle.std.specs.Prelude.{◌≡◌, ◌≢◌, ◌⊎◌, ℕ, List};
 ghost use Rattle.funnel.specs.Line.{HasFault, IsFunnelLine};
 ghost use Rattle.funnel.specs.declared.line.LineFault.{LineFault};
 ghost use Rattle.funnel.specs.declared.line.LineFault.TheVariants.{NoMemory};
 ghost use Rattle.reply_reader.specs.Stream.{BeginsWithNoReply, BeginsWithReply, Given, IsFaulty, IsShort, IsTooLong};
 
-/// Octets that wait to be read are part of a reply line, or begin with a fault, or with a reply: always one of these,
-/// and never two. So there is a fault only where the octets have no reading. The two faults exclude each other.
+/// Octets that wait to be read are part of a reply line, or begin with a fault, or begin with a reply: always one of
+/// these, and never two. So there is a fault only if the octets have no reading. The two faults exclude each other.
 pub fn waiting_reads_once()
     ensures some { (unread : List ℕ) → IsShort unread ⊎ (IsFaulty unread
         ⊎ ((given : Given) × (rest : List ℕ) × BeginsWithReply unread given rest)) }
@@ -18,7 +18,7 @@ pub fn waiting_reads_once()
     ensures one { (unread : List ℕ) → IsTooLong unread → BeginsWithNoReply unread → ⊥ }
 {}
 
-/// A funnel line is good or has a fault of its own, and never both; and it has one fault at most. Want of memory is no
+/// A funnel line is valid or has a fault of its own, and never both; it has at most one fault. Want of memory is no
 /// fault of the line.
 pub fn line_has_one_fault()
     ensures either { (line : List ℕ)

@@ -43,7 +43,7 @@ pub record Sized (octets rest : List ℕ) (text : ℕ) : Type 0 where
   pub size : text ≡ length (text_of lines)
   pub bound : text + length rest ≤ length octets
 
--- what next_line tells of a line
+-- what next_line returns for a line
 abbrev pub HasLineForm : List ℕ → List ℕ → List ℕ → Type 0
 HasLineForm octets line next = (form : List ℕ) × (octets ≡ form ++ 13 ∷ 10 ∷ next) × IsLine line × IsLineForm line form
 

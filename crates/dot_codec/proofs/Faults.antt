@@ -1,4 +1,4 @@
--- Octets have one fault, and none where a read form begins them.
+-- Octets have at most one fault, and none if they begin with a read form.
 use Rattle.std.proofs.Common.{◌≡◌, ℕ, List, [], ◌∷◌, ◌++◌, refl, sym, ◌∙◌, ap, subst, inl, inr, Result, Err}
 use Rattle.dot_codec.specs.Block.{end_of_block, HasForms, IsReadForm}
 use Rattle.dot_codec.specs.Fault.{IsFaultAt, IsFaultyLine, HasBlockFault}
@@ -15,7 +15,7 @@ fault_ends BareLf tail (rest, is) = subst EndsRun (sym is) refl
 fault_ends Nul tail (rest, is) = subst EndsRun (sym is) refl
 fault_ends NoMemory tail at = absurd at
 
--- no fault is at CR LF
+-- CR LF is not a fault
 fault_no_end : (fault : BlockFault) (tail next : List ℕ) → IsFaultAt fault tail → tail ≡ 13 ∷ 10 ∷ next → ⊥
 fault_no_end Unfinished tail next at is = elim at [ inl none ↦ cc | inr cr ↦ cc ]
 fault_no_end BareCr tail next (octet, rest, at, other) is = other (cc (at, is))
@@ -69,7 +69,7 @@ no_fault_at_end fault rest (body, tail, is, line, at) =
     let cut = cut_once (46 ∷ []) body (13 ∷ 10 ∷ rest) tail refl line refl (fault_ends fault tail at) is in
     fault_no_end fault tail rest at (sym cut.1)
 
--- where a read form begins the octets, they have no fault
+-- octets that begin with a read form have no fault
 pub form_has_no_fault : (fault : BlockFault) (lines : List (List ℕ)) (octets form rest : List ℕ) → IsReadForm lines form → octets ≡ form ++ rest → HasBlockFault octets fault → ⊥
 form_has_no_fault fault lines octets form rest read is (lines', rest', has', faulty) =
     let has = subst (λ (o : List ℕ). HasForms lines o (end_of_block ++ rest)) (sym is) (forms_follow lines form end_of_block rest read) in
@@ -83,6 +83,6 @@ told_first {X} named fault octets has = (
   λ other. ap Err (fault_once named fault octets has other),
 )
 
--- what a read form begins has none
+-- octets that begin with a read form give no fault
 pub told_none : {P : Type 0} (fault : BlockFault) (lines : List (List ℕ)) (octets form rest : List ℕ) → (P → ⊥) → IsReadForm lines form → octets ≡ form ++ rest → (P → HasBlockFault octets fault) × (HasBlockFault octets fault → P)
 told_none fault lines octets form rest never read is = (λ p. absurd (never p), λ has. absurd (form_has_no_fault fault lines octets form rest read is has))

@@ -1,4 +1,4 @@
--- Read forms: none begins another one, and the written form is one.
+-- Read forms: none is the beginning of another, and the written form is one.
 use Rattle.std.proofs.Common.{◌≡◌, ℕ, false, List, [], ◌∷◌, ◌++◌, length, refl, sym, ◌∙◌, ap, subst, inl, inr, ⊎_elim, arith, append_assoc}
 use Rattle.std.specs.List.{AllByRecursion}
 use Rattle.std.proofs.lemmas.Bool.{both_ways, cases_Bool, cond-true, cond-false}
@@ -14,7 +14,7 @@ form_is_line line form is_line is_form = elim is_form [
   | inr dotted ↦ subst IsLine (sym dotted.0) (IsLine-cons 46 line refl is_line)
 ]
 
--- a line that stands as it is doesn't begin with a dot
+-- a line that is read as it is does not begin with a dot
 no_dot : (line rest : List ℕ) → begins_with_dot line ≡ false → line ≡ 46 ∷ rest → ⊥
 no_dot line rest plain is = both_ways (begins_with_dot line) plain (ap begins_with_dot is)
 
@@ -32,7 +32,7 @@ dot_is_no_form line form is_form dot = elim is_form [
   | inr dotted ↦ absurd (let none : line ≡ [] = cc (dotted.0, dot) in omega (arith, ap length none, dotted.1))
 ]
 
--- the first run of these octets ends so that no form of a line stands there
+-- after the first run of these octets there is no form of a line
 pub record IsFinal (octets : List ℕ) : Type 0 where
   pub body : List ℕ
   pub tail : List ℕ
@@ -63,7 +63,7 @@ forms_once (line ∷ a) (line' ∷ b) octets p q (form, next, is, is_line, is_fo
     let rests = forms_once a b next' p q (subst (λ (n : List ℕ). HasForms a n p) nexts more) more' final_p final_q in
     (cc (lines, rests.0), rests.1)
 
--- behind a form stand the other forms
+-- the other forms follow a form
 pub forms_behind : (octets line next behind : List ℕ) (lines : List (List ℕ)) → (form : List ℕ) × (octets ≡ form ++ 13 ∷ 10 ∷ next) × IsLine line × IsLineForm line form → HasForms lines octets (end_of_block ++ behind) → (more : List (List ℕ)) × (lines ≡ line ∷ more) × HasForms more next (end_of_block ++ behind)
 forms_behind octets line next behind [] (form, is, is_line, is_form) has =
     absurd (no_form_at_final line form next (end_of_block ++ behind) (end_is_final behind) is_line is_form (sym has ∙ is))
@@ -73,13 +73,13 @@ forms_behind octets line next behind (line' ∷ more) (form, is, is_line, is_for
     let lines : line ≡ line' = form_once line line' form is_form (subst (λ (f : List ℕ). IsLineForm line' f) (sym cut.0) is_form') in
     (more, cc (lines), subst (λ (n : List ℕ). HasForms more n (end_of_block ++ behind)) (sym nexts) has)
 
--- what follows the octets follows the rest
+-- octets that are added at the end are added to the rest
 pub forms_follow : (lines : List (List ℕ)) (octets rest more : List ℕ) → HasForms lines octets rest → HasForms lines (octets ++ more) (rest ++ more)
 forms_follow [] octets rest more has = ap (λ (o : List ℕ). o ++ more) has
 forms_follow (line ∷ lines) octets rest more (form, next, is, is_line, is_form, has) =
     (form, next ++ more, ap (λ (o : List ℕ). o ++ more) is ∙ append_assoc form (13 ∷ 10 ∷ next) more, is_line, is_form, forms_follow lines next rest more has)
 
--- one form more
+-- one more form
 pub forms_more : (lines : List (List ℕ)) (octets rest line form next : List ℕ) → HasForms lines octets rest → rest ≡ form ++ 13 ∷ 10 ∷ next → IsLine line → IsLineForm line form → HasForms (lines ++ line ∷ []) octets next
 forms_more [] octets rest line form next has is is_line is_form = (form, next, has ∙ is, is_line, is_form, refl)
 forms_more (first ∷ lines) octets rest line form next (form', next', is', is_line', is_form', has) is is_line is_form =

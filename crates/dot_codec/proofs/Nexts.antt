@@ -1,4 +1,4 @@
--- A loop that takes lines while there are any, where an error counts as none.
+-- A loop that takes lines while there are any; an error counts as none.
 use Rattle.std.proofs.Common.{◌≡◌, ℕ, List, ◌++◌, Option, Some, None, Result, Ok, Err, sym, subst}
 use Rattle.std.specs.Option.{IfSome, IfNone}
 use Rattle.std.specs.Result.{IfOk, IfErr, result_unwrap_or}

@@ -1,4 +1,4 @@
--- Where LF stands in a text, and the lines between them.
+-- The indexes of LF in a text, and the lines between them.
 use Rattle.std.proofs.Common.{◌≡◌, ◌⊎◌, ℕ, zero, suc, ◌+◌, ◌-◌, ◌<◌, ◌≤◌, Bool, true, false, List, [], ◌∷◌, ◌++◌, length, get_or, slice_index, take, drop, refl, sym, ◌∙◌, ap, subst, inl, inr, ⊎_elim, arith, ◌==◌, ◌||◌, add-one, append_assoc, length-drop, drop-cons, take_all, le_refl}
 use Rattle.std.proofs.lemmas.Bool.{both_ways, eqb-true, cases_Bool, cond-true, cond-false, and_parts, or_left, or_right, not_from_true, false_from_ne_true}
 use Rattle.std.proofs.lemmas.List.{drop_all, get_or-drop}
@@ -9,7 +9,7 @@ use Rattle.dot_codec.specs.Lines.{is_line_octet, IsLine, IsFirstLine, HasLines}
 use Rattle.dot_codec.specs.Block.{stuffed, written, end_of_block}
 use Rattle.dot_codec.proofs.Counts.{Wrote, wrote_more, wrote_all}
 
--- the head of the places from i on is the first of them, and the others stand behind it
+-- the first of the indexes from i on, and the others after it
 pub first_place : (test : ℕ → Bool) (hay : List ℕ) (i n at : ℕ) (more : List ℕ) → places_from test hay i n ≡ at ∷ more → NoneBefore (Passes test hay) i (i + n) at × (Passes test hay at) × (more ≡ places_between test hay (at + 1) (i + n))
 unfolding places_from
 first_place test hay i zero at more is = cc
@@ -46,7 +46,7 @@ first_place test hay i (suc n) at more is = ⊎_elim
     from_low (suc i) zero low = absurd (omega arith)
     from_low (suc i) (suc k) low = ⊎_elim (λ same. inl (ap suc same)) (λ above. inr (omega arith)) (from_low i k (omega arith))
 
--- no places, no octet that passes
+-- if there are no indexes, no octet passes
 pub no_place : (test : ℕ → Bool) (hay : List ℕ) (i n : ℕ) → places_from test hay i n ≡ [] → (k : ℕ) → k < n → Passes test hay (i + k) → ⊥
 unfolding places_from
 no_place test hay i zero none k below passes = absurd (omega arith)
@@ -85,7 +85,7 @@ NoLf-take (octet ∷ octets) zero none = tt
 NoLf-take (octet ∷ octets) (suc n) none =
     (false_from_ne_true (octet == 10) (none 0 (omega arith) (omega arith)), NoLf-take octets n (λ k below inside. none (suc k) (omega arith) (omega arith)))
 
--- a text is cut in one way at its first LF
+-- a text is cut in only one way at its first LF
 cut_at_lf : (a b p q : List ℕ) → NoLf a → NoLf b → a ++ 10 ∷ p ≡ b ++ 10 ∷ q → (a ≡ b) × (p ≡ q)
 cut_at_lf [] [] p q none_a none_b is = let same : p ≡ q = cc in (refl, same)
 cut_at_lf [] (y ∷ b) p q none_a none_b is = absurd (let lf : y ≡ 10 = cc in both_ways (y == 10) none_b.0 (ap (λ o. o == 10) lf))
@@ -111,7 +111,7 @@ cr_in_no_line [] (x ∷ prefix) is_line is = cc
 cr_in_no_line (octet ∷ line) [] is_line is = let cr : octet ≡ 13 = cc in both_ways (is_line_octet octet) (ap is_line_octet cr) (and_parts (is_line_octet octet) _ is_line).0
 cr_in_no_line (octet ∷ line) (x ∷ prefix) is_line is = cr_in_no_line line prefix (and_parts (is_line_octet octet) _ is_line).1 cc
 
--- what stands before the first LF, without one CR at its end, is the first line
+-- the octets before the first LF, without one CR at their end, are the first line
 first_at_lf : (prefix behind line : List ℕ) → NoLf prefix → (prefix ≡ line) ⊎ (prefix ≡ line ++ 13 ∷ []) → ((before : List ℕ) → prefix ≡ before ++ 13 ∷ [] → line ≡ before) → (lines : List (List ℕ)) → HasLines (prefix ++ 10 ∷ behind) lines → IsFirstLine (prefix ++ 10 ∷ behind) line behind
 first_at_lf prefix behind line none either cr [] has = absurd (no_nil prefix has)
   where
@@ -143,7 +143,7 @@ first_is_last rest none some (first ∷ lines) (next, (is_line, ends), has) = el
   | inr more ↦ elim more [ inl lf ↦ absurd (lf_in_none first rest next none lf) | inr crlf ↦ absurd (lf_in_none (first ++ 13 ∷ []) rest next none (crlf ∙ sym (append_assoc first (13 ∷ []) (10 ∷ next)))) ]
 ]
 
--- the places of LF left, and the next of them
+-- the indexes of LF that are left, and the next of them
 module _ (text : List ℕ) (from : ℕ) where
   pub next_lf : (at : ℕ) (left more : List ℕ) → from ≤ length text → left ≡ places_between (is_byte 10) text from (length text) → left ≡ at ∷ more → (from ≤ at) × (at < length text) × (more ≡ places_between (is_byte 10) text (at + 1) (length text))
   next_lf at left more within is head =

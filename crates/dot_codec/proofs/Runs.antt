@@ -25,7 +25,7 @@ run_ends_at [] n inside passes = absurd (omega arith)
 run_ends_at (x ∷ octets) zero inside passes = not_from_true _ passes
 run_ends_at (x ∷ octets) (suc n) inside passes = run_ends_at octets n (omega arith) passes
 
--- before the first LF, a line has none
+-- no LF comes before the first one
 no_lf : (octets : List ℕ) (found : Option ℕ) → IsFirstByte (is_byte 10) octets found → (k : ℕ) → k < unwrap_or found (length octets) → is_byte 10 (get_or octets k 0) ≡ true → ⊥
 no_lf octets None none k below is = none k (omega arith) below is
 no_lf octets (Some n) (before, at) k below is = before.before k (omega arith) below is
@@ -113,7 +113,7 @@ no_line_at_nul text run rest is (line ∷ lines) (next, first, has) =
     nul_ends_no_line : (tail : List ℕ) → tail ≡ 0 ∷ rest → EndsLine tail next → ⊥
     nul_ends_no_line tail nul ends = elim ends [ inl none ↦ cc (nul, none.0) | inr some ↦ elim some [ inl lf ↦ cc | inr crlf ↦ cc ] ]
 
--- nor up to a CR that no LF follows
+-- nor up to a CR without an LF after it
 pub no_line_at_cr : (text run rest : List ℕ) → IsRun text run Cr rest → (lines : List (List ℕ)) → HasLines text lines → text ≡ []
 no_line_at_cr text run rest is [] has = has
 no_line_at_cr text run rest is (line ∷ lines) (next, first, has) =
@@ -123,7 +123,7 @@ no_line_at_cr text run rest is (line ∷ lines) (next, first, has) =
     cr_ends_no_line : (tail : List ℕ) → IsStop Cr tail rest → EndsLine tail next → ⊥
     cr_ends_no_line tail (cr, bare) ends = elim ends [ inl none ↦ cc (cr, none.0) | inr some ↦ elim some [ inl lf ↦ cc | inr crlf ↦ bare next (cc (cr, crlf)) ] ]
 
--- another octet behind the CR
+-- another octet than LF after the CR
 pub bare_cr : (octets run rest : List ℕ) → IsRun octets run Cr rest → eqb (length rest) 0 ≡ false → IsFaultyLine BareCr octets
 bare_cr octets run [] is some = cc
 bare_cr octets run (octet ∷ rest) (tail, is, is_line, (cr, bare)) some =

@@ -1,4 +1,4 @@
--- A text has lines exactly where each NUL or CR of it is a CR directly before an LF.
+-- A text has lines exactly if each NUL or CR of it is a CR directly before an LF.
 use Rattle.std.proofs.Common.{◌≡◌, ◌↔◌, ℕ, zero, suc, ◌+◌, ◌-◌, Bool, true, false, cond, List, [], ◌∷◌, ◌++◌, length, get_or, drop, refl, sym, ◌∙◌, ap, inl, inr, ⊎_elim, arith, ◌==◌, ◌||◌, ◌&&◌, IsTrue, add-one, drop-cons, lit<}
 use Rattle.std.specs.List.{list_all}
 use Rattle.std.proofs.lemmas.Bool.{both_ways, eqb-true, cases_Bool, cond-true, cond-false, and_parts, or_cases, or_left, or_right, or_parts, or_from, not_from_true, not_from_false, false_from_ne_true}
@@ -35,7 +35,7 @@ clean_places text i (suc n) end =
     ∙ (rest ∙ sym (whole ∙ cond-false test (begins_with_crlf (get_or text i 0 ∷ drop (suc i) text) && clean (drop (suc i) text)) (clean (drop (suc i) text)) plain)))
     (cases_Bool test)
 
--- a text whose rest has lines has them, with one octet more in the first
+-- a text whose rest has lines has them, with one more octet in the first
 line_longer : (octet : ℕ) (rest : List ℕ) → is_line_octet octet ≡ true → (lines : List (List ℕ)) → HasLines rest lines → (more : List (List ℕ)) × HasLines (octet ∷ rest) more
 line_longer octet rest may [] has =
     ((octet ∷ []) ∷ [], ([], (IsLine-cons octet [] may refl, inl (ap (λ (l : List ℕ). octet ∷ l) has, refl, lit< tt)), refl))

@@ -7,7 +7,7 @@ abbrev pub begins_with_dot : List ℕ → Bool
 begins_with_dot [] = false
 begins_with_dot (octet ∷ rest) = octet == 46
 
--- a line with one more dot before it where it begins with one
+-- a line with one more dot before it, if it begins with one
 abbrev pub stuffed : List ℕ → List ℕ
 stuffed line = if begins_with_dot line then 46 ∷ line else line
 
@@ -20,12 +20,12 @@ abbrev pub written : List (List ℕ) → List ℕ
 written [] = end_of_block
 written (line ∷ lines) = stuffed line ++ 13 ∷ 10 ∷ written lines
 
--- A form in which a line is read: as it is where it doesn't begin with a dot, or with one more dot where it isn't empty.
--- So a dot alone is no form of a line.
+-- A form in which a line is read: the line itself if it does not begin with a dot, and the line with one more dot if
+-- it is not empty. So a dot alone is not a form of a line.
 abbrev pub IsLineForm : List ℕ → List ℕ → Type 0
 IsLineForm line form = ((form ≡ line) × (begins_with_dot line ≡ false)) ⊎ ((form ≡ 46 ∷ line) × (0 < length line))
 
--- the octets begin with forms of these lines, each with CR LF, and behind them stands the rest
+-- the octets begin with forms of these lines, each with CR LF, and this is the rest after them
 abbrev pub HasForms : List (List ℕ) → List ℕ → List ℕ → Type 0
 HasForms [] octets rest = octets ≡ rest
 HasForms (line ∷ lines) octets rest =

@@ -4,7 +4,7 @@ use Rattle.dot_codec.specs.Lines.{is_line_octet, IsLine}
 use Rattle.dot_codec.specs.declared.scan.RunEnd.{RunEnd}
 use Rattle.dot_codec.specs.declared.scan.RunEnd.TheVariants.{End, Nul, Lf, CrLf, Cr}
 
--- the octets stand where a run ends: the stop, and behind it the rest
+-- the octets at the end of a run: the stop, and the rest after it
 abbrev pub IsStop : RunEnd → List ℕ → List ℕ → Type 0
 IsStop End octets rest = (octets ≡ []) × (rest ≡ [])
 IsStop Nul octets rest = octets ≡ 0 ∷ rest
@@ -12,16 +12,15 @@ IsStop Lf octets rest = octets ≡ 10 ∷ rest
 IsStop CrLf octets rest = octets ≡ 13 ∷ 10 ∷ rest
 IsStop Cr octets rest = (octets ≡ 13 ∷ rest) × ((behind : List ℕ) → rest ≢ 10 ∷ behind)
 
--- the octets begin with this run, ended by the stop, and behind that stands the rest
+-- the octets begin with this run, which the stop ends, and this is the rest after that
 abbrev pub IsRun : List ℕ → List ℕ → RunEnd → List ℕ → Type 0
 IsRun octets run stop rest = (tail : List ℕ) × (octets ≡ run ++ tail) × IsLine run × IsStop stop tail rest
 
--- a run ends here: nothing follows, or an octet that no line has
+-- a run ends here: at the end of the octets, or before an octet that no line has
 abbrev pub EndsRun : List ℕ → Type 0
 EndsRun [] = Unit {0}
 EndsRun (octet ∷ rest) = is_line_octet octet ≡ false
 
--- whether CR LF begins the octets
 abbrev pub begins_with_crlf : List ℕ → Bool
 begins_with_crlf [] = false
 begins_with_crlf (octet ∷ []) = false

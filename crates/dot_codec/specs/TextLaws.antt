@@ -1,4 +1,4 @@
--- A text has one list of lines: octets are cut in one way into the octets of a line and what ends them.
+-- A text has one list of lines: octets are cut in only one way into the octets of a line and what ends them.
 use Rattle.std.proofs.Common.{◌≡◌, ◌⊎◌, ℕ, ◌<◌, true, List, [], ◌∷◌, ◌++◌, length, refl, sym, ◌∙◌, ap, subst, inl}
 use Rattle.std.proofs.Common.{inr, arith, length-append}
 use Rattle.std.specs.List.{AllByRecursion, list_all}
@@ -27,7 +27,7 @@ cut_once (x ∷ a) (y ∷ b) p q line_a line_b ends_p ends_q is =
 pub IsLine-cons : (octet : ℕ) (line : List ℕ) → is_line_octet octet ≡ true → IsLine line → IsLine (octet ∷ line)
 IsLine-cons octet line may rest = and_from _ _ may rest
 
--- what stands behind a line: nothing, or its end and the rest
+-- what follows a line: nothing, or its end and the rest
 abbrev pub EndsLine : List ℕ → List ℕ → Type 0
 EndsLine tail rest = ((tail ≡ []) × (rest ≡ [])) ⊎ ((tail ≡ 10 ∷ rest) ⊎ (tail ≡ 13 ∷ 10 ∷ rest))
 
@@ -37,7 +37,7 @@ EndsRun-from_line tail rest ends = elim ends [
   | inr some ↦ elim some [ inl lf ↦ subst EndsRun (sym lf) refl | inr crlf ↦ subst EndsRun (sym crlf) refl ]
 ]
 
--- the tail behind a first line
+-- the tail after a first line
 pub tail_of : (text line rest : List ℕ) → IsFirstLine text line rest
     → (tail : List ℕ) × (text ≡ line ++ tail) × EndsLine tail rest
 tail_of text line rest (is_line, ends) = elim ends [
@@ -65,7 +65,7 @@ first_once text a b p q first_a first_b =
     let cut = cut_once a b tail_a.0 tail_b.0 first_a.0 first_b.0 (EndsRun-from_line tail_a.0 p tail_a.2) (EndsRun-from_line tail_b.0 q tail_b.2) (sym tail_a.1 ∙ tail_b.1) in
     (cut.0, rest_once tail_b.0 p q (subst (λ (t : List ℕ). EndsLine t p) cut.1 tail_a.2) tail_b.2)
 
--- a line takes an octet at least
+-- a line takes at least one octet
 pub rest_shorter : (text line rest : List ℕ) → IsFirstLine text line rest → length rest < length text
 rest_shorter text line rest (is_line, ends) = elim ends [
   | inl none ↦ omega (arith, ap length none.0, ap length none.1)
@@ -75,7 +75,7 @@ rest_shorter text line rest (is_line, ends) = elim ends [
   ]
 ]
 
--- nothing has no first line
+-- the empty text has no first line
 pub first_some : (line rest : List ℕ) → IsFirstLine [] line rest → ⊥
 first_some line rest first = absurd (omega (arith, rest_shorter [] line rest first))
 
@@ -91,7 +91,7 @@ lines_once text (line ∷ a) (other ∷ b) (p, first_a, has_a) (q, first_b, has_
     let rests = lines_once q a b (subst (λ (t : List ℕ). HasLines t a) same.1 has_a) has_b in
     cc (same.0, rests)
 
--- behind a first line stand the other lines
+-- the other lines follow a first line
 pub lines_behind : (text line rest : List ℕ) (lines : List (List ℕ)) → IsFirstLine text line rest
     → HasLines text lines → (more : List (List ℕ)) × (lines ≡ line ∷ more) × HasLines rest more
 lines_behind text line rest [] first has = absurd (first_some line rest (subst (λ (t : List ℕ). IsFirstLine t line rest) has first))

@@ -1,4 +1,4 @@
-//! Laws on texts, lines and blocks. Each function does nothing: its contract is the law.
+//! Laws of texts, lines and blocks. Each function does nothing: its contract is the law.
 ghost use Rattle.std.specs.Prelude.{◌≡◌, ◌++◌, ℕ, List};
 ghost use Rattle.std.specs.List.{AllByRecursion};
 ghost use Rattle.dot_codec.specs.Lines.{HasLines, IsLine, text_of};
@@ -6,7 +6,7 @@ ghost use Rattle.dot_codec.specs.Block.{IsReadForm, written};
 ghost use Rattle.dot_codec.specs.Fault.{HasBlockFault};
 ghost use Rattle.dot_codec.specs.declared.fault.BlockFault.{BlockFault};
 
-/// A text has one list of lines, and every list of lines is that of a text.
+/// A text has one list of lines, and every list of lines belongs to a text.
 pub fn lines_once()
     ensures once { (text : List ℕ) (a b : List (List ℕ)) → HasLines text a → HasLines text b
         → a ≡ b }
@@ -16,14 +16,14 @@ pub fn lines_once()
         → HasLines (text_of lines) lines }
 {}
 
-/// No read form begins another one, so a stream of blocks is cut in one way.
+/// No read form is the beginning of another, so a stream of blocks can be cut in only one way.
 pub fn forms_do_not_begin_another()
     ensures { (a b : List (List ℕ)) (x y p q : List ℕ) → IsReadForm a x → IsReadForm b y
         → x ++ p ≡ y ++ q → (a ≡ b) × (x ≡ y) × (p ≡ q) }
 {}
 
-/// The written form of lines is a read form of them. So what `to_block` made of a text, `from_block` reads as the lines
-/// of that text, whatever follows the block.
+/// The written form of lines is a read form of them. So `from_block` reads what `to_block` made of a text as the
+/// lines of that text, whatever follows the block.
 pub fn written_is_read()
     ensures lines { (lines : List (List ℕ)) → AllByRecursion IsLine lines
         → IsReadForm lines (written lines) }
@@ -31,7 +31,7 @@ pub fn written_is_read()
         → IsReadForm lines (written lines) }
 {}
 
-/// Octets have one fault at most, and none where a read form begins them.
+/// Octets have at most one fault, and none if they begin with a read form.
 pub fn faults_once()
     ensures once { (octets : List ℕ) (a b : BlockFault) → HasBlockFault octets a
         → HasBlockFault octets b → a ≡ b }

@@ -3,8 +3,8 @@
 //!
 //! May touch nothing but memory; it stands on `bytes` for the block and on `memchr` for the search for line ends. The
 //! crates above use `to_block`, whose block is `written` of the text's lines, `is_sendable`, and `from_block`, which
-//! reads exactly the read forms of lines and else names the first fault (`specs/Lines.antt`, `specs/Block.antt`,
-//! `specs/Fault.antt`); the laws on these words are in `laws`.
+//! reads exactly the read forms of lines and otherwise returns the first fault (`specs/Lines.antt`,
+//! `specs/Block.antt`, `specs/Fault.antt`). The laws of these definitions are in `laws`.
 #![tactic(auto)]
 
 mod fault;

@@ -1,4 +1,4 @@
-// A block's lines, counted and then read.
+// The lines of a block, which are counted first and then copied into one allocation.
 ghost use Rattle.std.specs.Prelude.{◌≡◌, ◌+◌, ◌<◌, ◌≤◌, ◌↔◌, ◌++◌, ◌∷◌, [], ℕ};
 ghost use Rattle.std.specs.Prelude.{List, length, take, IfOk, IfErr, IfSome, IfNone, IsErrOf, MatchOption, MatchResult};
 ghost use Rattle.dot_codec.specs.Lines.{IsLine, text_of};
@@ -9,15 +9,15 @@ use crate::fault::BlockFault;
 use crate::scan::{Line, RunEnd, first_run};
 use std::alloc::{AllocError, Global};
 
-/// The lines of the block that the octets begin with, each with LF, and how many octets the block has; more octets may
+/// Reads the block that the octets begin with: its lines, each with LF, and its length in octets. Other octets may
 /// follow it (RFC 3977, section 3.1.1).
 ///
-/// A line is read without the dot that it begins with, whether or not another follows it.
+/// A line is read without the dot that it begins with, whether or not another dot follows.
 ///
 /// # Errors
-/// The first fault in reading order where no block begins the octets: [`BlockFault::Unfinished`],
+/// If the octets do not begin with a block, the first fault in reading order: [`BlockFault::Unfinished`],
 /// [`BlockFault::BareCr`], [`BlockFault::BareLf`] or [`BlockFault::Nul`].
-/// [`BlockFault::NoMemory`] where a block does and memory was refused.
+/// [`BlockFault::NoMemory`] if they do and memory was refused.
 pub fn from_block(alloc: Global, octets: &[u8]) -> Result<(Vec<u8>, usize), BlockFault>
     ensures read { IfOk result
         (λ r. (r.1 ≤ length octets.now)
@@ -47,14 +47,13 @@ pub fn from_block(alloc: Global, octets: &[u8]) -> Result<(Vec<u8>, usize), Bloc
     }
 }
 
-/// How many octets a block has, and how many its lines have, each with LF.
+/// The length of a block, and that of its lines, each with LF, in octets.
 #[derive(Clone, Copy, Debug)]
 struct BlockSize {
     used: usize,
     text: usize,
 }
 
-// The size of the block that the octets begin with, or their fault.
 fn block_size(octets: &[u8]) -> Result<BlockSize, BlockFault>
     ensures read { IfOk result
         (λ size. (lines : List (List ℕ)) × (form rest : List ℕ) × IsReadForm lines form
@@ -72,7 +71,7 @@ fn block_size(octets: &[u8]) -> Result<BlockSize, BlockFault>
     Ok(BlockSize { used, text })
 }
 
-// The lines of a block, each with LF, in one allocation of this length.
+// Copies the lines of a block, each with LF, into one allocation of `len` octets.
 fn lines_of(alloc: Global, octets: &[u8], len: usize) -> Result<Vec<u8>, AllocError>
     ensures { IfOk result (λ text. (lines : List (List ℕ)) (form rest : List ℕ)
         → IsReadForm lines form → octets.now ≡ form ++ rest → text.items ≡ text_of lines) }
@@ -114,7 +113,7 @@ fn next_line(octets: &[u8]) -> Result<Option<Line<'_>>, BlockFault>
     }
 }
 
-// The line that has this form; `None` for a dot alone.
+// `None` for a dot alone.
 fn line_of(form: &[u8]) -> Option<&[u8]>
     ensures { MatchOption result (form.now ≡ 46 ∷ []) (λ line. IsLineForm line.now form.now) }
 {

@@ -9,16 +9,15 @@ use memchr::{memchr, memchr2};
 /// What ends a run of octets that a line may have.
 #[derive(Clone, Copy, Debug, PartialEq, Eq)]
 pub(crate) enum RunEnd {
-    /// The octets end.
     End,
     Nul,
     Lf,
     CrLf,
-    /// A CR that no LF follows.
+    /// A CR without an LF after it.
     Cr,
 }
 
-/// A run of octets that a line may have, what ends it, and what stands behind that.
+/// A run of octets that a line may have, what ends it, and the rest after that.
 #[derive(Clone, Copy, Debug)]
 pub(crate) struct Run<'t> {
     pub(crate) octets: &'t [u8],
@@ -26,14 +25,14 @@ pub(crate) struct Run<'t> {
     pub(crate) rest: &'t [u8],
 }
 
-/// A line without its end, and what stands behind that.
+/// A line without its end, and the rest after that.
 #[derive(Clone, Copy, Debug)]
 pub(crate) struct Line<'t> {
     pub(crate) octets: &'t [u8],
     pub(crate) rest: &'t [u8],
 }
 
-// The first run, which may be empty.
+// The run may be empty.
 #[inline]
 pub(crate) fn first_run(octets: &[u8]) -> Run<'_>
     ensures { IsRun octets.now result.octets.now result.stop result.rest.now }
@@ -47,8 +46,8 @@ pub(crate) fn first_run(octets: &[u8]) -> Run<'_>
     }
 }
 
-// How long the first run is. The search for LF comes first, and one CR before it is taken off, since the search for two
-// octets is slow only where it finds one.
+// The search for LF comes first, and one CR before it is taken off, because the search for two octets is slow only if
+// it finds one.
 #[inline]
 fn run_len(octets: &[u8]) -> usize
     ensures within { result ≤ length octets.now }
@@ -60,7 +59,6 @@ fn run_len(octets: &[u8]) -> usize
     memchr2(b'\0', b'\r', line).unwrap_or(line.len())
 }
 
-// A line without one CR at its end.
 #[inline]
 pub(crate) fn without_cr(line: &[u8]) -> &[u8]
     ensures either { (line.now ≡ result.now) ⊎ (line.now ≡ result.now ++ 13 ∷ []) }
@@ -72,7 +70,7 @@ pub(crate) fn without_cr(line: &[u8]) -> &[u8]
     }
 }
 
-// What ends a run here, and what stands behind it.
+// What ends a run here, and the rest after it.
 #[inline]
 fn stop_of(tail: &[u8]) -> (RunEnd, &[u8])
     requires { EndsRun tail.now }

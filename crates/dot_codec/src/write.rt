@@ -1,4 +1,4 @@
-// A text's lines, written as a block.
+// The lines of a text, written as a block.
 ghost use Rattle.std.specs.Prelude.{◌≡◌, ◌<◌, ◌≤◌, ◌↔◌, ◌++◌, ◌∷◌, [], ℕ, List};
 ghost use Rattle.std.specs.Prelude.{length, drop, IfOk, IsOk, IsErrOf, OnOk, IsTrue};
 ghost use Rattle.dot_codec.specs.Lines.{HasLines, IsSendable, longest_text};
@@ -11,17 +11,17 @@ use bytes::Bytes;
 use memchr::{memchr_iter, memchr2_iter};
 use std::alloc::{AllocError, Global};
 
-/// The greatest length of a text that can be sent, in octets (profile).
+/// The length of the longest text that can be sent, in octets (profile).
 pub const LONGEST_TEXT: usize = 16_777_216;
 
-/// The block of a text, in its written form: each line with CR LF, and one more dot before it where it begins with one,
-/// and at the end a dot alone (RFC 3977, section 3.1.1).
+/// The block of a text, in its written form: each line with CR LF and, if it begins with a dot, one more dot before
+/// it; a dot alone at the end (RFC 3977, section 3.1.1).
 ///
-/// A line of the text ends with LF or with CR LF, and the last one may end with the text.
+/// A line of the text ends with LF or CR LF, and the last one may end with the text.
 ///
 /// # Errors
-/// [`BlockRefusal::Unsendable`] exactly where the text is not sendable, as [`is_sendable`] tells it.
-/// [`BlockRefusal::NoMemory`] where it is and memory was refused.
+/// [`BlockRefusal::Unsendable`] exactly if the text cannot be sent (see [`is_sendable`]).
+/// [`BlockRefusal::NoMemory`] if it can and memory was refused.
 pub fn to_block(alloc: Global, text: &[u8]) -> Result<Bytes, BlockRefusal>
     ensures block { IfOk result
         (λ b. (lines : List (List ℕ)) × HasLines text.now lines × (b ≡ written lines)) }
@@ -38,15 +38,15 @@ pub fn to_block(alloc: Global, text: &[u8]) -> Result<Bytes, BlockRefusal>
     }
 }
 
-/// Whether a text is sendable: not empty, at most 16,777,216 octets, without NUL, and each CR directly before an LF.
+/// Whether a text can be sent: it is not empty, has at most 16,777,216 octets and no NUL, and each CR is directly
+/// before an LF.
 pub fn is_sendable(text: &[u8]) -> bool
     ensures { IsTrue result ↔ IsSendable text.now }
 {
     !text.is_empty() && text.len() <= LONGEST_TEXT && has_lines(text)
 }
 
-// Whether a text has lines: each NUL or CR of it is a CR directly before an LF. Few texts have one, so this is one wide
-// search of the text.
+// Each NUL or CR must be a CR directly before an LF. Few texts have any, so this is one wide search of the text.
 fn has_lines(text: &[u8]) -> bool
     ensures { IsTrue result ↔ ((lines : List (List ℕ)) × HasLines text.now lines) }
 {
@@ -59,7 +59,6 @@ fn has_crlf_at(text: &[u8], at: usize) -> bool
     matches!(text.get(at..), Some([b'\r', b'\n', ..]))
 }
 
-// The block of a text that has lines.
 fn block_of(alloc: Global, text: &[u8]) -> Result<Bytes, AllocError>
     requires { length text.now ≤ longest_text }
     ensures { IfOk result (λ b. (lines : List (List ℕ)) → HasLines text.now lines
@@ -74,14 +73,13 @@ fn block_of(alloc: Global, text: &[u8]) -> Result<Bytes, AllocError>
     Ok(Bytes::from_vec(block)?)
 }
 
-// Room for most blocks: an octet more for each line, of which few texts have one in 16 octets, and the end.
+// Room for most blocks: the end, and one more octet for each line. Few texts have more than one line in 16 octets.
 fn likely_len(text: &[u8]) -> usize
     requires { length text.now ≤ longest_text }
 {
     text.len() + text.len() / 16 + 16
 }
 
-// Writes the lines of a text.
 fn put_lines(block: &mut Vec<u8>, text: &[u8]) -> Result<(), AllocError>
     ensures { OnOk result ((lines : List (List ℕ)) → HasLines text.now lines
         → block.new.items ++ 46 ∷ 13 ∷ 10 ∷ [] ≡ block.old.items ++ written lines) }
@@ -97,7 +95,6 @@ fn put_lines(block: &mut Vec<u8>, text: &[u8]) -> Result<(), AllocError>
     Ok(())
 }
 
-// Writes a line with CR LF, and one more dot before it where it begins with one.
 #[inline(always)]
 fn put_line(block: &mut Vec<u8>, line: &[u8]) -> Result<(), AllocError>
     ensures { OnOk result (block.new.items

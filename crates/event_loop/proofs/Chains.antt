@@ -49,7 +49,7 @@ turn took gave takes gives options room unread h link between sent new steps lef
     Takes_on (Send out ∷ steps) (left_by out left) rest (after_send options mid out) later sent new into
     (take (moved into) buffer) (Sends_on steps left mid between sent out moves sends same_gave) gets same_took comes
 
--- a turn behind turns of which the last was no rest
+-- a turn after turns of which the last was no rest
 pub behind : (steps : List Step) → are_turns steps ≡ true → is_rest steps ≡ false
     → (not (is_rest steps) && are_turns steps) ≡ true
 behind steps turns moves = ap (λ b. not b && are_turns steps) moves ∙ turns
@@ -58,7 +58,7 @@ either : {A B C : Type 0} → A ⊎ B → (B → C) → A ⊎ C
 either (inl a) to = inl a
 either (inr b) to = inr (to b)
 
--- a turn of which neither half could move: there is nothing to send or the link takes nothing, and it gives nothing
+-- a turn in which neither half could move: there is nothing to send or the link takes nothing, and it gives nothing
 pub rest : {full still dry : Type 0} (options : Options) (mid later : List Event) (left behind octets : List ℕ)
     (out into : Moved) → (is_wait out && is_wait into) ≡ true
     → (out ≡ Later → (output options mid ≡ []) ⊎ full) → (full → still) → (into ≡ Later → dry)

@@ -21,7 +21,7 @@ use Rattle.event_loop.specs.Chain.{Input, Is_received, Is_refused, TakesIn}
 use Rattle.event_loop.specs.declared.moved.Moved.{Moved}
 use Rattle.event_loop.specs.declared.moved.Moved.TheVariants.{Done, Later, Closed, Fault}
 
--- commands alone came behind
+-- only commands followed
 pub record Puts (options : Options) (h later : List Event) : Type 0 where
   pub same_sent : sent later ≡ sent h
   pub same_came : came later ≡ came h
@@ -141,7 +141,7 @@ pub some-shut : {B : Type 0} (r : Option Reason) (why : Reason) → first_reason
 some-shut None why e = cc
 some-shut (Some first) why e = cc
 
--- behind that it broke
+-- after that it broke
 pub then_broke : (options : Options) (waiting : List ℕ) (h : List Event) (left : List ℕ) (mid : List Event)
     → reason options h ≡ None
     → Received options waiting h left mid → Received options waiting h [] (after options mid Broke)

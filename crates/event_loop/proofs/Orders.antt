@@ -149,7 +149,7 @@ took-all took gave takes gives options room unread h link left later new before 
     subst (λ now. Took options h last before now) (sym same_took)
     (quiet-law options (left_mid ++ octets) h mid rest last before (took between) (reason options mid) refl r rec)
 
--- in order, none left out, none twice
+-- in order, with nothing left out and nothing repeated
 pub took_in_order : {L : Type 0} (took gave : L → Option (List ℕ)) (takes : L → List ℕ → Moved → L → Type 0)
     (gives : L → ℕ → Moved → L → Type 0) (options : Options) (conn : Holding) (room : ℕ) (unread : List ℕ)
     (h : List Event) (link : L) (left : List ℕ) (later : List Event) (new : L) (before : List ℕ) (steps : List Step)
@@ -168,7 +168,7 @@ zip-append [] l (x ∷ a) b p q = absurd p
 zip-append (x ∷ k) l [] b p q = absurd p
 zip-append (x ∷ k) l (y ∷ a) b (p, ps) q = (p, zip-append k l a b ps q)
 
--- what a break adds to no reply
+-- a break adds no reply
 broke-came : (options : Options) (h : List Event) (r : Option Reason) → reason options h ≡ r
     → came (if is_some r then h else after options h Broke) ≡ came h
 broke-came options h None e = (puts-after options h Broke).same_came
@@ -204,7 +204,7 @@ send-rest options h rest left Later is q = is q
 send-rest options h rest left Closed is q = broke-shuts options h (reason options h) refl q
 send-rest options h rest left Fault is q = broke-shuts options h (reason options h) refl q
 
--- one receipt more
+-- one more receipt
 receipt-more : (options : Options) (unread : List ℕ) (h : List Event) (before left : List ℕ) (mid : List Event)
     (g now : Option (List ℕ)) (octets rest : List ℕ) (later : List Event)
     (r : Option Reason) → reason options mid ≡ r → (s : GaveReplies options unread h before left mid g)
@@ -246,7 +246,7 @@ receipt-more options unread h before left mid g now octets rest later (Some why)
       rest_is = λ q. open-not-shut (reason options mid) (ap is_some e) (sym (ap (reason options) still) ∙ q);
     }
 
--- what was given is what the octets held back before, the replies and what is held back now make up
+-- the octets held back before and what was given make up the replies and what is held back now
 pub gave_replies : {L : Type 0} (took gave : L → Option (List ℕ)) (takes : L → List ℕ → Moved → L → Type 0)
     (gives : L → ℕ → Moved → L → Type 0) (options : Options) (room : ℕ) (unread : List ℕ) (h : List Event)
     (link : L) (left : List ℕ) (later : List Event) (new : L) (before : List ℕ) (steps : List Step)

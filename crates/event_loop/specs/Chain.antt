@@ -1,4 +1,4 @@
--- What sends and receipts, one after another, make of a transcript.
+-- What a chain of sends and receipts makes of a transcript.
 use Rattle.std.specs.Prelude.{◌≡◌, ◌≤◌, ◌⊎◌, ◌&&◌, ◌+◌, ℕ, Bool, true, false, not}
 use Rattle.std.specs.Prelude.{List, [], ◌∷◌, ◌++◌, length, take, Option, None, is_some}
 use Rattle.conn_core.specs.History.{Event, Sent, Broke, output, noted, outside, after, reason}
@@ -10,7 +10,7 @@ use Rattle.event_loop.specs.declared.moved.Moved.TheVariants.{Done, Later, Close
 use Rattle.event_loop.specs.declared.turn.Driven.{Driven}
 use Rattle.event_loop.specs.declared.turn.Driven.TheVariants.{Idle, Turns, Shut}
 
--- the transcript after a send that did this: so many octets count as sent, or the connection broke
+-- the transcript after a send that did this: its octets count as sent, or the connection broke
 abbrev pub after_send : Options → List Event → Moved → List Event
 after_send options h (Done n) = noted options h (Sent n)
 after_send options h Later = h
@@ -24,14 +24,14 @@ left_by Later unread = unread
 left_by Closed unread = []
 left_by Fault unread = []
 
--- Octets that came were received; or memory was refused behind some of the whole replies, and the connection broke.
+-- Octets that came were received; or memory was refused after some of the whole replies, and the connection broke.
 pub data Input (options : Options) (waiting : List ℕ) (h : List Event) : List ℕ → List Event → Type 0 where
   Is_received : (later : List Event) (left : List ℕ)
       → Receives options waiting h later left → Input options waiting h left later
   Is_refused : (some : List Event)
       → ReceivesSome options waiting h some → Input options waiting h [] (after options some Broke)
 
--- what a receipt that did this makes of a transcript, where these octets came
+-- what a receipt that did this makes of a transcript, if these octets came
 abbrev pub TakesIn : Options → Moved → (octets : List ℕ) → (unread : List ℕ) → List Event
     → (left : List ℕ) → List Event → Type 0
 TakesIn options (Done n) octets unread h left later = Input options (unread ++ octets) h left later
@@ -44,7 +44,7 @@ pub data Step : Type 0 where
   Send : Moved → Step
   Receipt : Moved → Step
 
--- whether the last two are a send and a receipt of which neither could move
+-- whether the last two steps are a send and a receipt that both could not move
 abbrev pub is_rest : List Step → Bool
 is_rest [] = false
 is_rest (Receipt into ∷ Send out ∷ steps) = is_wait out && is_wait into
@@ -52,7 +52,7 @@ is_rest (Receipt into ∷ Receipt before ∷ steps) = false
 is_rest (Receipt into ∷ []) = false
 is_rest (Send out ∷ steps) = false
 
--- whether they are turns, newest first: each a send and then a receipt, and none behind a rest
+-- whether the steps are turns, newest first: each a send and then a receipt, with none after a rest
 abbrev pub are_turns : List Step → Bool
 are_turns [] = true
 are_turns (Receipt into ∷ Send out ∷ steps) = not (is_rest steps) && are_turns steps
@@ -66,8 +66,8 @@ receipts [] = 0
 receipts (Send out ∷ steps) = receipts steps
 receipts (Receipt into ∷ steps) = receipts steps + 1
 
--- Whether a link is asked to take these octets: once, where there are some, and that is what came of it; and not at
--- all where there are none.
+-- Whether a link is asked to take these octets: once if there are some, and this is what came of it; not at all if
+-- there are none.
 abbrev pub Asks : {L : Type 0} → (takes : L → List ℕ → Moved → L → Type 0) → List ℕ → L → Moved → L → Type 0
 Asks takes [] old made new = (made ≡ Later) × (new ≡ old)
 Asks takes (octet ∷ octets) old made new = takes old (octet ∷ octets) made new
@@ -79,15 +79,15 @@ pub record Sends {L : Type 0} (took : L → Option (List ℕ)) (takes : L → Li
   pub within : moved made ≤ length octets
   pub told : Tells (took old) (take (moved made) octets) (took new)
 
--- A receipt with room for so many octets, and those that came: what the link did, and that it gave these.
+-- A receipt with room for this many octets, and the octets that came: what the link did, and that it gave these.
 pub record Gets {L : Type 0} (gave : L → Option (List ℕ)) (gives : L → ℕ → Moved → L → Type 0)
     (room : ℕ) (old : L) (made : Moved) (octets : List ℕ) (new : L) : Type 0 where
   pub asks : gives old room made new
   pub count : length octets ≡ moved made
   pub told : Tells (gave old) octets (gave new)
 
--- From one transcript, with the octets held back behind it, to a later one, by sends and receipts alone, each one call
--- of the link at most; what they were, newest first; and what the link is before and behind them.
+-- From one transcript, with the octets held back after it, to a later one, by sends and receipts alone, each at most
+-- one call of the link; the steps, newest first; and the link before and after them.
 pub data Moves {L : Type 0} (took gave : L → Option (List ℕ)) (takes : L → List ℕ → Moved → L → Type 0)
     (gives : L → ℕ → Moved → L → Type 0) (options : Options) (room : ℕ) (unread : List ℕ) (h : List Event) (link : L)
     : List Step → List ℕ → List Event → L → Type 0 where
@@ -104,9 +104,10 @@ pub data Moves {L : Type 0} (took gave : L → Option (List ℕ)) (takes : L →
       → TakesIn options made octets left mid rest later
       → Moves took gave takes gives options room unread h link (Receipt made ∷ steps) rest later new
 
--- What an answer says of the steps and of the transcript behind them, where so many turns were asked for: shut, exactly
--- where there is a reason; else idle, exactly where the last turn was a rest, and then the link would give nothing now,
--- and there is nothing to send or the link would take nothing; turns, where all were made and the last was none.
+-- What an answer says of the steps and of the transcript after them, if this many turns were asked for. Shut exactly
+-- if there is a reason to close; otherwise Idle exactly if the last turn was a rest, and then the link would give
+-- nothing now, and there is nothing to send or the link would take nothing; Turns if all were made and the last was
+-- not a rest.
 abbrev pub IsAnswered : Options → Driven → (turns : ℕ) → (full dry : Type 0) → List Step → List Event → Type 0
 IsAnswered options Idle turns full dry steps later =
     (reason options later ≡ None) × (receipts steps ≤ turns) × (is_rest steps ≡ true)

@@ -10,12 +10,13 @@ came [] = []
 came (Came reply ∷ h) = came h ++ reply ∷ []
 came (e ∷ h) = came h
 
--- what a link took since is what counts as sent since of the octets put out: in order, none left out, none twice
+-- what a link took since is exactly the output that counts as sent since: in order, with nothing left out and nothing
+-- repeated
 abbrev pub TookInOrder : List Event → List Event → (before : List ℕ) → Option (List ℕ) → Type 0
 TookInOrder h later before now = now ≡ Some (before ++ drop (sent h) (take (sent later) (put_octets later)))
 
--- what a link gave since is, behind the octets held back before, the lines of the replies that came since and a rest:
--- while it is open, what is held back now
+-- the octets held back before, followed by what a link gave since, are the lines of the replies that came since,
+-- followed by a rest: while the connection is open, what is held back now
 pub record GaveReplies (options : Options) (unread : List ℕ) (h : List Event) (before left : List ℕ)
     (later : List Event) (now : Option (List ℕ)) : Type 0 where
   pub given : List ℕ

@@ -17,7 +17,7 @@ is_wait Later = true
 is_wait Closed = false
 is_wait Fault = false
 
--- where the octets are told, those that came are behind those that were there
+-- if the octets are reported, those that came follow those that were there
 abbrev pub Tells : Option (List ℕ) → List ℕ → Option (List ℕ) → Type 0
 Tells None more new = new ≡ None
 Tells (Some old) more new = new ≡ Some (old ++ more)

@@ -1,4 +1,4 @@
--- A link in memory: what it gives and takes, few octets at a time, up to where each direction ends (profile).
+-- A link in memory: what it gives and takes, few octets at a time, up to the end of each direction (profile).
 use Rattle.std.specs.Prelude.{◌≡◌, ◌⊎◌, ℕ, ◌-◌, nat_le, min, List, [], ◌∷◌, ◌++◌, length, take, drop}
 use Rattle.std.specs.Prelude.{Option, None, Some, unwrap_or, if◌then◌else◌}
 use Rattle.event_loop.specs.Link.{moved}
@@ -16,36 +16,36 @@ pub record Memory : Type 0 where
   pub gives : End  -- where it gives no more
   pub takes : End  -- where it takes no more
 
--- what comes in the place of a move, behind so many octets
+-- the end in place of a move, after this many octets
 abbrev pub met : End → ℕ → Option Moved
 met Never count = None
 met (Closes at) count = if nat_le at count then Some Closed else None
 met (Fails at) count = if nat_le at count then Some Fault else None
 
--- how many octets go before the end, of so many wanted behind so many
+-- how many of the octets wanted go before the end, after this many
 abbrev pub cut : End → (count wanted : ℕ) → ℕ
 cut Never count wanted = wanted
 cut (Closes at) count wanted = min wanted (at - count)
 cut (Fails at) count wanted = min wanted (at - count)
 
--- what is moved of so many octets, or that none waits
+-- the move of this many octets, or that none waits
 abbrev pub move_of : List ℕ → ℕ → Moved
 move_of [] count = Later
 move_of (octet ∷ waiting) count = Done count
 
--- what it answers where there is room for so many octets: its end, where that is met; else as many as wait, up to a
--- piece and to the end
+-- what it returns if there is room for this many octets: its end, if that is reached; otherwise as many as wait, up
+-- to a piece and up to the end
 abbrev pub gives_now : Memory → (room : ℕ) → Moved
 gives_now link room =
     unwrap_or (met link.gives (length link.gave))
     (move_of link.waiting (cut link.gives (length link.gave) (min (min link.piece room) (length link.waiting))))
 
--- so many more were given
+-- this many more octets were given
 abbrev pub after_giving : Memory → ℕ → Memory
 after_giving link count = record link { gave = link.gave ++ take count link.waiting; waiting = drop count link.waiting }
 
--- what it answers where so many octets are offered: its end, where that is met; else as many as are offered, up to a
--- piece and to the end
+-- what it returns if this many octets are offered: its end, if that is reached; otherwise as many as are offered, up
+-- to a piece and up to the end
 abbrev pub takes_now : Memory → (offered : ℕ) → Moved
 takes_now link offered =
     unwrap_or (met link.takes (length link.taken)) (Done (cut link.takes (length link.taken) (min link.piece offered)))
@@ -54,11 +54,11 @@ takes_now link offered =
 abbrev pub after_taking : Memory → List ℕ → Memory
 after_taking link octets = record link { taken = link.taken ++ octets }
 
--- what a call with room for so many octets is: it answers exactly as above, and gives that many
+-- a call with room for this many octets: it returns exactly what `gives_now` says, and gives that many
 abbrev pub Gives : Memory → (room : ℕ) → Moved → Memory → Type 0
 Gives link room made new = (made ≡ gives_now link room) × (new ≡ after_giving link (moved made))
 
--- what a call that is offered these octets is: it answers exactly as above, or that it failed, where memory was
+-- a call that is offered these octets: it returns exactly what `takes_now` says, or that it failed if memory was
 -- refused, and takes that many
 abbrev pub Takes : Memory → (octets : List ℕ) → Moved → Memory → Type 0
 Takes link octets made new =

@@ -1,4 +1,4 @@
-//! Laws on whole chains of sends and receipts, over any link that tells its octets. Each function does nothing: its
+//! Laws of whole chains of sends and receipts, over any link that reports its octets. Each function does nothing: its
 //! contract is the law.
 ghost use Rattle.std.specs.Prelude.{◌≡◌, List, Some, ℕ};
 ghost use Rattle.event_loop.specs.Chain.{Moves, Step};
@@ -10,7 +10,8 @@ ghost use Rattle.conn_core.specs.declared.options.Options.{Options};
 
 use crate::link::Link;
 
-/// What a link took is what counts as sent of the octets put out: in order, none left out, none twice.
+/// What a link took is exactly the connection's output that counts as sent: in order, with nothing left out and
+/// nothing repeated.
 pub fn took_in_order<L: Link>()
     ensures { (options : Options) (conn : Holding) (room : ℕ) (unread : List ℕ)
         (h : List Event) (link : L) (left : List ℕ) (later : List Event) (new : L)
@@ -20,8 +21,8 @@ pub fn took_in_order<L: Link>()
         → L.took link ≡ Some before → TookInOrder h later before (L.took new) }
 {}
 
-/// What a link gave is, behind the octets held back before, the lines of the replies that came and a rest: while the
-/// connection is open, the octets held back now.
+/// The octets held back before, followed by what a link gave, are the lines of the replies that came, followed by a
+/// rest: while the connection is open, the octets held back now.
 pub fn gave_replies<L: Link>()
     ensures { (options : Options) (room : ℕ) (unread : List ℕ) (h : List Event)
         (link : L) (left : List ℕ) (later : List Event) (new : L)

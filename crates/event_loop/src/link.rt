@@ -1,23 +1,23 @@
-// Two directions of octets, which move some at a time.
+// The trait of links: two directions of octets, each of which moves some at a time.
 ghost use Rattle.std.specs.Prelude.{◌≡◌, ◌≤◌, ℕ, List, Option, None, length, take};
 ghost use Rattle.event_loop.specs.Link.{moved, Tells};
 ghost use Rattle.event_loop.specs.declared.moved.Moved.{Moved};
 
 use crate::moved::Moved;
 
-/// Two directions of octets, which move some at a time. A call never waits.
+/// Two directions of octets, each of which moves some at a time. A call never waits.
 pub trait Link {
-    /// The octets that it took, oldest first, where it tells them.
+    /// The octets that it took, oldest first, if it reports them.
     ghost took: { Self → Option (List ℕ) } = { λ _. None };
 
-    /// The octets that it gave, oldest first, where it tells them.
+    /// The octets that it gave, oldest first, if it reports them.
     ghost gave: { Self → Option (List ℕ) } = { λ _. None };
 
-    /// What a call of `recv` with room for so many octets made of it, and told. A link that knows no more than the
-    /// clauses below say nothing, as the default does.
+    /// What a call of `recv` with room for this many octets made of the link, and returned. A link that knows no more
+    /// than the clauses below says nothing, as the default does.
     ghost gives: { Self → ℕ → Moved → Self → Type 0 } = { λ _ _ _ _. Unit {0} };
 
-    /// What a call of `send` with these octets made of it, and told, in the same way.
+    /// What a call of `send` with these octets made of the link, and returned, in the same way.
     ghost takes: { Self → List ℕ → Moved → Self → Type 0 } = { λ _ _ _ _. Unit {0} };
 
     /// It takes nothing for now.
@@ -26,7 +26,7 @@ pub trait Link {
     /// It gives nothing for now.
     ghost dry: { Self → Type 0 };
 
-    /// Gives octets, the first that it has, into the front of `into`.
+    /// Gives the first octets that it has, into a prefix of `into`.
     fn recv(&mut self, into: &mut [u8]) -> Moved
         ensures within { moved result ≤ length into.new }
         ensures gave { Tells (gave self.old) (take (moved result) into.new) (gave self.new) }
@@ -35,7 +35,7 @@ pub trait Link {
         ensures dry { result ≡ Moved.Later → dry self.new }
         ensures full { full self.old → full self.new };
 
-    /// Takes octets, from the front of `from`.
+    /// Takes octets, a prefix of `from`.
     fn send(&mut self, from: &[u8]) -> Moved
         ensures within { moved result ≤ length from.now }
         ensures took { Tells (took self.old) (take (moved result) from.now) (took self.new) }

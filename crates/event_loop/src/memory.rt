@@ -1,4 +1,4 @@
-// A link in memory, which moves octets in pieces, and ends where it is told to.
+// A link in memory, which moves octets in pieces and ends at set points.
 ghost use Rattle.std.specs.Prelude.{◌≡◌, ◌≤◌, ◌++◌, Some, IfSome, OnOk, OnErr, length, take, []};
 ghost use Rattle.event_loop.specs.Link.{Tells, moved};
 ghost use Rattle.event_loop.specs.Memory.{Gives, Takes, cut, met};
@@ -9,19 +9,19 @@ use std::alloc::{AllocError, Global};
 use std::cmp;
 use std::marker::Model;
 
-/// Where one direction ends.
+/// How one direction ends.
 #[derive(Clone, Copy, Debug, PartialEq, Eq)]
 pub enum End {
-    /// It goes on.
+    /// It never ends.
     Never,
-    /// It is closed behind so many octets.
+    /// It is closed after this many octets.
     Closes(usize),
-    /// It fails behind so many octets.
+    /// It fails after this many octets.
     Fails(usize),
 }
 
 impl End {
-    // What comes in the place of a move, behind so many octets.
+    // The end, in place of a move, if `count` octets have gone.
     fn met(self, count: usize) -> Option<Moved>
         ensures value { result ≡ met self count }
         ensures ends { result ≡ Some Moved.Later → ⊥ }
@@ -34,7 +34,7 @@ impl End {
         }
     }
 
-    // How many octets go before it, of so many.
+    // How many of `wanted` octets still go before the end, after `count` have gone.
     fn cut(self, count: usize, wanted: usize) -> usize
         ensures value { result ≡ cut self count wanted }
         ensures within { result ≤ wanted }
@@ -46,7 +46,7 @@ impl End {
     }
 }
 
-/// A link in memory: it gives the octets that it was told to give, keeps those that it takes, and moves few at a time.
+/// A link in memory: it gives the octets of its source, keeps those that it takes, and moves few at a time.
 #[derive(Drop)]
 pub struct MemLink {
     source: Vec<u8>,
@@ -76,7 +76,7 @@ impl Model for MemLink {
 }
 
 impl MemLink {
-    /// One that gives these octets, moves at most `piece` at a time, and ends so in each direction.
+    /// A link that gives these octets, moves at most `piece` at a time, and ends in this way in each direction.
     pub fn new(alloc: Global, source: Vec<u8>, piece: usize, gives: End, takes: End) -> Self
         ensures { result ≡ record {
           gave = [];
@@ -97,10 +97,10 @@ impl MemLink {
         }
     }
 
-    /// Has it give these octets too, behind the others.
+    /// Adds octets to those that it gives, after the others.
     ///
     /// # Errors
-    /// `AllocError` where memory was refused: nothing changes.
+    /// `AllocError` if memory was refused: nothing changes.
     pub fn extend(&mut self, octets: &[u8]) -> Result<(), AllocError>
         ensures ok { OnOk result
             (self.new ≡ record self.old { waiting = self.old.waiting ++ octets.now }) }

@@ -3,9 +3,9 @@
 /// What one call of a link did.
 #[derive(Clone, Copy, Debug, PartialEq, Eq)]
 pub enum Moved {
-    /// So many octets went through: it may be none, where the call was interrupted.
+    /// This many octets went through; 0 if the call was interrupted.
     Done(usize),
-    /// None did, and none will until the link is told that it is ready.
+    /// None went through, and none will until the link is reported ready.
     Later,
     /// The other side closed it.
     Closed,

@@ -1,4 +1,4 @@
-// A link over a socket that never waits, whose readiness is told once at each change.
+// A link over a nonblocking socket, whose readiness is reported once at each change.
 ghost use Rattle.std.specs.Prelude.{◌≡◌, ◌||◌, IfOk, false};
 ghost use Rattle.std.specs.IoError.{error_kind};
 ghost use Rattle.std.specs.declared.io.ErrorKind.TheVariants.{WouldBlock};
@@ -12,16 +12,15 @@ use mio::net::TcpStream;
 use mio::{Interest, Registry, Token};
 use std::io::{self, ErrorKind, Read, Write};
 
-/// A link over a TCP stream of `mio`. It is told by [`SocketLink::note`] what the stream is ready for, and holds to
-/// that until a call finds that it is not: only then is it `Later`.
+/// A link over a TCP stream of `mio`. [`SocketLink::note`] sets what the stream is ready for, which holds until a
+/// call finds that it is not: only then does a call return `Later`.
 #[derive(Drop)]
 pub struct SocketLink {
     stream: TcpStream,
     readable: bool,
     writable: bool,
-    // The peer sends nothing behind what can still be read.
+    // The peer sends nothing after what can still be read.
     closing: bool,
-    // Why a call failed.
     fault: Option<io::Error>,
 }
 
@@ -29,7 +28,7 @@ impl SocketLink {
     /// A link over this stream, not known to be ready for anything. What it takes goes out at once (TCP_NODELAY).
     ///
     /// # Errors
-    /// What the system says where that can't be set.
+    /// The system's error if that option cannot be set.
     pub fn new(stream: TcpStream) -> io::Result<Self>
         ensures reads { IfOk result (λ link. link.readable ≡ false) }
         ensures writes { IfOk result (λ link. link.writable ≡ false) }
@@ -45,11 +44,11 @@ impl SocketLink {
         })
     }
 
-    /// Has each change of what the stream is ready for reported under this token, and what it is ready for now. Once is
-    /// enough: dropping the link ends it.
+    /// Has the system report under this token what the stream is ready for now, and each change. Once is enough:
+    /// dropping the link ends it.
     ///
     /// # Errors
-    /// What the system says where it can't be registered.
+    /// The system's error if the stream cannot be registered.
     pub fn register(&mut self, registry: &Registry, token: Token) -> io::Result<()>
         ensures unchanged { self.new ≡ self.old }
     {
@@ -60,22 +59,23 @@ impl SocketLink {
         )
     }
 
-    /// Why the stream failed, where it did: to be asked at the first report that it is writable, which ends connecting.
+    /// Why the stream failed, if it did: to be called at the first report that it is writable, which ends connecting.
     ///
     /// # Errors
-    /// What the system says where it can't be asked.
+    /// The system's error if it cannot be asked.
     pub fn take_error(&self) -> io::Result<Option<io::Error>> {
         self.stream.take_error()
     }
 
-    /// Why the last send or receipt failed that did, for a log: it is told once.
+    /// Why the last send or receipt failed, for a log; each error is returned once.
     pub fn take_fault(&mut self) -> Option<io::Error>
         ensures { result ≡ self.old.fault }
     {
         self.fault.take()
     }
 
-    /// Notes what the stream was reported ready for. Where it failed each direction is tried once more, and tells so.
+    /// Notes what the stream was reported ready for. If it failed, each direction is tried once more and reports the
+    /// failure.
     pub fn note(&mut self, event: &Event)
         ensures reads { self.new.readable ≡ (self.old.readable || spec.is_readable event.now
             || spec.is_read_closed event.now || spec.is_error event.now) }
@@ -107,7 +107,7 @@ impl Link for SocketLink {
         match self.stream.read(into) {
             Ok(0) if !into.is_empty() => Moved::Closed,
             Ok(count) => {
-                // Octets and the end of all can be one report: then a short read is not the last.
+                // Octets and the end of the stream can come in one report: then a short read is not the last.
                 self.readable = self.closing || count == into.len();
                 Moved::Done(count)
             }
@@ -133,7 +133,7 @@ impl Link for SocketLink {
 }
 
 impl SocketLink {
-    // What a call that failed so did. The reason is kept where the link is at its end.
+    // The result of a call that failed with this error. The error is kept if the link is at its end.
     fn refused(&mut self, error: io::Error) -> Moved
         ensures none { moved result ≡ 0 }
         ensures later { result ≡ Moved.Later → error_kind error ≡ WouldBlock }

@@ -15,14 +15,14 @@ use conn_core::Conn;
 pub enum Driven {
     /// Neither direction can move now.
     Idle,
-    /// All turns were made, and in the last one direction at least could move.
+    /// All turns were made, and at least one direction could move in the last.
     Turns,
     /// The connection is closed.
     Shut,
 }
 
-/// Sends what is put out, once. It is `Later`, without a call, where nothing is. Where the link is closed or fails, the
-/// connection broke.
+/// Sends what is put out, once. It returns `Later`, without a call, if there is nothing to send. If the link is
+/// closed or fails, the connection is broken.
 pub fn put_out<L: Link>(conn: &mut Conn, link: &mut L) -> Moved
     ensures stands { (options : Options) (unread : List ℕ) (h : List Event)
         → StandsFor options conn.old unread h
@@ -46,8 +46,8 @@ pub fn put_out<L: Link>(conn: &mut Conn, link: &mut L) -> Moved
     made
 }
 
-/// Takes in what the link gives, once, by way of `buffer`. Where the link is closed or fails, the connection broke;
-/// where memory is refused it is closed as by `broken`, and the answer is still `Done`.
+/// Takes in what the link gives, once, by way of `buffer`. If the link is closed or fails, the connection is broken;
+/// if memory is refused, it is closed as by `broken`, and the result is still `Done`.
 pub fn take_in<L: Link>(conn: &mut Conn, link: &mut L, buffer: &mut [u8]) -> Moved
     ensures stands { (options : Options) (unread : List ℕ) (h : List Event)
         → StandsFor options conn.old unread h
@@ -72,7 +72,7 @@ pub fn take_in<L: Link>(conn: &mut Conn, link: &mut L, buffer: &mut [u8]) -> Mov
     made
 }
 
-/// Makes at most so many turns, each a send and a receipt, until neither can move or the connection is closed.
+/// Makes at most `turns` turns, each a send and a receipt, until neither can move or the connection is closed.
 pub fn drive<L: Link>(conn: &mut Conn, link: &mut L, buffer: &mut [u8], turns: u64) -> Driven
     ensures stands { (options : Options) (unread : List ℕ) (h : List Event)
         → StandsFor options conn.old unread h
@@ -100,7 +100,6 @@ pub fn drive<L: Link>(conn: &mut Conn, link: &mut L, buffer: &mut [u8], turns: u
     Driven::Turns
 }
 
-// Whether neither half of a turn could move.
 fn neither_can_move(out: Moved, into: Moved) -> bool
     ensures { result ≡ (is_wait out && is_wait into) }
 {

@@ -102,7 +102,7 @@ stopped kind = Err kind
 abbrev read_as : State → Result State ConfFault
 read_as state = Ok state
 
--- the state that comes of it has the uses of this one
+-- a state with the same uses is bounded too
 same-uses : (state made next : State) → AreBounded state.uses → made.uses ≡ state.uses → made_as made ≡ Ok next
     → AreBounded next.uses
 same-uses state made next h same e =
@@ -218,7 +218,7 @@ closed-step : (block : Option OpenBlock) (state next : State) → AreBounded sta
 closed-step None state next h e = same-state state next h e
 closed-step (Some block) state next h e = cc
 
--- the uses of lines that can be read
+-- the uses of lines that can be read are bounded
 pub reading-bounded : (lines : List (List Item)) (state : State)
     → then_on (run_lines lines start 1) finish ≡ Ok state → AreBounded state.uses
 reading-bounded lines state e =
@@ -273,7 +273,7 @@ default-within NewsSpool name = omega arith
 default-within BacklogDirectory name = omega arith
 default-within StatusFile name = omega arith
 
--- the value, where there is one, is at most the greatest of the key
+-- the value, if there is one, is at most the greatest of the key
 abbrev IsWithin : Key → Option Value → Type 0
 IsWithin key None = Unit {0}
 IsWithin key (Some value) = number value ≤ greatest (row_of key).kind
@@ -313,13 +313,13 @@ or-default : (key : Key) (o : Option Value) (name : List ℕ) → IsWithin key o
 or-default key None name h = default-within key name
 or-default key (Some value) name h = h
 
--- a peer's number of a key is at most the greatest of that key
+-- the number that a key has at a peer is at most the greatest of that key
 pub value-within : (uses : List Use) (outer : List ℕ) (peer : Declared) (key : Key) → AreBounded uses
     → number (value_of uses outer peer key) ≤ greatest (row_of key).kind
 value-within uses outer peer key h =
     or-default key (value_along (row_of key).index uses (path_of outer peer.block)) peer.name
     (along-within uses (path_of outer peer.block) key h)
 
--- the product of a backlog's limit and its factor is a number of 64 bits
+-- the product of a backlog's limit and its factor fits into 64 bits
 pub product-fits : (limit factor : ℕ) → limit ≤ 4294967296 → factor ≤ 10000 → limit * factor < 2 ^ 64
 product-fits limit factor h k = omega (arith, mul-le-mul_left limit k, mul-le-mul_right 10000 h)

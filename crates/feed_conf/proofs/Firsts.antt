@@ -1,4 +1,4 @@
--- The first index of an octet, as a search tells it and as the lines of a text have it.
+-- The first index of an octet, as a search returns it and as the lines of a text have it.
 use Rattle.std.proofs.Common.{◌≡◌, ◌<◌, ◌==◌, ℕ, List, length, get_or, Option, None, Some, arith, cond, ltb}
 use Rattle.std.specs.List.{position, position_or_len}
 use Rattle.std.proofs.lemmas.Bool.{false_from_ne_true}

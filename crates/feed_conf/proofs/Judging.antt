@@ -32,7 +32,7 @@ crossed uses outer peers i peer conf h e v low =
     ∙ ap (λ b. cond b (Some (declared_view peer))
     (find (is_low_above_high uses outer) (map declared_view (drop (i + 1) peers)))) yes
 
--- a peer whose shares are not crossed is passed over
+-- a peer whose shares are not crossed gets its values
 pub passed : (uses : List Use) (outer : List ℕ) (peers : List Held) (i : ℕ) (peer : Held) (conf : PeerConf)
     → i < length peers → peer ≡ get_or peers i peer →
     settings_view conf ≡ settings_of uses outer (declared_view peer) → conf.check_low ≤ conf.check_high →
@@ -45,7 +45,7 @@ passed uses outer peers i peer conf h e v low =
     ∙ ap (λ b. cond b (Some (declared_view peer))
     (find (is_low_above_high uses outer) (map declared_view (drop (i + 1) peers)))) no)
 
--- one peer's values more
+-- the values with those of one more peer
 pub more-confs : (uses : List Use) (outer : List ℕ) (peers : List Held) (i : ℕ) (peer : Held) (conf : PeerConf)
     (confs more : List PeerConf) → i < length peers → peer ≡ get_or peers i peer →
     settings_view conf ≡ settings_of uses outer (declared_view peer) → more ≡ confs ++ conf ∷ [] →

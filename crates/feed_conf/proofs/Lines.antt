@@ -16,7 +16,7 @@ one-step p x xs false e h k =
     let more : prefix_len (λ y. not (p y)) (x ∷ xs) ≡ 1 + prefix_len (λ y. not (p y)) xs = rw e refl in
     rw (e, k (omega (arith, h, more))) refl
 
--- a text without an end of a line is one line
+-- a text without LF is one line
 one-line : (p : ℕ → Bool) (xs : List ℕ) → length xs ≤ prefix_len (λ y. not (p y)) xs → slice_split p xs ≡ xs ∷ []
 one-line p [] h = refl
 one-line p (x ∷ xs) h = one-step p x xs (p x) refl h (one-line p xs)
@@ -49,7 +49,7 @@ run-next items rest item state next line e h = ap (λ z. run_line z state line) 
 pub run-stop : (items rest : List Item) (item : Item) (state : State) (kind : ConfFaultKind) (line : ℕ) → items ≡ item ∷ rest → step state line item ≡ Err kind → run_line items state line ≡ Err (record { line = line; kind = kind })
 run-stop items rest item state kind line e h = ap (λ z. run_line z state line) e ∙ ap (λ z. at_line line z (λ n. run_line rest n line)) h
 
--- the lines from a line on
+-- the lines from one line on
 pub lines-next : (lines rest : List (List ℕ)) (octets : List ℕ) (to_items : List ℕ → List Item) (state next : State) (line : ℕ) → lines ≡ octets ∷ rest → run_line (to_items octets) state line ≡ Ok next → run_lines (map to_items lines) state line ≡ run_lines (map to_items rest) next (line + 1)
 lines-next lines rest octets to_items state next line e h =
     ap (λ z. run_lines (map to_items z) state line) e ∙ ap (λ z. then_on z (λ n. run_lines (map to_items rest) n (line + 1))) h

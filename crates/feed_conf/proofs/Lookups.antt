@@ -1,4 +1,4 @@
--- Peers found by their names, and what is left of a name in a peer's values.
+-- Peers found by their names, and the names that their values keep.
 use Rattle.std.proofs.Common.{◌≡◌, ◌+◌, ℕ, Bool, true, false, List, [], ◌∷◌, map, length, cond, Option, None, Some}
 use Rattle.std.proofs.Common.{refl, ap, ◌∙◌, sym, add-one}
 use Rattle.std.specs.List.{slice_get}
@@ -17,7 +17,7 @@ use Rattle.feed_conf.specs.ConfView.{find_settings}
 use Rattle.feed_conf.specs.LexemeLaws.{lexemes-are}
 use Rattle.feed_conf.proofs.Walks.{has-lexemes}
 
--- the values at a index
+-- the values at an index
 abbrev pub at_index : Option ℕ → List Settings → Option Settings
 at_index None peers = None
 at_index (Some index) peers = slice_get peers index
@@ -41,7 +41,7 @@ find-index octets (peer ∷ peers) =
     find-step (bytes_eq octets peer.name) (index_of octets (map (λ (p : Settings). p.name) peers))
     (find_settings octets peers) peer peers (find-index octets peers)
 
--- the values of peers have their names
+-- the values of peers keep the peers' names
 pub names-kept : (uses : List Use) (outer : List ℕ) (peers : List Declared)
     → map (λ (peer : Settings). peer.name) (map (settings_of uses outer) peers) ≡ map
     (λ (peer : Declared). peer.name) peers
@@ -63,7 +63,7 @@ pub have-lexemes : (lines : List (List ℕ)) → HaveLexemes lines (map lexemes_
 have-lexemes [] = tt
 have-lexemes (line ∷ lines) = (has-lexemes line, have-lexemes lines)
 
--- what is lent of a list at a index
+-- what is lent from a list at an index
 pub item-copied : {X : Type 0} (xs : List X) (i : ℕ) (r : Option (Bor X)) → IsItemAt xs i r
     → option_copied r ≡ slice_get xs i
 item-copied xs i None h = sym (slice_get_past xs i h.3)

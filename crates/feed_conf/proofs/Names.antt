@@ -56,7 +56,7 @@ index-step o true r h = refl
 index-step None false r h = h
 index-step (Some n) false r h = h
 
--- a name has a index where a peer of that name is declared
+-- a name has an index if a peer of that name is declared
 pub index-declared : (octets : List ℕ) (peers : List Declared) → is_some (index_of octets (map (λ (peer : Declared). peer.name) peers)) ≡ is_declared octets peers
 index-declared octets [] = refl
 index-declared octets (peer ∷ peers) =
@@ -66,7 +66,7 @@ none-from : (o : Option ℕ) → is_some o ≡ false → o ≡ None
 none-from None h = refl
 none-from (Some n) h = cc
 
--- a name that no peer has, has no index
+-- a name of no peer has no index
 pub index-none : (octets : List ℕ) (peers : List Declared) → is_declared octets peers ≡ false → index_of octets (map (λ (peer : Declared). peer.name) peers) ≡ None
 index-none octets peers h = none-from (index_of octets (map (λ (peer : Declared). peer.name) peers)) (index-declared octets peers ∙ h)
 

@@ -1,4 +1,4 @@
--- How long a gap, a word and a quote are, and what the walk over a line gives behind them.
+-- How long a gap, a word and a quoted text are, and what the walk over a line gives after them.
 use Rattle.std.proofs.Common.{◌≡◌, ◌<◌, ◌==◌, ℕ, Bool, true, false, not, List, [], ◌∷◌, ◌++◌, length, refl, ap, ◌∙◌, sym, append-nil, take, drop, cond, zero, suc, subst, ltb, unwrap_or, Some, None, Option, ◌≤◌, arith}
 use Rattle.std.specs.List.{list_all, prefix_len, position}
 use Rattle.std.proofs.lemmas.List.Sums.{prefix_len-le-length}
@@ -8,7 +8,7 @@ use Rattle.feed_conf.specs.Lexemes.{Word, Quoted, Unclosed, is_blank, is_word_oc
 use Rattle.feed_conf.specs.Scan.{InQuote, scan, StopsAt, BeginsWord, lexemes_of}
 use Rattle.feed_conf.specs.LexemeLaws.{scan-gap, scan-word, scan-in_quote, scan-unclosed}
 
--- the longest prefix whose octets pass a test, and what stands behind it
+-- the longest prefix of octets that pass a test, and the rest after it
 pub record IsPrefix (test : ℕ → Bool) (octets : List ℕ) (n : ℕ) : Type 0 where
   pub passes : list_all test (take n octets) ≡ true
   pub stops : StopsAt test (drop n octets)
@@ -26,7 +26,7 @@ pub prefix : (test : ℕ → Bool) (octets : List ℕ) → IsPrefix test octets 
 prefix test [] = record { passes = refl; stops = tt }
 prefix test (octet ∷ octets) = prefix-step test octet octets (test octet) refl (prefix test octets)
 
--- where the first octet stands that does not pass, or else the length
+-- the index of the first octet that fails, or the length if there is none
 twice-step : (test : ℕ → Bool) (octet : ℕ) (octets : List ℕ) (b : Bool) → test octet ≡ b → prefix_len (λ x. not (not (test x))) octets ≡ prefix_len test octets → prefix_len (λ x. not (not (test x))) (octet ∷ octets) ≡ prefix_len test (octet ∷ octets)
 twice-step test octet octets true e h = rw (e, h) refl
 twice-step test octet octets false e h = rw e refl
@@ -44,7 +44,7 @@ stop test octets =
     let n = prefix_len (λ x. not (not (test x))) octets in
     stop-step n (length octets) (ltb n (length octets)) refl (prefix_len-le-length (λ x. not (not (test x))) octets) ∙ twice test octets
 
--- a line from its first octet on that is not blank has its lexemes
+-- a line has the lexemes of its rest from the first octet that is not blank
 pub after-blanks : (line : List ℕ) (n : ℕ) → IsPrefix is_blank line n → lexemes_of line ≡ lexemes_of (drop n line)
 after-blanks line n f = sym (ap lexemes_of (take-append-drop n line)) ∙ scan-gap (take n line) (drop n line) f.passes
 
@@ -62,7 +62,7 @@ pub after-word : (line : List ℕ) (n : ℕ) → BeginsWord line → IsPrefix is
 after-word line n begins f =
     sym (ap lexemes_of (take-append-drop n line)) ∙ scan-word (take n line) (drop n line) (word-some line n begins f) f.passes (word-stops (drop n line) f.stops)
 
--- a line behind a quote, where another quote follows
+-- a line after a quote, if another quote follows
 pub after-quote : (line : List ℕ) (n : ℕ) (octet : ℕ) (rest : List ℕ) → IsPrefix is_quoted_octet line n → drop n line ≡ octet ∷ rest → lexemes_of (34 ∷ line) ≡ Quoted (take n line) ∷ lexemes_of rest
 after-quote line n octet rest f e =
     let stops : is_quoted_octet octet ≡ false = subst (StopsAt is_quoted_octet) e f.stops in
@@ -70,7 +70,7 @@ after-quote line n octet rest f e =
     let whole : line ≡ take n line ++ 34 ∷ rest = sym (take-append-drop n line) ∙ ap (λ z. take n line ++ z) (e ∙ ap (λ o. o ∷ rest) is) in
     ap (λ z. scan z (InQuote [])) whole ∙ scan-in_quote (take n line) rest [] f.passes
 
--- and where none follows
+-- a line after a quote, if none follows
 pub after-open_quote : (line : List ℕ) (n : ℕ) → IsPrefix is_quoted_octet line n → drop n line ≡ [] → lexemes_of (34 ∷ line) ≡ Unclosed ∷ []
 after-open_quote line n f e =
     let whole : line ≡ take n line = sym (take-append-drop n line) ∙ ap (λ z. take n line ++ z) e ∙ append-nil (take n line) in

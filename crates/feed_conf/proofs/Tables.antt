@@ -1,4 +1,4 @@
--- The table of values against the uses that it was made of.
+-- The table of values, and the uses that it was made from.
 use Rattle.std.proofs.Common.{suc, zero, ◌≡◌, ◌==◌, ◌&&◌, ◌+◌, ◌<◌, ℕ, Bool, true, false, List, [], ◌∷◌, ◌++◌, length}
 use Rattle.std.proofs.Common.{map, take, get_or, cond, Option, None, Some, unwrap_or, refl, ap, ◌∙◌, sym, arith, inl}
 use Rattle.std.proofs.Common.{inr}
@@ -47,7 +47,7 @@ pub view-or : (o : Option Held) (d : Held)
 view-or None d = refl
 view-or (Some v) d = refl
 
--- the scope of the file stands in no block
+-- no block is around the scope of the file
 scope-path : (most : ℕ) (outer : List ℕ) → path_within most outer 0 ≡ []
 scope-path zero outer = refl
 scope-path (suc most) outer = refl
@@ -56,7 +56,7 @@ pub along-scope : (index : ℕ) (uses : List Use) (outer : List ℕ) (most at : 
     → value_along index uses (path_within most outer at) ≡ last_value 0 index uses
 along-scope index uses outer most at e = rw e (ap (value_along index uses) (scope-path most outer))
 
--- in a block that has a value
+-- a block that has a value
 pub along-some : (index : ℕ) (uses : List Use) (outer : List ℕ) (left most at : ℕ) (value : Value) → left ≡ suc most
     → (at ≡ 0 → ⊥) → Some value ≡ last_value at index uses
     → value_along index uses (path_within left outer at) ≡ Some value
@@ -64,7 +64,7 @@ along-some index uses outer left most zero value e some h = absurd (some refl)
 along-some index uses outer left most (suc at) value e some h =
     rw e (ap (λ z. later z (value_along index uses (path_within most outer (block_around outer (suc at))))) (sym h))
 
--- a block further out
+-- a block that has none: the next one further out counts
 pub along-none : (index : ℕ) (uses : List Use) (outer : List ℕ) (left most at : ℕ) → left ≡ suc most → (at ≡ 0 → ⊥)
     → None ≡ last_value at index uses
     → value_along index uses (path_within left outer at) ≡ value_along index uses
@@ -83,7 +83,7 @@ is_eq-nat x y =
       ]
     ]
 
--- two indexes in a table are the same
+-- two equal indexes in a table
 pub same-index : (block index other_block other_index : ℕ)
     → is_eq (index_cmp (block, index) (other_block, other_index)) ≡ (block == other_block && index == other_index)
 same-index block index other_block other_index =

@@ -31,7 +31,7 @@ word-push : (word : List ℕ) (octet : ℕ) → IsWord word → is_word_octet oc
 word-push [] octet h k = absurd (omega (arith, h.some))
 word-push (first ∷ word) octet h k = record { some = omega arith; solid = all-push is_word_octet (first ∷ word) octet h.solid k }
 
--- the octet is no blank, and none of the four marks
+-- an octet that is no blank and none of the four marks
 at-word : (octet : ℕ) (line : List ℕ) → Walks line → is_blank octet ≡ false → (octet == 35) ≡ false
     → (octet == 34) ≡ false → (octet == 123) ≡ false → (octet == 125) ≡ false
     → HasLexemes (octet ∷ line) (scan line (InWord (octet ∷ [])))

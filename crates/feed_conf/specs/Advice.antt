@@ -1,4 +1,4 @@
--- What is told of settings that are ignored or limited, and of a configuration without peers (docs/MANUAL.md).
+-- Messages on settings that are ignored or limited, and on a configuration without peers (docs/MANUAL.md).
 use Rattle.std.specs.Prelude.{◌||◌, ℕ, Bool, true, false, List, [], ◌∷◌, ◌++◌, Option, None, Some, codes, flat_map}
 use Rattle.std.specs.Prelude.{if◌then◌else◌}
 use Rattle.std.specs.Str.{bytes_eq}
@@ -12,19 +12,19 @@ use Rattle.feed_conf.specs.declared.key.Key.{Key}
 abbrev pub is_login : List ℕ → Bool
 is_login name = bytes_eq name (codes "username") || bytes_eq name (codes "password")
 
--- settings of INN that choose where a connection comes from
+-- settings of INN that choose the source address of a connection
 abbrev pub is_source : List ℕ → Bool
 is_source name =
     bytes_eq name (codes "bindaddress") || bytes_eq name (codes "bindaddress6") || bytes_eq name (codes "force-ipv4")
 
--- settings of INN by which the number of connections grows
+-- settings of INN that let the number of connections grow
 abbrev pub is_growth : List ℕ → Bool
 is_growth name =
     bytes_eq name (codes "initial-connections") || bytes_eq name (codes "dynamic-method")
     || bytes_eq name (codes "dynamic-backlog-low") || bytes_eq name (codes "dynamic-backlog-high")
     || bytes_eq name (codes "dynamic-backlog-filter") || bytes_eq name (codes "min-queue-connection")
 
--- settings of INN that close connections by time
+-- settings of INN that close connections after a time
 abbrev pub is_closing : List ℕ → Bool
 is_closing name = bytes_eq name (codes "close-period") || bytes_eq name (codes "article-timeout")
 
@@ -52,7 +52,7 @@ is_mail name =
     || bytes_eq name (codes "deliver-username") || bytes_eq name (codes "deliver-realm")
     || bytes_eq name (codes "deliver-rcpt-to") || bytes_eq name (codes "deliver-to-header")
 
--- what it means for the feed that a setting of this name is ignored, which is none of this profile
+-- what it means for the feed that a setting is ignored whose name the profile does not have
 abbrev pub foreign_text : List ℕ → List ℕ
 foreign_text name =
     if is_login name then codes "changes the feed: innfeed does not log in to its peers" else (
@@ -89,6 +89,6 @@ abbrev pub peers_text : (file : List ℕ) → List Settings → List ℕ
 peers_text file [] = no_peers_text file
 peers_text file (peer ∷ peers) = []
 
--- the lines on settings: each that is ignored or limited, in reading order, and whether there are no peers
+-- the lines on settings: one for each that is ignored or limited, in reading order, and one if there are no peers
 abbrev pub advice : (file : List ℕ) → Outcome → List ℕ
 advice file outcome = flat_map (report_text file) outcome.reports ++ peers_text file outcome.peers

@@ -1,4 +1,4 @@
--- What a configuration stands for.
+-- The record of the definition that a configuration stands for.
 use Rattle.std.specs.Prelude.{◌≡◌, ◌≢◌, ℕ, List, map, Option, Result, Ok, Err, MatchResult}
 use Rattle.std.specs.List.{find}
 use Rattle.std.specs.Str.{bytes_eq}
@@ -22,6 +22,6 @@ conf_view conf = record {
 abbrev pub find_settings : List ℕ → List Settings → Option Settings
 find_settings name peers = find (λ (peer : Settings). bytes_eq name peer.name) peers
 
--- what is made is what is to be made, memory aside
+-- the result is the defined one, or memory was refused
 abbrev pub Makes : Result Outcome ConfFault → Result Conf ConfFault → Type 0
 Makes wanted made = MatchResult made (λ conf. wanted ≡ Ok (conf_view conf)) (λ fault. fault.kind ≢ NoMemory → wanted ≡ Err fault)

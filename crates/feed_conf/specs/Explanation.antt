@@ -1,4 +1,4 @@
--- What is told of a configuration that has a fault, beside that fault (docs/MANUAL.md).
+-- Messages that explain a faulty configuration (docs/MANUAL.md).
 use Rattle.std.specs.Prelude.{◌+◌, ◌/◌, ℕ, List, [], ◌∷◌, ◌++◌, Option, None, Some, Result, Ok, Err, codes, decimal}
 use Rattle.std.specs.Prelude.{flat_map, map}
 use Rattle.feed_conf.specs.Items.{Item, Uses, items_of}
@@ -14,7 +14,7 @@ use Rattle.feed_conf.specs.declared.key.Kind.{Kind}
 use Rattle.feed_conf.specs.declared.key.Kind.TheVariants.{AnyText, ShortText, Switch, Connections, Number, Whole}
 use Rattle.feed_conf.specs.declared.key.Kind.TheVariants.{Fraction}
 
--- the file and the line that a further line is about
+-- the file and the line number that a message begins with
 abbrev pub place_text : List ℕ → ℕ → List ℕ
 place_text file line = file ++ codes ":" ++ decimal line ++ codes ": "
 
@@ -40,7 +40,7 @@ reason_text (Whole least greatest) value fault = number_text value (codes " is n
 reason_text (Fraction least greatest) value fault =
     number_text value (codes " is not a number") (least / 100) (greatest / 100) fault
 
--- the line on a value that was taken so, or not
+-- the line on a value that was judged so: none if it was taken
 abbrev pub taken_text : (file : List ℕ) → (line : ℕ) → (name : List ℕ) → Kind → (value : List ℕ)
     → Result Taken ConfFaultKind → List ℕ
 taken_text file line name kind value (Ok taken) = []
@@ -53,12 +53,12 @@ use_text file line name value None = []
 use_text file line name value (Some key) =
     taken_text file line name (row_of key).kind value (taken_of (row_of key).kind value)
 
--- the line on one thing that a line of the file says
+-- the line on one item
 abbrev pub item_text : (file : List ℕ) → (line : ℕ) → Item → List ℕ
 item_text file line (Uses name (Some value)) = use_text file line name value (key_of name)
 item_text file line _ = []
 
--- the lines on what the lines of the file say, of which the first has this number
+-- the lines on the items of these lines, of which the first has this number
 abbrev pub items_text : (file : List ℕ) → (line : ℕ) → List (List Item) → List ℕ
 items_text file line [] = []
 items_text file line (items ∷ lines) = flat_map (item_text file line) items ++ items_text file (line + 1) lines
@@ -77,8 +77,8 @@ abbrev pub words_text : (file : List ℕ) → (line : ℕ) → Option (List ℕ)
 words_text file line None = []
 words_text file line (Some words) = place_text file line ++ words ++ 10 ∷ []
 
--- The lines on a configuration with this first fault: the fault, if it is not of a value, and each value that its key
--- does not take, in reading order.
+-- The lines on a configuration with this first fault: the fault itself unless it is of a value, and each value that
+-- its key does not take, in reading order.
 abbrev pub explanation : (file text : List ℕ) → ConfFault → List ℕ
 explanation file text fault =
     words_text file fault.line (words_of fault.kind) ++ items_text file 1 (map items_of (lines_of text))

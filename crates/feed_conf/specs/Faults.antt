@@ -1,11 +1,10 @@
--- The words by which messages tell what is wrong with settings (profile).
+-- The words for faults of a configuration in messages (profile).
 use Rattle.std.specs.Prelude.{ℕ, List, codes}
 use Rattle.feed_conf.specs.declared.fault.ConfFaultKind.{ConfFaultKind}
 use Rattle.feed_conf.specs.declared.fault.ConfFaultKind.TheVariants.{NoValue, BadNumber, BadBoolean, Unbalanced}
 use Rattle.feed_conf.specs.declared.fault.ConfFaultKind.TheVariants.{BadPeerName, SamePeer, LowAboveHigh, Range}
 use Rattle.feed_conf.specs.declared.fault.ConfFaultKind.TheVariants.{NoMemory}
 
--- the word for a fault
 abbrev pub conf_fault_name : ConfFaultKind → List ℕ
 conf_fault_name NoValue = codes "NoValue"
 conf_fault_name BadNumber = codes "BadNumber"

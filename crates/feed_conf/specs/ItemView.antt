@@ -1,4 +1,4 @@
--- What an item of the reader stands for.
+-- The item of the definition that one of the reader stands for.
 use Rattle.std.specs.Prelude.{ℕ, List}
 use Rattle.std.specs.Borrow.{Bor}
 use Rattle.std.specs.Option.{option_map}

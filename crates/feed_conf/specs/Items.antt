@@ -1,4 +1,4 @@
--- What the lines of settings say (profile).
+-- The items of a line: what each line of a configuration says (profile).
 use Rattle.std.specs.Prelude.{◌==◌, ◌+◌, ℕ, Bool, true, false, List, [], ◌∷◌, Option, None, Some, position, take, drop, codes, if◌then◌else◌}
 use Rattle.std.specs.Str.{bytes_eq}
 use Rattle.feed_conf.specs.Lexemes.{Lexeme, Word, Quoted, Open, Close, Unclosed}
@@ -8,22 +8,21 @@ use Rattle.feed_conf.specs.declared.fault.ConfFaultKind.TheVariants.{NoValue, Un
 
 -- one thing that a line says
 pub data Item : Type 0 where
-  -- The word `peer` and the name behind it, which is empty where none stands there; and whether `{` follows.
+  -- the word `peer`: the name after it, empty if there is none, and whether `{` follows
   Peer : List ℕ → Bool → Item
-  -- a group is opened
   Group : Item
   -- the innermost block is closed
   Closes : Item
-  -- a key, and its value where it has one
+  -- a key, and its value if it has one
   Uses : List ℕ → Option (List ℕ) → Item
-  -- the line cannot be read on
+  -- the line cannot be read further
   Stops : ConfFaultKind → Item
 
--- what a word is where a new item may begin
+-- what a word is when a new item may begin
 pub data Sort : Type 0 where
   PeerWord : Sort
   GroupWord : Sort
-  -- what stands before the first colon, and behind it
+  -- the text before the first colon and the text after it
   Pair : List ℕ → List ℕ → Sort
   Plain : Sort
 
@@ -37,7 +36,7 @@ sort_of word =
     if bytes_eq word (codes "group") then GroupWord else
     split_pair (position (λ octet. octet == 58) word) word)
 
--- what a line has begun
+-- an item that is begun
 pub data Begun : Type 0 where
   Nothing : Begun
   -- the word `peer`; then its name too
@@ -49,7 +48,7 @@ pub data Begun : Type 0 where
   -- a key whose word ends at the colon
   KeyBegun : List ℕ → Begun
 
--- what a word is where nothing is begun; the rest of the line goes on from what it begins
+-- the items from a word on, if nothing is begun; the rest of the line goes on from what the word begins
 abbrev pub word_items : Sort → (Begun → List Item) → List Item
 word_items PeerWord next = next PeerBegun
 word_items GroupWord next = next GroupBegun
@@ -57,7 +56,7 @@ word_items (Pair key []) next = next (KeyBegun key)
 word_items (Pair key (octet ∷ value)) next = Uses key (Some (octet ∷ value)) ∷ next Nothing
 word_items Plain next = Stops NoValue ∷ []
 
--- What the lexemes of a line say behind what it has begun.
+-- the items of these lexemes, after what is begun
 abbrev pub items : List Lexeme → Begun → List Item
 items [] Nothing = []
 items (Word word ∷ rest) Nothing = word_items (sort_of word) (items rest)
@@ -96,6 +95,6 @@ items (Open ∷ rest) (KeyBegun key) = Uses key None ∷ Stops Unbalanced ∷ []
 items (Close ∷ rest) (KeyBegun key) = Uses key None ∷ Closes ∷ items rest Nothing
 items (Unclosed ∷ rest) (KeyBegun key) = Stops Unbalanced ∷ []
 
--- what a line says
+-- the items of a line
 abbrev pub items_of : List ℕ → List Item
 items_of line = items (lexemes_of line) Nothing

@@ -1,4 +1,4 @@
--- What a row of the reader's table of keys stands for.
+-- The row of the definition that one of the reader's table of keys stands for.
 use Rattle.std.specs.Prelude.{ℕ, List, Option, None, Some}
 use Rattle.feed_conf.specs.Keys.{Row}
 use Rattle.feed_conf.specs.Values.{Value, TextOf}
@@ -6,7 +6,7 @@ use Rattle.feed_conf.specs.ValueView.{value_view}
 use Rattle.feed_conf.specs.declared.value.Value.{Value as HeldValue}
 use Rattle.feed_conf.specs.declared.key.Row.{Row as HeldRow}
 
--- a default, where none stands for the name of the peer
+-- a default; `None` stands for the name of the peer
 abbrev pub default_view : Option HeldValue → List ℕ → Value
 default_view None = λ peer. TextOf peer
 default_view (Some value) = λ peer. value_view value

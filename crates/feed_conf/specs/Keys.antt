@@ -8,16 +8,15 @@ use Rattle.feed_conf.specs.declared.key.Key.TheVariants.{IpName, PortNumber, Str
 use Rattle.feed_conf.specs.declared.key.Kind.{Kind}
 use Rattle.feed_conf.specs.declared.key.Kind.TheVariants.{AnyText, ShortText, Switch, Connections, Number, Whole, Fraction}
 
--- what the profile says of a key
 pub record Row : Type 0 where
   -- its index in this table
   pub index : ℕ
   pub name : List ℕ
   -- how its value is written, with the least and the greatest value
   pub kind : Kind
-  -- whether it stands in the scope of the file alone
+  -- whether it is allowed only outside all blocks
   pub of_file : Bool
-  -- its value where it has no use that counts, at a peer of this name
+  -- its value at a peer of this name, if no use of the key counts
   pub default : List ℕ → Value
 
 abbrev pub row_of : Key → Row
@@ -44,6 +43,5 @@ abbrev pub all_keys : List Key
 all_keys =
     IpName ∷ PortNumber ∷ Streaming ∷ MaxConnections ∷ MaxQueueSize ∷ NoCheckHigh ∷ NoCheckLow ∷ NoCheckFilter ∷ ResponseTimeout ∷ InitialReconnectTime ∷ MaxReconnectTime ∷ DropDeferred ∷ BacklogLimit ∷ BacklogLimitHighwater ∷ BacklogFactor ∷ NewsSpool ∷ BacklogDirectory ∷ StatusFile ∷ []
 
--- the key of the profile that has this name
 abbrev pub key_of : List ℕ → Option Key
 key_of name = find (λ key. bytes_eq (row_of key).name name) all_keys

@@ -1,4 +1,4 @@
--- The walk over a line gives the lexemes that it has, and no others.
+-- The walk over a line gives the lexemes of the line, and no others.
 use Rattle.std.proofs.Common.{◌≡◌, ◌<◌, ◌==◌, ◌||◌, ℕ, true, false, List, [], ◌∷◌, ◌++◌, length, refl, ap, ◌∙◌, sym}
 use Rattle.std.proofs.Common.{append_assoc, append-nil, arith}
 use Rattle.std.specs.List.{list_all}
@@ -7,7 +7,7 @@ use Rattle.feed_conf.specs.Lexemes.{Lexeme, Word, Quoted, Open, Close, Unclosed,
 use Rattle.feed_conf.specs.Lexemes.{is_quoted_octet, EndsWord, IsEnd, IsForm, HasLexemes}
 use Rattle.feed_conf.specs.Scan.{Walk, Between, InWord, InQuote, scan, scan_first, lexemes_of}
 
--- a blank is passed over
+-- a blank is skipped
 scan_first-blank : (octet : ℕ) (next : Walk → List Lexeme) → is_blank octet ≡ true
     → scan_first octet next ≡ next Between
 scan_first-blank octet next blank = rw blank refl
@@ -49,7 +49,7 @@ scan-in_word (octet ∷ word) rest met solid ends =
     let parts = and_parts (is_word_octet octet) (list_all is_word_octet word) solid in
     rw parts.0 (scan-in_word word rest (met ++ octet ∷ []) parts.1 ends ∙ ap (λ w. Word w ∷ lexemes_of rest) (append_assoc met (octet ∷ []) word))
 
--- a word that stands between lexemes
+-- a word between lexemes
 pub scan-word : (word rest : List ℕ) → 0 < length word → list_all is_word_octet word ≡ true → EndsWord rest
     → lexemes_of (word ++ rest) ≡ Word word ∷ lexemes_of rest
 scan-word [] rest some solid ends = absurd (omega arith)
@@ -87,7 +87,7 @@ end-scan : (rest : List ℕ) → IsEnd rest → lexemes_of rest ≡ []
 end-scan [] h = refl
 end-scan (octet ∷ rest) h = ap (λ z. lexemes_of (z ∷ rest)) h
 
--- a line has no other lexemes than those of the walk
+-- a line has no lexemes but those of the walk
 pub lexemes-are : (line : List ℕ) (lexemes : List Lexeme) → HasLexemes line lexemes → lexemes_of line ≡ lexemes
 lexemes-are line [] h = ap lexemes_of h.2 ∙ scan-gap h.0 h.1 h.3 ∙ end-scan h.1 h.4
 lexemes-are line (lexeme ∷ lexemes) h =

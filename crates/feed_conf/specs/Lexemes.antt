@@ -1,18 +1,16 @@
--- The lexemes of a line of settings (profile).
+-- The lexemes of a line of a configuration (profile).
 use Rattle.std.specs.Prelude.{◌≡◌, ◌==◌, ◌||◌, ◌<◌, ℕ, Bool, false, not, List, [], ◌∷◌, ◌++◌, length, IsTrue}
 use Rattle.std.specs.List.{list_all}
 
--- What stands on a line besides blanks and a comment.
+-- The parts of a line, apart from blanks and a comment.
 pub data Lexeme : Type 0 where
-  -- octets that stand together, none of them blank or a mark
+  -- octets without a blank or a mark between them
   Word : List ℕ → Lexeme
-  -- what stands between two quotes
+  -- the text between two quotes
   Quoted : List ℕ → Lexeme
-  -- the brace `{`
   Open : Lexeme
-  -- the brace `}`
   Close : Lexeme
-  -- a quote that no second quote follows on its line
+  -- a quote without a second one on its line
   Unclosed : Lexeme
 
 -- space, tab or CR
@@ -35,16 +33,15 @@ IsGap octets = IsTrue (list_all is_blank octets)
 abbrev pub is_quoted_octet : ℕ → Bool
 is_quoted_octet octet = not (octet == 34)
 
--- no quote is among these octets
 abbrev pub HasNoQuote : List ℕ → Type 0
 HasNoQuote octets = IsTrue (list_all is_quoted_octet octets)
 
--- one octet or more, all of which a word may have
+-- one or more octets that a word may have
 pub record IsWord (octets : List ℕ) : Type 0 where
   pub some : 0 < length octets
   pub solid : IsTrue (list_all is_word_octet octets)
 
--- what may stand behind a word: nothing, a blank or a mark
+-- what may follow a word: nothing, a blank or a mark
 abbrev pub EndsWord : List ℕ → Type 0
 EndsWord [] = Unit {0}
 EndsWord (octet ∷ rest) = is_word_octet octet ≡ false
@@ -54,7 +51,7 @@ abbrev pub IsEnd : List ℕ → Type 0
 IsEnd [] = Unit {0}
 IsEnd (octet ∷ rest) = octet ≡ 35
 
--- the lexeme is written in this form where this rest of the line follows
+-- these octets spell the lexeme, if this rest of the line follows
 abbrev pub IsForm : Lexeme → List ℕ → List ℕ → Type 0
 IsForm (Word word) form rest = (form ≡ word) × IsWord word × EndsWord rest
 IsForm (Quoted octets) form rest = (form ≡ 34 ∷ (octets ++ 34 ∷ [])) × HasNoQuote octets
@@ -62,7 +59,7 @@ IsForm Open form rest = form ≡ 123 ∷ []
 IsForm Close form rest = form ≡ 125 ∷ []
 IsForm Unclosed form rest = (octets : List ℕ) × (form ≡ 34 ∷ octets) × HasNoQuote octets × (rest ≡ [])
 
--- the line, without its LF, has these lexemes, in order, and blanks and a comment alone besides
+-- the line, without its LF, has these lexemes, in order, and otherwise only blanks and a comment
 abbrev pub HasLexemes : List ℕ → List Lexeme → Type 0
 HasLexemes line [] = (gap rest : List ℕ) × (line ≡ gap ++ rest) × IsGap gap × IsEnd rest
 HasLexemes line (lexeme ∷ lexemes) =

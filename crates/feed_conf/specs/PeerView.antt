@@ -1,4 +1,4 @@
--- What the values of peers stand for.
+-- The records of the definition that the values of peers stand for.
 use Rattle.std.specs.Prelude.{◌≡◌, ◌≢◌, ℕ, List, map, None, Some, Result, MatchResult}
 use Rattle.std.specs.List.{find}
 use Rattle.std.specs.BTreeMap.{BTreeMap, get_by_text}
@@ -31,7 +31,7 @@ settings_view conf = record {
   backlog_high = conf.backlog_high;
 }
 
--- all peers have their values, or the first whose shares are crossed is the fault, memory aside
+-- all peers get their values, or the first whose shares are crossed is the fault, or memory was refused
 abbrev pub Judges : List Use → (outer : List ℕ) → List Declared → Result (Vec PeerConf Global) ConfFault → Type 0
 Judges uses outer peers made = MatchResult made
     (λ confs. (map settings_view confs.items ≡ map (settings_of uses outer) peers) × (find (is_low_above_high uses outer) peers ≡ None))

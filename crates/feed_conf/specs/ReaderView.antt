@@ -1,4 +1,4 @@
--- What a reader of settings stands for.
+-- The state of the definition that a reader stands for.
 use Rattle.std.specs.Prelude.{◌≡◌, ◌≢◌, ◌+◌, ℕ, List, [], ◌∷◌, map, Option, None, Some, Result, Ok, Err, MatchResult, if◌then◌else◌}
 use Rattle.std.specs.BTreeMap.{get_by_text}
 use Rattle.std.specs.Option.{option_map}
@@ -32,7 +32,7 @@ reader_view reader = record {
   reports = map report_view reader.ignored.items;
 }
 
--- the index of the first of these names that has these octets
+-- the index of the first of these names that is these octets
 abbrev pub index_of : List ℕ → List (List ℕ) → Option ℕ
 index_of octets [] = None
 index_of octets (name ∷ names) = if bytes_eq octets name then Some 0 else option_map (λ index. index + 1) (index_of octets names)
@@ -42,10 +42,10 @@ abbrev pub IsNamed : Reader → Type 0
 IsNamed reader =
     (octets : List ℕ) → get_by_text reader.names octets ≡ index_of octets (map (λ (peer : Declared). peer.name) (map declared_view reader.peers.items))
 
--- what is made is what is to be made, memory aside
+-- the result is the defined one, or memory was refused
 abbrev pub Steps : Result State ConfFaultKind → Result Reader ConfFaultKind → Type 0
 Steps wanted made = MatchResult made (λ reader. wanted ≡ Ok (reader_view reader)) (λ kind. kind ≢ NoMemory → wanted ≡ Err kind)
 
--- the same, of a fault with its line
+-- the same for a fault with its line
 abbrev pub Runs : Result State ConfFault → Result Reader ConfFault → Type 0
 Runs wanted made = MatchResult made (λ reader. wanted ≡ Ok (reader_view reader)) (λ fault. fault.kind ≢ NoMemory → wanted ≡ Err fault)

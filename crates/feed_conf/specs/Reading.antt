@@ -1,4 +1,4 @@
--- What the lines of settings make, item by item, up to the first fault (profile).
+-- What the lines of a configuration make, item by item, up to the first fault (profile).
 use Rattle.std.specs.Prelude.{◌==◌, ◌+◌, ◌-◌, ◌&&◌, ℕ, Bool, true, false, not, List, [], ◌∷◌, ◌++◌, length, take, map}
 use Rattle.std.specs.Prelude.{Option, None, Some, Result, Ok, Err, if◌then◌else◌}
 use Rattle.std.specs.List.{list_any, slice_get, slice_split}
@@ -14,19 +14,19 @@ use Rattle.feed_conf.specs.declared.fault.ConfFault.{ConfFault}
 use Rattle.feed_conf.specs.declared.fault.ConfFaultKind.{ConfFaultKind}
 use Rattle.feed_conf.specs.declared.fault.ConfFaultKind.TheVariants.{NoValue, Unbalanced, BadPeerName, SamePeer}
 
--- A use of a key of the profile that counts: the number of the block that it stands in, 0 for the scope of the file.
+-- A use of a key of the profile that counts, with the number of its block, 0 for the scope of the file.
 pub record Use : Type 0 where
   pub block : ℕ
   pub key : Key
   pub value : Value
 
--- a peer that is declared, the line of its word, and the number of its own block
+-- a declared peer, with the line of its declaration and the number of its own block
 pub record Declared : Type 0 where
   pub name : List ℕ
   pub line : ℕ
   pub block : ℕ
 
--- a use that is reported: as ignored, or as limited
+-- a use that is reported as ignored or as limited
 pub record Report : Type 0 where
   pub line : ℕ
   pub key : List ℕ
@@ -34,11 +34,10 @@ pub record Report : Type 0 where
 
 -- what was read so far
 pub record State : Type 0 where
-  -- the blocks that are open, from the outermost in
+  -- the open blocks, outermost first
   pub around : List OpenBlock
-  -- how many blocks were opened
   pub opened : ℕ
-  -- for each of them, in the order of their words, the number of the block that it stands in, 0 for the scope of the file
+  -- for each block that was opened, in order, the number of the block around it, 0 for the scope of the file
   pub outer : List ℕ
   pub uses : List Use
   pub peers : List Declared
@@ -47,7 +46,6 @@ pub record State : Type 0 where
 abbrev pub start : State
 start = record { around = []; opened = 0; outer = []; uses = []; peers = []; reports = [] }
 
--- the innermost open block
 abbrev pub innermost : List OpenBlock → Option OpenBlock
 innermost around = slice_get around (length around - 1)
 
@@ -63,7 +61,7 @@ abbrev pub is_in_peer : Option OpenBlock → Bool
 is_in_peer None = false
 is_in_peer (Some block) = block.is_peer
 
--- a block opened at this line: blocks are numbered from 1 in the order of their words
+-- a block opened at this line: blocks are numbered from 1 in the order in which they are opened
 abbrev pub block_at : State → ℕ → Bool → OpenBlock
 block_at state line is_peer = record { number = state.opened + 1; line = line; is_peer = is_peer }
 
@@ -91,7 +89,7 @@ declare state line name =
     record (open_block state block)
     { peers = state.peers ++ record { name = name; line = line; block = block.number } ∷ [] }
 
--- the word `peer`: first its place is tried, then its name, and the brace last
+-- the word `peer`: its place is tested first, then its name, and the brace last
 abbrev pub declare_peer : State → ℕ → List ℕ → Bool → Result State ConfFaultKind
 declare_peer state line name braced =
     if is_in_peer (innermost state.around) then Err Unbalanced else (
@@ -113,7 +111,7 @@ abbrev pub use_value : State → ℕ → List ℕ → Key → Option (List ℕ) 
 use_value state line name key None = Err NoValue
 use_value state line name key (Some value) = use_taken state line name key (taken_of (row_of key).kind value)
 
--- a key outside the profile, and one of the file's in a block, is ignored
+-- a key outside the profile is ignored, and so is a key of the file inside a block
 abbrev pub use_key : State → ℕ → List ℕ → Option (List ℕ) → Option Key → Result State ConfFaultKind
 use_key state line name value None = Ok (report state line name false)
 use_key state line name value (Some key) =
@@ -128,7 +126,7 @@ step state line Closes = close_block (innermost state.around) state
 step state line (Uses name value) = use_key state line name value (key_of name)
 step state line (Stops kind) = Err kind
 
--- what follows where there was no fault
+-- what follows if there was no fault
 abbrev pub at_line : ℕ → Result State ConfFaultKind → (State → Result State ConfFault) → Result State ConfFault
 at_line line (Ok state) next = next state
 at_line line (Err kind) next = Err (record { line = line; kind = kind })
@@ -142,7 +140,7 @@ abbrev pub run_line : List Item → State → ℕ → Result State ConfFault
 run_line [] state line = Ok state
 run_line (item ∷ items) state line = at_line line (step state line item) (λ next. run_line items next line)
 
--- the items of the lines from this number on
+-- the items of the lines, of which the first has this number
 abbrev pub run_lines : List (List Item) → State → ℕ → Result State ConfFault
 run_lines [] state line = Ok state
 run_lines (items ∷ lines) state line = then_on (run_line items state line) (λ next. run_lines lines next (line + 1))
@@ -155,7 +153,7 @@ closed (Some block) state = Err (record { line = block.line; kind = Unbalanced }
 abbrev pub finish : State → Result State ConfFault
 finish state = closed (innermost state.around) state
 
--- the lines of a text, without the LF that ends each but the last
+-- the lines of a text, without the LF that ends each of them but the last
 abbrev pub lines_of : List ℕ → List (List ℕ)
 lines_of text = slice_split (λ octet. octet == 10) text
 

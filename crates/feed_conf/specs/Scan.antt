@@ -1,14 +1,14 @@
--- The lexemes of a line by one walk over its octets: those that `HasLexemes` has, as the laws say.
+-- The lexemes of a line by one walk over its octets. The laws show that these are the lexemes of `HasLexemes`.
 use Rattle.std.specs.Prelude.{◌≡◌, ◌==◌, ℕ, Bool, true, false, List, [], ◌∷◌, ◌++◌, if◌then◌else◌}
 use Rattle.feed_conf.specs.Lexemes.{Lexeme, Word, Quoted, Open, Close, Unclosed, is_blank, is_word_octet}
 
--- where the walk stands: between lexemes, or within a word or a quote of which these octets were met
+-- the state of the walk: between lexemes, or within a word or a quote whose octets so far are these
 pub data Walk : Type 0 where
   Between : Walk
   InWord : List ℕ → Walk
   InQuote : List ℕ → Walk
 
--- the lexemes from an octet on that stands between lexemes
+-- the lexemes from an octet that stands between lexemes
 abbrev pub scan_first : ℕ → (Walk → List Lexeme) → List Lexeme
 scan_first octet next =
     if is_blank octet then next Between else (
@@ -32,12 +32,12 @@ scan (octet ∷ rest) (InQuote octets) =
 abbrev pub lexemes_of : List ℕ → List Lexeme
 lexemes_of line = scan line Between
 
--- nothing, or an octet first that does not pass the test
+-- nothing, or octets of which the first fails the test
 abbrev pub StopsAt : (ℕ → Bool) → List ℕ → Type 0
 StopsAt test [] = Unit {0}
 StopsAt test (octet ∷ rest) = test octet ≡ false
 
--- an octet first that a word may have
+-- octets of which the first may be in a word
 abbrev pub BeginsWord : List ℕ → Type 0
 BeginsWord [] = ⊥
 BeginsWord (octet ∷ rest) = is_word_octet octet ≡ true

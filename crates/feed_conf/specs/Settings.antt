@@ -1,4 +1,4 @@
--- The values of a peer, from the uses of keys (profile).
+-- The values of a peer, computed from the uses of keys (profile).
 use Rattle.std.specs.Prelude.{◌==◌, ◌&&◌, ◌-◌, ◌*◌, ◌/◌, ℕ, suc, zero, Bool, false, List, [], ◌∷◌, nat_lt, map, Option}
 use Rattle.std.specs.Prelude.{None, Some, Result, Ok, Err, unwrap_or, if◌then◌else◌}
 use Rattle.std.specs.List.{find, slice_index}
@@ -15,12 +15,12 @@ use Rattle.feed_conf.specs.declared.key.Key.TheVariants.{BacklogDirectory, Statu
 use Rattle.feed_conf.specs.declared.fault.ConfFault.{ConfFault}
 use Rattle.feed_conf.specs.declared.fault.ConfFaultKind.TheVariants.{LowAboveHigh}
 
--- the later of two values, where there is one
+-- the later of two values, if there is one
 abbrev pub later : Option Value → Option Value → Option Value
 later None earlier = earlier
 later (Some value) earlier = Some value
 
--- the value of a use, where it is one of this key in this block; a key is known by its index in the table
+-- the value of a use, if it is one of this key in this block; a key is known by its index in the table
 abbrev pub value_at : ℕ → ℕ → Use → Option Value
 value_at block index entry =
     if entry.block == block && (row_of entry.key).index == index then Some entry.value else None
@@ -30,37 +30,37 @@ abbrev pub last_value : ℕ → ℕ → List Use → Option Value
 last_value block index [] = None
 last_value block index (entry ∷ uses) = later (last_value block index uses) (value_at block index entry)
 
--- the number of the block that this one stands in, 0 for the scope of the file
+-- the number of the block around this one, 0 for the scope of the file
 abbrev pub block_around : List ℕ → ℕ → ℕ
 block_around outer block = slice_index outer (block - 1)
 
--- a block and those that it stands in, from the inside out, so many at most
+-- a block and at most this many of those around it, from the inside out
 abbrev pub path_within : (most : ℕ) → List ℕ → ℕ → List ℕ
 path_within zero outer block = []
 path_within (suc most) outer zero = []
 path_within (suc most) outer (suc block) = suc block ∷ path_within most outer (block_around outer (suc block))
 
--- all of them: a block stands in one of a smaller number, so that there are no more than its number says
+-- a block and all those around it: each has a smaller number, so its own number bounds how many there are
 abbrev pub path_of : List ℕ → ℕ → List ℕ
 path_of outer block = path_within block outer block
 
--- The value along blocks, from the inside out, of which an inner one goes before an outer one, and the scope of the
--- file, which is block 0, comes last.
+-- The value along these blocks, from the inside out: the first block that has one counts. The scope of the file,
+-- block 0, comes last.
 abbrev pub value_along : ℕ → List Use → List ℕ → Option Value
 value_along index uses [] = last_value 0 index uses
 value_along index uses (block ∷ outer) = later (last_value block index uses) (value_along index uses outer)
 
--- The value of a key at a peer: the last use in its own block, else in its innermost group, and so outward, else in
--- the scope of the file, else the default.
+-- The value of a key at a peer: the last use in its own block, otherwise in the innermost group around it, and so
+-- outward, otherwise in the scope of the file, otherwise the default.
 abbrev pub value_of : List Use → (outer : List ℕ) → Declared → Key → Value
 value_of uses outer peer key =
     unwrap_or (value_along (row_of key).index uses (path_of outer peer.block)) ((row_of key).default peer.name)
 
--- the value of a key of the file
+-- the value of a key that is allowed only outside all blocks
 abbrev pub value_in_file : List Use → Key → Value
 value_in_file uses key = unwrap_or (last_value 0 (row_of key).index uses) ((row_of key).default [])
 
--- what a value holds (each key has values of one kind alone)
+-- the content of a value (each key has values of one kind alone)
 abbrev pub number : Value → ℕ
 number (TextOf octets) = 0
 number (SwitchOf on) = 0
@@ -76,8 +76,8 @@ text (TextOf octets) = octets
 text (SwitchOf on) = []
 text (NumberOf number) = []
 
--- The high water of a backlog: as it is written, or where that is 0 the limit times the factor, rounded down. A factor
--- is in hundredths.
+-- The high water of a backlog: as written, or if that is 0 the limit times the factor, rounded down. The factor is in
+-- hundredths.
 abbrev pub high_water : ℕ → ℕ → ℕ → ℕ
 high_water written limit factor = if written == 0 then limit * factor / 100 else written
 
@@ -127,12 +127,11 @@ abbrev pub is_low_above_high : List Use → (outer : List ℕ) → Declared → 
 is_low_above_high uses outer peer =
     nat_lt (number (value_of uses outer peer NoCheckHigh)) (number (value_of uses outer peer NoCheckLow))
 
--- what settings say
 pub record Outcome : Type 0 where
   pub news_spool : List ℕ
   pub backlog_directory : List ℕ
   pub status_file : List ℕ
-  -- the peers in the order of their words
+  -- the peers in the order of their declarations
   pub peers : List Settings
   -- what is ignored or limited, in reading order
   pub reports : List Report
@@ -146,7 +145,7 @@ outcome_of state = record {
   reports = state.reports;
 }
 
--- after the whole text the first peer whose shares are crossed is a fault, at the line of its word
+-- After the whole text, the first peer whose shares are crossed is a fault, at the line of its declaration.
 abbrev pub judged_by : Option Declared → State → Result Outcome ConfFault
 judged_by None state = Ok (outcome_of state)
 judged_by (Some peer) state = Err (record { line = peer.line; kind = LowAboveHigh })
@@ -155,6 +154,6 @@ abbrev pub judged : Result State ConfFault → Result Outcome ConfFault
 judged (Ok state) = judged_by (find (is_low_above_high state.uses state.outer) state.peers) state
 judged (Err fault) = Err fault
 
--- what lines with these lexemes say, or their first fault
+-- what lines with these lexemes mean, or their first fault
 abbrev pub meaning : List (List Lexeme) → Result Outcome ConfFault
 meaning lines = judged (reading lines)

@@ -1,4 +1,4 @@
--- What a table of values and the configuration stand for.
+-- The uses that a table of values stands for.
 use Rattle.std.specs.Prelude.{◌≡◌, ℕ, List, map}
 use Rattle.std.specs.Option.{option_map}
 use Rattle.std.specs.BTreeMap.{get}
@@ -11,7 +11,7 @@ use Rattle.feed_conf.specs.Settings.{last_value}
 use Rattle.feed_conf.specs.declared.reader.Use.{Use as HeldUse}
 use Rattle.feed_conf.specs.declared.table.Table.{Table}
 
--- the order of indexes in a table
+-- the order of the indexes of a table
 abbrev pub index_cmp : ℕ × ℕ → ℕ × ℕ → Ordering
 index_cmp one other = ordering_then (nat_cmp one.0 other.0) (nat_cmp one.1 other.1)
 

@@ -1,4 +1,4 @@
--- What a value of the reader stands for.
+-- The value of the definition that one of the reader stands for.
 use Rattle.std.specs.Prelude.{◌<◌, ◌^◌}
 use Rattle.feed_conf.specs.Values.{Value, TextOf, SwitchOf, NumberOf, Taken}
 use Rattle.feed_conf.specs.declared.value.Value.{Value as HeldValue}
@@ -15,7 +15,7 @@ value_view (held.Number number) = NumberOf number
 abbrev pub taken_view : HeldTaken → Taken
 taken_view taken = record { value = value_view taken.value; limited = taken.limited }
 
--- a reader of 64 bits can tell what is above the greatest value
+-- 64 bits are enough to see that a value is above the greatest
 abbrev pub HasSmallBounds : Kind → Type 0
 HasSmallBounds AnyText = Unit {0}
 HasSmallBounds ShortText = Unit {0}

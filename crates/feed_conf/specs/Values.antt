@@ -1,4 +1,4 @@
--- The values of keys, as they are written and as they are taken (profile).
+-- The values of keys, as they are written and as they are used (profile).
 use Rattle.std.specs.Prelude.{◌==◌, ◌&&◌, ◌||◌, ◌+◌, ◌*◌, ◌-◌, ◌^◌, ℕ, Bool, true, false, not, List, [], ◌∷◌, length, nat_le, nat_lt, Option, None, Some, Result, Ok, Err, map, min, position, take, drop, codes, if◌then◌else◌}
 use Rattle.std.specs.List.{list_all}
 use Rattle.std.specs.Option.{option_map}
@@ -9,13 +9,12 @@ use Rattle.feed_conf.specs.declared.fault.ConfFaultKind.TheVariants.{BadNumber, 
 use Rattle.feed_conf.specs.declared.key.Kind.{Kind}
 use Rattle.feed_conf.specs.declared.key.Kind.TheVariants.{AnyText, ShortText, Switch, Connections, Number, Whole, Fraction}
 
--- a value that was read
 pub data Value : Type 0 where
   TextOf : List ℕ → Value
   SwitchOf : Bool → Value
   NumberOf : ℕ → Value
 
--- a value as it is taken, and whether it was written above the greatest (or as no connections at all)
+-- a value as it is used, and whether it was written above the greatest (or as 0 connections)
 pub record Taken : Type 0 where
   pub value : Value
   pub limited : Bool
@@ -23,11 +22,11 @@ pub record Taken : Type 0 where
 abbrev pub is_digit : ℕ → Bool
 is_digit octet = nat_le 48 octet && nat_le octet 57
 
--- one digit or more, and nothing besides
+-- one or more digits, and nothing else
 abbrev pub is_number : List ℕ → Bool
 is_number octets = not (length octets == 0) && list_all is_digit octets
 
--- the number that these digits give behind those of a number
+-- the number that these digits give after those of this number
 abbrev pub decimal : ℕ → List ℕ → ℕ
 decimal number [] = number
 decimal number (digit ∷ digits) = decimal (10 * number + (digit - 48)) digits
@@ -35,7 +34,7 @@ decimal number (digit ∷ digits) = decimal (10 * number + (digit - 48)) digits
 abbrev pub number_of : List ℕ → Option ℕ
 number_of octets = if is_number octets then Some (decimal 0 octets) else None
 
--- the whole part and the decimals of a fraction, whose point stands there
+-- the whole part and the decimals of a fraction whose point is at this index
 abbrev pub parts_at : Option ℕ → List ℕ → Option (ℕ × List ℕ)
 parts_at None octets = if is_number octets then Some (decimal 0 octets, []) else None
 parts_at (Some point) octets =
@@ -45,7 +44,7 @@ parts_at (Some point) octets =
 abbrev pub fraction_of : List ℕ → Option (ℕ × List ℕ)
 fraction_of octets = parts_at (position (λ octet. octet == 46) octets) octets
 
--- the part behind the point is dropped
+-- the decimals are dropped
 abbrev pub whole_of : List ℕ → Option ℕ
 whole_of octets = option_map (λ (parts : ℕ × List ℕ). parts.0) (fraction_of octets)
 
@@ -55,11 +54,11 @@ hundredths [] = 0
 hundredths (tenth ∷ []) = 10 * (tenth - 48)
 hundredths (tenth ∷ hundredth ∷ rest) = 10 * (tenth - 48) + (hundredth - 48)
 
--- a fraction in hundredths, further digits dropped
+-- a fraction in hundredths; further digits are dropped
 abbrev pub hundredths_of : List ℕ → Option ℕ
 hundredths_of octets = option_map (λ (parts : ℕ × List ℕ). 100 * parts.0 + hundredths parts.1) (fraction_of octets)
 
--- the octets spell the word, in any case
+-- the octets spell the word, without regard to case
 abbrev pub spells : List ℕ → List ℕ → Bool
 spells octets word = bytes_eq (map to_ascii_lowercase octets) (map to_ascii_lowercase word)
 
@@ -72,7 +71,7 @@ spells_false octets = spells octets (codes "false") || spells octets (codes "no"
 abbrev pub switch_of : List ℕ → Option Bool
 switch_of octets = if spells_true octets then Some true else (if spells_false octets then Some false else None)
 
--- below the least is a fault, and above the greatest is taken as the greatest
+-- below the least is a fault, and above the greatest counts as the greatest
 abbrev pub bounded : ℕ → ℕ → Option ℕ → Result Taken ConfFaultKind
 bounded least greatest None = Err BadNumber
 bounded least greatest (Some number) =
@@ -80,7 +79,7 @@ bounded least greatest (Some number) =
     if nat_lt greatest number then Ok (record { value = NumberOf greatest; limited = true }) else
     Ok (record { value = NumberOf number; limited = false }))
 
--- at most 64 connections; none are taken as the most, and reported as limited
+-- at most 64 connections; 0 counts as the most, and is reported as limited
 abbrev pub connections : Option ℕ → Result Taken ConfFaultKind
 connections None = Err BadNumber
 connections (Some number) = if number == 0 then Ok (record { value = NumberOf 64; limited = true }) else bounded 0 64 (Some number)
@@ -92,7 +91,7 @@ switched (Some on) = Ok (record { value = SwitchOf on; limited = false })
 abbrev pub text : List ℕ → Result Taken ConfFaultKind
 text octets = Ok (record { value = TextOf octets; limited = false })
 
--- what is taken of a value that is written so, or the fault of it
+-- the value that is used if this is written, or the fault
 abbrev pub taken_of : Kind → List ℕ → Result Taken ConfFaultKind
 taken_of AnyText octets = text octets
 taken_of ShortText octets = if nat_le 1 (length octets) && nat_le (length octets) 255 then text octets else Err Range
@@ -102,6 +101,6 @@ taken_of (Number least greatest) octets = bounded least greatest (number_of octe
 taken_of (Whole least greatest) octets = bounded least greatest (whole_of octets)
 taken_of (Fraction least greatest) octets = bounded least greatest (hundredths_of octets)
 
--- a number where a reader of 64 bits stops counting
+-- a number, as a reader of 64 bits that stops counting sees it
 abbrev pub capped : ℕ → ℕ
 capped number = min number (2 ^ 64 - 1)

@@ -1,4 +1,4 @@
--- What a lexeme of the reader stands for.
+-- The lexeme of the definition that one of the reader stands for.
 use Rattle.feed_conf.specs.Lexemes.{Lexeme}
 use Rattle.feed_conf.specs.declared.lexeme.Lexeme.{Lexeme as Held}
 use Rattle.feed_conf.specs.declared.lexeme.Lexeme.TheVariants.{Word, Quoted, Open, Close, Unclosed}

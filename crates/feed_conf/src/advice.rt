@@ -1,4 +1,4 @@
-// What is told of settings that are ignored or limited, and of a configuration without peers (docs/MANUAL.md).
+// Messages on settings that are ignored or limited, and on a configuration without peers (docs/MANUAL.md).
 ghost use Rattle.std.specs.Prelude.{◌≡◌, ◌++◌, IfOk, OnOk, flat_map, map};
 ghost use Rattle.feed_conf.specs.Advice.{advice, advice_text, effect_text, foreign_text, is_closing, is_growth};
 ghost use Rattle.feed_conf.specs.Advice.{is_house, is_login, is_mail, is_source, is_timing, no_peers_text};
@@ -14,8 +14,8 @@ use crate::item::is_text;
 use crate::key::find_key;
 use std::alloc::{AllocError, Global};
 
-/// The lines on settings that are ignored or limited, in reading order, with what that means for the feed, and on a
-/// configuration without peers, of the file that they were read from; an empty text if there is nothing to say.
+/// The messages on `conf`, which was read from `file`: one for each setting that is ignored or limited, in reading
+/// order, with what that means for the feed, and one if there are no peers. Empty if there is nothing to report.
 ///
 /// # Errors
 /// Memory was refused.
@@ -66,7 +66,7 @@ fn add_no_peers(out: &mut Vec<u8>, file: &[u8]) -> Result<(), AllocError>
     Ok(())
 }
 
-// What it means that a setting of this name is ignored.
+// What it means that a setting of this name is ignored, whether or not the profile has it.
 fn effect(name: &[u8]) -> &'static [u8]
     ensures { result.now ≡ effect_text name.now (key_of name.now) }
 {
@@ -76,7 +76,7 @@ fn effect(name: &[u8]) -> &'static [u8]
     }
 }
 
-// What it means that a setting of INN's is ignored, or whatever has this name.
+// The same for a name that the profile does not have: a setting of INN's, or an unknown one.
 fn foreign_effect(name: &[u8]) -> &'static [u8]
     ensures { result.now ≡ foreign_text name.now }
 {
@@ -108,14 +108,14 @@ fn is_login(name: &[u8]) -> bool
     is_text(name, b"username") || is_text(name, b"password")
 }
 
-// Settings that choose where a connection comes from.
+// Settings that choose the source address of a connection.
 fn is_source(name: &[u8]) -> bool
     ensures { result ≡ is_source name.now }
 {
     is_text(name, b"bindaddress") || is_text(name, b"bindaddress6") || is_text(name, b"force-ipv4")
 }
 
-// Settings by which the number of connections grows.
+// Settings that let the number of connections grow.
 fn is_growth(name: &[u8]) -> bool
     ensures { result ≡ is_growth name.now }
 {
@@ -127,7 +127,7 @@ fn is_growth(name: &[u8]) -> bool
         || is_text(name, b"min-queue-connection")
 }
 
-// Settings that close connections by time.
+// Settings that close connections after a time.
 fn is_closing(name: &[u8]) -> bool
     ensures { result ≡ is_closing name.now }
 {

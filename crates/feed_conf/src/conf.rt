@@ -1,4 +1,4 @@
-// What settings say.
+// A configuration, as the crates above see it.
 ghost use Rattle.std.specs.Prelude.{map};
 ghost use Rattle.feed_conf.specs.PeerView.{FindsNames, settings_view};
 
@@ -11,36 +11,34 @@ use std::collections::BTreeMap;
 pub struct Ignored {
     /// The line, from 1 up.
     pub line: u64,
-    /// The key, as it is written.
+    /// The key, as written.
     pub key: Vec<u8>,
-    /// Whether the value was limited; else the use was ignored.
+    /// Whether the value was limited; if not, the use was ignored.
     pub limited: bool,
 }
 
 /// The values of a peer. Times are in seconds.
 #[derive(Debug, Drop)]
 pub struct PeerConf {
-    /// Its name.
     pub name: PeerName,
-    /// The host that is connected to.
+    /// The host to connect to.
     pub ip_name: Vec<u8>,
-    /// The port.
     pub port: u64,
     /// Whether streaming is tried.
     pub streaming: bool,
     /// The most connections at a time.
     pub max_connections: u64,
-    /// The most articles that a connection holds.
+    /// The most articles that a connection holds at a time.
     pub max_queue: u64,
-    /// The share of wanted articles from which on CHECK is left out, in hundredths of a per cent.
+    /// The share of wanted articles at and above which CHECK is left out, in hundredths of a per cent.
     pub check_high: u64,
     /// The share below which CHECK is sent again, in hundredths of a per cent.
     pub check_low: u64,
-    /// How many answers the share is taken over.
+    /// The number of answers over which the share is taken.
     pub check_filter: u64,
-    /// How long an answer is waited for.
+    /// How long to wait for an answer.
     pub response_timeout: u64,
-    /// The first wait before a connection is tried again.
+    /// The first wait before a lost connection is tried again.
     pub first_wait: u64,
     /// The longest such wait.
     pub most_wait: u64,
@@ -52,7 +50,7 @@ pub struct PeerConf {
     pub backlog_high: u64,
 }
 
-/// What settings say.
+/// A configuration that was read: its peers, its files, and what was ignored or limited.
 #[derive(Debug, Drop)]
 pub struct Conf {
     pub(crate) news_spool: Vec<u8>,
@@ -60,7 +58,6 @@ pub struct Conf {
     pub(crate) status_file: Vec<u8>,
     pub(crate) peers: Vec<PeerConf>,
     pub(crate) ignored: Vec<Ignored>,
-    // The index of each peer by its name.
     pub(crate) names: BTreeMap<String, usize>,
     ghost named: { FindsNames names (map settings_view peers.items) },
 }
@@ -74,7 +71,7 @@ impl Conf {
     ghost use Rattle.feed_conf.specs.PeerView.{settings_view};
     ghost use Rattle.feed_conf.specs.ConfView.{conf_view, find_settings};
 
-    /// The values of the peer of this name, where it is declared.
+    /// The values of the peer with this name, if one is declared.
     pub fn peer(&self, name: &PeerName) -> Option<&PeerConf>
         ensures { option_map settings_view (option_copied result)
             ≡ find_settings name.now (conf_view self.now).peers }
@@ -85,14 +82,14 @@ impl Conf {
         }
     }
 
-    /// The values of all peers, in the order of their words.
+    /// The values of all peers, in the order of their declarations.
     pub fn peers(&self) -> &[PeerConf]
         ensures { map settings_view result.now ≡ (conf_view self.now).peers }
     {
         &self.peers
     }
 
-    /// The values of all peers, in the order of their words.
+    /// The values of all peers, in the order of their declarations, without a copy.
     pub fn into_peers(self) -> Vec<PeerConf>
         ensures { map settings_view result.items ≡ (conf_view self).peers }
     {
@@ -100,7 +97,7 @@ impl Conf {
         peers
     }
 
-    /// What was ignored or limited, in reading order.
+    /// The uses of keys that were ignored or limited, in reading order.
     pub fn ignored(&self) -> &[Ignored]
         ensures { map report_view result.now ≡ (conf_view self.now).reports }
     {

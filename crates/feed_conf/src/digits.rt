@@ -1,4 +1,4 @@
-// Numbers that are written in digits alone.
+// Numbers written in decimal digits.
 ghost use Rattle.std.specs.Prelude.{◌≡◌, ◌↔◌, ◌<◌, ◌≤◌, ◌^◌, ℕ, Err, MatchOption, Ok};
 ghost use Rattle.std.specs.Prelude.{false, true};
 ghost use Rattle.std.specs.List.{list_all};
@@ -7,21 +7,22 @@ ghost use Rattle.feed_conf.specs.declared.digits.DigitsFault.TheVariants.{NoNumb
 
 use thiserror::Error;
 
-/// Why octets are no number of 64 bits.
+/// Why octets are not a number of 64 bits.
 #[derive(Clone, Copy, Debug, PartialEq, Eq, Error)]
 pub enum DigitsFault {
-    /// There is no digit, or something besides digits.
+    /// There is no digit, or an octet that is not a digit.
     #[error("NoNumber")]
     NoNumber,
-    /// The number that the digits write is 2 ^ 64 or more.
+    /// The number is 2 ^ 64 or more.
     #[error("TooGreat")]
     TooGreat,
 }
 
-/// The number that is written in decimal digits alone.
+/// Reads a number written in decimal digits.
 ///
 /// # Errors
-/// `NoNumber` where there is no digit, or something besides digits; `TooGreat` where the number passes 64 bits.
+/// `NoNumber` if there is no digit or an octet that is not a digit; `TooGreat` if the number does not fit into 64
+/// bits.
 pub fn read_digits(octets: &[u8]) -> Result<u64, DigitsFault>
     ensures ok { (n : ℕ) → (result ≡ Ok n) ↔ ((is_number octets.now ≡ true)
         × (decimal 0 octets.now ≡ n) × (n < 2 ^ 64)) }
@@ -39,7 +40,6 @@ pub fn read_digits(octets: &[u8]) -> Result<u64, DigitsFault>
     }
 }
 
-// Whether there is one digit or more, and nothing besides.
 fn is_number(octets: &[u8]) -> bool
     ensures { result ≡ is_number octets.now }
 {
@@ -58,7 +58,7 @@ fn is_digit(octet: u8) -> bool
     b'0' <= octet && octet <= b'9'
 }
 
-// The number that these digits give, or nothing where it passes 64 bits.
+// `None` if the number does not fit into 64 bits.
 fn value_of(digits: &[u8]) -> Option<u64>
     ensures { MatchOption result (2 ^ 64 ≤ decimal 0 digits.now)
         (λ number. (number ≡ decimal 0 digits.now) × (number < 2 ^ 64)) }

@@ -1,4 +1,4 @@
-// What is told of a configuration that has a fault, beside that fault (docs/MANUAL.md).
+// Messages that explain a faulty configuration (docs/MANUAL.md).
 ghost use Rattle.std.specs.Prelude.{◌≡◌, ◌++◌, IfOk, OnOk, decimal, flat_map, map};
 ghost use Rattle.std.specs.Option.{option_map};
 ghost use Rattle.feed_conf.specs.Explanation.{allowed_text, explanation, item_text, items_text};
@@ -17,8 +17,9 @@ use crate::read::first_line;
 use crate::value::take_value;
 use std::alloc::{AllocError, Global};
 
-/// The lines that explain a configuration with this first fault, of the file that has this text: the fault, if it is
-/// not of a value, and each value that its key does not take, in reading order, with what is allowed.
+/// The messages that explain `fault`, the first fault of the configuration `text`, which was read from `file`: the
+/// fault itself unless it is of a value, and each value that its key does not take, in reading order, with what is
+/// allowed.
 ///
 /// # Errors
 /// Memory was refused.
@@ -40,7 +41,7 @@ pub fn explain(
     Ok(lines)
 }
 
-// The words for a fault that is not of a value.
+// `None` for a fault of a value, which has a line of its own.
 fn words_of(kind: ConfFaultKind) -> Option<&'static [u8]>
     ensures { option_map (λ words. words.now) result ≡ words_of kind }
 {
@@ -58,7 +59,7 @@ fn words_of(kind: ConfFaultKind) -> Option<&'static [u8]>
     }
 }
 
-/// Adds the file and the line that a further line is about: `FILE:N: `.
+/// Adds the file and the line number that a message begins with: `FILE:N: `.
 ///
 /// # Errors
 /// Memory was refused.
@@ -71,17 +72,12 @@ pub(crate) fn add_place(out: &mut Vec<u8>, file: &[u8], line: u64) -> Result<(),
     out.extend_from_slice(b": ")
 }
 
-/// Adds a number in digits.
-///
-/// # Errors
-/// Memory was refused.
 pub(crate) fn add_number(out: &mut Vec<u8>, number: u64) -> Result<(), AllocError>
     ensures { OnOk result (out.new.items ≡ out.old.items ++ decimal number) }
 {
     out.extend_from_slice(itoa::Buffer::new().format(number).as_bytes())
 }
 
-// Adds a line for each value of the file that its key does not take.
 fn add_values(out: &mut Vec<u8>, file: &[u8], text: &[u8]) -> Result<(), AllocError>
     ensures { OnOk result (out.new.items
         ≡ out.old.items ++ items_text file.now 1 (map items_of (lines_of text.now))) }
@@ -101,7 +97,7 @@ fn add_values(out: &mut Vec<u8>, file: &[u8], text: &[u8]) -> Result<(), AllocEr
     }
 }
 
-// The same for one line, given without its LF.
+// `text` is one line, without its LF.
 fn add_line(out: &mut Vec<u8>, file: &[u8], line: u64, text: &[u8]) -> Result<(), AllocError>
     ensures { OnOk result (out.new.items
         ≡ out.old.items ++ flat_map (item_text file.now line) (items_of text.now)) }
@@ -152,7 +148,6 @@ fn add_use(
     }
 }
 
-// Adds why a value is not taken, and what is allowed.
 fn add_reason(
     out: &mut Vec<u8>,
     kind: Kind,
@@ -200,7 +195,6 @@ fn add_reason(
     }
 }
 
-// Adds why a number is not taken, and which are allowed, from the least to the greatest.
 fn add_number_reason(
     out: &mut Vec<u8>,
     value: &[u8],
@@ -221,7 +215,7 @@ fn add_number_reason(
     }
 }
 
-// Adds that a value is not of this kind, and which are allowed, from the least to the greatest.
+// Adds that a value is not of this kind, and the least and the greatest that are allowed.
 fn add_allowed(
     out: &mut Vec<u8>,
     value: &[u8],

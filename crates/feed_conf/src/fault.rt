@@ -1,4 +1,4 @@
-// Why settings could not be read.
+// Why a configuration could not be read.
 ghost use Rattle.std.specs.Prelude.{◌≡◌};
 ghost use Rattle.feed_conf.specs.Faults.{conf_fault_name};
 ghost use Rattle.feed_conf.specs.declared.fault.ConfFaultKind.TheVariants.{NoMemory};
@@ -6,19 +6,19 @@ ghost use Rattle.feed_conf.specs.declared.fault.ConfFaultKind.TheVariants.{NoMem
 use std::alloc::{AllocError, AllocFailed};
 use thiserror::Error;
 
-/// What is wrong with the settings, in the order in which the kinds are numbered.
+/// What is wrong with a configuration, in the order in which the kinds are numbered.
 #[derive(Clone, Copy, Debug, PartialEq, Eq, Error)]
 #[error("{}", self.name())]
 pub enum ConfFaultKind {
-    /// A key of the profile has no value, or a word that is no key stands where a key should.
+    /// A key of the profile has no value, or a word that is not a key stands where a key is expected.
     NoValue,
-    /// A value is no number, or where one is allowed no fraction.
+    /// A value is not a number, or not a fraction if its key allows one.
     BadNumber,
     /// A value is none of the words for true and false.
     BadBoolean,
-    /// A quote or a brace has no counterpart, or a block stands in a peer.
+    /// A quote or a brace has no counterpart, or a block is opened inside a peer.
     Unbalanced,
-    /// The name of a peer is missing, or is none.
+    /// The name of a peer is missing or malformed.
     BadPeerName,
     /// A peer of that name was declared before.
     SamePeer,
@@ -31,7 +31,7 @@ pub enum ConfFaultKind {
 }
 
 impl ConfFaultKind {
-    /// The word by which messages tell it.
+    /// The word for this kind in messages.
     pub fn name(self) -> &'static str
         ensures { result.now ≡ conf_fault_name self }
     {
@@ -49,13 +49,12 @@ impl ConfFaultKind {
     }
 }
 
-/// The first fault of settings, in reading order.
+/// The first fault of a configuration, in reading order.
 #[derive(Clone, Copy, Debug, PartialEq, Eq, Error)]
 #[error("line {line}: {kind}")]
 pub struct ConfFault {
-    /// The line, from 1 up.
+    /// The line, from 1 up; 0 if the fault belongs to no line.
     pub line: u64,
-    /// What is wrong there.
     pub kind: ConfFaultKind,
 }
 
@@ -78,7 +77,7 @@ impl<T: Drop> From<AllocFailed<T>> for ConfFaultKind {
 impl From<AllocError> for ConfFault {
     ghost from_gives = { λ _ fault. fault.kind ≡ NoMemory };
 
-    // Where no line is being read any more, the line is 0.
+    // After the last line is read, a fault belongs to no line.
     fn from(_: AllocError) -> ConfFault {
         ConfFault {
             line: 0,

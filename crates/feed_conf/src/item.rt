@@ -1,4 +1,4 @@
-// What the lines of settings say.
+// The items of a line: what each line of a configuration says.
 ghost use Rattle.std.specs.Prelude.{◌≡◌, ◌∷◌, ◌==◌, ◌<◌, [], List, ℕ, ◌≤◌, IfSome};
 ghost use Rattle.std.specs.Prelude.{MatchOption, codes, length, position};
 ghost use Rattle.std.specs.Str.{bytes_eq};
@@ -13,36 +13,34 @@ use crate::lexeme::{Lexeme, next_lexeme};
 /// One thing that a line says.
 #[derive(Clone, Copy)]
 pub(crate) enum Item<'t> {
-    /// The word `peer` and the name behind it, which is empty where none stands there; and whether `{` follows.
+    /// The word `peer`: the name after it, empty if there is none, and whether `{` follows.
     Peer(&'t [u8], bool),
-    /// A group is opened.
     Group,
     /// The innermost block is closed.
     Closes,
-    /// A key, and its value where it has one.
+    /// A key, and its value if it has one.
     Uses(&'t [u8], Option<&'t [u8]>),
-    /// The line cannot be read on.
+    /// The line cannot be read further.
     Stops(ConfFaultKind),
 }
 
-// What a word is where a new item may begin.
+// What a word is when a new item may begin.
 #[derive(Clone, Copy)]
 enum Sort<'t> {
     PeerWord,
     GroupWord,
-    // What stands before the first colon, and behind it.
+    // The text before the first colon and the text after it.
     Pair(&'t [u8], &'t [u8]),
     Plain,
 }
 
-// Where the first colon stands.
 fn colon(word: &[u8]) -> Option<usize>
     ensures { result ≡ position (λ octet. octet == 58) word.now }
 {
     word.iter().position(|octet| *octet == b':')
 }
 
-// The key and the value that a colon parts.
+// The key and the value that a colon separates.
 fn split_pair(word: &[u8]) -> Sort<'_>
     ensures { split_pair (position (λ octet. octet == 58) word.now) word.now ≡ sort_view result }
 {
@@ -56,14 +54,12 @@ fn split_pair(word: &[u8]) -> Sort<'_>
     }
 }
 
-// Whether two texts are the same.
 pub(crate) fn is_text(octets: &[u8], text: &[u8]) -> bool
     ensures { result ≡ bytes_eq octets.now text.now }
 {
     octets == text
 }
 
-// What a word is where a new item may begin.
 fn sort_word(word: &[u8]) -> Sort<'_>
     ensures { sort_of word.now ≡ sort_view result }
 {
@@ -76,7 +72,7 @@ fn sort_word(word: &[u8]) -> Sort<'_>
     split_pair(word)
 }
 
-// What stands behind the name of a peer.
+// Reads on after the name of a peer.
 fn peer_named<'t>(name: &'t [u8], line: &'t [u8]) -> (Item<'t>, &'t [u8])
     ensures items { items (lexemes_of line.now) (PeerNamed name.now)
         ≡ item_view result.0 ∷ items_of result.1.now }
@@ -88,7 +84,7 @@ fn peer_named<'t>(name: &'t [u8], line: &'t [u8]) -> (Item<'t>, &'t [u8])
     }
 }
 
-// What stands behind the word `peer`.
+// Reads on after the word `peer`.
 fn peer_begun(line: &[u8]) -> (Item<'_>, &[u8])
     ensures items { items (lexemes_of line.now) PeerBegun
         ≡ item_view result.0 ∷ items_of result.1.now }
@@ -101,7 +97,7 @@ fn peer_begun(line: &[u8]) -> (Item<'_>, &[u8])
     }
 }
 
-// What stands behind the name of a group.
+// Reads on after the name of a group.
 fn group_named(line: &[u8]) -> (Item<'_>, &[u8])
     ensures items { items (lexemes_of line.now) GroupNamed
         ≡ item_view result.0 ∷ items_of result.1.now }
@@ -113,7 +109,7 @@ fn group_named(line: &[u8]) -> (Item<'_>, &[u8])
     }
 }
 
-// What stands behind the word `group`.
+// Reads on after the word `group`.
 fn group_begun(line: &[u8]) -> (Item<'_>, &[u8])
     ensures items { items (lexemes_of line.now) GroupBegun
         ≡ item_view result.0 ∷ items_of result.1.now }
@@ -125,7 +121,7 @@ fn group_begun(line: &[u8]) -> (Item<'_>, &[u8])
     }
 }
 
-// What stands behind a key whose word ends at the colon.
+// Reads on after a key whose word ends at the colon.
 fn key_begun<'t>(key: &'t [u8], line: &'t [u8]) -> (Item<'t>, &'t [u8])
     ensures items { items (lexemes_of line.now) (KeyBegun key.now)
         ≡ item_view result.0 ∷ items_of result.1.now }
@@ -139,7 +135,7 @@ fn key_begun<'t>(key: &'t [u8], line: &'t [u8]) -> (Item<'t>, &'t [u8])
     }
 }
 
-// What a word begins that stands where a new item may.
+// Reads an item from its first word on.
 fn word_begun<'t>(word: &'t [u8], line: &'t [u8]) -> (Item<'t>, &'t [u8])
     ensures items { word_items (sort_of word.now) (items (lexemes_of line.now))
         ≡ item_view result.0 ∷ items_of result.1.now }
@@ -154,7 +150,7 @@ fn word_begun<'t>(word: &'t [u8], line: &'t [u8]) -> (Item<'t>, &'t [u8])
     }
 }
 
-/// The first thing that a line says and what stands behind it, or `None` where it says nothing more.
+/// The first item of a line and the rest after it; `None` if the line says nothing more.
 pub(crate) fn next_item(line: &[u8]) -> Option<(Item<'_>, &[u8])>
     ensures items { MatchOption result (items_of line.now ≡ [])
         (λ r. items_of line.now ≡ item_view r.0 ∷ items_of r.1.now) }

@@ -18,38 +18,37 @@ pub(crate) enum Kind {
     ShortText,
     /// A boolean.
     Switch,
-    /// A number of connections, at most 64, where 0 stands for the most.
+    /// A number of connections, at most 64; 0 stands for 64.
     Connections,
-    /// A number in these bounds.
+    /// A number between these bounds.
     Number(u64, u64),
-    /// A number in these bounds that may have decimals, which are dropped.
+    /// A number between these bounds; decimals are allowed and dropped.
     Whole(u64, u64),
-    /// A fraction in these bounds, which are hundredths.
+    /// A fraction between these bounds, which are in hundredths.
     Fraction(u64, u64),
 }
 
 /// A key of the profile (innfeed.conf(5)).
 #[derive(Clone, Copy)]
 pub(crate) enum Key {
-    /// The host that is connected to.
+    /// The host to connect to.
     IpName,
-    /// The port.
     PortNumber,
     /// Whether streaming is tried.
     Streaming,
     /// The most connections at a time.
     MaxConnections,
-    /// The most articles that a connection holds.
+    /// The most articles that a connection holds at a time.
     MaxQueueSize,
-    /// The share of wanted articles, in per cent, from which on CHECK is left out.
+    /// The share of wanted articles, in per cent, at and above which CHECK is left out.
     NoCheckHigh,
-    /// The share below which CHECK is sent again.
+    /// The share below which CHECK is sent again, in per cent.
     NoCheckLow,
-    /// How many answers the share is taken over.
+    /// The number of answers over which the share is taken.
     NoCheckFilter,
-    /// How long an answer is waited for, in seconds.
+    /// How long to wait for an answer, in seconds.
     ResponseTimeout,
-    /// The first wait before a connection is tried again, in seconds.
+    /// The first wait before a lost connection is tried again, in seconds.
     InitialReconnectTime,
     /// The longest such wait, in seconds.
     MaxReconnectTime,
@@ -69,7 +68,6 @@ pub(crate) enum Key {
     StatusFile,
 }
 
-// Each key once.
 const KEYS: [Key; 18] = [
     Key::IpName,
     Key::PortNumber,
@@ -91,28 +89,21 @@ const KEYS: [Key; 18] = [
     Key::StatusFile,
 ];
 
-// What the profile says of a key.
 #[derive(Clone, Copy)]
 struct Row {
-    // Its index in the table of keys.
     index: usize,
-    // How it is written in settings.
     name: &'static [u8],
-    // How its value is written.
     kind: Kind,
-    // Whether it stands in the scope of the file alone.
+    // Whether it is allowed only outside all blocks.
     of_file: bool,
-    // Its value where it has no use that counts; none for the name of the peer.
+    // The value if no use of the key counts; `None` if that is the name of the peer.
     default: Option<Value<'static>>,
 }
 
-// A time in seconds.
 const SECONDS: Kind = Kind::Number(1, 86_400);
 
-// A size in octets.
 const OCTETS: Kind = Kind::Number(0, 4_294_967_296);
 
-// A boolean of a peer.
 fn switch(index: usize, name: &'static [u8], default: bool) -> Row
     ensures { row_view result
         ≡ record {
@@ -132,7 +123,6 @@ fn switch(index: usize, name: &'static [u8], default: bool) -> Row
     }
 }
 
-// A number of a peer.
 fn number(index: usize, name: &'static [u8], kind: Kind, default: u64) -> Row
     ensures { row_view result
         ≡ record {
@@ -152,7 +142,6 @@ fn number(index: usize, name: &'static [u8], kind: Kind, default: u64) -> Row
     }
 }
 
-// A text of the file.
 fn file_text(index: usize, name: &'static [u8], default: &'static [u8]) -> Row
     ensures { row_view result
         ≡ record {
@@ -173,7 +162,6 @@ fn file_text(index: usize, name: &'static [u8], default: &'static [u8]) -> Row
 }
 
 impl Key {
-    // What the profile says of it.
     fn row(self) -> Row
         ensures { row_view result ≡ row_of self }
     {
@@ -205,21 +193,18 @@ impl Key {
         }
     }
 
-    /// Its index in the table of keys.
     pub(crate) fn index(self) -> usize
         ensures { result ≡ (row_of self).index }
     {
         self.row().index
     }
 
-    /// How it is written in settings.
     pub(crate) fn name(self) -> &'static [u8]
         ensures { result.now ≡ (row_of self).name }
     {
         self.row().name
     }
 
-    /// How its value is written.
     pub(crate) fn kind(self) -> Kind
         ensures value { result ≡ (row_of self).kind }
         ensures small { HasSmallBounds result }
@@ -227,14 +212,14 @@ impl Key {
         self.row().kind
     }
 
-    /// Whether it stands in the scope of the file alone.
+    /// Whether it is allowed only outside all blocks.
     pub(crate) fn is_of_file(self) -> bool
         ensures { result ≡ (row_of self).of_file }
     {
         self.row().of_file
     }
 
-    /// Its value where it has no use that counts, at a peer of this name.
+    /// The value at this peer if no use of the key counts.
     pub(crate) fn default_value<'t>(self, peer: &'t [u8]) -> Value<'t>
         ensures { value_view result ≡ (row_of self).default peer.now }
     {
@@ -245,7 +230,6 @@ impl Key {
     }
 }
 
-/// The key of the profile that has this name.
 pub(crate) fn find_key(name: &[u8]) -> Option<Key>
     ensures { result ≡ key_of name.now }
 {

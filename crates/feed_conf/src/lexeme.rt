@@ -1,68 +1,59 @@
-// The lexemes of a line of settings.
+// The lexemes of a line of a configuration.
 ghost use Rattle.std.specs.Prelude.{◌≡◌, ◌∷◌, ◌<◌, ◌≤◌, [], IfSome, MatchOption, length, not};
 ghost use Rattle.std.specs.Prelude.{position};
 ghost use Rattle.feed_conf.specs.Lexemes.{is_blank, is_quoted_octet, is_word_octet};
 ghost use Rattle.feed_conf.specs.Scan.{BeginsWord, StopsAt, lexemes_of};
 ghost use Rattle.feed_conf.specs.View.{lexeme_of};
 
-/// What stands on a line besides blanks and a comment.
+/// The parts of a line, apart from blanks and a comment.
 #[derive(Clone, Copy)]
 pub(crate) enum Lexeme<'t> {
-    /// Octets that stand together, none of them blank, a quote, `#` or a brace.
+    /// Octets without a blank, a quote, `#` or a brace between them.
     Word(&'t [u8]),
-    /// What stands between two quotes.
+    /// The text between two quotes.
     Quoted(&'t [u8]),
-    /// The brace `{`.
     Open,
-    /// The brace `}`.
     Close,
-    /// A quote that no second quote follows on its line.
+    /// A quote without a second one on its line.
     Unclosed,
 }
 
-// Whether the octet is a space, a tab or a CR.
 fn is_blank(octet: u8) -> bool
     ensures { result ≡ is_blank octet }
 {
     octet == b' ' || octet == b'\t' || octet == b'\r'
 }
 
-// Whether a word may have the octet.
 fn is_word_octet(octet: u8) -> bool
     ensures { result ≡ is_word_octet octet }
 {
     !(is_blank(octet) || octet == b'"' || octet == b'#' || octet == b'{' || octet == b'}')
 }
 
-// Whether the octet may stand in quoted text.
 fn is_quoted_octet(octet: u8) -> bool
     ensures { result ≡ is_quoted_octet octet }
 {
     octet != b'"'
 }
 
-// Where the first octet stands that is not blank.
 fn find_solid(line: &[u8]) -> Option<usize>
     ensures { result ≡ position (λ octet. not (is_blank octet)) line.now }
 {
     line.iter().position(|octet| !is_blank(*octet))
 }
 
-// Where the first octet stands that no word may have.
 fn find_word_end(line: &[u8]) -> Option<usize>
     ensures { result ≡ position (λ octet. not (is_word_octet octet)) line.now }
 {
     line.iter().position(|octet| !is_word_octet(*octet))
 }
 
-// Where the first quote stands.
 fn find_quote(line: &[u8]) -> Option<usize>
     ensures { result ≡ position (λ octet. not (is_quoted_octet octet)) line.now }
 {
     line.iter().position(|octet| !is_quoted_octet(*octet))
 }
 
-// The line from its first octet on that is not blank.
 fn skip_blanks(line: &[u8]) -> &[u8]
     ensures keeps_lexemes { lexemes_of line.now ≡ lexemes_of result.now }
     ensures first { StopsAt is_blank result.now }
@@ -72,7 +63,6 @@ fn skip_blanks(line: &[u8]) -> &[u8]
     line.split_at(start).1
 }
 
-// The word that the line begins with.
 fn word(line: &[u8]) -> (Lexeme<'_>, &[u8])
     requires { BeginsWord line.now }
     ensures lexemes { lexemes_of line.now ≡ lexeme_of result.0 ∷ lexemes_of result.1.now }
@@ -83,7 +73,7 @@ fn word(line: &[u8]) -> (Lexeme<'_>, &[u8])
     (Lexeme::Word(word), rest)
 }
 
-// The quoted text that a line goes on with behind a quote.
+// Reads on after an opening quote.
 fn quoted(behind: &[u8]) -> (Lexeme<'_>, &[u8])
     ensures lexemes { lexemes_of (34 ∷ behind.now) ≡ lexeme_of result.0 ∷ lexemes_of result.1.now }
     ensures within { length result.1.now ≤ length behind.now }
@@ -96,7 +86,7 @@ fn quoted(behind: &[u8]) -> (Lexeme<'_>, &[u8])
     }
 }
 
-/// The first lexeme of a line and what stands behind it, or `None` where blanks and a comment alone are left.
+/// The first lexeme of a line and the rest after it; `None` if only blanks and a comment are left.
 pub(crate) fn next_lexeme(line: &[u8]) -> Option<(Lexeme<'_>, &[u8])>
     ensures lexemes { MatchOption result (lexemes_of line.now ≡ [])
         (λ r. lexemes_of line.now ≡ lexeme_of r.0 ∷ lexemes_of r.1.now) }

@@ -1,10 +1,11 @@
-//! The settings of the feed (innfeed.conf(5), this profile): reads a configuration and answers each peer's values.
+//! The settings of the feed (innfeed.conf(5), in this profile): reads a configuration and returns each peer's values.
 //!
 //! May touch nothing but memory; it stands on `funnel` for the names of peers, on `memchr` for the search for line
-//! ends, and on `itoa`, which writes numbers. The crates above use `read_conf`, which gives what `specs/Settings.antt`
-//! has as the meaning of the text's lexemes (`specs/Lexemes.antt`, `specs/Items.antt`, `specs/Reading.antt`), or names
-//! its first fault, what `Conf` answers of it, `explain` and `advise`, which say more of a fault and of settings that
-//! are ignored (`specs/Explanation.antt`, `specs/Advice.antt`), and `read_digits`, which reads a number in digits.
+//! ends, and on `itoa`, which writes numbers. The crates above use `read_conf`, which returns what
+//! `specs/Settings.antt` gives as the meaning of the text's lexemes (`specs/Lexemes.antt`, `specs/Items.antt`,
+//! `specs/Reading.antt`), or its first fault; what `Conf` returns of that; `explain` and `advise`, which say more of
+//! a fault and of settings that are ignored (`specs/Explanation.antt`, `specs/Advice.antt`); and `read_digits`, which
+//! reads a number in digits.
 #![tactic(auto)]
 
 mod advice;

@@ -1,4 +1,4 @@
-// The values of peers, looked up.
+// The values of peers, looked up in the table of uses.
 ghost use Rattle.std.specs.Prelude.{◌≡◌, ◌<◌, ◌*◌, ◌^◌, ◌++◌, ◌∷◌, [], IfErr, IfOk, List};
 ghost use Rattle.std.specs.Prelude.{MatchResult, map};
 ghost use Rattle.feed_conf.specs.declared.fault.ConfFaultKind.TheVariants.{NoMemory};
@@ -16,7 +16,7 @@ use crate::reader::Declared;
 use crate::table::Table;
 use std::alloc::Global;
 
-// The high water of a backlog. The bounds of both keys leave the product far below the greatest u64.
+// The high water of a backlog. The bounds of both keys keep the product far below 2 ^ 64.
 fn high_water(written: u64, limit: u64, factor: u64) -> u64
     requires { limit * factor < 2 ^ 64 }
     ensures { result ≡ high_water written limit factor }
@@ -28,7 +28,6 @@ fn high_water(written: u64, limit: u64, factor: u64) -> u64
     }
 }
 
-// The values of a peer.
 fn peer_conf(
     alloc: Global,
     table: &Table<'_>,
@@ -66,7 +65,6 @@ fn peer_conf(
     })
 }
 
-// The values of peers, and one's more.
 fn add_conf(mut confs: Vec<PeerConf>, conf: PeerConf) -> Result<Vec<PeerConf>, ConfFaultKind>
     ensures { MatchResult result (λ more. more.items ≡ confs.items ++ conf ∷ [])
         (λ kind. kind ≡ NoMemory) }
@@ -75,7 +73,7 @@ fn add_conf(mut confs: Vec<PeerConf>, conf: PeerConf) -> Result<Vec<PeerConf>, C
     Ok(confs)
 }
 
-// The values of all peers, unless one's shares are crossed.
+// Fails at the first peer whose shares are crossed.
 pub(crate) fn peer_confs(
     alloc: Global,
     table: &Table<'_>,

@@ -1,4 +1,4 @@
-// Settings, read line by line.
+// A configuration, read line by line.
 ghost use Rattle.std.specs.Prelude.{◌≡◌, ◌==◌, ◌<◌, ◌≤◌, ◌+◌, ◌∷◌, ◌^◌, [], IfOk};
 ghost use Rattle.std.specs.Prelude.{MatchOption, length, map, position};
 ghost use Rattle.feed_conf.specs.Items.{items_of};
@@ -11,14 +11,13 @@ use crate::reader::Reader;
 use memchr::memchr;
 use std::alloc::Global;
 
-// Where the first LF stands.
 fn line_end(text: &[u8]) -> Option<usize>
     ensures { result ≡ position (λ octet. octet == 10) text.now }
 {
     memchr(b'\n', text)
 }
 
-/// The first line without its LF, and what stands behind that LF.
+/// The first line without its LF, and the rest after that LF.
 pub(crate) fn first_line(text: &[u8]) -> (&[u8], Option<&[u8]>)
     ensures lines { MatchOption result.1 (lines_of text.now ≡ result.0.now ∷ [])
         (λ behind. lines_of text.now ≡ result.0.now ∷ lines_of behind.now) }
@@ -35,7 +34,7 @@ pub(crate) fn first_line(text: &[u8]) -> (&[u8], Option<&[u8]>)
     }
 }
 
-// Reads one line, given without its LF, of this number.
+// `text` is the line without its LF, `line` its number.
 fn read_line<'t>(mut reader: Reader<'t>, line: u64, text: &'t [u8]) -> Result<Reader<'t>, ConfFault>
     requires room { reader.opened + length text.now < 2 ^ 63 }
     requires named { IsNamed reader }
@@ -54,7 +53,6 @@ fn read_line<'t>(mut reader: Reader<'t>, line: u64, text: &'t [u8]) -> Result<Re
     Ok(reader)
 }
 
-// Reads all lines.
 fn read_lines(alloc: Global, text: &[u8]) -> Result<Reader<'_>, ConfFault>
     ensures state { Runs (run_lines (map items_of (lines_of text.now)) start 1) result }
     ensures named { IfOk result (λ r. IsNamed r) }
@@ -93,7 +91,7 @@ fn finish(reader: Reader<'_>) -> Result<Reader<'_>, ConfFault>
     }
 }
 
-/// What a text says, before the values of its peers are looked up.
+/// Reads a text, without looking up the values of its peers.
 ///
 /// # Errors
 /// The first fault in reading order.

@@ -1,4 +1,4 @@
-// What is read of settings, item by item.
+// The state of a reader of a configuration, item by item.
 ghost use Rattle.std.specs.Prelude.{◌≡◌, ◌<◌, ◌≤◌, ◌+◌, ◌^◌, IfOk, MatchResult, Ok, false};
 ghost use Rattle.std.specs.Option.{option_map};
 ghost use Rattle.feed_conf.specs.declared.fault.ConfFaultKind.TheVariants.{NoMemory};
@@ -23,9 +23,9 @@ use std::collections::BTreeMap;
 /// A block that is open.
 #[derive(Clone, Copy)]
 pub(crate) struct OpenBlock {
-    /// Blocks are numbered from 1 in the order of their words; 0 is the scope of the file.
+    /// Blocks are numbered from 1 in the order in which they are opened; 0 is the scope of the file.
     pub(crate) number: usize,
-    /// The line of its word.
+    /// The line on which it is opened.
     pub(crate) line: u64,
     pub(crate) is_peer: bool,
 }
@@ -33,17 +33,16 @@ pub(crate) struct OpenBlock {
 /// A use of a key that counts.
 #[derive(Clone, Copy)]
 pub(crate) struct Use<'t> {
-    /// The number of the block that it stands in, 0 for the scope of the file.
+    /// The number of its block, 0 for the scope of the file.
     pub(crate) block: usize,
     pub(crate) key: Key,
     pub(crate) value: Value<'t>,
 }
 
-/// A peer that is declared.
 #[derive(Drop)]
 pub(crate) struct Declared {
     pub(crate) name: PeerName,
-    /// The line of its word.
+    /// The line of its declaration.
     pub(crate) line: u64,
     /// The number of its own block.
     pub(crate) block: usize,
@@ -53,21 +52,18 @@ pub(crate) struct Declared {
 #[derive(Drop)]
 pub(crate) struct Reader<'t> {
     pub(crate) alloc: Global,
-    /// The blocks that are open, from the outermost in.
+    /// The open blocks, outermost first.
     pub(crate) around: Vec<OpenBlock>,
-    /// How many blocks were opened.
     pub(crate) opened: usize,
-    /// For each of them, the number of the block that it stands in.
+    /// For each block that was opened, the number of the block around it.
     pub(crate) outer: Vec<usize>,
     pub(crate) uses: Vec<Use<'t>>,
     pub(crate) peers: Vec<Declared>,
     pub(crate) ignored: Vec<Ignored>,
-    /// The index of each peer by its name.
     pub(crate) names: BTreeMap<String, usize>,
 }
 
 impl<'t> Reader<'t> {
-    /// A reader that has read nothing.
     pub(crate) fn new(alloc: Global) -> Self
         ensures state { reader_view result ≡ start }
         ensures named { IsNamed result }
@@ -84,14 +80,12 @@ impl<'t> Reader<'t> {
         }
     }
 
-    // The innermost open block.
     pub(crate) fn innermost(&self) -> Option<OpenBlock>
         ensures { result ≡ innermost self.now.around.items }
     {
         self.around.last().copied()
     }
 
-    // Whether the innermost open block is a peer.
     fn is_in_peer(&self) -> bool
         ensures { result ≡ is_in_peer (innermost self.now.around.items) }
     {
@@ -101,7 +95,6 @@ impl<'t> Reader<'t> {
         }
     }
 
-    // Whether a block is open.
     fn is_in_block(&self) -> bool
         ensures { result ≡ is_in_block (innermost self.now.around.items) }
     {
@@ -111,7 +104,7 @@ impl<'t> Reader<'t> {
         }
     }
 
-    // The number of the innermost open block.
+    // The number of the innermost open block, 0 for the scope of the file.
     fn number(&self) -> usize
         ensures { result ≡ number_in (innermost self.now.around.items) }
     {
@@ -121,7 +114,6 @@ impl<'t> Reader<'t> {
         }
     }
 
-    // Whether a peer of that name was declared.
     fn is_declared(&self, name: &PeerName) -> bool
         requires { IsNamed self.now }
         ensures { result ≡ is_declared name.now (reader_view self.now).peers }
@@ -129,7 +121,6 @@ impl<'t> Reader<'t> {
         self.names.contains_key(text_of(name))
     }
 
-    // A block is opened.
     fn open(mut self, line: u64, is_peer: bool) -> Result<Self, ConfFaultKind>
         requires { self.opened < 2 ^ 63 }
         ensures state { MatchResult result
@@ -150,7 +141,6 @@ impl<'t> Reader<'t> {
         Ok(self)
     }
 
-    // A group is opened.
     fn open_group(self, line: u64) -> Result<Self, ConfFaultKind>
         requires { self.opened < 2 ^ 63 }
         ensures state { Steps (step (reader_view self.entry) line Group) result }
@@ -164,7 +154,6 @@ impl<'t> Reader<'t> {
         self.open(line, false)
     }
 
-    // The innermost block is closed.
     fn close(mut self) -> Result<Self, ConfFaultKind>
         ensures state { Steps
             (close_block (innermost self.entry.around.items) (reader_view self.entry)) result }
@@ -182,7 +171,7 @@ impl<'t> Reader<'t> {
         }
     }
 
-    // A use is reported.
+    // Keeps a use that was ignored or limited, for the log.
     fn report(mut self, line: u64, key: &[u8], limited: bool) -> Result<Self, ConfFaultKind>
         ensures state { MatchResult result
             (λ r. reader_view r ≡ report (reader_view self.entry) line key.now limited)
@@ -196,7 +185,7 @@ impl<'t> Reader<'t> {
         Ok(self)
     }
 
-    // A peer is declared whose name is new.
+    // Declares a peer whose name is new.
     fn declare(self, line: u64, name: PeerName) -> Result<Self, ConfFaultKind>
         requires room { self.opened < 2 ^ 63 }
         requires named { IsNamed self }
@@ -216,7 +205,7 @@ impl<'t> Reader<'t> {
         Ok(reader)
     }
 
-    // The word `peer`, with its name and whether a brace stands behind it.
+    // The order of the tests decides which fault comes first: the place, the name, the brace.
     fn declare_peer(self, line: u64, name: &[u8], braced: bool) -> Result<Self, ConfFaultKind>
         requires room { self.opened < 2 ^ 63 }
         requires named { IsNamed self }
@@ -241,7 +230,6 @@ impl<'t> Reader<'t> {
         }
     }
 
-    // A use of a key that counts.
     fn put(
         mut self,
         line: u64,
@@ -268,7 +256,7 @@ impl<'t> Reader<'t> {
         }
     }
 
-    // A key of the profile where it may stand.
+    // A key of the profile, where it is allowed.
     fn use_value(
         self,
         line: u64,
@@ -291,7 +279,6 @@ impl<'t> Reader<'t> {
         }
     }
 
-    // A key, with its value where it has one.
     fn use_key(
         self,
         line: u64,
@@ -317,10 +304,10 @@ impl<'t> Reader<'t> {
         }
     }
 
-    /// The reader after one thing that a line says.
+    /// The reader after one item.
     ///
     /// # Errors
-    /// What is wrong with it.
+    /// What is wrong with the item.
     pub(crate) fn apply(self, line: u64, item: Item<'t>) -> Result<Self, ConfFaultKind>
         requires room { self.opened < 2 ^ 63 }
         requires named { IsNamed self }
@@ -338,7 +325,6 @@ impl<'t> Reader<'t> {
     }
 }
 
-/// A name as text.
 pub(crate) fn text_of(name: &PeerName) -> &str
     ensures { result.now ≡ name.now }
 {

@@ -1,4 +1,4 @@
-// Reads settings whole.
+// A configuration, read as a whole.
 ghost use Rattle.std.specs.Prelude.{◌≡◌, List, Ok};
 ghost use Rattle.feed_conf.specs.Bounds.{AreBounded};
 ghost use Rattle.feed_conf.specs.Lexemes.{Lexeme};
@@ -16,7 +16,6 @@ use crate::reader::Reader;
 use crate::table::table_of;
 use std::alloc::Global;
 
-// Looks up the values of what was read.
 fn make_conf(alloc: Global, reader: Reader<'_>) -> Result<Conf, ConfFault>
     requires named { IsNamed reader }
     requires bounded { AreBounded (reader_view reader).uses }
@@ -47,11 +46,11 @@ fn make_conf(alloc: Global, reader: Reader<'_>) -> Result<Conf, ConfFault>
     })
 }
 
-/// Reads settings (innfeed.conf(5), this profile).
+/// Reads a configuration (innfeed.conf(5), in this profile).
 ///
 /// # Errors
-/// The first fault in reading order; a peer whose shares are crossed is one only where the whole text has no other, at
-/// the line of its word, the first such peer. `NoMemory` where memory was refused.
+/// The first fault in reading order. A peer whose shares are crossed counts only if the text has no other fault: the
+/// first such peer is reported, at the line of its declaration. `NoMemory` if memory was refused.
 pub fn read_conf(alloc: Global, text: &[u8]) -> Result<Conf, ConfFault>
     ensures meaning { (lines : List (List Lexeme)) → HaveLexemes (lines_of text.now) lines
         → Makes (meaning lines) result }

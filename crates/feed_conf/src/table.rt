@@ -1,4 +1,4 @@
-// The values of keys by the blocks that they stand in.
+// The values of keys, by block.
 ghost use Rattle.std.specs.Prelude.{◌≡◌, List, IfOk};
 ghost use Rattle.std.specs.Option.{option_map};
 ghost use Rattle.feed_conf.specs.Keys.{row_of};
@@ -21,10 +21,6 @@ pub(crate) struct Table<'t> {
     values: BTreeMap<(usize, usize), Value<'t>>,
 }
 
-/// The table of these uses.
-///
-/// # Errors
-/// Memory was refused.
 pub(crate) fn table_of<'t>(alloc: Global, uses: &[Use<'t>]) -> Result<Table<'t>, AllocError>
     ensures { IfOk result (λ table. IsTableOf table (uses_view uses.now)) }
 {
@@ -37,7 +33,7 @@ pub(crate) fn table_of<'t>(alloc: Global, uses: &[Use<'t>]) -> Result<Table<'t>,
     Ok(Table { values })
 }
 
-// The number of the block that a block stands in, 0 for the scope of the file.
+// The number of the block around a block, 0 for the scope of the file.
 fn block_around(outer: &[usize], block: usize) -> usize
     ensures { result ≡ block_around outer.now block }
 {
@@ -48,7 +44,6 @@ fn block_around(outer: &[usize], block: usize) -> usize
 }
 
 impl<'t> Table<'t> {
-    // The value of a key's last use in a block.
     fn last_value(&self, block: usize, key: Key) -> Option<Value<'t>>
         ensures { (uses : List Noted) → IsTableOf self.now uses
             → option_map value_view result ≡ last_value block (row_of key).index uses }
@@ -56,7 +51,7 @@ impl<'t> Table<'t> {
         self.values.get(&(block, key.index())).copied()
     }
 
-    // The value of a key in a block, else in those that it stands in, from the inside out.
+    // The value of a key in a block, otherwise in the blocks around it, from the inside out.
     fn value_along(&self, outer: &[usize], block: usize, key: Key) -> Option<Value<'t>>
         ensures { (uses : List Noted) → IsTableOf self.now uses
             → option_map value_view result
@@ -75,7 +70,6 @@ impl<'t> Table<'t> {
         self.last_value(0, key)
     }
 
-    // The number that a key has at a peer.
     pub(crate) fn number(&self, outer: &[usize], peer: &Declared, key: Key) -> u64
         ensures { (uses : List Noted) → IsTableOf self.now uses
             → result ≡ number (value_of uses outer.now (declared_view peer.now) key) }
@@ -88,7 +82,6 @@ impl<'t> Table<'t> {
         }
     }
 
-    // The boolean that a key has at a peer.
     pub(crate) fn switch(&self, outer: &[usize], peer: &Declared, key: Key) -> bool
         ensures { (uses : List Noted) → IsTableOf self.now uses
             → result ≡ switch (value_of uses outer.now (declared_view peer.now) key) }
@@ -101,7 +94,6 @@ impl<'t> Table<'t> {
         }
     }
 
-    // The text that a key has at a peer.
     pub(crate) fn text(
         &self,
         alloc: Global,
@@ -121,7 +113,6 @@ impl<'t> Table<'t> {
         }
     }
 
-    // The text that a key has in the scope of the file.
     pub(crate) fn file_text(&self, alloc: Global, key: Key) -> Result<Vec<u8>, AllocError>
         ensures { (uses : List Noted) → IsTableOf self.now uses
             → IfOk result (λ v. v.items ≡ text (value_in_file uses key)) }

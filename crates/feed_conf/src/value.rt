@@ -11,7 +11,6 @@ use crate::digits::{DigitsFault, read_digits};
 use crate::fault::ConfFaultKind;
 use crate::key::Kind;
 
-/// A value that was read.
 #[derive(Clone, Copy)]
 pub(crate) enum Value<'t> {
     Text(&'t [u8]),
@@ -19,15 +18,15 @@ pub(crate) enum Value<'t> {
     Number(u64),
 }
 
-/// A value as it is taken.
+/// A value as it is used.
 #[derive(Clone, Copy)]
 pub(crate) struct Taken<'t> {
     pub(crate) value: Value<'t>,
-    /// Whether it was written above the greatest value, or as no connections.
+    /// Whether it was written above the greatest value, or as 0 connections.
     pub(crate) limited: bool,
 }
 
-// The number that is written, or the greatest u64 where that is passed.
+// A number that does not fit into 64 bits counts as 2 ^ 64 - 1: each bound is far below.
 fn number(octets: &[u8]) -> Option<u64>
     ensures { result ≡ option_map capped (number_of octets.now) }
 {
@@ -38,15 +37,13 @@ fn number(octets: &[u8]) -> Option<u64>
     }
 }
 
-// Where the point of a fraction stands.
 fn point(octets: &[u8]) -> Option<usize>
     ensures { result ≡ position (λ octet. octet == 46) octets.now }
 {
     octets.iter().position(|octet| *octet == b'.')
 }
 
-// The whole part of a fraction, or the greatest u64 where that is passed, and its decimals, where its point stands
-// there.
+// The whole part of a fraction, at most 2 ^ 64 - 1, and its decimals; its point is at this index.
 fn fraction_at(octets: &[u8], point: usize) -> Option<(u64, &[u8])>
     requires { point < length octets.now }
     ensures { MatchOption result (parts_at (Some point) octets.now ≡ None)
@@ -60,7 +57,7 @@ fn fraction_at(octets: &[u8], point: usize) -> Option<(u64, &[u8])>
     }
 }
 
-// The whole part of a fraction, or the greatest u64 where that is passed, and its decimals.
+// The whole part of a fraction, at most 2 ^ 64 - 1, and its decimals.
 fn fraction(octets: &[u8]) -> Option<(u64, &[u8])>
     ensures { MatchOption result (fraction_of octets.now ≡ None)
         (λ r. (w : ℕ) × (fraction_of octets.now ≡ Some (w, r.1.now)) × (r.0 ≡ capped w)) }
@@ -87,7 +84,7 @@ fn hundredths(decimals: &[u8]) -> u64
     }
 }
 
-// A fraction in hundredths, or the greatest u64 where that is passed.
+// A fraction in hundredths, at most 2 ^ 64 - 1.
 fn in_hundredths(octets: &[u8]) -> Option<u64>
     ensures { result ≡ option_map capped (hundredths_of octets.now) }
 {
@@ -101,7 +98,7 @@ fn in_hundredths(octets: &[u8]) -> Option<u64>
     }
 }
 
-// The whole part of a fraction, or the greatest u64 where that is passed.
+// The whole part of a fraction, at most 2 ^ 64 - 1.
 fn whole(octets: &[u8]) -> Option<u64>
     ensures { result ≡ option_map capped (whole_of octets.now) }
 {
@@ -111,7 +108,7 @@ fn whole(octets: &[u8]) -> Option<u64>
     }
 }
 
-// Whether the octets spell the word, in any case.
+// Compares letters without regard to case.
 fn spells(octets: &[u8], word: &[u8]) -> bool
     ensures { result ≡ spells octets.now word.now }
 {
@@ -130,7 +127,6 @@ fn spells_false(octets: &[u8]) -> bool
     spells(octets, b"false") || spells(octets, b"no") || spells(octets, b"off")
 }
 
-// The boolean that is written.
 fn switch(octets: &[u8]) -> Option<bool>
     ensures { result ≡ switch_of octets.now }
 {
@@ -143,7 +139,6 @@ fn switch(octets: &[u8]) -> Option<bool>
     }
 }
 
-// A value that was written above the greatest.
 fn limited<'t>(greatest: u64) -> Taken<'t>
     ensures { taken_view result ≡ record { value = NumberOf greatest; limited = true } }
 {
@@ -153,7 +148,6 @@ fn limited<'t>(greatest: u64) -> Taken<'t>
     }
 }
 
-// A number in its bounds.
 fn bounded<'t>(least: u64, greatest: u64, number: Option<u64>) -> Result<Taken<'t>, ConfFaultKind>
     ensures { MatchResult result (λ t. bounded least greatest number ≡ Ok (taken_view t))
         (λ e. bounded least greatest number ≡ Err e) }
@@ -175,7 +169,7 @@ fn bounded<'t>(least: u64, greatest: u64, number: Option<u64>) -> Result<Taken<'
     }
 }
 
-// A number of connections, where none stand for the most.
+// A number of connections; 0 stands for the most.
 fn connections<'t>(number: Option<u64>) -> Result<Taken<'t>, ConfFaultKind>
     ensures { MatchResult result (λ t. connections number ≡ Ok (taken_view t))
         (λ e. connections number ≡ Err e) }
@@ -187,10 +181,10 @@ fn connections<'t>(number: Option<u64>) -> Result<Taken<'t>, ConfFaultKind>
     }
 }
 
-/// What is taken of a value that is written so.
+/// The value that is used if this is written.
 ///
 /// # Errors
-/// `BadNumber` and `BadBoolean` where it is not written as its kind is, `Range` where it is below the least value.
+/// `BadNumber` or `BadBoolean` if it is not written as its kind is, `Range` if it is below the least value.
 pub(crate) fn take_value(kind: Kind, octets: &[u8]) -> Result<Taken<'_>, ConfFaultKind>
     requires { HasSmallBounds kind }
     ensures { MatchResult result (λ t. taken_of kind octets.now ≡ Ok (taken_view t))

@@ -42,7 +42,7 @@ module _ (octets whole hay : List ℕ) (first searched : ℕ) (so_far : IsSearch
       let full : searched + length hay ≡ length octets = omega (arith, so_far.high, hay-length) in
       subst (λ n. IsSearched octets first n) full (searched-more (length hay) (omega arith) none)
 
-  -- an LF at a offset
+  -- an LF at an offset
   pub searched-to : (offset : ℕ) → IsFirstByte (is_byte 10) hay (Some offset) → IsSearched octets first (searched + offset)
   searched-to offset (none, here) = let high = none.high in searched-more offset (omega (arith, high)) none.before
 
@@ -61,7 +61,7 @@ lacks-to octets first searched so_far =
     in
     so_far.none (first + k) (omega arith) (omega (arith, inside, so_far.low)) (sym at ∙ is))
 
--- where the search came to an LF
+-- a search that came to an LF
 pub ends-at : (octets unread : List ℕ) (first searched : ℕ) → drop first octets ≡ unread → IsSearched octets first searched → searched < length octets → get_or octets searched 0 ≡ 10
     → EndsAt unread (searched - first)
 ends-at octets unread first searched view so_far within here =
@@ -76,7 +76,7 @@ ends-at octets unread first searched view so_far within here =
       sym (length-take-le n (drop first octets) (omega (arith, len))),
     )
 
--- where the search came to the end
+-- a search that came to the end
 pub lacks-end : (octets unread : List ℕ) (first : ℕ) → drop first octets ≡ unread → IsSearched octets first (length octets) → IsUnended unread
 lacks-end octets unread first view so_far =
     let whole : take (length octets - first) (drop first octets) ≡ unread = take_rest octets first ∙ view in

@@ -1,4 +1,4 @@
--- What the answer of a call says of the octets that wait, and what they say of it.
+-- The answer of a call and the octets that wait: what each says of the other.
 use Rattle.std.proofs.Common.{◌≡◌, ◌≢◌, ◌⊎◌, ℕ, Option, Some, None, Result, Ok, Err, List, [], ◌∷◌, ◌++◌, sym, ◌∙◌, ap}
 use Rattle.std.proofs.Common.{refl, inl, inr, subst}
 use Rattle.std.specs.Prelude.{◌↔◌, IfErr, IfSome}
@@ -46,7 +46,7 @@ module _ (unread rest : List ℕ) where
   none-from (Err NoMemory) (same, given, behind, whole) part = absurd (reply-is-no-part unread behind given whole part)
   none-from (Err Failed) n part = absurd n
 
-  -- nothing is given exactly where no whole line waits
+  -- the call returns none exactly if no whole line waits
   pub none-iff : (r : Result (Option Reply) ReplyFault) → NextIs unread rest r → (r ≡ Ok None) ↔ IsShort unread
   none-iff r n = (λ e. let m : NextIs unread rest (Ok None) = subst (λ s. NextIs unread rest s) e n in m.0, none-from r n)
 
@@ -58,7 +58,7 @@ module _ (unread rest : List ℕ) where
   long-from (Err NoMemory) (same, given, behind, whole) long = absurd (reply-is-not-long unread behind given whole long)
   long-from (Err Failed) n long = absurd n
 
-  -- the first line is told too long exactly where it is
+  -- the call returns that the first line is too long exactly if it is
   pub long-iff : (r : Result (Option Reply) ReplyFault) → NextIs unread rest r → (r ≡ Err TooLong) ↔ IsTooLong unread
   long-iff r n = (λ e. subst (λ s. NextIs unread rest s) e n, long-from r n)
 
@@ -70,7 +70,7 @@ module _ (unread rest : List ℕ) where
   no-code-from (Err NoMemory) (same, given, behind, whole) none = absurd (reply-is-no-no-reply unread behind given whole none)
   no-code-from (Err Failed) n none = absurd n
 
-  -- the first line is told to have no code exactly where it has none
+  -- the call returns that the first line has no code exactly if it has none
   pub no-code-iff : (r : Result (Option Reply) ReplyFault) → NextIs unread rest r → (r ≡ Err NoCode) ↔ BeginsWithNoReply unread
   no-code-iff r n = (λ e. subst (λ s. NextIs unread rest s) e n, no-code-from r n)
 
@@ -80,7 +80,7 @@ module _ (unread rest : List ℕ) where
       subst (λ g. Reads fed g rest) (sym (append-nil given)) (subst (λ u. Reads fed given u) (sym n.1) r)
   gives-more (Some reply) n fed given r = reads-reply fed unread rest given (given_of reply) r n
 
-  -- a fault that is told stands there
+  -- a fault that is returned is there
   pub told-fault : (fault : ReplyFault) → fault ≢ NoMemory → NextIs unread rest (Err fault) → IsFaulty unread
   told-fault TooLong other n = inl n
   told-fault NoCode other n = inr n
@@ -92,7 +92,7 @@ module _ (unread rest : List ℕ) where
   breaks-at fault other n fed given r =
       (unread, subst (λ g. Reads fed g unread) (sym (append-nil given)) r, told-fault fault other n)
 
--- the same, of a reader that holds these octets
+-- the same for a reader that holds these octets
 module _ (held : Held) (unread rest : List ℕ) (is : held ≡ Working unread) where
   pub at-none : (r : Result (Option Reply) ReplyFault) → NextIs unread rest r → (r ≡ Ok None) ↔ AtWork held IsShort
   at-none r n = subst (λ h. (r ≡ Ok None) ↔ AtWork h IsShort) (sym is) (none-iff unread rest r n)
@@ -141,7 +141,7 @@ module _ (held : Held) (unread rest : List ℕ) (is : held ≡ Working unread) w
   only-memory (Ok next) memory = tt
   only-memory (Err fault) memory = λ other. absurd (other memory)
 
-  -- a call that told no fault but want of memory
+  -- a call that returned no fault but want of memory
   pub at-works : (r : Result (Option Reply) ReplyFault) → NextIs unread rest r → IfErr r (λ fault. fault ≡ NoMemory)
       → RefusesNext held (Working rest) r
   at-works r n memory =
@@ -149,7 +149,7 @@ module _ (held : Held) (unread rest : List ℕ) (is : held ≡ Working unread) w
       (λ e. let same : NextIs unread rest (Err NoMemory) = subst (λ s. NextIs unread rest s) e n in ap Working same.0 ∙ sym is)
       (only-memory r memory)
 
-  -- a call that told another fault
+  -- a call that returned another fault
   pub at-fault : (fault : ReplyFault) → fault ≢ NoMemory → NextIs unread rest (Err fault) → RefusesNext held Broken (Err fault)
   at-fault fault other n =
       at-refuses (Err fault) Broken n (λ e. let memory : fault ≡ NoMemory = cc in absurd (other memory)) (λ o. refl)

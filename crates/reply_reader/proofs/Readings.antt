@@ -39,7 +39,7 @@ answers-push [] (g ∷ given) line more all this = absurd all
 answers-push (l ∷ lines) [] line more all this = absurd all
 answers-push (l ∷ lines) (g ∷ given) line more all this = (all.0, answers-push lines given line more all.1 this)
 
--- a reading, and the reply that its unread octets begin with
+-- a reading, with the reply that its unread octets begin with
 pub reads-reply : (fed unread rest : List ℕ) (given : List Given) (more : Given) → Reads fed given unread → BeginsWithReply unread more rest → Reads fed (given ++ more ∷ []) rest
 reads-reply fed unread rest given more r (line, parts, this) = record {
   lines = r.lines ++ line ∷ [];
@@ -61,7 +61,7 @@ begin-step : (x y : Given) (a b : List Given) → x ≡ y → (a ≡ take (lengt
 begin-step x y a b e (inl f) = inl (cc)
 begin-step x y a b e (inr f) = inr (cc)
 
--- of two readings, the replies of one begin those of the other
+-- the replies of one of two readings are the beginning of the other's
 pub one-begins : (k l : List (List ℕ)) (a b : List Given) (u v : List ℕ) → AllZip IsAnswer k a → AllZip IsAnswer l b → ended k ++ u ≡ ended l ++ v
     → (a ≡ take (length a) b) ⊎ (b ≡ take (length b) a)
 one-begins [] l [] b u v p q e = inl refl
@@ -74,7 +74,7 @@ one-begins (line ∷ k) (line' ∷ l) (x ∷ a) (y ∷ b) u v p q e =
     let cut = first_line_once line line' (ended k ++ u) (ended l ++ v) p.0.0.line q.0.0.line (sym (ended_first line k u) ∙ e ∙ ended_first line' l v) in
     begin-step x y a b (answer-once line line' x y cut.0 p.0 q.0) (one-begins k l a b u v p.1 q.1 cut.1)
 
--- of two readings that leave no whole line, both are the same
+-- two readings that leave no whole line are the same
 pub both-same : (k l : List (List ℕ)) (a b : List Given) (u v : List ℕ) → AllZip IsAnswer k a → AllZip IsAnswer l b → IsUnended u → IsUnended v → ended k ++ u ≡ ended l ++ v
     → (a ≡ b) × (u ≡ v)
 both-same [] [] [] [] u v p q s t e = (refl, e)

@@ -82,7 +82,7 @@ rest_octets = All-from_recursion (λ octet. octet ≢ 10) (codes "20 x") (λ e. 
 half_read : Reads (codes "200" ++ 10 ∷ codes "23") (record { code = 200; id = None; text = [] } ∷ []) (codes "23")
 half_read = record { lines = codes "200" ∷ []; whole = refl; answers = ((record { line = code_octets; short = lit< tt }, code_alone), tt) }
 
--- a fault behind a reply
+-- a fault after a reply
 fault_read : StandsFor Broken (codes "200" ++ 10 ∷ codes "20 x" ++ 10 ∷ []) (record { code = 200; id = None; text = [] } ∷ [])
 fault_read = (
   codes "20 x" ++ 10 ∷ [],

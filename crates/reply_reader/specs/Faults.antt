@@ -1,9 +1,8 @@
--- The words by which messages and scripts tell why no reply is read (profile).
+-- The words in messages and scripts for why no reply is read (profile).
 use Rattle.std.specs.Prelude.{ℕ, List, codes}
 use Rattle.reply_reader.specs.declared.fault.ReplyFault.{ReplyFault}
 use Rattle.reply_reader.specs.declared.fault.ReplyFault.TheVariants.{TooLong, NoCode, NoMemory, Failed}
 
--- the word for a fault
 abbrev pub reply_fault_name : ReplyFault → List ℕ
 reply_fault_name TooLong = codes "TooLong"
 reply_fault_name NoCode = codes "NoCode"

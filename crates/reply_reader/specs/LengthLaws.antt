@@ -1,4 +1,4 @@
--- Octets that wait for a reply are too long for one, or they are short: never both.
+-- Octets that wait for a reply are too long for one, or they are short, and never both.
 use Rattle.std.proofs.Common.{◌≡◌, ◌≢◌, ◌≤◌, ◌<◌, ℕ, List, [], ◌∷◌, ◌++◌, length, take, drop, sym, ◌∙◌, ap, arith}
 use Rattle.std.proofs.Common.{length-append}
 use Rattle.std.proofs.Common.{append_assoc}
@@ -27,12 +27,12 @@ short-is-not-long unread line rest e short (front, back, parts, len, lacks) =
 pub part-is-not-long : (unread : List ℕ) → IsShort unread → IsTooLong unread → ⊥
 part-is-not-long unread short (front, back, parts, len, lacks) = omega (arith, short.short, len, ap length parts, length-append front back)
 
--- the front of enough octets is too long, where no LF stands in it
+-- the prefix of enough octets is too long, if it has no LF
 pub long-front : (unread : List ℕ) → longest_reply ≤ length unread → IsUnended unread → IsTooLong unread
 long-front unread long lacks =
     (take longest_reply unread, drop longest_reply unread, sym (take-append-drop longest_reply unread), length-take-le longest_reply unread long, All-take (λ o. o ≢ 10) longest_reply unread lacks)
 
--- the same, where their first line is
+-- the same for a first line that is known
 pub long-line : (unread : List ℕ) (offset : ℕ) → EndsAt unread offset → longest_reply ≤ offset → IsTooLong unread
 long-line unread offset (line, rest, parts, lacks, is) long =
     let enough : longest_reply ≤ length line = omega (arith, is, long) in

@@ -1,4 +1,4 @@
--- A reply line has one reading, and each line has one or begins with no code.
+-- A reply line has one reading, and each line has one or does not begin with a code.
 use Rattle.std.proofs.Common.{◌≡◌, ◌≢◌, ◌⊎◌, ℕ, false, Option, Some, None, List, [], ◌∷◌, sym, ◌∙◌, ap, refl, inl}
 use Rattle.std.proofs.Common.{inr, arith, subst}
 use Rattle.std.specs.Prelude.{slice_index, IsTrue}
@@ -62,7 +62,7 @@ id-of-words rest [] h = (None, ([], h, tt))
 id-of-words rest (word ∷ words) h =
     elim (cases_Bool (is_msg_id word)) [ inl is ↦ (Some word, (words, h, is)) | inr not_id ↦ (None, (word ∷ words, h, not_id)) ]
 
--- behind a code stands a message-id or none
+-- what follows a code has a message-id or none
 pub some-id : (rest : List ℕ) → (id : Option (List ℕ)) × HasId rest id
 some-id rest = let words = has_words rest in id-of-words rest words.0 words.1
 
@@ -114,7 +114,7 @@ code-or-none (a ∷ b ∷ c ∷ rest) =
       ]
     ]
 
--- each line is a reply line or begins with no code
+-- each line is a reply line or does not begin with a code
 pub line-either : (line : List ℕ)
     → IsNoReply line ⊎ ((code : ℕ) × (id : Option (List ℕ)) × (text : List ℕ) × IsReplyLine line code id text)
 line-either line =

@@ -3,7 +3,7 @@ use Rattle.reply_reader.specs.Stream.{Held, Working, Broken}
 use Rattle.reply_reader.specs.declared.reader.Stage.{Stage}
 use Rattle.reply_reader.specs.declared.reader.Stage.TheVariants.{Working as AtWorkOn, Broken as IsBroken}
 
--- the octets that wait, or that a fault was told
+-- the octets that wait, or that a fault was returned
 abbrev pub held_of : Stage → Held
 held_of (AtWorkOn unread) = Working unread
 held_of IsBroken = Broken

@@ -1,4 +1,4 @@
--- What a reader's answers say, and what a call makes of it.
+-- What the answers of a reader say, and what a call makes of it.
 use Rattle.std.specs.Prelude.{◌≡◌, ◌≢◌, ◌↔◌, ℕ, Option, Some, None, Result, Ok, Err, List, [], ◌∷◌, IfErr, IsErrOf}
 use Rattle.reply_reader.specs.Stream.{AtWork, BeginsWithNoReply, BeginsWithReply, Broken, Given, Held, IsShort, IsTooLong}
 use Rattle.reply_reader.specs.Stream.{Working}
@@ -6,7 +6,7 @@ use Rattle.reply_reader.specs.declared.fault.ReplyFault.{ReplyFault}
 use Rattle.reply_reader.specs.declared.fault.ReplyFault.TheVariants.{TooLong, NoCode, NoMemory, Failed}
 use Rattle.reply_reader.specs.declared.line.Reply.{Reply}
 
--- what a reply says
+-- the content of a reply
 abbrev pub given_of : Reply → Given
 given_of reply = record { code = reply.code; id = reply.id; text = reply.text.items }
 
@@ -16,7 +16,7 @@ told (Ok (Some reply)) = given_of reply ∷ []
 told (Ok None) = []
 told (Err fault) = []
 
--- what a call answers where these octets wait, and what then waits of them
+-- what a call returns while these octets wait, and which of them wait afterwards
 abbrev pub NextIs : List ℕ → List ℕ → Result (Option Reply) ReplyFault → Type 0
 NextIs unread rest (Ok (Some reply)) = BeginsWithReply unread (given_of reply) rest
 NextIs unread rest (Ok None) = IsShort unread × (rest ≡ unread)
@@ -25,7 +25,7 @@ NextIs unread rest (Err NoCode) = BeginsWithNoReply unread
 NextIs unread rest (Err NoMemory) = (rest ≡ unread) × (given : Given) × (behind : List ℕ) × BeginsWithReply unread given behind
 NextIs unread rest (Err Failed) = ⊥
 
--- The reply was the first of what waited, and what stands behind its line waits now.
+-- The reply was the first of the octets that waited, and the rest after its line waits now.
 pub record GivesReply (old new : Held) (given : Given) : Type 0 where
   pub unread : List ℕ
   pub rest : List ℕ
@@ -33,14 +33,14 @@ pub record GivesReply (old new : Held) (given : Given) : Type 0 where
   pub begins : BeginsWithReply unread given rest
   pub waits : new ≡ Working rest
 
--- When the next reply is refused, in the order in which it is tried, and what that leaves.
+-- When the next reply is refused, in the order in which the faults are tested, and what a refusal leaves.
 pub record RefusesNext (old new : Held) (result : Result (Option Reply) ReplyFault) : Type 0 where
   pub failed : IsErrOf result Failed ↔ (old ≡ Broken)
   pub too_long : IsErrOf result TooLong ↔ AtWork old IsTooLong
   pub no_code : IsErrOf result NoCode ↔ AtWork old BeginsWithNoReply
-  -- want of memory comes only for a reply, and its line stays unread
+  -- memory is refused only for a reply, and its line stays unread
   pub no_memory : IsErrOf result NoMemory
       → AtWork old (λ unread. (given : Given) × (rest : List ℕ) × BeginsWithReply unread given rest)
   pub unchanged : IsErrOf result NoMemory → new ≡ old
-  -- every other fault stands for good
+  -- every other fault is final
   pub breaks : IfErr result (λ fault. fault ≢ NoMemory → new ≡ Broken)

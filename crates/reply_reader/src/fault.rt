@@ -10,18 +10,18 @@ use thiserror::Error;
 #[derive(Clone, Copy, Debug, PartialEq, Eq, Error)]
 #[error("{}", self.name())]
 pub enum ReplyFault {
-    /// The first unread line is longer than 2,048 octets with its end, or 2,048 octets without an LF stand unread.
+    /// The first unread line is longer than 2,048 octets with its end, or 2,048 octets without an LF are unread.
     TooLong,
     /// The first unread line does not begin with three digits (RFC 3977, section 3.2).
     NoCode,
     /// Memory was refused for a reply. Its line stays unread.
     NoMemory,
-    /// An earlier call gave `TooLong` or `NoCode`.
+    /// An earlier call returned `TooLong` or `NoCode`.
     Failed,
 }
 
 impl ReplyFault {
-    /// The word by which messages and scripts tell it.
+    /// The word for this fault in messages and scripts.
     pub fn name(self) -> &'static str
         ensures { result.now ≡ reply_fault_name self }
     {

@@ -10,15 +10,15 @@ use std::alloc::{AllocError, Global};
 /// A reply of a news server (RFC 3977, section 3.2).
 #[derive(Debug, Drop)]
 pub struct Reply {
-    /// The number of the three digits that the line begins with, 0 to 999.
+    /// The first three digits of the line as a number, 0 to 999.
     pub code: u16,
-    /// The first word behind the digits, where it is a message-id.
+    /// The first word after the digits, if it is a message-id.
     pub id: Option<MsgId>,
-    /// What stands behind the digits, without one space where it begins with one.
+    /// What follows the digits, without one space at its beginning.
     pub text: Vec<u8>,
 }
 
-// Reads a reply line, without its LF.
+// `line` is without its LF.
 pub(crate) fn read_reply(alloc: Global, line: &[u8]) -> Result<Reply, ReplyFault>
     ensures reply { IfOk result
         (λ reply. IsReplyLine line.now reply.code reply.id reply.text.items) }
@@ -41,7 +41,7 @@ pub(crate) fn read_reply(alloc: Global, line: &[u8]) -> Result<Reply, ReplyFault
     })
 }
 
-// What stands behind the code, without one space where it begins with one.
+// What follows the code, without one space at its beginning.
 fn text_of(rest: &[u8]) -> &[u8]
     ensures { IsText rest.now result.now }
 {
@@ -51,14 +51,14 @@ fn text_of(rest: &[u8]) -> &[u8]
     }
 }
 
-// A code, and what stands behind it.
+// A code, and what follows it.
 #[derive(Drop)]
 struct Coded<'a> {
     code: u16,
     rest: &'a [u8],
 }
 
-// The code that the octets begin with; `None` where they do not begin with three digits.
+// `None` if the octets do not begin with three digits.
 fn read_code(octets: &[u8]) -> Option<Coded<'_>>
     ensures some { IfSome result (λ coded. BeginsWithCode octets.now coded.code coded.rest.now) }
     ensures none { IfNone result
@@ -83,7 +83,7 @@ fn read_code(octets: &[u8]) -> Option<Coded<'_>>
     }
 }
 
-// The first word, where it is a message-id.
+// The first word, if it is a message-id.
 fn read_id(alloc: Global, rest: &[u8]) -> Result<Option<MsgId>, AllocError>
     ensures { IfOk result (λ id. HasId rest.now id) }
 {

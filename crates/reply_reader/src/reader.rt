@@ -12,7 +12,7 @@ use crate::unread::Unread;
 use std::alloc::Global;
 use std::marker::Model;
 
-/// The longest reply line, in octets with its end, CR and LF.
+/// The length of the longest reply line, in octets, CR and LF included.
 pub const LONGEST_REPLY: usize = 2048;
 
 /// A reader of reply lines, fed in pieces of any size (RFC 3977, section 3.1).
@@ -24,7 +24,7 @@ pub struct ReplyReader {
 #[derive(Debug, Drop)]
 enum Stage {
     Working(Unread),
-    /// A fault was told.
+    /// A fault was returned.
     Broken,
 }
 
@@ -39,7 +39,7 @@ impl Model for ReplyReader {
 }
 
 impl ReplyReader {
-    /// A reader that was fed nothing. It allocates nothing yet, and later from `alloc`.
+    /// A reader that was fed nothing. It allocates only when it is fed, from `alloc`.
     pub fn new(alloc: Global) -> Self
         ensures holds { result ≡ Working [] }
         ensures stands { StandsFor result [] [] }
@@ -49,10 +49,10 @@ impl ReplyReader {
         }
     }
 
-    /// Takes in more octets. After a fault that [`ReplyReader::next`] told it drops them, and takes no memory.
+    /// Takes in more octets. After a fault of [`ReplyReader::next`] it drops them, and takes no memory.
     ///
     /// # Errors
-    /// `NoMemory` where memory was refused: the reader is unchanged, and the octets are not taken in.
+    /// `NoMemory` if memory was refused: the reader is unchanged, and the octets are not taken in.
     pub fn feed(&mut self, piece: &[u8]) -> Result<(), NoMemory>
         ensures fed { OnOk result (self.new ≡ after_feed self.old piece.now) }
         ensures stands { OnOk result
@@ -67,12 +67,12 @@ impl ReplyReader {
         }
     }
 
-    /// Reads the first unread line; `None` where no whole line is unread.
+    /// Reads the first unread line; `None` if no whole line is unread.
     ///
     /// # Errors
-    /// [`ReplyFault::TooLong`] where 2,048 octets without an LF stand unread first, whole line or not, and else
-    /// [`ReplyFault::NoCode`] where the first unread line is whole and does not begin with three digits; after either
-    /// each call gives [`ReplyFault::Failed`]. [`ReplyFault::NoMemory`] where it is a reply line and memory was
+    /// [`ReplyFault::TooLong`] if the first 2,048 unread octets have no LF, even if a whole line is unread; otherwise
+    /// [`ReplyFault::NoCode`] if the first unread line is whole and does not begin with three digits. After either,
+    /// each call returns [`ReplyFault::Failed`]. [`ReplyFault::NoMemory`] if it is a reply line and memory was
     /// refused: the reader is unchanged.
     pub fn next(&mut self) -> Result<Option<Reply>, ReplyFault>
         ensures stands { (fed : List ℕ) (given : List Given) → StandsFor self.old fed given
@@ -99,7 +99,7 @@ impl ReplyReader {
     }
 }
 
-// Reads the first line of the octets that wait, and lets go of it.
+// Reads the first line of the octets that wait, and drops it from them.
 fn next_reply(unread: &mut Unread) -> Result<Option<Reply>, ReplyFault>
     ensures { NextIs unread.old unread.new result }
 {
@@ -118,7 +118,7 @@ fn next_reply(unread: &mut Unread) -> Result<Option<Reply>, ReplyFault>
     Ok(Some(reply))
 }
 
-// Whether these are too many octets to stand before an LF.
+// Whether this many octets without an LF are too many.
 fn is_too_many(len: usize) -> bool
     ensures { IsTrue result ↔ (longest_reply ≤ len) }
 {

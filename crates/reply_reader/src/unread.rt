@@ -8,13 +8,13 @@ use memchr::memchr;
 use std::alloc::{AllocError, Global};
 use std::marker::Model;
 
-/// The octets that were fed and are not read yet, each searched once for an LF.
+/// The octets that were fed and are not read yet. Each is searched for an LF only once.
 #[derive(Debug, Drop)]
 pub(crate) struct Unread {
     octets: Vec<u8>,
     /// The offset of the first unread octet.
     first: usize,
-    /// No LF stands from `first` up to this offset.
+    /// There is no LF from `first` up to this offset.
     searched: usize,
 }
 
@@ -37,19 +37,17 @@ impl Unread {
         }
     }
 
-    // The allocator of the octets.
     pub(crate) fn alloc(&self) -> Global {
         *self.octets.allocator()
     }
 
-    // How many octets wait.
     pub(crate) fn len(&self) -> usize
         ensures { result ≡ length self.now }
     {
         self.octets.len() - self.first
     }
 
-    // Takes in more octets, and gives up the room of those that are read.
+    // Takes in more octets, and reuses the room of those that are read.
     pub(crate) fn feed(&mut self, piece: &[u8]) -> Result<(), AllocError>
         ensures fed { OnOk result (self.new ≡ self.old ++ piece.now) }
         ensures unchanged { OnErr result (self.new ≡ self.old) }
@@ -58,7 +56,6 @@ impl Unread {
         self.octets.extend_from_slice(piece)
     }
 
-    // Moves the unread octets to the front of the room.
     fn compact(&mut self)
         ensures { self.new ≡ self.old }
     {
@@ -72,7 +69,7 @@ impl Unread {
         self.first = 0;
     }
 
-    // The offset of the first LF, counted from the first octet.
+    // The offset of the first LF, counted from the first unread octet.
     pub(crate) fn first_end(&mut self) -> Option<usize>
         ensures unchanged { self.new ≡ self.old }
         ensures offset { MatchOption result (IsUnended self.old)
@@ -90,7 +87,6 @@ impl Unread {
         }
     }
 
-    // The first octets.
     pub(crate) fn front(&self, len: usize) -> &[u8]
         requires { len ≤ length self.now }
         ensures { result.now ≡ take len self.now }
@@ -98,7 +94,6 @@ impl Unread {
         &self.octets[self.first..self.first + len]
     }
 
-    // Lets go of the first octets, which were read.
     pub(crate) fn skip(&mut self, len: usize)
         requires { len ≤ length self.old }
         ensures { self.new ≡ drop len self.old }

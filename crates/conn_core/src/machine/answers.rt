@@ -26,7 +26,7 @@ use std::alloc::AllocError;
 use std::collections::VecDeque;
 
 impl Machine {
-    // A reply, while it is open. An `Err` changes nothing.
+    // Takes a reply while it is open. An `Err` changes nothing.
     pub(crate) fn on_reply(&mut self, reply: &Reply) -> Result<(), AllocError>
         ensures ok { OnOk result (self.new ≡ on_reply self.old (given_of reply.now)) }
         ensures unchanged { OnErr result (self.new ≡ self.old) }
@@ -37,7 +37,7 @@ impl Machine {
         Ok(())
     }
 
-    // A reply, by what is awaited. An `Err` changes nothing.
+    // Takes a reply by what is awaited. An `Err` changes nothing.
     fn dispatch_reply(&mut self, reply: &Reply) -> Result<(), AllocError>
         ensures ok { OnOk result
             (self.new ≡ dispatch_reply self.old (given_of reply.now) self.old.phase) }
@@ -92,7 +92,7 @@ impl Machine {
         }
     }
 
-    // A reply in a mode. An `Err` changes nothing.
+    // A reply once a mode is agreed. An `Err` changes nothing.
     fn answered(&mut self, reply: &Reply, mode: Mode) -> Result<(), AllocError>
         ensures ok { OnOk result
             (self.new ≡ answered_with self.old mode (given_of reply.now)) }
@@ -151,7 +151,7 @@ impl Machine {
         Ok(())
     }
 
-    // Any other answer ends a debt, or puts it off.
+    // Any other answer ends a debt or puts it off.
     fn settles(&mut self, reply: &Reply, mode: Mode)
         requires not_wanted { reply.now.code ≢ 238 }
         requires no_block { reply.now.code ≢ 335 }
@@ -167,7 +167,7 @@ impl Machine {
         self.tell(meaning_of(ask.verb(), reply.code), ask.ticket());
     }
 
-    // An answered IHAVE keeps its block no more.
+    // An IHAVE with an answer no longer keeps its block.
     fn let_go(&mut self, verb: Verb)
         ensures { self.new ≡ record self.old { blocks = let_go verb self.old.blocks } }
     {
@@ -179,7 +179,7 @@ impl Machine {
         }
     }
 
-    // An answer of this code moves the check switch, where it counts.
+    // An answer of this code moves the check switch, if it counts.
     fn count(&mut self, code: u16)
         ensures { self.new ≡ counted_by self.old (counts code) }
     {
@@ -189,7 +189,7 @@ impl Machine {
         }
     }
 
-    // An answer of this meaning ends the debt at that ticket, or puts it off.
+    // An answer of this meaning ends the debt at that ticket or puts it off.
     fn tell(&mut self, meaning: Option<Meaning>, ticket: u64)
         ensures { self.new
             ≡ settled_by self.old meaning ticket (find (is_at ticket) self.old.held) }
@@ -201,7 +201,6 @@ impl Machine {
         }
     }
 
-    // The debt at that ticket may be offered later.
     fn put_off(&mut self, ticket: u64)
         ensures { self.new ≡ parted_by self.old ticket Meaning.Later
             (find (is_at ticket) self.old.held) }
@@ -215,7 +214,6 @@ impl Machine {
         }
     }
 
-    // The debt at that ticket is answered for good.
     fn end(&mut self, ticket: u64, code: FinalCode)
         ensures { self.new ≡ parted_by self.old ticket (Meaning.Final code)
             (find (is_at ticket) self.old.held) }
@@ -230,7 +228,7 @@ impl Machine {
     }
 }
 
-// Makes room for the first of these blocks, and for a QUIT behind it.
+// Makes room for the first of these blocks, and for a QUIT after it.
 fn room_for_block(output: &mut BytesMut, blocks: &VecDeque<Bytes>) -> Result<(), AllocError>
     ensures items { output.new.items ≡ output.old.items }
     ensures spare { output.old.spare ≤ output.new.spare }
@@ -242,7 +240,7 @@ fn room_for_block(output: &mut BytesMut, blocks: &VecDeque<Bytes>) -> Result<(),
     }
 }
 
-// Moves the first of these blocks to the output, where there is room for it.
+// Moves the first of these blocks to the output, which has room for it.
 fn put_block(output: &mut BytesMut, blocks: &mut VecDeque<Bytes>)
     requires { length (first_block blocks.old.items) ≤ output.old.spare }
     ensures items { output.new.items ≡ output.old.items ++ first_block blocks.old.items }

@@ -21,16 +21,14 @@ use ledger_core::{Cause, Debt, Key};
 use std::alloc::AllocError;
 use std::collections::VecDeque;
 
-// Why an article that is handed in is not there.
+// Why there is no article to send.
 #[derive(Clone, Copy, Debug, PartialEq, Eq)]
 pub(crate) enum Loss {
-    // There is no such article.
     Missing,
-    // Its text can't be sent.
+    // Its text cannot be sent.
     Unfit,
 }
 
-// What became of a debt whose article is not there.
 fn lost(debt: Debt, loss: Loss) -> Outcome
     ensures { result ∷ [] ≡ loss_of (handing_of loss) debt }
 {
@@ -62,7 +60,6 @@ impl Machine {
         }
     }
 
-    // Takes the text of the article. An `Err` changes nothing.
     fn on_text(&mut self, key: Key, text: &[u8]) -> Result<(), AllocError>
         ensures ok { OnOk result
             ((handing : Handing) × IsTextAs text.now handing
@@ -80,7 +77,7 @@ impl Machine {
         }
     }
 
-    // The article is there no more, or its text can't be sent: its debt is lost.
+    // The article is gone, or its text cannot be sent: its debt is lost.
     fn lose(&mut self, key: Key, loss: Loss)
         ensures { self.new ≡ handed self.old key (handing_of loss) }
     {
@@ -88,7 +85,7 @@ impl Machine {
         self.quit_if_due();
     }
 
-    // The first want of that key goes, and the debt that it is about is lost.
+    // Removes the first want of that key; its debt is lost.
     fn lose_wanted(&mut self, key: Key, loss: Loss)
         ensures { self.new ≡ handed_for (without_want self.old key) (handing_of loss)
             (held_for self.old.held (find (is_of key) self.old.wanted)) }
@@ -99,7 +96,6 @@ impl Machine {
         }
     }
 
-    // The debt at that ticket is lost.
     fn lose_at(&mut self, ticket: u64, loss: Loss)
         ensures { self.new ≡ handed_for self.old (handing_of loss)
             (find (is_at ticket) self.old.held) }
@@ -110,7 +106,7 @@ impl Machine {
         }
     }
 
-    // This is the block of the article. An `Err` changes nothing.
+    // An `Err` changes nothing.
     fn send(&mut self, key: Key, block: Bytes) -> Result<(), AllocError>
         ensures ok { OnOk result (self.new ≡ handed self.old key (Sendable block)) }
         ensures unchanged { OnErr result (self.new ≡ self.old) }
@@ -136,7 +132,7 @@ impl Machine {
         Ok(())
     }
 
-    // The want of that key goes, and nothing comes of it.
+    // Removes the first want of that key, whose debt is not held.
     fn forget(&mut self, key: Key)
         ensures { self.new ≡ quit_if_due (without_want self.old key) }
     {
@@ -145,7 +141,8 @@ impl Machine {
     }
 }
 
-// Puts out the article with its command (RFC 4644, section 2.5), and leaves room for a QUIT. An `Err` puts out nothing.
+// Puts out the article with its command (RFC 4644, section 2.5), and keeps room for a QUIT. An `Err` puts out
+// nothing.
 fn put_takethis(output: &mut BytesMut, id: &MsgId, block: &Bytes) -> Result<(), AllocError>
     ensures ok { OnOk result
         (output.new.items ≡ output.old.items ++ octets_of Verb.Takethis id.now block.now) }
@@ -159,7 +156,7 @@ fn put_takethis(output: &mut BytesMut, id: &MsgId, block: &Bytes) -> Result<(), 
     Ok(())
 }
 
-// Offers the article and keeps its block (RFC 3977, section 6.3.2), and leaves room for a QUIT. An `Err` does nothing.
+// Offers the article and keeps its block (RFC 3977, section 6.3.2), and keeps room for a QUIT. An `Err` does nothing.
 fn put_ihave(
     output: &mut BytesMut,
     blocks: &mut VecDeque<Bytes>,

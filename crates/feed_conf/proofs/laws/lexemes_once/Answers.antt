@@ -1,4 +1,4 @@
--- Both are those that the walk gives.
+-- Both are the lexemes that the walk gives.
 use Rattle.std.proofs.Common.{sym, ◌∙◌}
 use Rattle.feed_conf.specs.LexemeLaws.{lexemes-are}
 use Rattle.feed_conf.proofs.laws.lexemes_once.Goals as goal

@@ -1,4 +1,4 @@
--- The peers' values have the names that were declared.
+-- The peers' values keep the names that were declared.
 use Rattle.std.proofs.Common.{map, ap, sym, ◌∙◌, subst}
 use Rattle.feed_conf.specs.Bounds.{AreBounded}
 use Rattle.feed_conf.specs.ReaderView.{declared_view, index_of}
@@ -20,7 +20,7 @@ invariant_of-result c =
           (sym (ap (map (λ (peer : Settings). peer.name)) same ∙ names-kept uses c.deref-2.result.now peers));
     }
 
--- the uses that the table is of were read, and so they are bounded
+-- the uses of the table were read, and so they are bounded
 pub peer_confs-requires : goal.peer_confs-requires
 peer_confs-requires c = (
   uses_view c.deref.result.now,

@@ -1,4 +1,4 @@
--- A number of 64 bits is below where the reader stops counting.
+-- A number that fits into 64 bits is below where the reader stops counting.
 use Rattle.std.proofs.Common.{Some, ap, arith, refl}
 use Rattle.feed_conf.proofs.value.number.Goals as goal
 

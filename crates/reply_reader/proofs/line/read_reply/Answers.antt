@@ -1,4 +1,4 @@
--- A line without a code is told so, and one with a code only for want of memory.
+-- A line without a code gives `NoCode`; a line with one fails only for want of memory.
 use Rattle.std.proofs.Common.{◌≡◌, ℕ, List, Option, refl, inr, subst}
 use Rattle.std.proofs.lemmas.Result.{err_from_is_err_and}
 use Rattle.funnel.specs.Line.{without_cr}

@@ -26,7 +26,7 @@ returns-else-is_too_many c =
 pub returns-then-is_too_many-2 : goal.returns-then-is_too_many-2
 returns-then-is_too_many-2 c = long-line c.args.unread.now c.in-Some.end c.in-Some.ensures.offset (c.if-is_too_many-2.ensures.0 refl)
 
--- the slice of the line is a front of the octets that wait
+-- the slice of the line is a prefix of the octets that wait
 front-is : (unread same line : List ℕ) (offset : ℕ) → same ≡ unread → line ≡ take offset same → line ≡ take offset unread
 front-is unread same line offset e is = is ∙ ap (λ u. take offset u) e
 

@@ -1,4 +1,4 @@
--- A key and its value as they are seen.
+-- A key and its value, as the definition has them.
 use Rattle.std.proofs.Common.{subst, sym}
 use Rattle.feed_conf.specs.Reading.{step}
 use Rattle.feed_conf.specs.ItemView.{item_view}

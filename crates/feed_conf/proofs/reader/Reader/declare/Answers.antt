@@ -1,4 +1,4 @@
--- The new name has the index behind all others.
+-- The new name gets the index after all others.
 use Rattle.std.proofs.Common.{◌≡◌, length, map, Some, cond, ap, sym, ◌∙◌, arith}
 use Rattle.std.specs.BTreeMap.{get_by_text}
 use Rattle.std.specs.String.{string_bytes}

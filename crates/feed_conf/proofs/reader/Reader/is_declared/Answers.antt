@@ -1,4 +1,4 @@
--- A name has a index where a peer of that name is declared.
+-- A name has an index if a peer of that name is declared.
 use Rattle.std.proofs.Common.{ap, map, ◌∙◌}
 use Rattle.std.specs.Option.{is_some}
 use Rattle.std.specs.BTreeMap.{get_by_text}

@@ -1,4 +1,4 @@
--- A step goes from a block to the one that it stands in, as the path does.
+-- A step goes from a block to the one around it, as the path does.
 use Rattle.std.proofs.Common.{◌≡◌, ℕ, ◌+◌, ◌-◌, suc, ap, sym, ◌∙◌, arith}
 use Rattle.feed_conf.specs.Keys.{row_of}
 use Rattle.feed_conf.specs.Settings.{path_within, value_along}

@@ -1,4 +1,4 @@
--- More octets stand behind the same replies.
+-- More octets follow the same replies.
 use Rattle.std.proofs.Common.{rules, ◌≡◌, ◌++◌, ℕ, List, Result, Ok, Err, sym, subst}
 use Rattle.std.specs.Prelude.{OnOk}
 use Rattle.reply_reader.specs.Stream.{Given, Held, StandsFor, after_feed}

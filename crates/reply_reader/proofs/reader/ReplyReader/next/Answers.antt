@@ -1,4 +1,4 @@
--- What the first line is decides what is answered.
+-- The first line decides the answer.
 use Rattle.std.proofs.Common.{Ok, Err, sym, ◌∙◌, ap}
 use Rattle.reply_reader.specs.Stage.{held_of}
 use Rattle.reply_reader.proofs.Nexts.{at-broken, at-fault, at-given, at-none, at-reply, at-works}
