@@ -358,7 +358,7 @@ module _ {D : Type 0} {g : Ghosts D} where
         not_here (broken_off peer conn) refl (RefusesAct id (FailsToBreak id)) fault
         (λ later follows. inr (conn, peer, is_conn, follows)) is
 
-    -- ---- the moment is told
+    -- ---- the moment is reported
 
     pub ticked_one : (before outputs : List Output)
         → Followed id moment conn.transcript (ticked moment peer conn) peer before new_c now outputs

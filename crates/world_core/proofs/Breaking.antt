@@ -23,11 +23,11 @@ says_none false None e = cc
 says_none false (Some reason) e = refl
 
 -- it tells that it is open exactly if it is by the world's transcript
-pub open_told : (conf : PeerConf) (conn : ConnPast) (c : Connection) (none : Bool) (outputs : Option Reason)
+pub open_said : (conf : PeerConf) (conn : ConnPast) (c : Connection) (none : Bool) (outputs : Option Reason)
     → HoldsTranscript conf conn c
     → ((o : Options) (unread : List ℕ) (h : List Event) → ConnStands o c.conn unread h → outputs ≡ reason o h)
     → is_some outputs ≡ not none → none ≡ is_none (reason (options_of conf) conn.transcript)
-open_told conf conn c none outputs holds says is =
+open_said conf conn c none outputs holds says is =
     says_none none outputs is ∙ ap is_none (says (options_of conf) conn.unread conn.transcript holds)
 
 module _ {D : Type 0} {g : Ghosts D} where
@@ -42,7 +42,7 @@ module _ {D : Type 0} {g : Ghosts D} where
       (goes_outside (options_of past.conf) conn.transcript Broke tt)
       (breaks (options_of past.conf) conn.unread conn.transcript pair.holds) waits rank same_id
 
-  -- this moment was told to it
+  -- this moment was reported to it
   pub pair_ticked : (id now : ℕ) (conn : ConnPast) (past : PeerPast) (old new : Connection) (peer : Peer D g)
       → PairStands id conn past old peer
       → ((o : Options) (unread : List ℕ) (h : List Event) → ConnStands o old.conn unread h

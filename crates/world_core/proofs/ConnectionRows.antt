@@ -17,7 +17,7 @@ use Rattle.peer_queue.specs.declared.settled.Settled.TheVariants.{Answered, Drop
 use Rattle.recovery.specs.Notes.{begun as begun_history}
 use Rattle.world_core.specs.Past.{ConnPast, Life, Past, TapePast}
 use Rattle.world_core.specs.Events.{Settles}
-use Rattle.world_core.specs.Exchange.{TakesConnect, exchange_said, followed_up, fresh_conn, settle_events, told_out}
+use Rattle.world_core.specs.Exchange.{TakesConnect, exchange_said, followed_up, fresh_conn, settle_events, settled_out}
 use Rattle.world_core.specs.Exchange.{unsettled, waiting, with_transcript}
 use Rattle.world_core.specs.Halts.{armed_with}
 use Rattle.world_core.specs.Runs.{RefusesStep, Runs}
@@ -48,7 +48,7 @@ limits = record { backlog_limit = 0; backlog_high = 0; drop_deferred = false }
 abbrev cxn : List Happening → ConnPast
 cxn h = record { rank = 2; unread = []; transcript = h; settled = 0 }
 
--- what is told of it, if its transcript was the first before the step, and is the second
+-- what is reported of it, if its transcript was the first before the step, and is the second
 abbrev outputs : List Happening → List Happening → List Said
 outputs was h = exchange_said limits options 1 60 was (cxn h)
 
@@ -116,7 +116,7 @@ lost_tells : outputs wanted (after options wanted (HandedIn 7 Gone)) ≡ Settled
 unfolding after story
 lost_tells = refl
 
--- it was taken: the verdict goes to the peer at rank 2, and is told
+-- it was taken: the verdict goes to the peer at rank 2, and is reported
 abbrev answered : List Happening
 answered = outside options (sent given) (about 239)
 
@@ -135,7 +135,7 @@ waits_on : outputs answered (outside options (waiting (cxn answered)).transcript
 unfolding after story
 waits_on = refl
 
-none_waits : unsettled options (told_out options (cxn answered)) ≡ []
+none_waits : unsettled options (settled_out options (cxn answered)) ≡ []
 unfolding after story
 none_waits = refl
 
@@ -149,7 +149,7 @@ drop_tells : exchange_said (record limits { drop_deferred = true }) options 1 60
 unfolding after story
 drop_tells = refl
 
--- the server ends the connection, or it breaks, or no answer comes: the debt comes back, and why it closed is told
+-- the server ends the connection, or it breaks, or no answer comes: the debt comes back, and why it closed is reported
 end_tells : outputs checked (outside options checked (line 400)) ≡ Settled 1 7 Ready ∷ Closed 1 (Ended 400) ∷ []
 unfolding after story
 end_tells = refl

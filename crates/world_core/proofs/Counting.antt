@@ -30,7 +30,7 @@ name_more f g xs i x done now y is same here within so_far =
     ∙ ap (λ b. map f (take i xs) ++ b ∷ []) (same ∙ ap f here)
     ∙ sym (map_push f (take i xs) (get_or xs i x)) ∙ sym (ap (map f) (take_more xs i x within))
 
--- what is told of a peer
+-- what is reported of a peer
 abbrev pub counted : {D : Type 0} {g : Ghosts D} → Peer D g → List ℕ × Totals
 counted peer = (peer.conf.name, totals_of (ledger_of peer.station))
 

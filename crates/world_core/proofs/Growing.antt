@@ -15,7 +15,7 @@ use Rattle.conn_core.specs.StoryLaws.{ends-offered}
 use Rattle.conn_core.specs.declared.options.Options.{Options}
 use Rattle.conn_core.specs.declared.outcome.Outcome.{Outcome}
 use Rattle.world_core.specs.Past.{ConnPast, Past}
-use Rattle.world_core.specs.Exchange.{StopsAt, all_out, followed_up, one_out, out_to, told_out, unsettled}
+use Rattle.world_core.specs.Exchange.{StopsAt, all_out, followed_up, one_out, out_to, settled_out, unsettled}
 use Rattle.world_core.specs.declared.fault.Fault.{Fault}
 use Rattle.world_core.proofs.Holding.{contains_left, out_rank}
 
@@ -104,7 +104,7 @@ module _ (options : Options) where
 
   pub grew_sent : (conn : ConnPast) → Grew conn.transcript (followed_up options conn).transcript
   grew_sent conn =
-      let out = (told_out options conn).transcript in
+      let out = (settled_out options conn).transcript in
       grew_then conn.transcript out (followed_up options conn).transcript (grew_out (unsettled options conn) conn)
       (grew_if (is_some (reason options out)) out out (Sent (length (output options out)) ∷ out) (grew_same out)
       (grew_one out (Sent (length (output options out))) refl))

@@ -40,7 +40,7 @@ use Rattle.world_core.specs.declared.output.Output.{Output}
 use Rattle.world_core.specs.declared.output.Output.TheVariants.{Handed as OutputHanded}
 use Rattle.world_core.specs.declared.output.Handed.TheVariants.{Busy, Closed, Debt, Nothing}
 use Rattle.world_core.proofs.Balance.{more_numbers}
-use Rattle.world_core.proofs.Breaking.{open_told}
+use Rattle.world_core.proofs.Breaking.{open_said}
 use Rattle.world_core.proofs.Holding.{moved_here, moved_other}
 use Rattle.world_core.proofs.Outputs.{tells_both}
 use Rattle.world_core.proofs.Pairing.{settled_few, tied_more, waits_offered}
@@ -341,7 +341,7 @@ module _ {D : Type 0} {g : Ghosts D} where
         gave_back_memory outputs e ready =
             record { later = returned; why = inr (e, ready, (debt, gives_back)); stand = pair_back }
 
--- what is told of none, and of one
+-- what is reported of none, and of one
 pub if_none : {A : Type 0} (o : Option A) (P : Type 0) → IfNone o P → ((x : A) → o ≡ Some x → ⊥) → P
 if_none None P is never = is
 if_none (Some x) P is never = absurd (never x refl)
@@ -386,7 +386,7 @@ module _ {D : Type 0} {g : Ghosts D} (id now : ℕ) (conn : ConnPast) (past : Pe
         → ((o : Options) (unread : List ℕ) (h : List Happening) → ConnStands o c.conn unread h → closed ≡ reason o h)
         → is_some closed ≡ not none → none ≡ is_none (reason (options_of over.later.conf) conn.transcript)
     open_over c none closed holds says is =
-        open_told past.conf conn c none closed holds says is
+        open_said past.conf conn c none closed holds says is
         ∙ ap (λ (conf : PeerConf). is_none (reason (options_of conf) conn.transcript))
         (sym (hands_conf id now conn past handed over.transcript over.later over.hands))
 

@@ -16,7 +16,7 @@ use Rattle.world_core.specs.Events.AllDo.{Start, Next}
 use Rattle.world_core.specs.Laws.{Comes, IsRecovered, OverRuns, StillOwes}
 use Rattle.world_core.specs.Laws.Comes.{No_step, Step_taken, Step_refused}
 use Rattle.world_core.specs.LineLaws.{LinesAreKept, LinesAreKeptWithin, LinesAreReadAgain, MadeDebt, OwesOrEnded}
-use Rattle.world_core.specs.LineLaws.{WasBad, WasRead, new_to, read_at, told_new}
+use Rattle.world_core.specs.LineLaws.{WasBad, WasRead, new_to, read_at, reported_new}
 use Rattle.world_core.specs.Moments.{StaysPrefix}
 use Rattle.world_core.specs.Runs.{Takes}
 use Rattle.world_core.specs.Safe.{IsSafe}
@@ -190,15 +190,15 @@ module _ (token id : List ℕ) (named : List (List ℕ)) where
           (subst (λ (p : Past). AllDo p (owes_from (length prefix + 1) token id named peers) later) mid first.2))
       by false rest all = behind peer (rest peer) all
 
--- it is told as new at exactly the peers to which it is
+-- it is reported as new at exactly the peers to which it is
 outputs_are : (number : ℕ) (named : List (List ℕ)) (peers : List PeerPast)
-    → told_new (owed_there number named peers) ≡ new_to number named peers
+    → reported_new (owed_there number named peers) ≡ new_to number named peers
 outputs_are number named [] = refl
 outputs_are number named (peer ∷ peers) =
     by (is_named named peer) (nat_lt (mark_at peer.tape) number) (outputs_are number named peers)
   where
-    by : (b c : Bool) → told_new (owed_there number named peers) ≡ new_to number named peers
-        → told_new (if b then (peer.conf.name, if c then New else Already) ∷ owed_there number named peers
+    by : (b c : Bool) → reported_new (owed_there number named peers) ≡ new_to number named peers
+        → reported_new (if b then (peer.conf.name, if c then New else Already) ∷ owed_there number named peers
         else owed_there number named peers)
         ≡ (if b && c then peer.conf.name ∷ new_to number named peers else new_to number named peers)
     by true true is = ap (λ l. peer.conf.name ∷ l) is

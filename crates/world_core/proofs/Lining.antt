@@ -194,12 +194,12 @@ module _ {D : Type 0} {g : Ghosts D} where
   module _ (past : Past) (token id : List ℕ) (named : List (List ℕ)) (prefix : List (ℕ × List ℕ)) (at : ℕ × List ℕ)
       (back : List (ℕ × List ℕ))
       (found : AreFound past named (prefix ++ at ∷ back)) where
-    pub some_more : (outputs new_told : List OwedAt) (name : List ℕ) (owed : Owed) (old new : Stations D g)
+    pub some_more : (outputs new_outputs : List OwedAt) (name : List ℕ) (owed : Owed) (old new : Stations D g)
         → (so_far : OwedSome past token id named (length prefix) outputs old)
         → OwedOne so_far.did.later at.0 token id owed new
-        → name ≡ at.1 → new_told ≡ outputs ++ record { name = name; owed = owed } ∷ []
-        → OwedSome past token id named (length prefix + 1) new_told new
-    some_more outputs new_told name owed old new so_far one is tells =
+        → name ≡ at.1 → new_outputs ≡ outputs ++ record { name = name; owed = owed } ∷ []
+        → OwedSome past token id named (length prefix + 1) new_outputs new
+    some_more outputs new_outputs name owed old new so_far one is tells =
         let entry = next_of past named prefix at back found in
         let next_rank : entry.0.0 ≡ at.0 = ap (λ (e : ℕ × List ℕ). e.0) entry.2 in
         let longer : take (length prefix + 1) (named_from 0 named past.peers)

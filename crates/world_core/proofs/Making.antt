@@ -42,7 +42,7 @@ use Rattle.world_core.specs.Opening.{HasNoneHeld}
 use Rattle.world_core.specs.Sound.{IsBefore, NamesRise, names_of}
 use Rattle.world_core.specs.Stands.{IsFreshPeer, PeerStands, Stands}
 use Rattle.world_core.specs.StopDisk.{all_faults, beneath, happened, own_faults}
-use Rattle.world_core.specs.declared.fault.Fault.TheVariants.{Tape as TapeTold}
+use Rattle.world_core.specs.declared.fault.Fault.TheVariants.{Tape as FromTape}
 use Rattle.world_core.specs.declared.fault.TapesFault.{TapesFault}
 use Rattle.world_core.specs.declared.fault.TapesFault.TheVariants.{NoMemory, Tape}
 use Rattle.world_core.specs.declared.peer.Peer.{Peer}
@@ -229,7 +229,7 @@ module _ {D : Type 0} {g : Ghosts D} where
   }
   stops_for given prefix peers peer NoMemory all so_far here refused = tt
 
--- the first in order is told
+-- the first in order is reported
 pub refuses_tapes : (given ordered : List GivenPeer) (fault : TapesFault) → IsPermutation given ordered
     → NamesRise (given_names ordered) → StopsFor ordered fault → RefusesTapes given fault
 refuses_tapes given ordered (Tape name fault) permuted rises stops =
@@ -422,9 +422,9 @@ not_damaged octets (Note fault) empty is = absurd is
 
 -- none but a disk in memory refuses them
 pub make_fault : (confs : List PeerConf) (given : List GivenPeer) (name : List ℕ) (fault : TapeFault)
-    → AllZip HasNoOctets confs given → RefusesFirst given name fault → IsMakeFault (TapeTold fault)
+    → AllZip HasNoOctets confs given → RefusesFirst given name fault → IsMakeFault (FromTape fault)
 make_fault confs given name fault all is =
     let none = All-permutation HasNone given is.ordered is.permuted (all_none confs given all) in
     let empty = none_at is.ordered is.stops.rank is.stops.peer none is.stops.here in
-    inl (ap TapeTold (not_damaged (given_octets is.stops.peer) fault (ap (λ (o : List ℕ). (o, [])) empty)
+    inl (ap FromTape (not_damaged (given_octets is.stops.peer) fault (ap (λ (o : List ℕ). (o, [])) empty)
     is.stops.why))

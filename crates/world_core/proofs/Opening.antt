@@ -18,7 +18,7 @@ use Rattle.world_core.specs.Safe.{KeepsNotes}
 use Rattle.world_core.specs.Fault.{fault_of}
 use Rattle.world_core.specs.Stands.{OpenedAs, RefusedOpen}
 use Rattle.world_core.specs.declared.fault.Fault.{Fault}
-use Rattle.world_core.specs.declared.fault.Fault.TheVariants.{NoMemory as NoStepMemory, Tape as TapeTold}
+use Rattle.world_core.specs.declared.fault.Fault.TheVariants.{NoMemory as NoStepMemory, Tape as FromTape}
 use Rattle.world_core.specs.StopDisk.{all_faults, happened}
 use Rattle.world_core.specs.declared.peer.Peer.{Peer}
 use Rattle.world_core.specs.declared.peer.StoppedPeer.{StoppedPeer}
@@ -74,7 +74,7 @@ module _ {D : Type 0} {g : Ghosts D} where
 
 pub refused_why : (Risen : Type 0) (fault : TapeFault) (outputs : Fault) → outputs ≡ fault_of fault → IsOpenFault fault
     → ((segment at : ℕ) → fault ≡ Damaged segment at → ⊥) → (fault ≡ Disk → Risen)
-    → ((outputs ≡ TapeTold Disk) × Risen) ⊎ (outputs ≡ NoStepMemory)
+    → ((outputs ≡ FromTape Disk) × Risen) ⊎ (outputs ≡ NoStepMemory)
 refused_why Risen (Damaged segment at) outputs e kind undamaged cause = absurd (undamaged segment at refl)
 refused_why Risen Disk outputs e kind undamaged cause = inl (e, cause refl)
 refused_why Risen Broken outputs e kind undamaged cause = absurd kind

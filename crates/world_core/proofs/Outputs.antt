@@ -37,7 +37,7 @@ first_of_lines octets line behind begins = ap (λ l. lines_in l) begins.0 ∙ be
 pub no_line : (octets : List ℕ) → IsUnended octets → lines_in octets ≡ []
 no_line octets each = none [] octets each
 
--- one line more is told, the first of those that are left
+-- one line more is reported, the first of those that are left
 pub tells_line : (id : ℕ) (outputs new : List Output) (one : Output) (rest line behind : List ℕ) → new ≡ outputs
     ++ one ∷ []
     → said_of one ≡ SentLine id (without_cr line) → BeginsWithLine rest line behind
@@ -56,9 +56,9 @@ position_within p xs n is =
     let at = some_end (nat_lt (position_or_len p xs) (length xs)) (position_or_len p xs) n is in
     omega (arith, ltb-true _ _ at.0, at.1)
 
--- ---- what is told
+-- ---- what is reported
 
--- what is told in two parts
+-- what is reported in two parts
 pub tells_both : (was mid outputs : List Output) (one other : List Said) → Tells was one mid → Tells mid other outputs
     → Tells was (one ++ other) outputs
 tells_both was mid outputs one other first second =

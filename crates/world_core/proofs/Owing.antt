@@ -240,7 +240,7 @@ module _ {D : Type 0} {g : Ghosts D} where
       over =
       record {
         refused = (
-          λ works. above_mark (λ b. let told_so = tape_broken past.tape (tape_of old.station) stands.tape b in cc),
+          λ works. above_mark (λ b. let said_so = tape_broken past.tape (tape_of old.station) stands.tape b in cc),
           subst (λ (state : State). RefusesOwe past.tape (Owe (own state) token id) outputs) stands.tape.stands.ledger
               (unowed past.tape old.station (Owe (own (ledger_of (tape_of old.station))) token id) stands.tape fault
               outputs

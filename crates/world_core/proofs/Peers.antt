@@ -50,7 +50,7 @@ module _ {D : Type 0} {g : Ghosts D} where
   pub tape_broken : (past : TapePast) (tape : Tape D g) → TapeStands past tape → IsBroken tape → past.broken ≡ true
   tape_broken past tape stands broken = sym stands.broken ∙ broken
 
-  -- ---- what a flush of a tape that works is told by
+  -- ---- what a flush of a tape that works is reported by
 
   module _ (lies : LiesLeft g) (past : TapePast) (tape : Tape D g) (stands : TapeStands past tape)
       (works : IsBroken tape → ⊥) where
@@ -215,8 +215,8 @@ module _ {D : Type 0} {g : Ghosts D} where
                 (same (λ never. let clash : TapeFull ≡ Disk = sym long ∙ refused_once never in cc));
           }
           | inr disk ↦
-              let told_so : TapeRefused fault ≡ TapeRefused Disk = ap TapeRefused disk in
-              let done = broke_as lies P past old.tape new.tape stands moments works (breaks told_so) (cause told_so)
+              let said_so : TapeRefused fault ≡ TapeRefused Disk = ap TapeRefused disk in
+              let done = broke_as lies P past old.tape new.tape stands moments works (breaks said_so) (cause said_so)
               is in
               record {
                 later = _;

@@ -23,7 +23,7 @@ use Rattle.world_core.specs.declared.output.Output.{Output}
 use Rattle.world_core.specs.declared.output.Output.TheVariants.{Bad as OutputBad, Owed as OutputOwed}
 use Rattle.world_core.proofs.Sound.{sound_last}
 
--- the fault that was told is one that the line has
+-- the fault that was reported is one that the line has
 pub reads_bad : (text : List ℕ) (fault : LineFault) → {T : Type 0}
     → (IsErrOf {T = T} (Err fault) TooLong ↔ HasFault text TooLong)
     → (IsErrOf {T = T} (Err fault) NoToken ↔ HasFault text NoToken)

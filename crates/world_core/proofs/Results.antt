@@ -24,7 +24,7 @@ module _ {T E : Type 0} where
   if_err_map (Ok v) P Q is give = tt
   if_err_map (Err e) P Q is give = give e is
 
--- a refusal that is told by one error, at a call that answered an error, and at one that answered none
+-- a refusal that is reported by one error, at a call that answered an error, and at one that answered none
 pub at_err : {T E : Type 0} {x e : E} {Q : Type 0} → ◌≡◌ {A = Result T E} (Err x) (Err e) ↔ Q → (x ≡ e) ↔ Q
 at_err outputs = ((λ same. outputs.0 (ap Err same)), λ q. let is = outputs.1 q in cc)
 

@@ -132,15 +132,15 @@ module _ {D : Type 0} {g : Ghosts D} where
               read_not outputs Is_last
               (lives_by lies past old.tape stands works, (greatest.0 (ap TapeRefused last)).1)
               (same (λ never. let clash : GenerationFull ≡ Disk = sym last ∙ refused_once never in cc))
-              (λ read. (as_told last, read))
+              (λ read. (as_said last, read))
           | inr (inl long) ↦
               let at_last = full.0 (ap TapeRefused long) in
               read_not outputs Is_long (is_long lies past old.tape stands works at_last.1 at_last.2)
               (same (λ never. let clash : TapeFull ≡ Disk = sym long ∙ refused_once never in cc))
-              (λ read. (as_told long, read))
+              (λ read. (as_said long, read))
           | inr (inr disk) ↦
-              let told_so : TapeRefused fault ≡ TapeRefused Disk = ap TapeRefused disk in
-              let done = broke_as lies P past old.tape new.tape stands moments works (breaks told_so) (cause told_so)
+              let said_so : TapeRefused fault ≡ TapeRefused Disk = ap TapeRefused disk in
+              let done = broke_as lies P past old.tape new.tape stands moments works (breaks said_so) (cause said_so)
               is in
               let greater : generation_of old.tape ≢ 2 ^ 64 - 1 = λ at_last.
               let clash : Disk ≡ GenerationFull = sym disk ∙ refused_once (greatest.1 (works, at_last)) in cc in
@@ -149,7 +149,7 @@ module _ {D : Type 0} {g : Ghosts D} where
               sym disk ∙ refused_once (full.1 (works, greater, long)) in cc) in
               record {
                 later = _;
-                refused = (generation_of old.tape, Fits, fits, inr (as_told disk, done.0));
+                refused = (generation_of old.tape, Fits, fits, inr (as_said disk, done.0));
                 stands = done.1;
               }
         ]
@@ -157,8 +157,8 @@ module _ {D : Type 0} {g : Ghosts D} where
         refused_once : {one other : TapeFault} → TapeRefused one ≡ TapeRefused other → one ≡ other
         refused_once same = cc
 
-        as_told : {other : TapeFault} → fault ≡ other → outputs ≡ fault_of_station (TapeRefused other)
-        as_told same = e ∙ ap (λ f. fault_of_station (TapeRefused f)) same
+        as_said : {other : TapeFault} → fault ≡ other → outputs ≡ fault_of_station (TapeRefused other)
+        as_said same = e ∙ ap (λ f. fault_of_station (TapeRefused f)) same
     unrotated_as NoMemory outputs e broken greatest full kind same breaks cause =
         let works : IsBroken old.tape → ⊥ = λ b. let never : NoMemory ≡ Broken = broken.1 b in cc in
         let greater : generation_of old.tape ≢ 2 ^ 64 - 1 = λ at_last.

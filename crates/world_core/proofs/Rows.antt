@@ -24,7 +24,7 @@ use Rattle.world_core.specs.Events.{parted, seen}
 use Rattle.world_core.specs.Halts.{AtRest, ByChoice, armed_with, halted, left, restart_events}
 use Rattle.world_core.specs.Imports.{Good, count_new, import_events}
 use Rattle.world_core.specs.Laws.{IsAcknowledgedLine}
-use Rattle.world_core.specs.LineLaws.{MadeDebt, OwesOrEnded, new_to, read_by, told_new}
+use Rattle.world_core.specs.LineLaws.{MadeDebt, OwesOrEnded, new_to, read_by, reported_new}
 use Rattle.world_core.specs.Moments.{IsUnderWay, MayMake, StaysPrefix}
 use Rattle.world_core.specs.Safe.{IsSafe}
 use Rattle.world_core.specs.Tapes.{noted_at}
@@ -158,12 +158,13 @@ module _ (conf : PeerConf) where
   again_stands : standing again ≡ (1, (1 ∷ [], 1)) ∷ (1, (1 ∷ [], 1)) ∷ []
   again_stands = refl
 
-  -- so says the law of lines that are read again: whom the line is new to, at whom that is told, what it makes of all
+  -- so says the law of lines that are read again: whom the line is new to, at whom that is reported, what it makes of
+  -- all
   again_new : new_to 1 named half.peers ≡ codes "q" ∷ []
   again_new = refl
 
-  again_told : told_new (owed_there 1 named half.peers) ≡ codes "q" ∷ []
-  again_told = refl
+  again_reported : reported_new (owed_there 1 named half.peers) ≡ codes "q" ∷ []
+  again_reported = refl
 
   again_read : read_by 1 (codes "a/1") (codes "<x@y>") named half ≡ lined (codes "a/1") (codes "<x@y>") named half
   again_read = refl

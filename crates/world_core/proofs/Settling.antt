@@ -40,7 +40,7 @@ use Rattle.world_core.proofs.Holding.{moved_other, next_gone, numbers_gone, numb
 use Rattle.world_core.proofs.Owing.{no_room_here, noted_tape, room_here, same_peer}
 use Rattle.world_core.proofs.Peers.{tape_broken, tape_works}
 
--- ---- what is told
+-- ---- what is reported
 
 pub tells_push : (was mid outputs : List Output) (more : Output) → mid ≡ was → outputs ≡ mid ++ more ∷ []
     → Tells was (said_of more ∷ []) outputs
@@ -129,18 +129,18 @@ module _ {D : Type 0} {g : Ghosts D} where
 
   pub settled_one : (id now : ℕ) (conn : ConnPast) (past : PeerPast) (before after : Connection) (old new : Peer D g)
       (was mid outputs : List Output)
-      (outcome : Outcome) (cxn number : ℕ) (told_so : Settled) → PairStands id conn past before old
+      (outcome : Outcome) (cxn number : ℕ) (said_so : Settled) → PairStands id conn past before old
       → TakesNext (options_of past.conf) conn (Some outcome) after
       → after.waiting ≡ None → after.rank ≡ before.rank → after.conn.id ≡ before.conn.id → cxn ≡ id
       → number ≡ key_in outcome
-      → told_so ≡ settled_by (station_limits old.station) now outcome → Finishes cxn now outcome old.station new.station
+      → said_so ≡ settled_by (station_limits old.station) now outcome → Finishes cxn now outcome old.station new.station
       → (IsBroken (tape_of old.station) → ⊥)
       → (IsEnded (settled_by (station_limits old.station) now outcome)
       → IsHeldBy (places_of old.station) cxn (key_in outcome)
       → pending_of (tape_of old.station) ≢ most_pending) → new.conf ≡ old.conf → new.parted ≡ old.parted → mid ≡ was
-      → outputs ≡ mid ++ OutputSettled cxn number told_so ∷ []
+      → outputs ≡ mid ++ OutputSettled cxn number said_so ∷ []
       → SettledOne id now conn past was after new outputs
-  settled_one id now conn past before after old new was mid outputs outcome cxn number told_so pair takes waits rank
+  settled_one id now conn past before after old new was mid outputs outcome cxn number said_so pair takes waits rank
       same_id own n_is so finishes works room conf parts
       same is =
       let options = options_of past.conf in
@@ -171,7 +171,7 @@ module _ {D : Type 0} {g : Ghosts D} where
               (was_held (settled_by (station_limits old.station) now outcome) cxn n old.station new.station finishes));
           changed = refl;
         };
-        outputs_are = tells_push was mid outputs (OutputSettled cxn number told_so) same is
+        outputs_are = tells_push was mid outputs (OutputSettled cxn number said_so) same is
             ∙ ap (λ said. map said_of was ++ said ∷ []) (rw (own, n_is, so, by) refl);
         stand = record {
           id_is = ap (λ i. i.0) same_id ∙ pair.id_is;

@@ -38,7 +38,7 @@ use Rattle.world_core.proofs.Zips.{zip_length}
 pub pushed : {A : Type 0} (old new : List A) (x : A) → new ≡ old ++ x ∷ [] → old ≡ [] → new ≡ x ∷ []
 pushed old new x more none = more ∙ ap (λ l. l ++ x ∷ []) none
 
--- what is told of a shedding, and of a rotation
+-- what is reported of a shedding, and of a rotation
 pub shed_said : (name own : List ℕ) (numbers : Vec ℕ) (outputs : List Output) → own ≡ name → outputs
     ≡ OutputShed own numbers ∷ []
     → map said_of outputs ≡ SaidShed name numbers.items ∷ []
@@ -169,7 +169,7 @@ module _ {D : Type 0} {g : Ghosts D} where
   unready past stations fault outputs none stands =
       record { later = past; refuses = inl (outputs, none, refl); stands = stands }
 
-  -- the mark that is told is that of the intake's tape
+  -- the mark that is reported is that of the intake's tape
   marked : (past : Past) (stations : Stations D g) (mark : ℕ) (outputs : List Output) → Stands stations past
       → mark ≡ (ledger_of stations.intake).mark
       → outputs ≡ OutputTaken mark ∷ [] → map said_of outputs ≡ SaidTaken (mark_at past.intake) ∷ []

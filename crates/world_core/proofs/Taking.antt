@@ -23,7 +23,7 @@ use Rattle.world_core.specs.Stands.{armed_as}
 use Rattle.world_core.specs.Stepped.{HaltedAs, Took as TookTapes, TookNot}
 use Rattle.world_core.specs.Output.{Said, said_of}
 use Rattle.world_core.specs.Turn.{DiskFails, GoesOn, Made, Refused, Took, WasHalted, WasNotTaken, WasStruck}
-use Rattle.world_core.specs.Turn.{WasStruckUntold}
+use Rattle.world_core.specs.Turn.{WasStruckUnreported}
 use Rattle.world_core.specs.declared.connection.Connection.{Connection}
 use Rattle.world_core.specs.declared.fault.Fault.{Fault}
 use Rattle.world_core.specs.declared.fault.Fault.TheVariants.{Tape}
@@ -222,14 +222,14 @@ module _ (step : Step) (life : Life) (halt : Halt) (old : World) (was : WasHalte
     stands = strikes.stands;
   }
 
-  pub struck_untold : (fault : Fault) (new : World) → WasStruckUntold life was.under_way was.now halt.fault fault new
+  pub struck_unreported : (fault : Fault) (new : World) → WasStruckUnreported life was.under_way was.now halt.fault fault new
       → WasNotTaken step life fault new
-  struck_untold fault new (inl refused) = record {
+  struck_unreported fault new (inl refused) = record {
     later = was.now;
     refuses = inl (subst (λ (f : Fault). Refuses step life f was.now) (sym refused.0) was.refuses);
     stands = refused.1;
   }
-  struck_untold fault new (inr memory) = record {
+  struck_unreported fault new (inr memory) = record {
     later = halted AtRest was.under_way life;
     refuses = inr (record {
       stop = armed_as arming;

@@ -1,4 +1,4 @@
--- What is told behind the outcomes of a step on a connection, and its output counts as sent.
+-- What is reported behind the outcomes of a step on a connection, and its output counts as sent.
 use Rattle.std.proofs.Common.{◌≡◌, ℕ, Bool, true, false, Option, List, [], ◌++◌, length, map, refl, sym, ap, ◌∙◌}
 use Rattle.std.proofs.Common.{subst, inl, append-nil}
 use Rattle.std.specs.Prelude.{if◌then◌else◌, is_none, is_some}
@@ -10,7 +10,7 @@ use Rattle.conn_core.specs.State.{Holding}
 use Rattle.conn_core.specs.declared.options.Options.{Options}
 use Rattle.conn_core.specs.declared.reason.Reason.{Reason}
 use Rattle.world_core.specs.Past.{ConnPast, PeerPast, options_of}
-use Rattle.world_core.specs.Exchange.{followed_up, told_out, unsettled}
+use Rattle.world_core.specs.Exchange.{followed_up, settled_out, unsettled}
 use Rattle.world_core.specs.Pairs.{Followed, FollowedNot, SettledAll, Tells, settled_said}
 use Rattle.world_core.specs.Stands.{HoldsTranscript}
 use Rattle.world_core.specs.Output.{SentLine, closed_said, lines_in, need_said}
@@ -42,15 +42,15 @@ module _ {D : Type 0} {g : Ghosts D} where
       (peer : Peer D g) (one : List Output)
       (all : SettledAll id now conn past before mid_c peer one) where
     abbrev out : ConnPast
-    out = told_out (options_of past.conf) conn
+    out = settled_out (options_of past.conf) conn
 
     -- the connection behind its outcomes
     stands_out : ConnStands (options_of past.conf) mid_c.conn out.unread out.transcript
     stands_out = subst (λ (c : PeerConf). HoldsTranscript c out mid_c) all.some.same_conf all.some.stand.holds
 
     -- memory is refused behind them
-    pub told_not : (fault : Fault) → fault ≡ NoMemory → FollowedNot id now conn past fault mid_c peer
-    told_not fault is = record {
+    pub tell_refused : (fault : Fault) → fault ≡ NoMemory → FollowedNot id now conn past fault mid_c peer
+    tell_refused fault is = record {
       later_conn = out;
       later = all.later;
       follows = record {

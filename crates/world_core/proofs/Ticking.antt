@@ -33,18 +33,18 @@ module _ {D : Type 0} {g : Ghosts D} where
     now = refl;
   }
 
-  module _ (life : Life) (before mid_told : List Output) (mid : Stations D g) (mid_cs : List Connection) (count : ℕ)
-      (prefix : MadeOn (TicksSome count) life.connected life before mid_told mid mid_cs) where
+  module _ (life : Life) (before mid_outputs : List Output) (mid : Stations D g) (mid_cs : List Connection) (count : ℕ)
+      (prefix : MadeOn (TicksSome count) life.connected life before mid_outputs mid mid_cs) where
     -- one more was
     pub ticks_more : (outputs : List Output) (new : Stations D g) (new_cs : List Connection)
-        → MadeOn (TicksOne count) prefix.later.connected prefix.later mid_told outputs new new_cs
+        → MadeOn (TicksOne count) prefix.later.connected prefix.later mid_outputs outputs new new_cs
         → MadeOn (TicksSome (count + 1)) life.connected life before outputs new new_cs
     ticks_more outputs new new_cs one = record {
       later = one.later;
       said = prefix.said ++ one.said;
       makes = Next count prefix.said one.said prefix.later one.later one.makes.id one.makes.conn one.makes.peer
           prefix.makes one.makes.next one.makes.here one.makes.follows;
-      outputs_are = tells_both before mid_told outputs prefix.said one.said prefix.outputs_are one.outputs_are;
+      outputs_are = tells_both before mid_outputs outputs prefix.said one.said prefix.outputs_are one.outputs_are;
       stand = one.stand;
       armed = one.armed ∙ prefix.armed;
       connected_is = one.connected_is ∙ prefix.connected_is;

@@ -36,7 +36,7 @@ use Rattle.world_core.proofs.Holding.{out_rank}
 use Rattle.world_core.proofs.Walking.{Keeper, events_keep, fails_keep, flush_keeps, flush_refused, import_keeps}
 use Rattle.world_core.proofs.Walking.{import_refused, line_keeps, line_refused, opens_keep, part_keeps, part_refused}
 use Rattle.world_core.proofs.Walking.{restart_keeps, rotate_keeps, rotate_refused, seal_keeps, seal_refused, shed_keeps}
-use Rattle.world_core.proofs.Walking.{shed_refused, strikes_keep, untold_keeps}
+use Rattle.world_core.proofs.Walking.{shed_refused, strikes_keep, unreported_keeps}
 
 -- ---- what follows a step on a connection
 
@@ -375,7 +375,7 @@ module _ (passage : Passage) where
       → MAKES step life later
   refuses_make step life fault later (inl refuses) = step_refused step life fault later refuses
   refuses_make step life fault later (inr strikes) =
-      halts step life later (untold_keeps tapes on_opens on_intake keeps_left step life fault later strikes)
+      halts step life later (unreported_keeps tapes on_opens on_intake keeps_left step life fault later strikes)
       (ap (λ (l : Life). l.conns) strikes.changed)
 
 -- ---- any steps keep of all tapes what any event does

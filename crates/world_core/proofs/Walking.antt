@@ -10,7 +10,7 @@ use Rattle.world_core.specs.Events.{Acknowledges, AllDo, Claims, Closes, Does, E
 use Rattle.world_core.specs.Events.{OpensIntake, Owes, Parts, Refuses, Returns, Rotates, Sees, Settles, Sheds, Spills}
 use Rattle.world_core.specs.Events.{each_rank}
 use Rattle.world_core.specs.Events.AllDo.{Start, Next}
-use Rattle.world_core.specs.Halts.{AtRest, ByChoice, CallsDisks, FailsToOpen, Manner, Meets, Strikes, StrikesUntold}
+use Rattle.world_core.specs.Halts.{AtRest, ByChoice, CallsDisks, FailsToOpen, Manner, Meets, Strikes, StrikesUnreported}
 use Rattle.world_core.specs.Halts.{halted, left, restart_events}
 use Rattle.world_core.specs.Imports.{IsImport}
 use Rattle.world_core.specs.Steps.{Good, NotGood, Reading, RefusesFlushing, RefusesImport, RefusesLine, RefusesPart}
@@ -318,8 +318,8 @@ module _ (keeper : Keeper) where
         halted_keeps (ByChoice strikes.stop.choice) strikes.under_way life later
         (meets_keeps step life strikes.stop strikes.under_way strikes.meets) strikes.changed
 
-    pub untold_keeps : (step : Step) (life : Life) (fault : Fault) (later : Life)
-        → StrikesUntold step life fault later → KEEPS life.past later.past
-    untold_keeps step life fault later strikes =
+    pub unreported_keeps : (step : Step) (life : Life) (fault : Fault) (later : Life)
+        → StrikesUnreported step life fault later → KEEPS life.past later.past
+    unreported_keeps step life fault later strikes =
         halted_keeps AtRest strikes.under_way life later
         (meets_keeps step life strikes.stop strikes.under_way strikes.meets) strikes.changed

@@ -113,7 +113,7 @@ settled_as (Dropped cause) number peer =
 settled_as (Later moment) number peer = with_places peer (moved peer.places number (LaterPlace moment))
 settled_as Back number peer = with_places peer (moved peer.places number Ready)
 
--- what becomes of the debt of an outcome that is told to its peer at this moment
+-- what becomes of the debt of an outcome that is reported to its peer at this moment
 abbrev pub settling : PeerPast → ℕ → Outcome → Settled
 settling peer now outcome = settled_by (limits_of peer.conf) now outcome
 

@@ -51,8 +51,8 @@ abbrev pub waiting : ConnPast → ConnPast
 waiting conn = record conn { transcript = out_to (conn.settled + 1) conn.transcript }
 
 -- the connection once all have gone to the peer
-abbrev pub told_out : Options → ConnPast → ConnPast
-told_out options conn = all_out (unsettled options conn) conn
+abbrev pub settled_out : Options → ConnPast → ConnPast
+settled_out options conn = all_out (unsettled options conn) conn
 
 -- a connection with this transcript
 abbrev pub with_transcript : ConnPast → List Happening → ConnPast
@@ -67,21 +67,21 @@ sent_all options conn = record conn {
 
 -- what the step leaves of it then
 abbrev pub followed_up : Options → ConnPast → ConnPast
-followed_up options conn = sent_all options (told_out options conn)
+followed_up options conn = sent_all options (settled_out options conn)
 
 -- each outcome goes to the peer at this rank
 abbrev pub settle_events : (rank id now : ℕ) → List Outcome → List Event
 settle_events rank id now outcomes = map (λ (outcome : Outcome). Settles rank id now outcome) outcomes
 
--- what is told then, of a connection whose transcript was this before the step
+-- what is reported then, of a connection whose transcript was this before the step
 abbrev pub exchange_said : Limits → Options → (id now : ℕ) → (was : List Happening) → ConnPast → List Said
 exchange_said limits options id now was conn =
     map (λ (outcome : Outcome). Settled id (key_in outcome) (settled_by limits now outcome)) (unsettled options conn)
-    ++ (map (SentLine id) (lines_in (output options (told_out options conn).transcript))
-    ++ (need_said id (need options (told_out options conn).transcript)
-    ++ closed_said id (reason options was) (reason options (told_out options conn).transcript)))
+    ++ (map (SentLine id) (lines_in (output options (settled_out options conn).transcript))
+    ++ (need_said id (need options (settled_out options conn).transcript)
+    ++ closed_said id (reason options was) (reason options (settled_out options conn).transcript)))
 
--- The connection is this now, and had that transcript before the step: what follows has come about, and is told.
+-- The connection is this now, and had that transcript before the step: what follows has come about, and is reported.
 pub record Follows (id : ℕ) (was : List Happening) (conn : ConnPast) (life : Life) (outputs : List Said) (later : Life) :
     Type 0 where
   pub peer : PeerPast
@@ -92,7 +92,7 @@ pub record Follows (id : ℕ) (was : List Happening) (conn : ConnPast) (life : L
   pub changed : later ≡ with_conn (with_past life past) id (followed_up (options_of peer.conf) conn)
 
 -- Why no outcome of these goes to the peer at this rank any more, and what this makes of the connection: memory is
--- refused, with which they are told; or the first of them is, and waits.
+-- refused, with which they are reported; or the first of them is, and waits.
 abbrev pub StopsAt : (rank id now : ℕ) → List Outcome → Past → Fault → (conn later : ConnPast) → Type 0
 StopsAt rank id now outcomes past fault conn later =
     ((fault ≡ NoMemory) × (later ≡ conn))

@@ -1,4 +1,4 @@
--- How the fault of a tape or a station is told as a step's, and the words for it (docs/FORMATS.md).
+-- How the fault of a tape or a station is reported as a step's, and the words for it (docs/FORMATS.md).
 use Rattle.std.specs.Prelude.{ℕ, List, ◌++◌, codes}
 use Rattle.recovery.specs.Faults.{tape_fault_name}
 use Rattle.recovery.specs.declared.fault.TapeFault.{TapeFault}
@@ -22,7 +22,8 @@ fault_of PendingFull = Tape PendingFull
 fault_of NoMemory = NoStepMemory
 fault_of (Note fault) = Tape (Note fault)
 
--- A broken station is told as its tape. No step has a station settle what is not held, so that its name is free here.
+-- A broken station is reported as its tape. No step has a station settle what is not held, so that its name is free
+-- here.
 abbrev pub fault_of_station : StationFault → Fault
 fault_of_station NotHeld = NoConnection
 fault_of_station BrokenStation = Tape Broken

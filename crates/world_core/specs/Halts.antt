@@ -169,7 +169,7 @@ pub record Strikes (step : Step) (life : Life) (outputs : List Said) (later : Li
   pub changed : later ≡ halted (ByChoice stop.choice) under_way life
 
 -- or, where there is no memory for what the choice leaves, all has stopped as at rest
-pub record StrikesUntold (step : Step) (life : Life) (fault : Fault) (later : Life) : Type 0 where
+pub record StrikesUnreported (step : Step) (life : Life) (fault : Fault) (later : Life) : Type 0 where
   pub stop : Armed
   pub under_way : Past
   pub meets : Meets step life stop under_way

@@ -59,11 +59,11 @@ new_to number named [] = []
 new_to number named (peer ∷ peers) =
     if is_new_to number named peer then peer.conf.name ∷ new_to number named peers else new_to number named peers
 
--- the names at which `new` is told
-abbrev pub told_new : List (List ℕ × Answer) → List (List ℕ)
-told_new [] = []
-told_new ((name, New) ∷ outputs) = name ∷ told_new outputs
-told_new ((name, Already) ∷ outputs) = told_new outputs
+-- the names at which `new` is reported
+abbrev pub reported_new : List (List ℕ × Answer) → List (List ℕ)
+reported_new [] = []
+reported_new ((name, New) ∷ outputs) = name ∷ reported_new outputs
+reported_new ((name, Already) ∷ outputs) = reported_new outputs
 
 -- what it makes of a peer: a note more and a debt that is ready, or nothing
 abbrev pub read_at : ℕ → List ℕ → List ℕ → List (List ℕ) → PeerPast → PeerPast
@@ -77,8 +77,8 @@ read_by number token id named past = record past {
   last = number;
 }
 
--- A good line was read under this number: `new` is told of exactly those peers that it names whose mark is below the
--- number, each of which owes it now, and nothing changes at the others.
+-- A good line was read under this number: `new` is reported of exactly those peers that it names whose mark is below
+-- the number, each of which owes it now, and nothing changes at the others.
 pub record WasRead (number : ℕ) (text : List ℕ) (life : Life) (outputs : List Said) (later : Life) : Type 0 where
   pub token : List ℕ
   pub id : List ℕ
@@ -86,7 +86,7 @@ pub record WasRead (number : ℕ) (text : List ℕ) (life : Life) (outputs : Lis
   pub reads : IsFunnelLine text token id named
   pub answers : List (List ℕ × Answer)
   pub tells : outputs ≡ Owed number answers ∷ []
-  pub new : told_new answers ≡ new_to number named life.past.peers
+  pub new : reported_new answers ≡ new_to number named life.past.peers
   pub changed : later ≡ with_past life (read_by number token id named life.past)
 
 -- A line that is not good changes nothing at any peer.

@@ -50,7 +50,7 @@ abbrev pub keys_text : List ℕ → List ℕ
 keys_text [] = codes " -"
 keys_text (key ∷ rest) = flat_map (λ (k : ℕ). 32 ∷ key_text k) (key ∷ rest)
 
--- what is told, without its LF; a connection is told as c and its number
+-- what is reported, without its LF; a connection is reported as c and its number
 abbrev pub output_text : Said → List ℕ
 output_text (Owed number peers) = decimal number ++ flat_map owed_text peers
 output_text (Bad number fault) = decimal number ++ codes " bad " ++ line_fault_name fault
@@ -67,6 +67,6 @@ output_text (Imported name source new) = name ++ codes " imported " ++ decimal s
 output_text Stopped = codes "stopped"
 output_text (Mark name mark owes) = name ++ codes " mark " ++ decimal mark ++ codes " owes" ++ keys_text owes
 
--- the line of what is told
+-- the line of what is reported
 abbrev pub line_text : Said → List ℕ
 line_text said = output_text said ++ 10 ∷ []

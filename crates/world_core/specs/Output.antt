@@ -39,7 +39,7 @@ pub data Said : Type 0 where
   Stopped : Said  -- all has stopped
   Mark : (name : List ℕ) (mark : ℕ) (owes : List ℕ) → Said  -- a peer's tape was opened
 
--- the value that is told
+-- the value that is reported
 abbrev pub said_of : Output → Said
 said_of (OutputOwed number peers) = Owed number (map (λ (at : OwedAt). (at.name, at.owed)) peers.items)
 said_of (OutputBad number fault) = Bad number fault
@@ -60,7 +60,7 @@ said_of (OutputMark name mark owes) = Mark name mark owes.items
 abbrev pub said_by : List (Vec Output) → List (List Said)
 said_by lines = map (λ (outputs : Vec Output). map said_of outputs.items) lines
 
--- ---- what is told of output, of a peer
+-- ---- what is reported of output, of a peer
 
 -- Each line up to an LF, without the one CR before it. What stands behind the last LF is no line.
 abbrev pub lines_from : List ℕ → List ℕ → List (List ℕ)

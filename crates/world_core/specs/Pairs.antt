@@ -47,7 +47,7 @@ pub data AllSettleAt (id now : ℕ) (begun : PeerPast) : List Outcome → PeerPa
   Next : (outcomes : List Outcome) (outcome : Outcome) (peer later : PeerPast) → AllSettleAt id now begun outcomes peer
       → SettlesAt id now outcome peer later → AllSettleAt id now begun (outcomes ++ outcome ∷ []) later
 
--- what is told of an outcome
+-- what is reported of an outcome
 abbrev pub settled_said : ℕ → ℕ → PeerPast → Outcome → Said
 settled_said id now peer outcome = Settled id (key_in outcome) (settling peer now outcome)
 
@@ -105,7 +105,7 @@ FailsToOfferAt id now conn peer fault later =
 
 -- ---- a connection and its peer
 
--- what follows a step on the connection, whose transcript was this before it, is this, and is told
+-- what follows a step on the connection, whose transcript was this before it, is this, and is reported
 pub record FollowsAt (id now : ℕ) (was : List Happening) (conn : ConnPast) (past : PeerPast) (said : List Said)
     (later_conn : ConnPast) (later : PeerPast) : Type 0 where
   pub settles : AllSettleAt id now past (unsettled (options_of past.conf) conn) later
@@ -152,7 +152,7 @@ TakesNext options past (Some outcome) connection =
     × (past.settled + 1 ≡ taken (out_to (past.settled + 1) past.transcript))
     × ConnStands options connection.conn past.unread (out_to (past.settled + 1) past.transcript)
 
--- more is told
+-- more is reported
 abbrev pub Tells : List Output → List Said → List Output → Type 0
 Tells was said outputs = map said_of outputs ≡ map said_of was ++ said
 
@@ -167,7 +167,7 @@ module _ {D : Type 0} {g : Ghosts D} where
     pub stands : PeerStands past peer
     pub tied : IsTied id conn past
 
-  -- the next outcome went to the peer, and was told
+  -- the next outcome went to the peer, and was reported
   pub record SettledOne (id now : ℕ) (conn : ConnPast) (past : PeerPast) (was : List Output) (connection : Connection)
       (peer : Peer D g) (outputs : List Output) : Type 0 where
     pub outcome : Outcome
@@ -198,7 +198,7 @@ module _ {D : Type 0} {g : Ghosts D} where
     pub why : StopsHere now (unsettled (options_of past.conf) conn) past fault conn later_conn
     pub stand : PairStands id later_conn past connection peer
 
-  -- so many outcomes, from the first on, went to the peer and were told
+  -- so many outcomes, from the first on, went to the peer and were reported
   pub record SettledSome (id now : ℕ) (conn : ConnPast) (past : PeerPast) (was : List Output) (done : List Outcome)
       (later : PeerPast)
       (connection : Connection) (peer : Peer D g) (outputs : List Output) : Type 0 where
@@ -214,7 +214,7 @@ module _ {D : Type 0} {g : Ghosts D} where
     pub later : PeerPast
     pub some : SettledSome id now conn past was (unsettled (options_of past.conf) conn) later connection peer outputs
 
-  -- what follows has come about, and was told
+  -- what follows has come about, and was reported
   pub record Followed (id now : ℕ) (was : List Happening) (conn : ConnPast) (past : PeerPast) (before : List Output)
       (connection : Connection) (peer : Peer D g) (outputs : List Output) : Type 0 where
     pub said : List Said
@@ -247,7 +247,7 @@ module _ {D : Type 0} {g : Ghosts D} where
     pub why : FailsToOfferAt id now conn past fault later
     pub stand : PairStands id conn later connection peer
 
-  -- it was, and what follows has come about, and was told
+  -- it was, and what follows has come about, and was reported
   pub record HandedOn (id now : ℕ) (conn : ConnPast) (past : PeerPast) (before : List Output) (connection : Connection)
       (peer : Peer D g) (outputs : List Output) : Type 0 where
     pub handed : Handover

@@ -13,8 +13,8 @@ use Rattle.conn_core.specs.declared.options.Options.{Options}
 use Rattle.peer_queue.specs.DebtPlace.{Places}
 use Rattle.peer_queue.specs.declared.limits.Limits.{Limits}
 
--- A tape: its notes and how many are acknowledged, what has happened to its two disks, how many faults each told, and
--- whether a flush or a rotation broke it.
+-- A tape: its notes and how many are acknowledged, what has happened to its two disks, how many faults each reported,
+-- and whether a flush or a rotation broke it.
 pub record TapePast : Type 0 where
   pub history : History
   pub log : Log

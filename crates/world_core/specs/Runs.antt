@@ -9,7 +9,7 @@ use Rattle.world_core.specs.Steps.{TakesShed}
 use Rattle.world_core.specs.Exchange.{FailsToBreak, FailsToHand, FailsToRead, FailsToSupply, RefusesConnect, RefusesOn}
 use Rattle.world_core.specs.Exchange.{RefusesTick}
 use Rattle.world_core.specs.Exchange.{TakesArticle, TakesBreak, TakesBytes, TakesConnect, TakesHand, TakesTick}
-use Rattle.world_core.specs.Halts.{RefusesRestart, RefusesStop, Strikes, StrikesUntold, TakesRestart, TakesStop}
+use Rattle.world_core.specs.Halts.{RefusesRestart, RefusesStop, Strikes, StrikesUnreported, TakesRestart, TakesStop}
 use Rattle.world_core.specs.Sound.{IsSoundLife}
 use Rattle.world_core.specs.Output.{Said}
 use Rattle.world_core.specs.declared.fault.Fault.{Fault}
@@ -90,12 +90,12 @@ Refuses Restart life fault later = RefusesRestart life fault later
 
 -- a step is refused: for its own reason, or for want of memory where a stop is met in it
 abbrev pub RefusesStep : Step → Life → Fault → Life → Type 0
-RefusesStep step life fault later = Refuses step life fault later ⊎ StrikesUntold step life fault later
+RefusesStep step life fault later = Refuses step life fault later ⊎ StrikesUnreported step life fault later
 
 -- ---- runs
 
--- These steps were taken, one after another, and this is what each told. Before and after each step the world is sound,
--- and whatever a stop leaves is safe, as it is after each event in a step, and at each moment within an event.
+-- These steps were taken, one after another, and this is what each reported. Before and after each step the world is
+-- sound, and whatever a stop leaves is safe, as it is after each event in a step, and at each moment within an event.
 pub data Runs (begun : Life) : List Step → List (List Said) → Life → Type 0 where
   Start : IsSafe begun.past → IsSoundLife begun → Runs begun [] [] begun
   Next : (steps : List Step) (step : Step) (lines : List (List Said)) (outputs : List Said) (life later : Life)

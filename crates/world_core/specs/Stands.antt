@@ -280,7 +280,7 @@ pub record WasNotMade (fault : WorldFault) : Type 0 where
   pub lines : fault.lines.items ≡ []
   pub kind : (fault.kind ≡ TapeRefused Disk) ⊎ (fault.kind ≡ NoMemory)
 
--- the steps were taken, this is what each told, and the world stands for what they made
+-- the steps were taken, this is what each reported, and the world stands for what they made
 pub record Ran (steps : List Step) (life : Life) (lines : List (List Said)) (world : World) : Type 0 where
   pub later : Life
   pub runs : Runs life steps lines later

@@ -45,7 +45,7 @@ FoundAt past name None = AllByRecursion (λ (peer : PeerPast). bytes_eq name pee
 FoundAt past name (Some rank) = (peer : PeerPast) × (slice_get past.peers rank ≡ Some peer) × (peer.conf.name ≡ name)
 
 module _ {D : Type 0} {g : Ghosts D} where
-  -- what is told of a peer whose tape was opened
+  -- what is reported of a peer whose tape was opened
   abbrev pub opened_said : Peer D g → Said
   opened_said peer = Mark peer.conf.name (ledger_of peer.station).mark (keys (ledger_of peer.station))
 

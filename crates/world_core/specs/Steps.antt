@@ -115,7 +115,7 @@ TakesRotate name past outputs later =
     (rank generation : ℕ) × (rank_of past name ≡ Some rank) × AllDo past (Rotates rank generation ∷ []) later
     × (outputs ≡ Rotated name generation ∷ [])
 
--- what is told: the source under which the lines are owed, and how many of them are new
+-- what is reported: the source under which the lines are owed, and how many of them are new
 abbrev pub TakesImport : (name text : List ℕ) → Past → List Said → Past → Type 0
 TakesImport name text past outputs later =
     (events : List Event) × (is : IsImport name text past events) × AllDo past events later

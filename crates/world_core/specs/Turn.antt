@@ -97,9 +97,9 @@ pub record WasStruck (life : Life) (under_way : Past) (choice : Choice) (outputs
 
 -- Or there was no memory for what its choice leaves, and all has stopped as at rest; or none to stop, and the step is
 -- refused.
-abbrev pub WasStruckUntold : (life : Life) → (under_way : Past) → (now : Life) → (refused fault : Fault) → World
+abbrev pub WasStruckUnreported : (life : Life) → (under_way : Past) → (now : Life) → (refused fault : Fault) → World
     → Type 0
-WasStruckUntold life under_way now refused fault world =
+WasStruckUnreported life under_way now refused fault world =
     ((fault ≡ refused) × WorldStands world now)
     ⊎ ((fault ≡ NoMemory) × WorldStands world (halted AtRest under_way life))
 

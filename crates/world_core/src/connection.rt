@@ -1,4 +1,4 @@
-// The connections of a world: what comes of each step on one, at its peer's station and in what is told.
+// The connections of a world: what comes of each step on one, at its peer's station and in what is reported.
 ghost use Rattle.std.specs.Prelude.{◌≡◌, ◌<◌, ◌++◌, ◌∷◌, [], ℕ, List, None, Option, true};
 ghost use Rattle.std.specs.Prelude.{is_none, length, map, option_to_list, IfErr, IfOk, IfSome, MatchOption};
 ghost use Rattle.std.specs.Prelude.{OnOk};
@@ -268,8 +268,8 @@ impl Connection {
         self.tell(peer, was_open, now, outputs)
     }
 
-    // What follows each step: the outcomes go to the station, the output is told and counts as sent, and what is wanted
-    // is told, and why the step closed it, where it was open before.
+    // What follows each step: the outcomes go to the station, the output is reported and counts as sent, and what is
+    // wanted is reported, and why the step closed it, where it was open before.
     fn tell<D: Disk>(
         &mut self,
         peer: &mut Peer<D>,

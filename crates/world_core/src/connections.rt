@@ -142,7 +142,7 @@ impl<D: Disk> Stations<D> {
     ghost use Rattle.world_core.specs.Joined.{AreRunning, FoundConn, MadeOn, RefusedOn, RefusesAct};
     ghost use Rattle.world_core.specs.Joined.{TicksNot, TicksOne, TicksOneNot, TicksSome};
 
-    // A connection to the peer of this name is made, with the number behind the last, which is told.
+    // A connection to the peer of this name is made, with the number behind the last, which is reported.
     fn connect(
         &mut self,
         connections: &mut Vec<Connection>,

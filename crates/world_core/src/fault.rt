@@ -111,7 +111,7 @@ pub struct WorldFault {
     pub step: usize,
     /// Why it was refused.
     pub kind: Fault,
-    /// What each step before it told.
+    /// What each step before it reported.
     pub lines: Vec<Vec<Output>>,
 }
 

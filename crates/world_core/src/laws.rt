@@ -91,7 +91,7 @@ pub fn acknowledged_lines_are_kept()
     ensures within { LinesAreKeptWithin }
 {}
 
-/// A line that is read is told as `new` at exactly those peers that it names whose mark is below its number, and it
+/// A line that is read is reported as `new` at exactly those peers that it names whose mark is below its number, and it
 /// changes nothing at any other. So is a line that is read again after a stop, under the number that it had.
 pub fn line_read_again()
     ensures { LinesAreReadAgain }

@@ -28,7 +28,7 @@ impl Output {
     }
 }
 
-// What is told, without its LF.
+// What is reported, without its LF.
 fn add_output(out: &mut Vec<u8>, outputs: &Output) -> Result<(), AllocError>
     ensures { OnOk result (out.new.items ≡ out.old.items ++ output_text (said_of outputs.now)) }
 {

@@ -69,8 +69,9 @@ impl World {
     /// line whose number a peer's tape has noted is not owed to that peer again.
     ///
     /// # Errors
-    /// The tapes are opened in byte order of the peers' names, and the first that is refused is told: `Damaged` where
-    /// the octets are no tape, `Disk` where a disk in memory was refused memory. `NoMemory` where else it was refused.
+    /// The tapes are opened in byte order of the peers' names, and the first that is refused is reported: `Damaged`
+    /// where the octets are no tape, `Disk` where a disk in memory was refused memory. `NoMemory` where else it was
+    /// refused.
     pub fn with_tapes(
         alloc: Global,
         mut peers: Vec<(PeerConf, Vec<u8>)>,

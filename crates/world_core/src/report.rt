@@ -12,10 +12,10 @@ pub struct PeerTotals {
     pub totals: Totals,
 }
 
-/// What a run of steps told.
+/// What a run of steps reported.
 #[derive(Debug, Drop)]
 pub struct Report {
-    /// What each step told, a value for each line.
+    /// What each step reported, a value for each line.
     pub lines: Vec<Vec<Output>>,
     /// Each peer's counts, in byte order of their names; none while all is stopped.
     pub totals: Vec<PeerTotals>,

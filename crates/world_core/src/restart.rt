@@ -66,8 +66,8 @@ impl World {
         }
     }
 
-    // These stations, which were opened, run from now on, and each peer's mark is told. Where there is no memory for
-    // that all stops again.
+    // These stations, which were opened, run from now on, and each peer's mark is reported. Where there is no memory
+    // for that all stops again.
     fn run_on(
         &mut self,
         stations: Stations<StopDisk>,
@@ -234,7 +234,7 @@ pub(crate) fn rooms_for(alloc: Global, count: usize) -> Result<Rooms, AllocError
     Ok(Rooms { opened, stopped })
 }
 
-// What is told of these peers, whose tapes were opened.
+// What is reported of these peers, whose tapes were opened.
 fn tell_marks(alloc: Global, peers: &[Peer<StopDisk>]) -> Result<Vec<Output>, AllocError>
     ensures { IfOk result (λ outputs. map said_of outputs.items ≡ map opened_said peers.now) }
 {
@@ -245,7 +245,7 @@ fn tell_marks(alloc: Global, peers: &[Peer<StopDisk>]) -> Result<Vec<Output>, Al
     Ok(outputs)
 }
 
-// What is told of a peer whose tape was opened.
+// What is reported of a peer whose tape was opened.
 fn mark_of(peer: &Peer<StopDisk>) -> Result<Output, AllocError>
     ensures { IfOk result (λ outputs. said_of outputs ≡ opened_said peer.now) }
 {

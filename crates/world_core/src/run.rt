@@ -32,14 +32,14 @@ impl World {
     ghost use Rattle.world_core.specs.Output.{said_by};
     ghost use Rattle.world_core.specs.Turn.{Took, WasNotTaken, names_at};
 
-    /// Takes these steps, one after another, up to the first that is refused, and reports what each told, and each
+    /// Takes these steps, one after another, up to the first that is refused, and reports what each reported, and each
     /// peer's counts.
     ///
     /// Steps that were taken stay taken where one behind them is refused: the world then stands where that one left it.
     ///
     /// # Errors
-    /// The number of the step that was refused, from 1 on, its fault, and what each step before it told. Where memory
-    /// is refused for the report itself it is the first step that is refused, and none was taken.
+    /// The number of the step that was refused, from 1 on, its fault, and what each step before it reported. Where
+    /// memory is refused for the report itself it is the first step that is refused, and none was taken.
     pub fn run(&mut self, steps: &[Step]) -> Result<Report, WorldFault>
         ensures reports { IfOk result
             (λ report. Reports steps.now self.old (said_by report.lines.items)

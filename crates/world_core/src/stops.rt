@@ -21,7 +21,7 @@ impl World {
     ghost use Rattle.world_core.specs.Past.{Life, Past, rank_of, with_past};
     ghost use Rattle.world_core.specs.Stands.{WorldStands};
     ghost use Rattle.world_core.specs.Turn.{GoesOn, Made, Refused, RefusesRest, TakesRest, Took, WasHalted};
-    ghost use Rattle.world_core.specs.Turn.{WasNotTaken, WasStruck, WasStruckUntold};
+    ghost use Rattle.world_core.specs.Turn.{WasNotTaken, WasStruck, WasStruckUnreported};
     ghost use Rattle.world_core.specs.declared.step.Step.{Step};
 
     // At call 0 all stops at rest; else a stop is armed.
@@ -90,7 +90,7 @@ impl World {
             → OnOk result (WasStruck life under_way choice out.new.items self.new) }
         ensures err { (life now : Life) (under_way : Past) → GoesOn life under_way now
             → WorldStands self.old now → IfErr result
-            (λ fault. WasStruckUntold life under_way now refused fault self.new) }
+            (λ fault. WasStruckUnreported life under_way now refused fault self.new) }
     {
         if let Err(_) = self.halt() {
             return Err(refused);

@@ -1,4 +1,4 @@
--- One more is told at each turn.
+-- One more is reported at each turn.
 use Rattle.std.proofs.Common.{arith}
 use Rattle.world_core.specs.Stepped.{opened_said}
 use Rattle.world_core.specs.Output.{said_of}

@@ -1,4 +1,4 @@
--- What became of the candidate is told, and what follows it.
+-- What became of the candidate is reported, and what follows it.
 use Rattle.std.proofs.Common.{◌++◌, ◌∷◌, ◌∙◌, ap, refl, List, []}
 use Rattle.world_core.specs.Exchange.{with_transcript}
 use Rattle.world_core.specs.declared.output.Output.{Output}

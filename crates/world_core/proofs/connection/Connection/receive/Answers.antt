@@ -1,6 +1,6 @@
--- The replies that came in are read, and what follows them is told.
+-- The replies that came in are read, and what follows them is reported.
 use Rattle.std.proofs.Common.{refl, inl, inr}
-use Rattle.world_core.proofs.Breaking.{open_told}
+use Rattle.world_core.proofs.Breaking.{open_said}
 use Rattle.world_core.proofs.Results.{if_err, if_err_map, on_ok_map}
 use Rattle.world_core.proofs.Receiving.{pair_received, pair_unread}
 use Rattle.world_core.proofs.connection.Connection.receive.Goals as goal
@@ -21,7 +21,7 @@ returns-clause-ok g c = λ id conn past pair.
     on_ok_map c.tell.result _ _
     (c.tell.ensures.ok id (record conn { unread = so.1; transcript = so.0 }) past conn.transcript
     so.3
-    (open_told past.conf conn c.args.self.now c.is_none-was_open.result c.closed.result pair.holds c.closed.ensures
+    (open_said past.conf conn c.args.self.now c.is_none-was_open.result c.closed.result pair.holds c.closed.ensures
     c.is_none-was_open.ensures))
     (λ followed. record { transcript = so.0; left = so.1; receives = so.2; followed = followed })
 

@@ -1,4 +1,4 @@
--- The article is handed in, and what follows it is told.
+-- The article is handed in, and what follows it is reported.
 use Rattle.std.proofs.Common.{◌∙◌, refl, sym, inl, inr, subst}
 use Rattle.article_store.specs.declared.store.Found.{Found}
 use Rattle.conn_core.specs.History.{Handed, after, needed}
@@ -7,7 +7,7 @@ use Rattle.conn_core.specs.Stands.{RefusesArticle}
 use Rattle.world_core.specs.Exchange.{with_transcript}
 use Rattle.world_core.specs.Pairs.{PairStands}
 use Rattle.world_core.specs.Past.{options_of}
-use Rattle.world_core.proofs.Breaking.{open_told}
+use Rattle.world_core.proofs.Breaking.{open_said}
 use Rattle.world_core.proofs.Results.{if_err, if_err_map, on_ok_map}
 use Rattle.world_core.proofs.Receiving.{no_more, pair_handed, wanted_needed}
 use Rattle.world_core.proofs.connection.Connection.supply.Goals as goal
@@ -35,7 +35,7 @@ returns-in-Ok-clause-ok g c = λ id conn past pair.
     on_ok_map c.tell.result _ _ (c.tell.ensures.ok id
     (with_transcript conn (after (options_of past.conf) conn.transcript (Handed c.in-Some.key so.0))) past
     conn.transcript so.2
-    (open_told past.conf conn c.args.self.now c.is_none-was_open.result c.closed.result pair.holds c.closed.ensures
+    (open_said past.conf conn c.args.self.now c.is_none-was_open.result c.closed.result pair.holds c.closed.ensures
     c.is_none-was_open.ensures))
     (λ followed. record {
       number = c.in-Some.key;

@@ -1,23 +1,23 @@
--- Behind the outcomes comes what is told of the connection, and its output counts as sent.
+-- Behind the outcomes comes what is reported of the connection, and its output counts as sent.
 use Rattle.std.proofs.Common.{◌∙◌, ap, length, refl, sym}
 use Rattle.world_core.proofs.Results.{if_err}
-use Rattle.world_core.proofs.Telling.{followed, told_not}
+use Rattle.world_core.proofs.Telling.{followed, tell_refused}
 use Rattle.world_core.proofs.connection.Connection.tell.Goals as goal
 
 pub returns-in_err-add_sent-clause-err : goal.returns-in_err-add_sent-clause-err
 returns-in_err-add_sent-clause-err g c = λ id conn past pair.
     if_err c.from_residual-in_err-add_sent.result _ _ c.from_residual-in_err-add_sent.ensures.1
-    (told_not id c.args.now conn past c.args.outputs.now.items _ _ _ (c.in_ok-settle_all.ensures.ok id conn past pair))
+    (tell_refused id c.args.now conn past c.args.outputs.now.items _ _ _ (c.in_ok-settle_all.ensures.ok id conn past pair))
 
 pub returns-in_err-add_need-clause-err : goal.returns-in_err-add_need-clause-err
 returns-in_err-add_need-clause-err g c = λ id conn past pair.
     if_err c.from_residual-in_err-add_need.result _ _ c.from_residual-in_err-add_need.ensures.1
-    (told_not id c.args.now conn past c.args.outputs.now.items _ _ _ (c.in_ok-settle_all.ensures.ok id conn past pair))
+    (tell_refused id c.args.now conn past c.args.outputs.now.items _ _ _ (c.in_ok-settle_all.ensures.ok id conn past pair))
 
 pub returns-in_err-add_closed-clause-err : goal.returns-in_err-add_closed-clause-err
 returns-in_err-add_closed-clause-err g c = λ id conn past pair.
     if_err c.from_residual-in_err-add_closed.result _ _ c.from_residual-in_err-add_closed.ensures.1
-    (told_not id c.args.now conn past c.args.outputs.now.items _ _ _ (c.in_ok-settle_all.ensures.ok id conn past pair))
+    (tell_refused id c.args.now conn past c.args.outputs.now.items _ _ _ (c.in_ok-settle_all.ensures.ok id conn past pair))
 
 pub returns-clause-ok : goal.returns-clause-ok
 returns-clause-ok g c = λ id conn past was pair was_is.

@@ -1,4 +1,4 @@
--- The rank of the name among the peers, the good lines of the text, and what is told.
+-- The rank of the name among the peers, the good lines of the text, and what is reported.
 use Rattle.std.proofs.Common.{List, map, refl, sym, ◌∙◌, subst}
 use Rattle.world_core.specs.Imports.{HasGood}
 use Rattle.world_core.specs.Importing.{good_of}

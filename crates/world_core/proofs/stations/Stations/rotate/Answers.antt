@@ -1,4 +1,4 @@
--- The rank of the name among the peers, and what is told.
+-- The rank of the name among the peers, and what is reported.
 use Rattle.std.proofs.Common.{◌∙◌, refl, sym}
 use Rattle.world_core.proofs.Results.{if_err, if_err_is}
 use Rattle.world_core.proofs.Stepping.{rank_same, pushed, rotate_absent, rotate_failed, rotate_memory}

@@ -1,6 +1,6 @@
 -- A stop is met where a disk failed at the tape that it names.
 use Rattle.world_core.proofs.Results.{if_err_map, on_ok_map}
-use Rattle.world_core.proofs.Taking.{struck, struck_untold}
+use Rattle.world_core.proofs.Taking.{struck, struck_unreported}
 use Rattle.world_core.proofs.world.World.settle.Goals as goal
 
 pub returns-clause-ok : goal.returns-clause-ok
@@ -14,5 +14,5 @@ pub returns-clause-err : goal.returns-clause-err
 returns-clause-err c = λ step life was.
     let met = c.is_met.ensures.0 c.if-not-is_met.false in
     if_err_map c.strike.result _ _ (c.strike.ensures.err life was.now was.under_way was.goes_on was.stands)
-    (λ fault. struck_untold step life c.args.halt c.args.self.now was c.in-Some.arming c.in-Some.is met.disk met.tape
+    (λ fault. struck_unreported step life c.args.halt c.args.self.now was c.in-Some.arming c.in-Some.is met.disk met.tape
     fault c.strike.new.self)
