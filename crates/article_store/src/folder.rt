@@ -216,7 +216,6 @@ fn make_room(buffer: &mut Vec<u8>) -> Result<(), AllocError>
     buffer.resize(room, 0)
 }
 
-// A whole text is an article if it has a written form.
 fn judge(alloc: Global, text: &[u8]) -> Result<Found, AllocError>
     ensures sendable { IfOk result IsFound }
     ensures said { IfOk result (IsReadAs text.now) }

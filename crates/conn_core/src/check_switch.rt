@@ -34,7 +34,7 @@ impl Model for CheckSwitch {
 }
 
 impl CheckSwitch {
-    // A switch with checks on, whose share is taken over `filter` answers.
+    // A switch with checks on.
     pub(crate) fn new(alloc: Global, filter: u64) -> Result<Self, AllocError>
         ensures { IfOk result (λ s. s ≡ record { filter = filter; recent = []; off = false }) }
     {

@@ -78,7 +78,6 @@ pub(crate) fn ends_all(code: u16) -> bool
     code == 400 || code == 480 || code == 502
 }
 
-// Why a reply of this code closes the connection if it answers no command.
 pub(crate) fn stray(code: u16) -> Reason
     ensures { result ≡ stray code }
 {

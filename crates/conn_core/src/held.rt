@@ -145,7 +145,6 @@ impl HeldDebts {
         }
     }
 
-    // Removes the debt that was offered first.
     pub(crate) fn take_first(&mut self) -> Option<HeldDebt>
         ensures items { self.old.debts ≡ option_to_list result ++ self.new.debts }
         ensures accepted { self.new.accepted ≡ self.old.accepted }

@@ -68,7 +68,6 @@ pub(crate) fn is_wanted(wanted: &VecDeque<WantedArticle>, key: Key) -> bool
     }
 }
 
-// Removes the first command that the reply can answer.
 pub(crate) fn take_answered(
     window: &mut VecDeque<AwaitedAsk>,
     held: &HeldDebts,
@@ -99,7 +98,6 @@ fn wanted_of(wanted: &VecDeque<WantedArticle>, key: Key) -> Option<&WantedArticl
     }
 }
 
-// The debt that the first want of that key is about.
 pub(crate) fn debt_wanting<'a>(
     held: &'a HeldDebts,
     wanted: &VecDeque<WantedArticle>,

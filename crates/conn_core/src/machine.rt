@@ -216,7 +216,6 @@ impl Machine {
         Ok(())
     }
 
-    // Takes a debt whose article is wanted at once.
     fn offer_wanting(&mut self, debt: Debt) -> Result<(), Debt>
         ensures ok { OnOk result
             (self.new ≡ record (with_newly self.old debt)
@@ -283,7 +282,7 @@ impl Machine {
         }
     }
 
-    // Closes for this reason: from now on all that is held comes out.
+    // All that is held comes out from now on.
     fn close(&mut self, reason: Reason)
         ensures { self.new ≡ close reason self.old }
     {
@@ -292,7 +291,6 @@ impl Machine {
         empty(&mut self.output);
     }
 
-    // The key of the debt whose command is the first without an answer.
     fn first_awaited(&self) -> Option<Key>
         ensures { result ≡ number_awaited self.now.held (slice_get self.now.window 0) }
     {
@@ -308,7 +306,6 @@ impl Machine {
         self.unanswered
     }
 
-    // The reader found a fault while the connection was open.
     pub(crate) fn on_fault(&mut self, fault: ReplyFault)
         ensures { self.new ≡ on_fault self.old fault }
     {

@@ -28,11 +28,11 @@ use Rattle.world_core.specs.Tapes.Rotation.{Is_broken, Is_last, Is_long, Fits}
 use Rattle.world_core.specs.declared.fault.Fault.{Fault}
 use Rattle.world_core.specs.declared.step.Step.{Step}
 use Rattle.world_core.specs.declared.step.Step.TheVariants.{Flush, Import, Part, Restart, Rotate, Seal}
-use Rattle.world_core.proofs.Keeping.{peer_same, stay_same, stay_then}
-use Rattle.world_core.proofs.Recovering.{comes_safe, still_owes}
-use Rattle.world_core.proofs.Running.{all_stay, events_stay}
-use Rattle.world_core.proofs.Sound.{all_begun}
-use Rattle.world_core.proofs.Zips.{zip_made, zip_put, zip_same, zip_weaker}
+use Rattle.world_core.proofs.AcknowledgedOverEvents.{peer_same, stay_same, stay_then}
+use Rattle.world_core.proofs.RecoveredNotes.{comes_safe, still_owes}
+use Rattle.world_core.proofs.AcknowledgedOverRuns.{all_stay, events_stay}
+use Rattle.world_core.proofs.SoundOverEvents.{all_begun}
+use Rattle.world_core.proofs.RelatedLists.{zip_made, zip_put, zip_same, zip_weaker}
 
 -- ---- lists
 

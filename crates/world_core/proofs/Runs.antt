@@ -14,8 +14,8 @@ use Rattle.world_core.specs.declared.output.Output.{Output}
 use Rattle.world_core.specs.declared.world.Stage.{Stage}
 use Rattle.world_core.specs.declared.world.Stage.TheVariants.{Running, Stopped}
 use Rattle.world_core.specs.declared.world.World.{World}
-use Rattle.world_core.proofs.Halting.{safe_stopped}
-use Rattle.world_core.proofs.Sound.{safe_of}
+use Rattle.world_core.proofs.TapesStopped.{safe_stopped}
+use Rattle.world_core.proofs.SoundOverEvents.{safe_of}
 
 stage_safe : (life : Life) (stage : Stage) → StageStands life stage → IsSafe life.past
 stage_safe life (Running stations connections) stands = safe_of stations life.past stands.1

@@ -12,8 +12,8 @@ ghost use Rattle.world_core.specs.Stands.{WaitsWith};
 ghost use Rattle.world_core.specs.Output.{SentLine, closed_said, lines_in, need_said};
 
 use crate::fault::Fault;
-use crate::peer::Peer;
 use crate::output::{Handed, Output};
+use crate::peer::Peer;
 use article_store::Found;
 use conn_core::{ArticleFault, Conn, CxnId, OfferFault, Options, Outcome, Reason};
 use disk_model::Disk;

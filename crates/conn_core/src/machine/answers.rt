@@ -151,7 +151,6 @@ impl Machine {
         Ok(())
     }
 
-    // Any other answer ends a debt or puts it off.
     fn settles(&mut self, reply: &Reply, mode: Mode)
         requires not_wanted { reply.now.code ≢ 238 }
         requires no_block { reply.now.code ≢ 335 }
@@ -167,7 +166,6 @@ impl Machine {
         self.tell(meaning_of(ask.verb(), reply.code), ask.ticket());
     }
 
-    // An IHAVE with an answer no longer keeps its block.
     fn let_go(&mut self, verb: Verb)
         ensures { self.new ≡ record self.old { blocks = let_go verb self.old.blocks } }
     {
@@ -189,7 +187,6 @@ impl Machine {
         }
     }
 
-    // An answer of this meaning ends the debt at that ticket or puts it off.
     fn tell(&mut self, meaning: Option<Meaning>, ticket: u64)
         ensures { self.new
             ≡ settled_by self.old meaning ticket (find (is_at ticket) self.old.held) }

@@ -77,7 +77,6 @@ impl Machine {
         }
     }
 
-    // The article is gone, or its text cannot be sent: its debt is lost.
     fn lose(&mut self, key: Key, loss: Loss)
         ensures { self.new ≡ handed self.old key (handing_of loss) }
     {
@@ -85,7 +84,6 @@ impl Machine {
         self.quit_if_due();
     }
 
-    // Removes the first want of that key; its debt is lost.
     fn lose_wanted(&mut self, key: Key, loss: Loss)
         ensures { self.new ≡ handed_for (without_want self.old key) (handing_of loss)
             (held_for self.old.held (find (is_of key) self.old.wanted)) }

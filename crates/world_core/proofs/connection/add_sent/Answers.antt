@@ -1,6 +1,6 @@
 use Rattle.std.proofs.Common.{◌++◌, map, sym, ap, ◌∙◌, append-nil}
 use Rattle.world_core.specs.Output.{SentLine, said_of}
-use Rattle.world_core.proofs.Outputs.{no_line, tells_line}
+use Rattle.world_core.proofs.OutputLines.{no_line, tells_line}
 use Rattle.world_core.proofs.connection.add_sent.Goals as goal
 
 pub loop-line-preserved : goal.loop-line-preserved

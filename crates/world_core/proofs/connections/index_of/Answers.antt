@@ -2,7 +2,7 @@
 use Rattle.std.proofs.Common.{rules}
 use Rattle.std.specs.Ordering.{nat_cmp}
 use Rattle.std.proofs.lemmas.Fn.{always_returns_same}
-use Rattle.world_core.proofs.Finding.{search_none, search_some}
+use Rattle.world_core.proofs.ConnectionFound.{search_none, search_some}
 use Rattle.world_core.proofs.connections.index_of.Goals as goal
 
 pub returns-clause-some : goal.returns-clause-some

@@ -4,8 +4,8 @@ use Rattle.std.proofs.lemmas.Iterator.Adapters.{YieldsList-from_vec}
 use Rattle.std.proofs.lemmas.Iterator.Consumers.{YieldsList-end}
 use Rattle.std.proofs.lemmas.List.{map-id}
 use Rattle.world_core.specs.Halting.{HaltsAs}
-use Rattle.world_core.proofs.Halting.{halts_all, halts_more}
-use Rattle.world_core.proofs.Zips.{zip_length}
+use Rattle.world_core.proofs.TapesStopped.{halts_all, halts_more}
+use Rattle.world_core.proofs.RelatedLists.{zip_length}
 use Rattle.world_core.proofs.halt.halt_each.Goals as goal
 
 pub loop-peer-init : goal.loop-peer-init

@@ -5,7 +5,7 @@ use Rattle.std.proofs.lemmas.List.{take_all, take_more}
 use Rattle.world_core.specs.Halting.{IsLeftOf}
 use Rattle.world_core.specs.declared.peer.StoppedPeer.{StoppedPeer}
 use Rattle.world_core.specs.declared.stop.StopDisk.{StopDisk}
-use Rattle.world_core.proofs.Zips.{zip_push}
+use Rattle.world_core.proofs.RelatedLists.{zip_push}
 use Rattle.world_core.proofs.halt.left_each.Goals as goal
 
 pub loop-peer-init : goal.loop-peer-init

@@ -1,7 +1,7 @@
 -- One more has its disks at each turn.
 use Rattle.std.proofs.Common.{◌≡◌, ◌+◌, length, refl, ap, ◌∙◌, arith}
 use Rattle.world_core.specs.Halting.{with_disks}
-use Rattle.world_core.proofs.Halting.{disks_end, next_disks, no_disks}
+use Rattle.world_core.proofs.TapesStopped.{disks_end, next_disks, no_disks}
 use Rattle.world_core.proofs.halt.with_disks.Goals as goal
 
 pub loop-peer-init : goal.loop-peer-init

@@ -2,7 +2,7 @@
 use Rattle.std.proofs.Common.{inl, inr, map, ap, ◌∙◌, refl, rules}
 use Rattle.std.proofs.lemmas.List.{map_push}
 use Rattle.world_core.specs.Importing.{good_of}
-use Rattle.world_core.proofs.Reading.{reads_bad}
+use Rattle.world_core.proofs.LineRead.{reads_bad}
 use Rattle.world_core.proofs.imports.add_line.Goals as goal
 
 pub returns-in_ok-push-in-Ok : goal.returns-in_ok-push-in-Ok

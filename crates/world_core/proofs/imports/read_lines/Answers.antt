@@ -3,7 +3,7 @@ use Rattle.std.proofs.Common.{List, map, refl, sym, subst, arith, rules}
 use Rattle.funnel.specs.Stream.{IsUnended}
 use Rattle.world_core.specs.Importing.{good_of}
 use Rattle.world_core.specs.declared.imports.BacklogLine.{BacklogLine}
-use Rattle.world_core.proofs.Listing.{HasListed, listed_all, listed_more, listed_none}
+use Rattle.world_core.proofs.BacklogLines.{HasListed, listed_all, listed_more, listed_none}
 use Rattle.world_core.proofs.imports.read_lines.Goals as goal
 
 pub loop-line-init : goal.loop-line-init

@@ -1,6 +1,6 @@
 use Rattle.std.proofs.Common.{◌+◌, ◌≤◌, length, map}
 use Rattle.world_core.specs.Importing.{good_of}
-use Rattle.world_core.proofs.Listing.{HasListed}
+use Rattle.world_core.proofs.BacklogLines.{HasListed}
 use Rattle.world_core.proofs.imports.read_lines.Given as goal
 
 -- the lines so far, and what is left of the text

@@ -1,4 +1,4 @@
-use Rattle.world_core.proofs.Recovering.{still_owes}
+use Rattle.world_core.proofs.RecoveredNotes.{still_owes}
 use Rattle.world_core.proofs.laws.acknowledged_debts_stay_owed.Goals as goal
 
 pub returns : goal.returns

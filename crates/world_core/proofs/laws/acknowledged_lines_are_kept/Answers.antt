@@ -1,4 +1,4 @@
-use Rattle.world_core.proofs.LineKeeping.{lines_kept, lines_kept_within}
+use Rattle.world_core.proofs.LineDebts.{lines_kept, lines_kept_within}
 use Rattle.world_core.proofs.laws.acknowledged_lines_are_kept.Goals as goal
 
 pub returns : goal.returns

@@ -1,4 +1,4 @@
-use Rattle.world_core.proofs.Acknowledged.{lines_stand}
+use Rattle.world_core.proofs.AcknowledgedLines.{lines_stand}
 use Rattle.world_core.proofs.laws.acknowledged_lines_stand.Goals as goal
 
 pub returns : goal.returns

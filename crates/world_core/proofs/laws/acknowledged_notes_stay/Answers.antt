@@ -1,4 +1,4 @@
-use Rattle.world_core.proofs.Running.{events_stay}
+use Rattle.world_core.proofs.AcknowledgedOverRuns.{events_stay}
 use Rattle.world_core.proofs.laws.acknowledged_notes_stay.Goals as goal
 
 pub returns : goal.returns

@@ -1,4 +1,4 @@
-use Rattle.world_core.proofs.Finals.{finals_right}
+use Rattle.world_core.proofs.FinalAnswers.{finals_right}
 use Rattle.world_core.proofs.laws.all_finals_are_right.Goals as goal
 
 pub returns : goal.returns

@@ -1,4 +1,4 @@
-use Rattle.world_core.proofs.Running.{all_stay}
+use Rattle.world_core.proofs.AcknowledgedOverRuns.{all_stay}
 use Rattle.world_core.proofs.laws.all_stay_acknowledged.Goals as goal
 
 pub returns : goal.returns

@@ -1,4 +1,4 @@
-use Rattle.world_core.proofs.Coming.{begins_so, ran_comes, refused_comes}
+use Rattle.world_core.proofs.RunsComeAbout.{begins_so, ran_comes, refused_comes}
 use Rattle.world_core.proofs.laws.each_run_comes_about.Goals as goal
 
 pub returns : goal.returns

@@ -6,7 +6,7 @@ use Rattle.std.proofs.lemmas.List.{map-id}
 use Rattle.std.proofs.lemmas.Option.{slice_get-get_or}
 use Rattle.std.specs.List.{AllZip}
 use Rattle.world_core.specs.Given.{GivenPeer, OpensGiven}
-use Rattle.world_core.proofs.Making.{opens_more, stops_for}
+use Rattle.world_core.proofs.WorldMade.{opens_more, stops_for}
 use Rattle.world_core.proofs.Results.{if_err_is}
 use Rattle.world_core.proofs.make.open_each.Goals as goal
 

@@ -1,6 +1,6 @@
 -- The tape of two empty disks owes nothing.
 use Rattle.std.proofs.Common.{[], ◌∙◌}
-use Rattle.world_core.proofs.Making.{both_are, happened_as, no_faults, opens_empty}
+use Rattle.world_core.proofs.WorldMade.{both_are, happened_as, no_faults, opens_empty}
 use Rattle.world_core.proofs.make.open_intake.Goals as goal
 
 pub returns-in-Ok : goal.returns-in-Ok

@@ -7,7 +7,7 @@ use Rattle.std.specs.List.{AllZip}
 use Rattle.feed_conf.specs.declared.conf.PeerConf.{PeerConf}
 use Rattle.world_core.specs.Given.{GivenPeer}
 use Rattle.world_core.specs.Making.{HasNoOctets}
-use Rattle.world_core.proofs.Zips.{zip_push}
+use Rattle.world_core.proofs.RelatedLists.{zip_push}
 use Rattle.world_core.proofs.make.with_no_octets.Goals as goal
 
 pub loop-conf-init : goal.loop-conf-init

@@ -2,7 +2,7 @@
 use Rattle.std.proofs.Common.{arith}
 use Rattle.world_core.specs.Stepped.{opened_said}
 use Rattle.world_core.specs.Output.{said_of}
-use Rattle.world_core.proofs.Counting.{name_more}
+use Rattle.world_core.proofs.PeerCounts.{name_more}
 use Rattle.world_core.proofs.restart.tell_marks.Goals as goal
 
 pub loop-peer-preserved : goal.loop-peer-preserved

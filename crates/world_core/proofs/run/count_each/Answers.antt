@@ -6,7 +6,7 @@ use Rattle.world_core.specs.Stands.{counts_in}
 use Rattle.world_core.specs.declared.report.PeerTotals.{PeerTotals}
 use Rattle.ledger_core.specs.Ledger.{totals_of}
 use Rattle.peer_queue.specs.Words.{ledger_of}
-use Rattle.world_core.proofs.Counting.{below, counted, counted_more, names_more, not_below}
+use Rattle.world_core.proofs.PeerCounts.{below, counted, counted_more, names_more, not_below}
 use Rattle.world_core.proofs.run.count_each.Goals as goal
 use Rattle.world_core.proofs.run.count_each.Goals.{in-Some, in_default}
 

@@ -1,7 +1,7 @@
 use Rattle.std.proofs.Common.{◌≡◌, map, take}
 use Rattle.world_core.specs.Stands.{counts_in}
 use Rattle.world_core.specs.declared.report.PeerTotals.{PeerTotals}
-use Rattle.world_core.proofs.Counting.{counted}
+use Rattle.world_core.proofs.PeerCounts.{counted}
 use Rattle.world_core.proofs.run.count_each.Given as goal
 
 -- those so far are counted, and the names are as they were

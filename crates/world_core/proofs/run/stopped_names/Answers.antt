@@ -1,6 +1,6 @@
 -- One name more at each turn.
 use Rattle.std.proofs.Common.{arith}
-use Rattle.world_core.proofs.Counting.{name_more}
+use Rattle.world_core.proofs.PeerCounts.{name_more}
 use Rattle.world_core.proofs.run.stopped_names.Goals as goal
 
 pub loop-peer-preserved : goal.loop-peer-preserved

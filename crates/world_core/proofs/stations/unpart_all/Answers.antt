@@ -1,7 +1,7 @@
 -- One more at each turn.
 use Rattle.std.proofs.Common.{arith}
 use Rattle.world_core.specs.Stands.{unparted}
-use Rattle.world_core.proofs.Begins.{changed_more}
+use Rattle.world_core.proofs.NumberKept.{changed_more}
 use Rattle.world_core.proofs.stations.unpart_all.Goals as goal
 
 pub loop-peer-preserved : goal.loop-peer-preserved

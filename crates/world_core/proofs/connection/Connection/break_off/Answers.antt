@@ -1,7 +1,7 @@
 -- The connection breaks, and what follows is reported.
 use Rattle.std.proofs.Common.{refl}
 use Rattle.world_core.specs.Exchange.{broken_off}
-use Rattle.world_core.proofs.Breaking.{open_said, pair_broken}
+use Rattle.world_core.proofs.ConnectionBreaks.{open_said, pair_broken}
 use Rattle.world_core.proofs.connection.Connection.break_off.Goals as goal
 
 pub returns-clause-ok : goal.returns-clause-ok

@@ -4,7 +4,7 @@ use Rattle.world_core.specs.Exchange.{with_transcript}
 use Rattle.world_core.specs.declared.output.Output.{Output}
 use Rattle.world_core.specs.declared.output.Output.TheVariants.{Handed as OutputHanded}
 use Rattle.world_core.proofs.Results.{if_err, if_err_map, on_ok_map}
-use Rattle.world_core.proofs.Handing.{hand_memory, hand_not, hand_on, hand_on_not, open_over}
+use Rattle.world_core.proofs.DebtHandedOver.{hand_memory, hand_not, hand_on, hand_on_not, open_over}
 use Rattle.world_core.proofs.connection.Connection.hand.Goals as goal
 
 pub returns-in_err-reserve-clause-err : goal.returns-in_err-reserve-clause-err

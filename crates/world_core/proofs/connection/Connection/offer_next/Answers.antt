@@ -5,8 +5,8 @@ use Rattle.conn_core.specs.Stands.{Refuses as RefusesOffer, ready_of}
 use Rattle.peer_queue.specs.DebtPlace.{IsHeldBy, Ready, moved}
 use Rattle.peer_queue.specs.Words.{places_of}
 use Rattle.world_core.specs.Past.{options_of}
-use Rattle.world_core.proofs.Handing.{claim_refused, gave_back_busy, gave_back_memory, gave_back_shut, held_there}
-use Rattle.world_core.proofs.Handing.{if_none, if_some, none_claimed, took_over}
+use Rattle.world_core.proofs.DebtHandedOver.{claim_refused, gave_back_busy, gave_back_memory, gave_back_shut, held_there}
+use Rattle.world_core.proofs.DebtHandedOver.{if_none, if_some, none_claimed, took_over}
 use Rattle.world_core.proofs.connection.Connection.offer_next.Goals as goal
 
 pub returns-in-Err-clause-err : goal.returns-in-Err-clause-err

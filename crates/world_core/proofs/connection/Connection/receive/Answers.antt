@@ -1,8 +1,8 @@
 -- The replies that came in are read, and what follows them is reported.
 use Rattle.std.proofs.Common.{refl, inl, inr}
-use Rattle.world_core.proofs.Breaking.{open_said}
+use Rattle.world_core.proofs.ConnectionBreaks.{open_said}
 use Rattle.world_core.proofs.Results.{if_err, if_err_map, on_ok_map}
-use Rattle.world_core.proofs.Receiving.{pair_received, pair_unread}
+use Rattle.world_core.proofs.OctetsComeIn.{pair_received, pair_unread}
 use Rattle.world_core.proofs.connection.Connection.receive.Goals as goal
 
 pub returns-in_err-input-clause-err : goal.returns-in_err-input-clause-err

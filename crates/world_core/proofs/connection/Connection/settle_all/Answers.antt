@@ -3,7 +3,7 @@ use Rattle.std.proofs.Common.{subst, []}
 use Rattle.world_core.specs.Exchange.{all_out}
 use Rattle.world_core.specs.Pairs.{SettledNext}
 use Rattle.world_core.proofs.Results.{if_err_is}
-use Rattle.world_core.proofs.Following.{settled_all, settled_more, settled_refused, settled_start}
+use Rattle.world_core.proofs.OutcomesSettled.{settled_all, settled_more, settled_refused, settled_start}
 use Rattle.world_core.proofs.connection.Connection.settle_all.Goals as goal
 
 pub loop-init : goal.loop-init

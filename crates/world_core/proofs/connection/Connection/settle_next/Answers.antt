@@ -2,7 +2,7 @@
 use Rattle.std.proofs.Common.{◌∙◌, ap, refl, subst}
 use Rattle.world_core.specs.Past.{options_of}
 use Rattle.world_core.specs.Pairs.{TakesNext}
-use Rattle.world_core.proofs.Settling.{settled_not, settled_one}
+use Rattle.world_core.proofs.OutcomeSettled.{settled_not, settled_one}
 use Rattle.world_core.proofs.connection.Connection.settle_next.Goals as goal
 
 pub returns-in-Ok-clause-ok : goal.returns-in-Ok-clause-ok

@@ -7,9 +7,9 @@ use Rattle.conn_core.specs.Stands.{RefusesArticle}
 use Rattle.world_core.specs.Exchange.{with_transcript}
 use Rattle.world_core.specs.Pairs.{PairStands}
 use Rattle.world_core.specs.Past.{options_of}
-use Rattle.world_core.proofs.Breaking.{open_said}
+use Rattle.world_core.proofs.ConnectionBreaks.{open_said}
 use Rattle.world_core.proofs.Results.{if_err, if_err_map, on_ok_map}
-use Rattle.world_core.proofs.Receiving.{no_more, pair_handed, wanted_needed}
+use Rattle.world_core.proofs.OctetsComeIn.{no_more, pair_handed, wanted_needed}
 use Rattle.world_core.proofs.connection.Connection.supply.Goals as goal
 
 pub returns-in_default-clause-err : goal.returns-in_default-clause-err

@@ -1,7 +1,7 @@
 -- Behind the outcomes comes what is reported of the connection, and its output counts as sent.
 use Rattle.std.proofs.Common.{◌∙◌, ap, length, refl, sym}
 use Rattle.world_core.proofs.Results.{if_err}
-use Rattle.world_core.proofs.Telling.{followed, tell_refused}
+use Rattle.world_core.proofs.OutputSent.{followed, tell_refused}
 use Rattle.world_core.proofs.connection.Connection.tell.Goals as goal
 
 pub returns-in_err-add_sent-clause-err : goal.returns-in_err-add_sent-clause-err

@@ -1,7 +1,7 @@
 -- The moment is reported, and what follows it.
 use Rattle.std.proofs.Common.{refl}
 use Rattle.world_core.specs.Exchange.{ticked}
-use Rattle.world_core.proofs.Breaking.{open_said, pair_ticked}
+use Rattle.world_core.proofs.ConnectionBreaks.{open_said, pair_ticked}
 use Rattle.world_core.proofs.connection.Connection.tick.Goals as goal
 
 pub returns-clause-ok : goal.returns-clause-ok

@@ -1,7 +1,7 @@
 -- Its disks are those of its tape.
 use Rattle.std.proofs.Common.{refl}
 use Rattle.recovery.specs.TapeLaws.{logs_of_disks}
-use Rattle.world_core.proofs.Halting.{peer_halted}
+use Rattle.world_core.proofs.TapesStopped.{peer_halted}
 use Rattle.world_core.proofs.halt.Peer+StopDisk.halt.Goals as goal
 use Rattle.peer_queue.specs.Words.{tape_of}
 

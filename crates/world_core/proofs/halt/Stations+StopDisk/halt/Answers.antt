@@ -1,6 +1,6 @@
 -- The peers stop, and so does the intake.
 use Rattle.recovery.specs.TapeLaws.{logs_of_disks}
-use Rattle.world_core.proofs.Halting.{tapes_halted}
+use Rattle.world_core.proofs.TapesStopped.{tapes_halted}
 use Rattle.world_core.proofs.halt.Stations+StopDisk.halt.Goals as goal
 
 pub returns : goal.returns

@@ -4,7 +4,7 @@ use Rattle.disk_model.specs.Disk.Event.{Made}
 use Rattle.recovery.specs.Image.{IsNoTapeAt, Log}
 use Rattle.recovery.specs.Tape.{contents_of}
 use Rattle.world_core.specs.Given.{given_octets}
-use Rattle.world_core.proofs.Making.{both_are, happened_as, no_faults, opens_given, refuses_tape}
+use Rattle.world_core.proofs.WorldMade.{both_are, happened_as, no_faults, opens_given, refuses_tape}
 use Rattle.world_core.proofs.peer.Peer+StopDisk.open_given.Goals as goal
 
 pub returns-in-Ok-clause-ok : goal.returns-in-Ok-clause-ok

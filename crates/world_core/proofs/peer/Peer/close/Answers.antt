@@ -1,6 +1,6 @@
 -- The source that is open is closed.
 use Rattle.std.proofs.Common.{refl}
-use Rattle.world_core.proofs.Closing.{closed_answered, closed_refused}
+use Rattle.world_core.proofs.PeerCloses.{closed_answered, closed_refused}
 use Rattle.world_core.proofs.Results.{at_err, at_ok}
 use Rattle.world_core.proofs.peer.Peer.close.Goals as goal
 

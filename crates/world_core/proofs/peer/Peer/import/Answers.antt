@@ -1,7 +1,7 @@
 -- A line of a backlog file is owed, or was before.
 use Rattle.std.proofs.Common.{◌+◌, inl, inr, refl}
 use Rattle.ledger_core.specs.Keys.{key_of}
-use Rattle.world_core.proofs.Owing.{owed_answered, owed_refused}
+use Rattle.world_core.proofs.PeerOwes.{owed_answered, owed_refused}
 use Rattle.world_core.proofs.Results.{at_err, at_ok}
 use Rattle.world_core.proofs.peer.Peer.import.Goals as goal
 

@@ -1,6 +1,6 @@
 -- A debt is owed, or was before.
 use Rattle.std.proofs.Common.{inl, inr, refl}
-use Rattle.world_core.proofs.Owing.{owed_answered, owed_refused}
+use Rattle.world_core.proofs.PeerOwes.{owed_answered, owed_refused}
 use Rattle.world_core.proofs.Results.{at_err, at_ok}
 use Rattle.world_core.proofs.peer.Peer.owe.Goals as goal
 

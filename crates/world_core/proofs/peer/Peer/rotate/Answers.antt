@@ -1,8 +1,8 @@
 -- A rotation of the station is one of the peer's tape.
 use Rattle.world_core.specs.Safe.{KeepsNotes}
-use Rattle.world_core.proofs.Peers.{keeps_moments, with_station}
+use Rattle.world_core.proofs.PeerCalls.{keeps_moments, with_station}
 use Rattle.world_core.proofs.Results.{at_err, at_ok}
-use Rattle.world_core.proofs.Rotating.{rotated_as, unrotated_as}
+use Rattle.world_core.proofs.PeerRotates.{rotated_as, unrotated_as}
 use Rattle.world_core.proofs.peer.Peer.rotate.Goals as goal
 use Rattle.peer_queue.specs.Words.{tape_of}
 

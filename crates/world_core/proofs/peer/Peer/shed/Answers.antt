@@ -1,6 +1,6 @@
 -- What the station shed is dropped at the peer.
 use Rattle.std.proofs.Common.{refl}
-use Rattle.world_core.proofs.Rotating.{shed_as}
+use Rattle.world_core.proofs.PeerRotates.{shed_as}
 use Rattle.world_core.proofs.peer.Peer.shed.Goals as goal
 
 pub returns-in-Ok-clause-ok : goal.returns-in-Ok-clause-ok

@@ -1,7 +1,7 @@
 -- A flush of the station is one of the peer's tape.
 use Rattle.std.proofs.Common.{ap}
 use Rattle.world_core.specs.Safe.{KeepsNotes}
-use Rattle.world_core.proofs.Peers.{flushed_as, keeps_moments, unflushed_as, with_station}
+use Rattle.world_core.proofs.PeerCalls.{flushed_as, keeps_moments, unflushed_as, with_station}
 use Rattle.world_core.proofs.Results.{at_err, at_ok}
 use Rattle.world_core.proofs.peer.Peer.spill.Goals as goal
 use Rattle.peer_queue.specs.Words.{tape_of}

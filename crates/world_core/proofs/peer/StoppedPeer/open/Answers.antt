@@ -1,7 +1,7 @@
 -- What lay there is what the station stands for.
 use Rattle.std.proofs.Common.{◌∙◌, ap, refl}
 use Rattle.world_core.specs.Past.{limits_of}
-use Rattle.world_core.proofs.Opening.{each_there, opened_as, refused_as}
+use Rattle.world_core.proofs.TapeOpened.{each_there, opened_as, refused_as}
 use Rattle.world_core.proofs.peer.StoppedPeer.open.Goals as goal
 
 pub returns-in-Ok-clause-ok : goal.returns-in-Ok-clause-ok

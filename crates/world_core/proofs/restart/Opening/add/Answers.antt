@@ -1,6 +1,6 @@
 -- One peer more was tried: it stays stopped behind one that was refused, or is open, or is the first that is refused.
 use Rattle.std.proofs.Common.{◌≡◌, ℕ, Some, length, sym, ap, ◌∙◌, arith}
-use Rattle.world_core.proofs.Tried.{tried_behind, tried_open, tried_refused}
+use Rattle.world_core.proofs.PeerOpened.{tried_behind, tried_open, tried_refused}
 use Rattle.world_core.proofs.restart.Opening.add.Goals as goal
 
 pub returns-then-is_some-clause-tries : goal.returns-then-is_some-clause-tries

@@ -1,6 +1,6 @@
 -- The intake's flush is one event.
 use Rattle.std.proofs.Common.{refl}
-use Rattle.world_core.proofs.Intake.{did_acknowledge, failed_acknowledge}
+use Rattle.world_core.proofs.IntakeCalls.{did_acknowledge, failed_acknowledge}
 use Rattle.world_core.proofs.stations.Stations.acknowledge.Goals as goal
 
 pub returns-in-Ok-clause-ok : goal.returns-in-Ok-clause-ok

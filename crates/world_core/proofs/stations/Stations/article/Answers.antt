@@ -1,6 +1,6 @@
 -- The step on the connection and its peer is the world's.
 use Rattle.std.proofs.Common.{arith, refl}
-use Rattle.world_core.proofs.Acting.{found_put, supplied, supplied_not}
+use Rattle.world_core.proofs.ConnectionSteps.{found_put, supplied, supplied_not}
 use Rattle.world_core.proofs.Results.{if_err_map, on_ok_map}
 use Rattle.world_core.proofs.stations.Stations.article.Goals as goal
 

@@ -2,7 +2,7 @@
 use Rattle.std.proofs.Common.{◌≡◌, ◌∙◌, length, drop, map, refl, ap, arith}
 use Rattle.std.proofs.lemmas.List.{length-map, take-append-le, take_all}
 use Rattle.world_core.specs.Stands.{unparted}
-use Rattle.world_core.proofs.Begins.{stands_begun}
+use Rattle.world_core.proofs.NumberKept.{stands_begun}
 use Rattle.world_core.proofs.stations.Stations.begin.Goals as goal
 
 pub returns : goal.returns

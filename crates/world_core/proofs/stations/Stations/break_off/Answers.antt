@@ -1,6 +1,6 @@
 -- The step on the connection and its peer is the world's.
 use Rattle.std.proofs.Common.{arith, refl}
-use Rattle.world_core.proofs.Acting.{broke_off, broke_off_not, found_put}
+use Rattle.world_core.proofs.ConnectionSteps.{broke_off, broke_off_not, found_put}
 use Rattle.world_core.proofs.Results.{if_err_map, on_ok_map}
 use Rattle.world_core.proofs.stations.Stations.break_off.Goals as goal
 

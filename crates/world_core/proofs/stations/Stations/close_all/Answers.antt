@@ -1,5 +1,5 @@
 -- Room for the note, the note, and the flush.
-use Rattle.world_core.proofs.Importing.{close_failed, close_no_room, closed_all, closed_not, closed_one}
+use Rattle.world_core.proofs.ImportCalls.{close_failed, close_no_room, closed_all, closed_not, closed_one}
 use Rattle.world_core.proofs.Results.{if_err_is}
 use Rattle.world_core.proofs.stations.Stations.close_all.Goals as goal
 

@@ -1,6 +1,6 @@
 -- The close at the peer is one event.
 use Rattle.std.proofs.Common.{arith, refl}
-use Rattle.world_core.proofs.Stationed.{did_close, failed_close}
+use Rattle.world_core.proofs.StationCalls.{did_close, failed_close}
 use Rattle.world_core.proofs.stations.Stations.close_at.Goals as goal
 
 pub returns-clause-ok : goal.returns-clause-ok

@@ -3,11 +3,11 @@ use Rattle.std.proofs.Common.{◌≡◌, ◌∙◌, ◌+◌, ◌<◌, ◌^◌, �
 use Rattle.world_core.specs.declared.output.Output.TheVariants.{Connected as OutputConnected}
 use Rattle.world_core.specs.Output.{Connected, Said, said_of}
 use Rattle.std.specs.Prelude.{map}
-use Rattle.world_core.proofs.Connecting.{connect_absent, connect_full, connect_memory, connected_made}
+use Rattle.world_core.proofs.ConnectionMade.{connect_absent, connect_full, connect_memory, connected_made}
 use Rattle.world_core.proofs.Results.{if_err}
-use Rattle.world_core.proofs.Outputs.{position_within}
-use Rattle.world_core.proofs.Settling.{tells_push}
-use Rattle.world_core.proofs.Stepping.{rank_same}
+use Rattle.world_core.proofs.OutputLines.{position_within}
+use Rattle.world_core.proofs.OutcomeSettled.{tells_push}
+use Rattle.world_core.proofs.TapeSteps.{rank_same}
 use Rattle.world_core.proofs.stations.Stations.connect.Goals as goal
 
 pub returns-in_default-clause-err : goal.returns-in_default-clause-err

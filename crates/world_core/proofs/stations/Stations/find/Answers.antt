@@ -4,7 +4,7 @@ use Rattle.std.specs.Cmp.Lexicographic.{slice_cmp}
 use Rattle.std.specs.Ordering.{nat_cmp}
 use Rattle.std.specs.List.Sorted.{IsBinarySearchResult, IsSearchInRange}
 use Rattle.std.proofs.lemmas.Fn.{always_returns_same}
-use Rattle.world_core.proofs.Naming.{found_as, found_within}
+use Rattle.world_core.proofs.NamedPeers.{found_as, found_within}
 use Rattle.world_core.proofs.stations.Stations.find.Goals as goal
 
 pub returns-clause-found : goal.returns-clause-found

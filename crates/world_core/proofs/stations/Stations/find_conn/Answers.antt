@@ -2,7 +2,7 @@
 use Rattle.std.proofs.Common.{sym, subst, arith}
 use Rattle.std.proofs.lemmas.Option.{slice_get-get_or}
 use Rattle.world_core.specs.Joined.{FoundConn}
-use Rattle.world_core.proofs.Finding.{found_conn, found_not, rank_within, rising_there}
+use Rattle.world_core.proofs.ConnectionFound.{found_conn, found_not, rank_within, rising_there}
 use Rattle.world_core.proofs.stations.Stations.find_conn.Goals as goal
 
 pub returns-in_err-index-clause-found : goal.returns-in_err-index-clause-found

@@ -1,7 +1,7 @@
 -- A name more at each turn.
 use Rattle.std.proofs.Common.{sym, subst}
 use Rattle.world_core.specs.Stepped.{AreWithin}
-use Rattle.world_core.proofs.Naming.{found_first, found_more, found_same, within_more}
+use Rattle.world_core.proofs.NamedPeers.{found_first, found_more, found_same, within_more}
 use Rattle.world_core.proofs.stations.Stations.find_each.Goals as goal
 
 pub loop-name-init : goal.loop-name-init

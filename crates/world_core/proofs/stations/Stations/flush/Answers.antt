@@ -2,8 +2,8 @@
 use Rattle.std.proofs.Common.{◌∙◌}
 use Rattle.world_core.specs.Steps.{begun_at}
 use Rattle.world_core.proofs.Results.{if_err, if_err_is}
-use Rattle.world_core.proofs.Stepping.{flush_failed_part, flush_failed_seal, flush_memory, flush_took, pushed}
-use Rattle.world_core.proofs.Stepping.{sealable_begun}
+use Rattle.world_core.proofs.TapeSteps.{flush_failed_part, flush_failed_seal, flush_memory, flush_took, pushed}
+use Rattle.world_core.proofs.TapeSteps.{sealable_begun}
 use Rattle.world_core.proofs.stations.Stations.flush.Goals as goal
 
 pub returns-in_err-outputs-clause-err : goal.returns-in_err-outputs-clause-err

@@ -3,9 +3,9 @@ use Rattle.std.proofs.Common.{List, map, refl, sym, ◌∙◌, subst}
 use Rattle.world_core.specs.Imports.{HasGood}
 use Rattle.world_core.specs.Importing.{good_of}
 use Rattle.world_core.specs.declared.imports.BacklogLine.{BacklogLine}
-use Rattle.world_core.proofs.Importing.{import_absent, import_failed, import_memory, import_not_closed, import_took}
+use Rattle.world_core.proofs.ImportCalls.{import_absent, import_failed, import_memory, import_not_closed, import_took}
 use Rattle.world_core.proofs.Results.{if_err, if_err_is}
-use Rattle.world_core.proofs.Stepping.{pushed, rank_same}
+use Rattle.world_core.proofs.TapeSteps.{pushed, rank_same}
 use Rattle.world_core.proofs.stations.Stations.import.Goals as goal
 
 pub returns-in_default-clause-err : goal.returns-in_default-clause-err

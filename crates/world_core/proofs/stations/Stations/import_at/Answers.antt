@@ -1,6 +1,6 @@
 -- The line at the peer is one event.
 use Rattle.std.proofs.Common.{arith, refl}
-use Rattle.world_core.proofs.Stationed.{did_import, failed_import}
+use Rattle.world_core.proofs.StationCalls.{did_import, failed_import}
 use Rattle.world_core.proofs.stations.Stations.import_at.Goals as goal
 
 pub returns-clause-ok : goal.returns-clause-ok

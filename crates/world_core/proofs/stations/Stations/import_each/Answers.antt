@@ -2,7 +2,7 @@
 use Rattle.std.proofs.Common.{◌∙◌, ◌+◌, ◌<◌, ℕ, List, drop, length, map, refl, sym, ap, subst, arith}
 use Rattle.world_core.specs.Imports.{Good}
 use Rattle.world_core.specs.Importing.{HasImported, good_of}
-use Rattle.world_core.proofs.Importing.{drop_end, drop_next, imported_more, imported_none, imported_not}
+use Rattle.world_core.proofs.ImportCalls.{drop_end, drop_next, imported_more, imported_none, imported_not}
 use Rattle.world_core.proofs.Results.{if_err_is}
 use Rattle.world_core.proofs.stations.Stations.import_each.Goals as goal
 

@@ -1,7 +1,7 @@
 -- Room for its note, where it makes one, and then the line.
 use Rattle.std.proofs.Common.{arith}
 use Rattle.world_core.specs.Importing.{good_of}
-use Rattle.world_core.proofs.Importing.{line_failed, line_no_room, line_took}
+use Rattle.world_core.proofs.ImportCalls.{line_failed, line_no_room, line_took}
 use Rattle.world_core.proofs.Results.{if_err_is}
 use Rattle.world_core.proofs.stations.Stations.import_line.Goals as goal
 

@@ -1,8 +1,8 @@
 -- What the line says decides.
 use Rattle.std.proofs.Common.{◌≡◌, ◌∙◌, ◌+◌, ◌<◌, ◌^◌, ap, refl, rules}
-use Rattle.world_core.proofs.Reading.{line_bad, line_failed, line_good, reads_bad}
+use Rattle.world_core.proofs.LineRead.{line_bad, line_failed, line_good, reads_bad}
 use Rattle.world_core.proofs.Results.{if_err_is}
-use Rattle.world_core.proofs.Stepping.{pushed}
+use Rattle.world_core.proofs.TapeSteps.{pushed}
 use Rattle.world_core.proofs.stations.Stations.line.Goals.{in-Ok+in_ok-peers-in-Ok, in-Err}
 use Rattle.world_core.proofs.stations.Stations.line.Goals as goal
 

@@ -1,7 +1,7 @@
 -- There is room, or the peer is flushed.
 use Rattle.std.proofs.Common.{arith}
-use Rattle.world_core.proofs.Importing.{made_none, made_room, unmade_room}
-use Rattle.world_core.proofs.Stationed.{one_there}
+use Rattle.world_core.proofs.ImportCalls.{made_none, made_room, unmade_room}
+use Rattle.world_core.proofs.StationCalls.{one_there}
 use Rattle.world_core.proofs.Results.{if_err_map, on_ok_map}
 use Rattle.world_core.proofs.stations.Stations.make_room.Goals as goal
 

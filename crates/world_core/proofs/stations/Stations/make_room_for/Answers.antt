@@ -1,7 +1,7 @@
 -- The line is passed over, or room is made for its note.
 use Rattle.std.proofs.Common.{◌<◌, arith}
-use Rattle.world_core.proofs.Importing.{mark_there, no_room_above, no_room_wanted, room_above}
-use Rattle.world_core.proofs.Stationed.{one_there}
+use Rattle.world_core.proofs.ImportCalls.{mark_there, no_room_above, no_room_wanted, room_above}
+use Rattle.world_core.proofs.StationCalls.{one_there}
 use Rattle.world_core.proofs.Results.{if_err_map, on_ok_map}
 use Rattle.world_core.proofs.stations.Stations.make_room_for.Goals as goal
 

@@ -1,8 +1,8 @@
 -- One rank more at each turn.
 use Rattle.std.proofs.Common.{◌≡◌, ◌∙◌, ℕ, length, vec_len, refl, sym, ap, subst, arith}
 use Rattle.world_core.specs.Stepped.{AreFound, AreWithin}
-use Rattle.world_core.proofs.Lining.{OwedSome, length_more, some_all, some_failed, some_more, some_none, split_end}
-use Rattle.world_core.proofs.Lining.{split_here, split_more}
+use Rattle.world_core.proofs.LineAtNamedPeers.{OwedSome, length_more, some_all, some_failed, some_more, some_none, split_end}
+use Rattle.world_core.proofs.LineAtNamedPeers.{split_here, split_more}
 use Rattle.world_core.proofs.Results.{if_err_is}
 use Rattle.world_core.proofs.stations.Stations.owe_each.Goals as goal
 

@@ -2,7 +2,7 @@ use Rattle.std.proofs.Common.{◌≡◌, ℕ, ◌+◌, ◌≤◌, ◌++◌, List
 use Rattle.world_core.specs.Past.{Past}
 use Rattle.world_core.specs.Stands.{Stands}
 use Rattle.world_core.specs.Stepped.{AreFound, AreWithin}
-use Rattle.world_core.proofs.Lining.{OwedSome}
+use Rattle.world_core.proofs.LineAtNamedPeers.{OwedSome}
 use Rattle.world_core.proofs.stations.Stations.owe_each.Given as goal
 
 -- the line was owed at the first of the places, and there is room for what is reported of the others

@@ -1,7 +1,7 @@
 -- The rank of the name among the peers.
 use Rattle.std.proofs.Common.{◌∙◌, refl, sym}
 use Rattle.world_core.proofs.Results.{if_err_is}
-use Rattle.world_core.proofs.Stepping.{part_absent, part_failed, part_took, rank_same}
+use Rattle.world_core.proofs.TapeSteps.{part_absent, part_failed, part_took, rank_same}
 use Rattle.world_core.proofs.stations.Stations.part.Goals as goal
 
 pub returns-in_default-clause-err : goal.returns-in_default-clause-err

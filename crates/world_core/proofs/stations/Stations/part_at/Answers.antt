@@ -1,6 +1,6 @@
 -- The peer's flush is one event.
 use Rattle.std.proofs.Common.{arith, refl}
-use Rattle.world_core.proofs.Stationed.{did_part, failed_part}
+use Rattle.world_core.proofs.StationCalls.{did_part, failed_part}
 use Rattle.world_core.proofs.stations.Stations.part_at.Goals as goal
 
 pub returns-clause-ok : goal.returns-clause-ok

@@ -2,8 +2,8 @@
 use Rattle.std.proofs.Common.{◌≡◌, ◌∙◌, ℕ, ◌<◌, length, arith, refl, subst}
 use Rattle.world_core.specs.Stands.{PeerStands}
 use Rattle.world_core.specs.Stepped.{PartedEach}
-use Rattle.world_core.proofs.Stepping.{parted_failed, parted_more, parted_none}
-use Rattle.world_core.proofs.Zips.{zip_length}
+use Rattle.world_core.proofs.TapeSteps.{parted_failed, parted_more, parted_none}
+use Rattle.world_core.proofs.RelatedLists.{zip_length}
 use Rattle.world_core.proofs.stations.Stations.part_each.Goals as goal
 
 pub loop-rank-init : goal.loop-rank-init

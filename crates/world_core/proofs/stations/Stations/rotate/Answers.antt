@@ -1,8 +1,8 @@
 -- The rank of the name among the peers, and what is reported.
 use Rattle.std.proofs.Common.{◌∙◌, refl, sym}
 use Rattle.world_core.proofs.Results.{if_err, if_err_is}
-use Rattle.world_core.proofs.Stepping.{rank_same, pushed, rotate_absent, rotate_failed, rotate_memory}
-use Rattle.world_core.proofs.Stepping.{rotate_said, rotate_took}
+use Rattle.world_core.proofs.TapeSteps.{rank_same, pushed, rotate_absent, rotate_failed, rotate_memory}
+use Rattle.world_core.proofs.TapeSteps.{rotate_said, rotate_took}
 use Rattle.world_core.proofs.stations.Stations.rotate.Goals as goal
 
 pub returns-in_default-clause-err : goal.returns-in_default-clause-err

@@ -1,6 +1,6 @@
 -- The rotation of the peer is one event.
 use Rattle.std.proofs.Common.{arith, refl}
-use Rattle.world_core.proofs.Stationed.{did_rotate, failed_rotate}
+use Rattle.world_core.proofs.StationCalls.{did_rotate, failed_rotate}
 use Rattle.world_core.proofs.stations.Stations.rotate_at.Goals as goal
 
 pub returns-clause-ok : goal.returns-clause-ok

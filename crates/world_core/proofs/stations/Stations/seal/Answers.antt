@@ -1,7 +1,7 @@
 -- The number, and the flush of the intake's tape.
 use Rattle.std.proofs.Common.{refl}
 use Rattle.world_core.proofs.Results.{if_err, if_err_is}
-use Rattle.world_core.proofs.Stepping.{pushed, seal_failed, seal_memory, seal_took, unready}
+use Rattle.world_core.proofs.TapeSteps.{pushed, seal_failed, seal_memory, seal_took, unready}
 use Rattle.world_core.proofs.stations.Stations.seal.Goals as goal
 
 pub returns-in_default-clause-err : goal.returns-in_default-clause-err

@@ -1,6 +1,6 @@
 -- Two events, one after the other.
 use Rattle.world_core.proofs.Results.{if_err_is, if_err_map, on_ok_map}
-use Rattle.world_core.proofs.Stepping.{seal_failed_first, seal_failed_second, sealed}
+use Rattle.world_core.proofs.TapeSteps.{seal_failed_first, seal_failed_second, sealed}
 use Rattle.world_core.proofs.stations.Stations.seal_number.Goals as goal
 
 pub returns-in_err-see-clause-err : goal.returns-in_err-see-clause-err

@@ -1,7 +1,7 @@
 -- Each peer tells whether it was flushed.
 use Rattle.std.proofs.Common.{◌∙◌, ap, sym}
 use Rattle.std.specs.List.{list_all}
-use Rattle.world_core.proofs.Begins.{each_parted, if_some, parted_each}
+use Rattle.world_core.proofs.NumberKept.{each_parted, if_some, parted_each}
 use Rattle.world_core.proofs.stations.Stations.sealable.Goals as goal
 
 pub returns-then-all_parted-clause-some : goal.returns-then-all_parted-clause-some

@@ -1,6 +1,6 @@
 -- The number is noted already, or now.
 use Rattle.std.proofs.Common.{refl, arith}
-use Rattle.world_core.proofs.Seeing.{did_see, did_see_old, failed_see}
+use Rattle.world_core.proofs.IntakeSees.{did_see, did_see_old, failed_see}
 use Rattle.world_core.proofs.stations.Stations.see.Goals as goal
 
 pub returns-then-number-mark-clause-ok : goal.returns-then-number-mark-clause-ok

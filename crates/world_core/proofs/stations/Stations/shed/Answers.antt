@@ -1,8 +1,8 @@
 -- The rank of the name among the peers, and what is reported.
 use Rattle.std.proofs.Common.{◌∙◌, refl, sym}
 use Rattle.world_core.proofs.Results.{if_err, if_err_is}
-use Rattle.world_core.proofs.Stepping.{rank_same, pushed, shed_absent, shed_failed, shed_memory, shed_said}
-use Rattle.world_core.proofs.Stepping.{shed_took}
+use Rattle.world_core.proofs.TapeSteps.{rank_same, pushed, shed_absent, shed_failed, shed_memory, shed_said}
+use Rattle.world_core.proofs.TapeSteps.{shed_took}
 use Rattle.world_core.proofs.stations.Stations.shed.Goals as goal
 
 pub returns-in_default-clause-err : goal.returns-in_default-clause-err

@@ -1,6 +1,6 @@
 -- The shedding of the peer is one event.
 use Rattle.std.proofs.Common.{arith, refl}
-use Rattle.world_core.proofs.Stationed.{did_shed, failed_shed}
+use Rattle.world_core.proofs.StationCalls.{did_shed, failed_shed}
 use Rattle.world_core.proofs.stations.Stations.shed_at.Goals as goal
 
 pub returns-clause-ok : goal.returns-clause-ok

@@ -1,6 +1,6 @@
 -- The flush of the peer is one event.
 use Rattle.std.proofs.Common.{arith, refl}
-use Rattle.world_core.proofs.Stationed.{did_spill, failed_spill}
+use Rattle.world_core.proofs.StationCalls.{did_spill, failed_spill}
 use Rattle.world_core.proofs.stations.Stations.spill_at.Goals as goal
 
 pub returns-clause-ok : goal.returns-clause-ok

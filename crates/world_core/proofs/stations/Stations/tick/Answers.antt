@@ -2,7 +2,7 @@
 use Rattle.std.proofs.Common.{◌≡◌, ◌∙◌, ℕ, length, arith, refl, subst}
 use Rattle.world_core.specs.Joined.{MadeOn, TicksSome}
 use Rattle.world_core.proofs.Results.{if_err_is}
-use Rattle.world_core.proofs.Ticking.{count_conns, ticks_more, ticks_none, ticks_not}
+use Rattle.world_core.proofs.ConnectionsTick.{count_conns, ticks_more, ticks_none, ticks_not}
 use Rattle.world_core.proofs.stations.Stations.tick.Goals as goal
 
 pub loop-index-init : goal.loop-index-init

@@ -1,8 +1,8 @@
 -- The connection is told the moment, and what follows it comes about in the world.
 use Rattle.std.proofs.Common.{◌∙◌, ap, arith, refl, sym, Some}
 use Rattle.std.proofs.lemmas.Option.{slice_get-get_or}
-use Rattle.world_core.proofs.Acting.{found_put, ticked_one, ticked_one_not}
-use Rattle.world_core.proofs.Finding.{found_conn, own_id, rank_within}
+use Rattle.world_core.proofs.ConnectionSteps.{found_put, ticked_one, ticked_one_not}
+use Rattle.world_core.proofs.ConnectionFound.{found_conn, own_id, rank_within}
 use Rattle.world_core.proofs.Results.{if_err_map, on_ok_map}
 use Rattle.world_core.proofs.stations.Stations.tick_at.Goals as goal
 

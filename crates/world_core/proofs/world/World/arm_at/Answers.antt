@@ -1,6 +1,6 @@
 -- A stop is armed in the place of any that was.
 use Rattle.std.proofs.Common.{refl}
-use Rattle.world_core.proofs.Placing.{armed_world}
+use Rattle.world_core.proofs.PeerRanks.{armed_world}
 use Rattle.world_core.proofs.world.World.arm_at.Goals as goal
 
 pub returns : goal.returns

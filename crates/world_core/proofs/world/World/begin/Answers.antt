@@ -1,6 +1,6 @@
 -- The stations keep the number.
 use Rattle.std.proofs.Common.{refl}
-use Rattle.world_core.proofs.Taking.{began}
+use Rattle.world_core.proofs.StepsOfWorlds.{began}
 use Rattle.world_core.proofs.world.World.begin.Goals as goal
 
 pub returns-clause-ok : goal.returns-clause-ok

@@ -3,7 +3,7 @@ use Rattle.std.proofs.Common.{refl, sym}
 use Rattle.world_core.specs.Exchange.{TakesBreak, FailsToBreak}
 use Rattle.world_core.specs.Joined.{RefusesAct}
 use Rattle.world_core.proofs.Results.{if_err_map, on_ok_map}
-use Rattle.world_core.proofs.Turning.{made_world, refused_world, running_of}
+use Rattle.world_core.proofs.StationsInWorld.{made_world, refused_world, running_of}
 use Rattle.world_core.proofs.world.World.break_off.Goals as goal
 
 pub returns-clause-ok : goal.returns-clause-ok

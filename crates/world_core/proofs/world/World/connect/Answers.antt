@@ -2,7 +2,7 @@
 use Rattle.std.proofs.Common.{refl, sym}
 use Rattle.world_core.specs.Exchange.{RefusesConnect, TakesConnect}
 use Rattle.world_core.proofs.Results.{if_err}
-use Rattle.world_core.proofs.Turning.{made_world, refused_as, running_of}
+use Rattle.world_core.proofs.StationsInWorld.{made_world, refused_as, running_of}
 use Rattle.world_core.proofs.world.World.connect.Goals as goal
 
 pub returns-clause-ok : goal.returns-clause-ok

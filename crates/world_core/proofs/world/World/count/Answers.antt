@@ -1,6 +1,6 @@
 -- There are as many peers as what they stand for has.
 use Rattle.std.proofs.Common.{◌≡◌, length, vec_len, sym, ap, ◌∙◌, arith}
-use Rattle.world_core.proofs.KeptRuns.{count_at, count_stage}
+use Rattle.world_core.proofs.NamesOverRuns.{count_at, count_stage}
 use Rattle.world_core.proofs.world.World.count.Goals as goal
 
 pub returns-in-Running : goal.returns-in-Running

@@ -3,8 +3,8 @@ use Rattle.std.proofs.Common.{◌≡◌, List, length, map, sym, ap, ◌∙◌, 
 use Rattle.world_core.specs.Stands.{counts_in}
 use Rattle.world_core.specs.Turn.{names_at}
 use Rattle.world_core.specs.declared.report.PeerTotals.{PeerTotals}
-use Rattle.world_core.proofs.Counting.{counted, counts_are, written_back}
-use Rattle.world_core.proofs.KeptRuns.{names_stage}
+use Rattle.world_core.proofs.PeerCounts.{counted, counts_are, written_back}
+use Rattle.world_core.proofs.NamesOverRuns.{names_stage}
 use Rattle.world_core.proofs.world.World.counts.Goals as goal
 
 pub returns-in-Running : goal.returns-in-Running

@@ -2,9 +2,9 @@
 use Rattle.std.proofs.Common.{refl}
 use Rattle.world_core.specs.Steps.{TakesFlush}
 use Rattle.world_core.specs.declared.step.Step.TheVariants.{Flush}
-use Rattle.world_core.proofs.Steady.{steady}
-use Rattle.world_core.proofs.Taking.{flush_was_halted, took_tapes}
-use Rattle.world_core.proofs.Walking.{flush_keeps}
+use Rattle.world_core.proofs.HeldOverEvents.{steady}
+use Rattle.world_core.proofs.StepsOfWorlds.{flush_was_halted, took_tapes}
+use Rattle.world_core.proofs.WalkOverTapes.{flush_keeps}
 use Rattle.world_core.proofs.world.World.flush.Goals as goal
 
 pub returns-in-Ok-clause-ok : goal.returns-in-Ok-clause-ok

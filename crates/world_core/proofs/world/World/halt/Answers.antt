@@ -1,6 +1,6 @@
 -- All stations stop.
 use Rattle.std.proofs.Common.{refl, sym, ◌∙◌}
-use Rattle.world_core.proofs.Stopping.{halted_on}
+use Rattle.world_core.proofs.WorldStopped.{halted_on}
 use Rattle.world_core.proofs.world.World.halt.Goals as goal
 
 pub returns-clause-ok : goal.returns-clause-ok

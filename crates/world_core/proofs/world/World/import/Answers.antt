@@ -6,10 +6,10 @@ use Rattle.world_core.specs.Stands.{WorldStands}
 use Rattle.world_core.specs.Steps.{RefusesImport, TakesImport}
 use Rattle.world_core.specs.declared.world.Stage.TheVariants.{Running}
 use Rattle.world_core.specs.declared.step.Step.TheVariants.{Import}
-use Rattle.world_core.proofs.Steady.{steady}
-use Rattle.world_core.proofs.Stepping.{rank_same}
-use Rattle.world_core.proofs.Taking.{import_fails, took_tapes, was_halted}
-use Rattle.world_core.proofs.Walking.{import_keeps, import_refused}
+use Rattle.world_core.proofs.HeldOverEvents.{steady}
+use Rattle.world_core.proofs.TapeSteps.{rank_same}
+use Rattle.world_core.proofs.StepsOfWorlds.{import_fails, took_tapes, was_halted}
+use Rattle.world_core.proofs.WalkOverTapes.{import_keeps, import_refused}
 use Rattle.world_core.proofs.world.World.import.Goals as goal
 
 pub returns-in-Ok-clause-ok : goal.returns-in-Ok-clause-ok

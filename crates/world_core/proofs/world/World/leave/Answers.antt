@@ -4,7 +4,7 @@ use Rattle.std.specs.List.{AllZip}
 use Rattle.std.specs.declared.alloc.Global.{Global}
 use Rattle.world_core.specs.Halting.{IsLeftOf, with_disks}
 use Rattle.world_core.specs.declared.peer.StoppedPeer.{StoppedPeer}
-use Rattle.world_core.proofs.Stopping.{stands_left}
+use Rattle.world_core.proofs.WorldStopped.{stands_left}
 use Rattle.world_core.proofs.world.World.leave.Goals as goal
 
 pub returns-clause-ok : goal.returns-clause-ok

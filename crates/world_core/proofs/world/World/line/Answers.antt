@@ -3,10 +3,10 @@ use Rattle.std.proofs.Common.{List, ℕ, refl, subst}
 use Rattle.world_core.specs.Steps.{RefusesLine, TakesLine}
 use Rattle.world_core.specs.Stepped.{Took as TookTapes, TookNot}
 use Rattle.world_core.specs.declared.step.Step.TheVariants.{Line}
-use Rattle.world_core.proofs.Steady.{steady}
+use Rattle.world_core.proofs.HeldOverEvents.{steady}
 use Rattle.world_core.proofs.Results.{if_err_is}
-use Rattle.world_core.proofs.Taking.{took_not, took_tapes}
-use Rattle.world_core.proofs.Walking.{line_keeps, line_refused}
+use Rattle.world_core.proofs.StepsOfWorlds.{took_not, took_tapes}
+use Rattle.world_core.proofs.WalkOverTapes.{line_keeps, line_refused}
 use Rattle.world_core.proofs.world.World.line.Goals as goal
 
 pub returns-in_err-out-clause-err : goal.returns-in_err-out-clause-err

@@ -1,7 +1,7 @@
 -- The tape of each peer is empty.
 use Rattle.std.proofs.Common.{subst}
 use Rattle.world_core.specs.Given.{RefusesTapes}
-use Rattle.world_core.proofs.Making.{begins, make_fault, same_names}
+use Rattle.world_core.proofs.WorldMade.{begins, make_fault, same_names}
 use Rattle.world_core.proofs.world.World.make.Goals as goal
 
 pub with_tapes-requires : goal.with_tapes-requires

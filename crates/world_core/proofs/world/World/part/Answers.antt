@@ -5,10 +5,10 @@ use Rattle.world_core.specs.Stands.{WorldStands}
 use Rattle.world_core.specs.Steps.{RefusesPart, TakesPart}
 use Rattle.world_core.specs.declared.world.Stage.TheVariants.{Running}
 use Rattle.world_core.specs.declared.step.Step.TheVariants.{Part}
-use Rattle.world_core.proofs.Steady.{steady}
-use Rattle.world_core.proofs.Stepping.{rank_same}
-use Rattle.world_core.proofs.Taking.{part_fails, took_tapes, was_halted}
-use Rattle.world_core.proofs.Walking.{part_keeps, part_refused}
+use Rattle.world_core.proofs.HeldOverEvents.{steady}
+use Rattle.world_core.proofs.TapeSteps.{rank_same}
+use Rattle.world_core.proofs.StepsOfWorlds.{part_fails, took_tapes, was_halted}
+use Rattle.world_core.proofs.WalkOverTapes.{part_keeps, part_refused}
 use Rattle.world_core.proofs.world.World.part.Goals as goal
 
 pub returns-in-Ok-clause-ok : goal.returns-in-Ok-clause-ok

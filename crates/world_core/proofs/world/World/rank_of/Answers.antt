@@ -2,8 +2,8 @@
 use Rattle.std.proofs.Common.{List, ℕ, map, sym, ap, ◌∙◌}
 use Rattle.world_core.specs.Turn.{names_at}
 use Rattle.world_core.specs.declared.peer.StoppedPeer.{StoppedPeer}
-use Rattle.world_core.proofs.KeptRuns.{names_stage}
-use Rattle.world_core.proofs.Placing.{open_rank, past_rank, rank_in, stopped_rank}
+use Rattle.world_core.proofs.NamesOverRuns.{names_stage}
+use Rattle.world_core.proofs.PeerRanks.{open_rank, past_rank, rank_in, stopped_rank}
 use Rattle.world_core.proofs.world.World.rank_of.Goals as goal
 
 pub returns-in-Running : goal.returns-in-Running

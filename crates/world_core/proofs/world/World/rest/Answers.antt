@@ -1,8 +1,8 @@
 -- It runs, and stops.
 use Rattle.std.proofs.Common.{map, refl, ap, ◌∙◌, inl}
 use Rattle.world_core.specs.Output.{said_of}
-use Rattle.world_core.proofs.Reopening.{runs_stage}
-use Rattle.world_core.proofs.Stepping.{pushed}
+use Rattle.world_core.proofs.WorldReopened.{runs_stage}
+use Rattle.world_core.proofs.TapeSteps.{pushed}
 use Rattle.world_core.proofs.world.World.rest.Goals as goal
 
 pub returns-clause-ok : goal.returns-clause-ok

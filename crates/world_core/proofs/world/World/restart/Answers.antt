@@ -1,7 +1,7 @@
 -- The stations run on, or what stopped stands for what the openings left.
 use Rattle.std.proofs.Common.{refl, sym, ◌∙◌}
 use Rattle.world_core.specs.declared.step.Step.TheVariants.{Restart}
-use Rattle.world_core.proofs.Reopening.{awaits, closed_again, no_room, still_runs, stop_there}
+use Rattle.world_core.proofs.WorldReopened.{awaits, closed_again, no_room, still_runs, stop_there}
 use Rattle.world_core.proofs.Results.{if_err}
 use Rattle.world_core.proofs.world.World.restart.Goals as goal
 

@@ -5,10 +5,10 @@ use Rattle.world_core.specs.Stands.{WorldStands}
 use Rattle.world_core.specs.Steps.{RefusesRotation, TakesRotate}
 use Rattle.world_core.specs.declared.world.Stage.TheVariants.{Running}
 use Rattle.world_core.specs.declared.step.Step.TheVariants.{Rotate}
-use Rattle.world_core.proofs.Steady.{steady}
-use Rattle.world_core.proofs.Stepping.{rank_same}
-use Rattle.world_core.proofs.Taking.{rotate_fails, took_tapes, was_halted}
-use Rattle.world_core.proofs.Walking.{rotate_keeps, rotate_refused}
+use Rattle.world_core.proofs.HeldOverEvents.{steady}
+use Rattle.world_core.proofs.TapeSteps.{rank_same}
+use Rattle.world_core.proofs.StepsOfWorlds.{rotate_fails, took_tapes, was_halted}
+use Rattle.world_core.proofs.WalkOverTapes.{rotate_keeps, rotate_refused}
 use Rattle.world_core.proofs.world.World.rotate.Goals as goal
 
 pub returns-in-Ok-clause-ok : goal.returns-in-Ok-clause-ok

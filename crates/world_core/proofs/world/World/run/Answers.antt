@@ -5,7 +5,7 @@ use Rattle.std.proofs.lemmas.Option.{slice_get_read}
 use Rattle.world_core.specs.Stands.{Ran}
 use Rattle.world_core.specs.Output.{said_by}
 use Rattle.world_core.specs.declared.step.Step.{Step}
-use Rattle.world_core.proofs.KeptRuns.{names_runs, names_stage}
+use Rattle.world_core.proofs.NamesOverRuns.{names_runs, names_stage}
 use Rattle.world_core.proofs.Runs.{ran_more, ran_none, was_refused}
 use Rattle.world_core.proofs.world.World.run.Goals as goal
 

@@ -1,7 +1,7 @@
 -- The stations run on, or stop again.
 use Rattle.std.proofs.Common.{map, refl, ap, ◌∙◌}
 use Rattle.world_core.specs.Stepped.{opened_said}
-use Rattle.world_core.proofs.Reopening.{runs_again, stops_again}
+use Rattle.world_core.proofs.WorldReopened.{runs_again, stops_again}
 use Rattle.world_core.proofs.world.World.run_on.Goals as goal
 
 pub returns-in_default-clause-err : goal.returns-in_default-clause-err

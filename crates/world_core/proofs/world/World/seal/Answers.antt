@@ -2,9 +2,9 @@
 use Rattle.std.proofs.Common.{None, refl}
 use Rattle.world_core.specs.Steps.{RefusesSeal, TakesSeal}
 use Rattle.world_core.specs.declared.step.Step.TheVariants.{Seal}
-use Rattle.world_core.proofs.Steady.{steady}
-use Rattle.world_core.proofs.Taking.{seal_fails, took_tapes, was_halted}
-use Rattle.world_core.proofs.Walking.{seal_keeps, seal_refused}
+use Rattle.world_core.proofs.HeldOverEvents.{steady}
+use Rattle.world_core.proofs.StepsOfWorlds.{seal_fails, took_tapes, was_halted}
+use Rattle.world_core.proofs.WalkOverTapes.{seal_keeps, seal_refused}
 use Rattle.world_core.proofs.world.World.seal.Goals as goal
 
 pub returns-in-Ok-clause-ok : goal.returns-in-Ok-clause-ok

@@ -2,10 +2,10 @@
 use Rattle.std.proofs.Common.{refl}
 use Rattle.world_core.specs.Steps.{RefusesShed, TakesShed}
 use Rattle.world_core.specs.declared.step.Step.TheVariants.{Shed}
-use Rattle.world_core.proofs.Steady.{steady}
+use Rattle.world_core.proofs.HeldOverEvents.{steady}
 use Rattle.world_core.proofs.Results.{if_err_is}
-use Rattle.world_core.proofs.Taking.{took_not, took_tapes}
-use Rattle.world_core.proofs.Walking.{shed_keeps, shed_refused}
+use Rattle.world_core.proofs.StepsOfWorlds.{took_not, took_tapes}
+use Rattle.world_core.proofs.WalkOverTapes.{shed_keeps, shed_refused}
 use Rattle.world_core.proofs.world.World.shed.Goals as goal
 
 pub returns-in_err-out-clause-err : goal.returns-in_err-out-clause-err

@@ -3,7 +3,7 @@ use Rattle.std.proofs.Common.{List, sym, subst, arith}
 use Rattle.world_core.specs.Halts.{TakesStop}
 use Rattle.world_core.specs.Turn.{Made}
 use Rattle.world_core.specs.declared.output.Output.{Output}
-use Rattle.world_core.proofs.Placing.{rested, rested_not}
+use Rattle.world_core.proofs.PeerRanks.{rested, rested_not}
 use Rattle.world_core.proofs.Results.{if_err_map, on_ok_map}
 use Rattle.world_core.proofs.world.World.stop.Goals as goal
 

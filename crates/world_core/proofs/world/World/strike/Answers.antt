@@ -3,8 +3,8 @@ use Rattle.std.proofs.Common.{map, refl, ap, ◌∙◌, inr}
 use Rattle.world_core.specs.Halts.{AtRest, halted}
 use Rattle.world_core.specs.Output.{said_of}
 use Rattle.world_core.proofs.Results.{if_err}
-use Rattle.world_core.proofs.Stepping.{pushed}
-use Rattle.world_core.proofs.Stopping.{struck_stands}
+use Rattle.world_core.proofs.TapeSteps.{pushed}
+use Rattle.world_core.proofs.WorldStopped.{struck_stands}
 use Rattle.world_core.proofs.world.World.strike.Goals as goal
 
 pub returns-in_err-leave-clause-err : goal.returns-in_err-leave-clause-err

@@ -3,7 +3,7 @@ use Rattle.std.proofs.Common.{List, ℕ, subst}
 use Rattle.world_core.specs.Exchange.{FailsToRead, TakesBytes}
 use Rattle.world_core.specs.Runs.{RefusesConn}
 use Rattle.world_core.proofs.Results.{if_err_map, on_ok_map}
-use Rattle.world_core.proofs.Taking.{as_step, as_step_not, made_took, refused_not}
+use Rattle.world_core.proofs.StepsOfWorlds.{as_step, as_step_not, made_took, refused_not}
 use Rattle.world_core.proofs.world.World.take.Goals as goal
 
 pub returns-in-Connect-clause-ok : goal.returns-in-Connect-clause-ok

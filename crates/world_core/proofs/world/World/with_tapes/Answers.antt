@@ -3,7 +3,7 @@ use Rattle.std.proofs.Common.{refl, rules}
 use Rattle.std.proofs.lemmas.Cmp.{nat_list_cmp_total}
 use Rattle.std.proofs.lemmas.List.Sorted.{answers_always, ranks_by}
 use Rattle.world_core.specs.Given.{GivenPeer}
-use Rattle.world_core.proofs.Making.{begins_from, refuses_tapes, sorted_rise}
+use Rattle.world_core.proofs.WorldMade.{begins_from, refuses_tapes, sorted_rise}
 use Rattle.world_core.proofs.Results.{if_err_is}
 use Rattle.world_core.proofs.world.World.with_tapes.Goals as goal
 

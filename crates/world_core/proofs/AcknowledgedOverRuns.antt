@@ -1,0 +1,52 @@
+-- What was acknowledged stays so over any steps, taken or refused.
+use Rattle.std.proofs.Common.{◌≡◌, ℕ, false, Some, List, refl}
+use Rattle.std.specs.List.{slice_get}
+use Rattle.world_core.specs.Past.{Past, PeerPast, TapePast, with_peer, with_tape}
+use Rattle.world_core.specs.Events.{AllDo, Event}
+use Rattle.world_core.specs.Halts.{AtRest, ByChoice, Manner, left, left_peer}
+use Rattle.world_core.specs.Keeping.{PeerStays, PeersStay}
+use Rattle.world_core.specs.Laws.{AllStayAcknowledged, OverRuns}
+use Rattle.world_core.proofs.AcknowledgedOverEvents.{event_stays, one_changed, stay_same, stay_then, tape_same}
+use Rattle.world_core.proofs.WalkOverSteps.{comes_all, events_all}
+use Rattle.world_core.proofs.WalkOverTapes.{Keeper}
+use Rattle.world_core.proofs.RelatedLists.{zip_made}
+
+-- ---- another tape with the same notes
+
+at_same : (was now : Past) (rank : ℕ) (peer : PeerPast) (tape : TapePast) → slice_get was.peers rank ≡ Some peer
+    → now ≡ with_peer was rank (with_tape peer tape) → tape.history ≡ peer.tape.history → PeersStay was now
+at_same was now rank peer tape here changed same =
+    one_changed was now rank peer (with_tape peer tape) here changed (refl, tape_same peer.tape tape same)
+
+-- ---- a stop, and a number that is kept
+
+left_stays : (manner : Manner) (peer : PeerPast) → PeerStays peer (left_peer manner peer)
+left_stays AtRest peer = (refl, tape_same peer.tape _ refl)
+left_stays (ByChoice choice) peer = (refl, tape_same peer.tape _ refl)
+
+left_all : (manner : Manner) (past : Past) → PeersStay past (left manner past)
+left_all manner past = zip_made PeerStays (left_peer manner) (left_stays manner) past.peers
+
+-- ---- any events and any steps
+
+abbrev lasting : Keeper
+lasting = record {
+  ON = λ event. Unit {0};
+  on_tape = λ event on. tt;
+  KEEPS = PeersStay;
+  alike = stay_same;
+  joined = stay_then;
+  at_same = at_same;
+  event_does = λ event on. event_stays event;
+  keeps_begun = λ past.
+      zip_made PeerStays (λ (peer : PeerPast). record peer { parted = false })
+      (λ peer. (refl, tape_same peer.tape peer.tape refl)) past.peers;
+}
+
+pub events_stay : (begun later : Past) (events : List Event) → AllDo begun events later → PeersStay begun later
+events_stay begun later events does = events_all lasting (λ event. tt) left_all begun later events does
+
+pub all_stay : OverRuns AllStayAcknowledged
+all_stay = λ begun later steps lines comes. record {
+  peers = comes_all lasting (λ event. tt) left_all begun steps lines later comes;
+}

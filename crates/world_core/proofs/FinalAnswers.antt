@@ -1,0 +1,1011 @@
+-- Each final answer among a peer's notes has a verdict, to which a connection has come as the steps went on.
+use Rattle.std.proofs.Common.{◌≡◌, ◌⊎◌, ℕ, zero, suc, ◌+◌, Bool, true, false, cond, Option, None}
+use Rattle.std.proofs.Common.{Some, List, [], ◌∷◌, ◌++◌, drop, map, refl, sym, ap, ◌∙◌, subst, inl, inr}
+use Rattle.std.proofs.Common.{arith, append_assoc, append-nil}
+use Rattle.std.specs.Prelude.{◌==◌, Contains, if◌then◌else◌, option_map}
+use Rattle.std.proofs.Math.ListN.{set}
+use Rattle.std.proofs.lemmas.Bool.{cases_eq, eq-eqb, eqb-true}
+use Rattle.std.proofs.lemmas.Option.{slice_get-map}
+use Rattle.std.specs.List.{AllByRecursion, slice_get}
+use Rattle.std.specs.List.Sorted.{IsStrictlyIncreasing}
+use Rattle.ledger_core.specs.State.{Owing}
+use Rattle.ledger_core.specs.declared.note.FinalCode.{FinalCode}
+use Rattle.ledger_core.specs.declared.note.Note.{Note}
+use Rattle.ledger_core.specs.declared.note.Note.TheVariants.{Drop, Final, Owe}
+use Rattle.conn_core.specs.Commands.{debt_in}
+use Rattle.conn_core.specs.History.{End, Event as Happening, Tick as Ticked, accepted, ends, outcomes}
+use Rattle.conn_core.specs.Stands.{Arises}
+use Rattle.conn_core.specs.declared.options.Options.{Options}
+use Rattle.conn_core.specs.declared.outcome.Outcome.{Outcome}
+use Rattle.conn_core.specs.declared.outcome.Outcome.TheVariants.{Back, Deferred, Final as FinalOutcome, Lost}
+use Rattle.conn_core.specs.declared.verdict.Verdict.{Verdict}
+use Rattle.conn_laws.specs.Laws.{AllAreTheirOwn, AllRight, IsRightAt}
+use Rattle.feed_conf.specs.declared.conf.PeerConf.{PeerConf}
+use Rattle.peer_queue.specs.DebtPlace.{Ready as ReadyPlace, moved}
+use Rattle.peer_queue.specs.Settled.{deferred_as}
+use Rattle.peer_queue.specs.Shed.{dropped}
+use Rattle.peer_queue.specs.declared.limits.Owed.{Owed}
+use Rattle.peer_queue.specs.declared.limits.Owed.TheVariants.{Already, New}
+use Rattle.peer_queue.specs.declared.settled.Settled.{Settled}
+use Rattle.peer_queue.specs.declared.settled.Settled.TheVariants.{Answered, Dropped, Later, Ready}
+use Rattle.recovery.specs.Notes.{History}
+use Rattle.world_core.specs.Past.{ConnPast, Life, Past, PeerPast, TapePast, conn_at, limits_of, options_of, with_conn}
+use Rattle.world_core.specs.Past.{with_past, with_peer, with_places, with_tape}
+use Rattle.world_core.specs.Events.{Acknowledges, AllDo, Claims, Closes, Does, Event, Imports, IsCandidate, Opens}
+use Rattle.world_core.specs.Events.{OpensIntake, Owes, Parts, Returns, Rotates, Sees, Settles, Sheds, Spills}
+use Rattle.world_core.specs.Events.{claimed_peer, closing, import_key, imported_as, opened_peer, owed_as, owing_as}
+use Rattle.world_core.specs.Events.{parted, settled, settled_as, shed_peer}
+use Rattle.world_core.specs.Tapes.{noted_at}
+use Rattle.world_core.specs.Exchange.{HandsOver, IsConn, TicksEach, at_moment, fresh_conn, settle_events, ticked}
+use Rattle.world_core.specs.Exchange.{unsettled, with_transcript}
+use Rattle.world_core.specs.Exchange.HandsOver.{None_there, Taken_over, Has_no_room, Is_shut}
+use Rattle.world_core.specs.Exchange.TicksEach.{Start as NoneTicked, Next as OneTicked}
+use Rattle.world_core.specs.Halts.{AtRest, ByChoice, Manner, left, left_peer}
+use Rattle.world_core.specs.Laws.{AllFinalsAreRight, Comes, HasVerdict, Passes, Rules, WasAccepted, WasTaken}
+use Rattle.world_core.specs.Laws.Comes.{No_step, Step_taken, Step_refused}
+use Rattle.world_core.specs.Runs.{RefusesStep, Takes}
+use Rattle.world_core.specs.Safe.{IsSafe}
+use Rattle.world_core.specs.Sound.{IsSoundConn, IsSoundLife}
+use Rattle.world_core.specs.Output.{Said}
+use Rattle.world_core.specs.declared.fault.Fault.{Fault}
+use Rattle.world_core.specs.declared.step.Step.{Step}
+use Rattle.world_core.specs.declared.step.Step.TheVariants.{Hand, Tick}
+use Rattle.world_core.specs.declared.output.Handed.{Handed as Handover}
+use Rattle.world_core.proofs.ConnectionMade.{at_last}
+use Rattle.world_core.proofs.TranscriptsGrow.{Grew, accepted_offered, ends_grew, grew_outside, grew_same, grew_then}
+use Rattle.world_core.proofs.HeldNumbers.{contains_first, contains_more}
+use Rattle.world_core.proofs.PairInWorld.{conn_there, put_other}
+use Rattle.world_core.proofs.PeerInWorld.{get_apart, get_set}
+use Rattle.world_core.proofs.MarksAndNotes.{prefix_all}
+use Rattle.world_core.proofs.RecoveredNotes.{comes_safe, comes_sound, contains_taken}
+use Rattle.world_core.proofs.WalkOverSteps.{Passage, WentOn, events_all, refuses_make, takes_make}
+use Rattle.world_core.proofs.WalkOverTapes.{Keeper, OnTape, events_keep}
+
+once : {A : Type 0} (x y : A) → Some x ≡ Some y → x ≡ y
+once x y same = cc
+
+-- what a list of elements that a property holds of contains
+all_contained : {A : Type 0} (P : A → Type 0) (xs : List A) (x : A) → AllByRecursion P xs → Contains xs x → P x
+all_contained P [] x all (k, below, is) = absurd (omega (arith, below))
+all_contained P (y ∷ xs) x all (zero, below, is) = subst P is all.0
+all_contained P (y ∷ xs) x all (suc k, below, is) = all_contained P xs x all.1 (k, omega (arith, below), is)
+
+contains_either : {A : Type 0} (xs ys : List A) (x : A) → Contains (xs ++ ys) x → Contains xs x ⊎ Contains ys x
+contains_either [] ys x has = inr has
+contains_either (y ∷ xs) ys x (zero, below, is) = inl (zero, omega arith, is)
+contains_either (y ∷ xs) ys x (suc k, below, is) = elim (contains_either xs ys x (k, omega (arith, below), is)) [
+  | inl prefix ↦ inl (contains_more xs y x prefix)
+  | inr behind ↦ inr behind
+]
+
+contains_one : {A : Type 0} (y x : A) → Contains (y ∷ []) x → y ≡ x
+contains_one y x (zero, below, is) = is
+contains_one y x (suc k, below, is) = absurd (omega (arith, below))
+
+get_map : {A B : Type 0} (f : A → B) (xs : List A) (i : ℕ) (y : B) → slice_get (map f xs) i ≡ Some y
+    → (x : A) × (slice_get xs i ≡ Some x) × (f x ≡ y)
+get_map f [] i y is = let never : None ≡ Some y = is in cc
+get_map f (x ∷ xs) zero y is = (x, refl, once (f x) y is)
+get_map f (x ∷ xs) (suc i) y is = get_map f xs i y is
+
+no_final : (note : Note) (number : ℕ) (code : FinalCode) → (note ≡ Final number code → ⊥)
+    → Contains (note ∷ []) (Final number code) → ⊥
+no_final note number code apart has = apart (contains_one note (Final number code) has)
+
+no_drops : (numbers : List ℕ) (number : ℕ) (code : FinalCode) → Contains (dropped numbers) (Final number code)
+    → ⊥
+no_drops [] number code (k, below, is) = absurd (omega (arith, below))
+no_drops (n ∷ numbers) number code (zero, below, is) = absurd cc
+no_drops (n ∷ numbers) number code (suc k, below, is) = no_drops numbers number code (k, omega (arith, below), is)
+
+notes_of : (one other : TapePast) → one ≡ other → one.history.notes ≡ other.history.notes
+notes_of one other same = ap (λ (t : TapePast). t.history.notes) same
+
+-- ---- peers
+
+-- what is said of a final answer: at which rank, of which number, which code
+abbrev Says : Type 1
+Says = ℕ → ℕ → FinalCode → Type 0
+
+-- a peer had these settings, and each final answer among its notes was there before, or has what is said of it
+abbrev HasRight : Says → ℕ → PeerPast → PeerPast → Type 0
+HasRight V rank was now = (now.conf ≡ was.conf)
+    × ((number : ℕ) (code : FinalCode) → Contains now.tape.history.notes (Final number code)
+    → Contains was.tape.history.notes (Final number code) ⊎ V rank number code)
+
+-- of one of the peers at this rank
+pub record PeerRight (V : Says) (was : List PeerPast) (rank : ℕ) (now : PeerPast) : Type 0 where
+  pub before : PeerPast
+  pub here : slice_get was rank ≡ Some before
+  pub right : HasRight V rank before now
+
+-- of all of them, and none is lost
+pub record AllRightly (V : Says) (was now : List PeerPast) : Type 0 where
+  pub fore : (rank : ℕ) (peer : PeerPast) → slice_get was rank ≡ Some peer
+      → (later : PeerPast) × (slice_get now rank ≡ Some later) × (later.conf ≡ peer.conf)
+  pub back : (rank : ℕ) (peer : PeerPast) → slice_get now rank ≡ Some peer → PeerRight V was rank peer
+
+-- nothing is said
+abbrev Anyhow : Says
+Anyhow rank number code = Unit {0}
+
+right_weaker : (V W : Says) → ((rank number : ℕ) (code : FinalCode) → V rank number code → W rank number code)
+    → (was now : List PeerPast) → AllRightly V was now → AllRightly W was now
+right_weaker V W weaker was now all = record {
+  fore = all.fore;
+  back = λ rank peer here.
+      let one = all.back rank peer here in
+      record {
+        before = one.before;
+        here = one.here;
+        right = (
+          one.right.0,
+          λ number code has. elim (one.right.1 number code has) [
+            | inl first ↦ inl first
+            | inr says ↦ inr (weaker rank number code says)
+          ],
+        );
+      };
+}
+
+module _ (V : Says) where
+  abbrev AllRightSince : Past → Past → Type 0
+  AllRightSince was now = AllRightly V was.peers now.peers
+
+  right_notes : (rank : ℕ) (was now : PeerPast) → now.conf ≡ was.conf
+      → now.tape.history.notes ≡ was.tape.history.notes
+      → HasRight V rank was now
+  right_notes rank was now conf same =
+      (conf, λ number code has. inl (subst (λ (notes : List Note). Contains notes (Final number code)) same has))
+
+  right_more : (rank : ℕ) (was now : PeerPast) (more : List Note) → now.conf ≡ was.conf
+      → now.tape.history.notes ≡ was.tape.history.notes ++ more
+      → ((number : ℕ) (code : FinalCode) → Contains more (Final number code) → V rank number code)
+      → HasRight V rank was now
+  right_more rank was now more conf is each = (
+    conf,
+    λ number code has. elim (contains_either was.tape.history.notes more (Final number code)
+        (subst (λ (notes : List Note). Contains notes (Final number code)) is has)) [
+          | inl prefix ↦ inl prefix
+          | inr behind ↦ inr (each number code behind)
+        ],
+  )
+
+  right_same : (rank : ℕ) (peer : PeerPast) → HasRight V rank peer peer
+  right_same rank peer = right_notes rank peer peer refl refl
+
+  all_same : (peers : List PeerPast) → AllRightly V peers peers
+  all_same peers = record {
+    fore = λ rank peer here. (peer, here, refl);
+    back = λ rank peer here. record { before = peer; here = here; right = right_same rank peer };
+  }
+
+  right_then : (rank : ℕ) (was mid now : PeerPast) → HasRight V rank was mid → HasRight V rank mid now
+      → HasRight V rank was now
+  right_then rank was mid now one other = (
+    other.0 ∙ one.0,
+    λ number code has. elim (other.1 number code has) [
+      | inl before ↦ one.1 number code before
+      | inr says ↦ inr says
+    ],
+  )
+
+  all_then : (was mid now : List PeerPast) → AllRightly V was mid → AllRightly V mid now → AllRightly V was now
+  all_then was mid now one other = record {
+    fore = λ rank peer here.
+        let first = one.fore rank peer here in
+        let second = other.fore rank first.0 first.1 in
+        (second.0, second.1, second.2 ∙ first.2);
+    back = λ rank peer here.
+        let second = other.back rank peer here in
+        let first = one.back rank second.before second.here in
+        record {
+          before = first.before;
+          here = first.here;
+          right = right_then rank first.before second.before peer first.right second.right;
+        };
+  }
+
+  put_back : (peers : List PeerPast) (rank at : ℕ) (was now peer : PeerPast) → slice_get peers rank ≡ Some was
+      → HasRight V rank was now → at ≡ rank → slice_get (set peers rank now) at ≡ Some peer
+      → PeerRight V peers at peer
+  put_back peers rank at was now peer here right same there =
+      let own : now ≡ peer = once now peer (sym (get_set peers rank was now here)
+      ∙ (ap (slice_get (set peers rank now)) (sym same) ∙ there)) in
+      record {
+        before = was;
+        here = ap (slice_get peers) same ∙ here;
+        right = subst (λ (p : PeerPast). HasRight V at was p) own
+            (subst (λ (n : ℕ). HasRight V n was now) (sym same) right);
+      }
+
+  put_fore : (peers : List PeerPast) (rank at : ℕ) (was now peer : PeerPast) → slice_get peers rank ≡ Some was
+      → now.conf ≡ was.conf → at ≡ rank → slice_get peers at ≡ Some peer
+      → (later : PeerPast) × (slice_get (set peers rank now) at ≡ Some later) × (later.conf ≡ peer.conf)
+  put_fore peers rank at was now peer here conf same there =
+      let own : was ≡ peer = once was peer (sym here ∙ (ap (slice_get peers) (sym same) ∙ there)) in (
+        now,
+        ap (slice_get (set peers rank now)) same ∙ get_set peers rank was now here,
+        conf ∙ ap (λ (p : PeerPast). p.conf) own,
+      )
+
+  all_put : (peers : List PeerPast) (rank : ℕ) (was now : PeerPast) → slice_get peers rank ≡ Some was
+      → HasRight V rank was now
+      → AllRightly V peers (set peers rank now)
+  all_put peers rank was now here right = record {
+    fore = λ at peer there. elim (cases_eq at rank) [
+      | inl same ↦ put_fore peers rank at was now peer here right.0 same there
+      | inr apart ↦ (peer, get_apart peers rank at now apart ∙ there, refl)
+    ];
+    back = λ at peer there. elim (cases_eq at rank) [
+      | inl same ↦ put_back peers rank at was now peer here right same there
+      | inr apart ↦ record {
+        before = peer;
+        here = sym (get_apart peers rank at now apart) ∙ there;
+        right = right_same at peer;
+      }
+    ];
+  }
+
+  all_map : (f : PeerPast → PeerPast) → ((peer : PeerPast) → (f peer).conf ≡ peer.conf)
+      → ((peer : PeerPast) → (f peer).tape.history.notes ≡ peer.tape.history.notes)
+      → (peers : List PeerPast) → AllRightly V peers (map f peers)
+  all_map f conf notes peers = record {
+    fore = λ rank peer here. (f peer, slice_get-map f peers rank ∙ ap (option_map f) here, conf peer);
+    back = λ rank peer here.
+        let at = get_map f peers rank peer here in
+        record {
+          before = at.0;
+          here = at.1;
+          right = subst (λ (p : PeerPast). HasRight V rank at.0 p) at.2
+              (right_notes rank at.0 (f at.0) (conf at.0) (notes at.0));
+        };
+  }
+
+  one_put : (past later : Past) (rank : ℕ) (was now : PeerPast) → slice_get past.peers rank ≡ Some was
+      → HasRight V rank was now
+      → later ≡ with_peer past rank now → AllRightSince past later
+  one_put past later rank was now here same is =
+      subst (AllRightSince past) (sym is) (all_put past.peers rank was now here same)
+
+  none_put : (past later : Past) → later.peers ≡ past.peers → AllRightSince past later
+  none_put past later same =
+      subst (λ (ps : List PeerPast). AllRightly V past.peers ps) (sym same) (all_same past.peers)
+
+  -- ---- what an event makes of a peer
+
+  owing_right : (rank : ℕ) (owed : Owed) (number : ℕ) (token id : List ℕ) (peer : PeerPast)
+      → HasRight V rank peer (owing_as owed number token id peer)
+  owing_right rank New number token id peer =
+      right_more rank peer (owing_as New number token id peer) (Owe number token id ∷ []) refl refl
+      (λ n code has. absurd (no_final (Owe number token id) n code (λ is. cc) has))
+  owing_right rank Already number token id peer = right_same rank peer
+
+  -- a debt of this number that was answered so, of which something is said, or that was not answered
+  answered_right : (rank : ℕ) (settled : Settled) (number : ℕ) (peer : PeerPast)
+      → ((code : FinalCode) → settled ≡ Answered code → V rank number code)
+      → HasRight V rank peer (settled_as settled number peer)
+  answered_right rank (Answered code) number peer right =
+      right_more rank peer (settled_as (Answered code) number peer) (Final number code ∷ []) refl refl
+      (λ n c has.
+      let is : Final number code ≡ Final n c = contains_one (Final number code) (Final n c) has in
+      let one : number ≡ n = cc in
+      let other : code ≡ c = cc in
+      subst (λ (m : ℕ). V rank m c) one (subst (λ (k : FinalCode). V rank number k) other (right code refl)))
+  answered_right rank (Dropped cause) number peer right =
+      right_more rank peer (settled_as (Dropped cause) number peer) (Drop number cause ∷ []) refl refl
+      (λ n c has. absurd (no_final (Drop number cause) n c (λ is. cc) has))
+  answered_right rank (Later moment) number peer right =
+      right_notes rank peer (settled_as (Later moment) number peer) refl refl
+  answered_right rank Ready number peer right = right_notes rank peer (settled_as Ready number peer) refl refl
+
+  -- where the outcome is a verdict, that is said
+  abbrev IsRight : ℕ → Outcome → Type 0
+  IsRight rank outcome = (verdict : Verdict) → outcome ≡ FinalOutcome verdict → V rank verdict.debt.0 verdict.code
+
+  deferred_not : (b : Bool) (now : ℕ) (code : FinalCode) → deferred_as b now ≡ Answered code → ⊥
+  deferred_not true now code is = cc
+  deferred_not false now code is = cc
+
+  settled_right : (rank now : ℕ) (outcome : Outcome) (peer : PeerPast) → IsRight rank outcome
+      → HasRight V rank peer (settled now outcome peer)
+  settled_right rank now (FinalOutcome verdict) peer right =
+      answered_right rank (Answered verdict.code) verdict.debt.0 peer
+      (λ code is. subst (λ (c : FinalCode). V rank verdict.debt.0 c)
+      (answered_code verdict.code code is) (right verdict refl))
+    where
+      answered_code : (one other : FinalCode) → Answered one ≡ Answered other → one ≡ other
+      answered_code one other is = cc
+  settled_right rank now (Deferred deferral) peer right =
+      answered_right rank (deferred_as (limits_of peer.conf).drop_deferred now) _ peer
+      (λ code is. absurd (deferred_not (limits_of peer.conf).drop_deferred now code is))
+  settled_right rank now (Lost debt cause) peer right =
+      answered_right rank (Dropped cause) debt.0 peer (λ code is. absurd cc)
+  settled_right rank now (Back debt) peer right = answered_right rank Ready debt.0 peer (λ code is. absurd cc)
+
+  -- ---- events
+
+  -- where an outcome goes to a peer it is right
+  abbrev EventRight : Event → Type 0
+  EventRight (Settles rank id now outcome) = IsRight rank outcome
+  EventRight event = Unit {0}
+
+  on_right : (event : Event) → OnTape event → EventRight event
+  on_right (Settles rank id now outcome) on = absurd on
+  on_right event on = tt
+
+  right_does : (event : Event) → EventRight event → (past later : Past) → Does event past later
+      → AllRightSince past later
+  right_does (Owes rank token id) right past later d =
+      one_put past later rank d.peer _ d.here
+      (owing_right rank (owed_as (past.last + 1) d.peer) (past.last + 1) token id d.peer) d.changed
+  right_does (Imports rank number token id) right past later d =
+      one_put past later rank d.peer _ d.here
+      (owing_right rank (imported_as number d.peer) (import_key number d.peer) token id d.peer) d.changed
+  right_does (Closes rank) right past later d =
+      one_put past later rank d.peer (with_tape d.peer (noted_at d.peer.tape (closing d.peer))) d.here
+      (right_more rank d.peer (with_tape d.peer (noted_at d.peer.tape (closing d.peer))) (closing d.peer ∷ []) refl
+      refl (λ n code has. absurd (no_final (closing d.peer) n code (λ is. cc) has))) d.changed
+  right_does (Spills rank) right past later d =
+      one_put past later rank d.peer (with_tape d.peer d.tape) d.here
+      (right_notes rank d.peer (with_tape d.peer d.tape) refl (notes_of d.tape _ d.flushes.all)) d.changed
+  right_does (Parts rank) right past later d =
+      one_put past later rank d.peer (parted d.peer d.tape) d.here
+      (right_notes rank d.peer (parted d.peer d.tape) refl (notes_of d.tape _ d.flushes.all)) d.changed
+  right_does (Rotates rank generation) right past later d =
+      one_put past later rank d.peer (record d.peer { tape = d.tape }) d.here
+      (right_notes rank d.peer (record d.peer { tape = d.tape }) refl (notes_of d.tape _ d.rotates.all)) d.changed
+  right_does (Sheds rank numbers) right past later d =
+      one_put past later rank d.peer (shed_peer numbers d.peer) d.here
+      (right_more rank d.peer (shed_peer numbers d.peer) (dropped numbers) refl refl
+      (λ n code has. absurd (no_drops numbers n code has))) d.changed
+  right_does (Claims rank id now) right past later d =
+      one_put past later rank d.peer (claimed_peer id d.debt.0 d.tape d.peer) d.here
+      (right_notes rank d.peer (claimed_peer id d.debt.0 d.tape d.peer) refl (notes_of d.tape _ d.reads.all)) d.changed
+  right_does (Returns rank id number) right past later d =
+      one_put past later rank d.peer (with_places d.peer (moved d.peer.places number ReadyPlace)) d.here
+      (right_notes rank d.peer (with_places d.peer (moved d.peer.places number ReadyPlace)) refl refl) d.changed
+  right_does (Settles rank id now outcome) right past later d =
+      one_put past later rank d.peer (settled now outcome d.peer) d.here
+      (settled_right rank now outcome d.peer right) d.changed
+  right_does (Sees number) right past later d = none_put past later (ap (λ (p : Past). p.peers) d.changed)
+  right_does Acknowledges right past later d = none_put past later (ap (λ (p : Past). p.peers) d.changed)
+  right_does (Opens rank) right past later d =
+      one_put past later rank d.peer (opened_peer d.peer d.tape) d.here (
+        refl,
+        λ number code has. inl (contains_taken d.opens.count d.peer.tape.history.notes (Final number code)
+            (subst (λ (notes : List Note). Contains notes (Final number code)) (notes_of d.tape _ d.opens.all) has)),
+      ) d.changed
+  right_does OpensIntake right past later d = none_put past later (ap (λ (p : Past). p.peers) d.changed)
+
+  -- outcomes that are right go to the peer
+  right_settles : (rank id now : ℕ) (os : List Outcome) → AllByRecursion (IsRight rank) os
+      → AllByRecursion EventRight (settle_events rank id now os)
+  right_settles rank id now [] all = tt
+  right_settles rank id now (o ∷ os) all = (all.0, right_settles rank id now os all.1)
+
+  -- ---- another tape with the same notes, a stop, a number that is kept
+
+  at_same : (was now : Past) (rank : ℕ) (peer : PeerPast) (tape : TapePast) → slice_get was.peers rank ≡ Some peer
+      → now ≡ with_peer was rank (with_tape peer tape) → tape.history ≡ peer.tape.history
+      → AllRightSince was now
+  at_same was now rank peer tape here changed same =
+      one_put was now rank peer (with_tape peer tape) here
+      (right_notes rank peer (with_tape peer tape) refl (ap (λ (h : History). h.notes) same)) changed
+
+  left_right : (manner : Manner) (past : Past) → AllRightSince past (left manner past)
+  left_right AtRest past = all_map (left_peer AtRest) (λ peer. refl) (λ peer. refl) past.peers
+  left_right (ByChoice choice) past = all_map (left_peer (ByChoice choice)) (λ peer. refl) (λ peer. refl) past.peers
+
+  begun_right : (peers : List PeerPast)
+      → AllRightly V peers (map (λ (peer : PeerPast). record peer { parted = false }) peers)
+  begun_right peers =
+      all_map (λ (peer : PeerPast). record peer { parted = false }) (λ peer. refl) (λ peer. refl) peers
+
+  abbrev rightly : Keeper
+  rightly = record {
+    ON = EventRight;
+    on_tape = on_right;
+    KEEPS = AllRightSince;
+    alike = none_put;
+    joined = λ was mid now one other. all_then was.peers mid.peers now.peers one other;
+    at_same = at_same;
+    event_does = right_does;
+    keeps_begun = λ past. begun_right past.peers;
+  }
+
+-- whatever is taken, no peer is lost, and its settings stay
+any_event : (event : Event) → EventRight Anyhow event
+any_event (Settles rank id now outcome) = λ verdict is. tt
+any_event event = tt
+
+none_lost : (begun later : Past) (events : List Event) → AllDo begun events later → AllRightSince Anyhow begun later
+none_lost begun later events does =
+    events_all (rightly Anyhow) any_event (left_right Anyhow) begun later events does
+
+-- ---- connections by their numbers
+
+abbrev Entry : Type 0
+Entry = ℕ × ConnPast
+
+abbrev ids_of : List Entry → List ℕ
+ids_of conns = map (λ (entry : Entry). entry.0) conns
+
+abbrev put : ℕ → ConnPast → Entry → Entry
+put id conn entry = if entry.0 == id then (id, conn) else entry
+
+put_here_step : (b : Bool) (e : Entry) (conns : List Entry) (id : ℕ) (conn was : ConnPast) → (e.0 == id) ≡ b
+    → (conn_at conns id ≡ Some was → conn_at (map (put id conn) conns) id ≡ Some conn)
+    → cond b (Some e.1) (conn_at conns id) ≡ Some was
+    → conn_at ((if b then (id, conn) else e) ∷ map (put id conn) conns) id ≡ Some conn
+put_here_step true e conns id conn was is rest here =
+    ap (λ (b : Bool). cond b (Some conn) (conn_at (map (put id conn) conns) id)) (eq-eqb id id refl)
+put_here_step false e conns id conn was is rest here =
+    ap (λ (b : Bool). cond b (Some e.1) (conn_at (map (put id conn) conns) id)) is ∙ rest here
+
+-- the connection of this number becomes the new one, where there is one
+put_here : (conns : List Entry) (id : ℕ) (conn was : ConnPast) → conn_at conns id ≡ Some was
+    → conn_at (map (put id conn) conns) id ≡ Some conn
+put_here [] id conn was here = let never : None ≡ Some was = here in cc
+put_here (e ∷ conns) id conn was here =
+    put_here_step (e.0 == id) e conns id conn was refl (put_here conns id conn was) here
+
+put_own_step : (b : Bool) (e : Entry) (conns : List Entry) (id : ℕ) (conn found : ConnPast) → (e.0 == id) ≡ b
+    → (conn_at (map (put id conn) conns) id ≡ Some found → found ≡ conn)
+    → conn_at ((if b then (id, conn) else e) ∷ map (put id conn) conns) id ≡ Some found → found ≡ conn
+put_own_step true e conns id conn found is rest here =
+    sym (once conn found
+    (sym (ap (λ (b : Bool). cond b (Some conn) (conn_at (map (put id conn) conns) id)) (eq-eqb id id refl)) ∙ here))
+put_own_step false e conns id conn found is rest here =
+    rest (sym (ap (λ (b : Bool). cond b (Some e.1) (conn_at (map (put id conn) conns) id)) is) ∙ here)
+
+put_own : (conns : List Entry) (id : ℕ) (conn found : ConnPast)
+    → conn_at (map (put id conn) conns) id ≡ Some found → found ≡ conn
+put_own [] id conn found here = let never : None ≡ Some found = here in cc
+put_own (e ∷ conns) id conn found here =
+    put_own_step (e.0 == id) e conns id conn found refl (put_own conns id conn found) here
+
+ids_step : (b : Bool) (e : Entry) (conns : List Entry) (id : ℕ) (conn : ConnPast) → (e.0 == id) ≡ b
+    → ids_of (map (put id conn) conns) ≡ ids_of conns
+    → ids_of ((if b then (id, conn) else e) ∷ map (put id conn) conns) ≡ ids_of (e ∷ conns)
+ids_step true e conns id conn is rest =
+    ap (λ (n : ℕ). n ∷ ids_of (map (put id conn) conns)) (sym (eqb-true e.0 id is)) ∙ ap (λ l. e.0 ∷ l) rest
+ids_step false e conns id conn is rest = ap (λ l. e.0 ∷ l) rest
+
+ids_put : (conns : List Entry) (id : ℕ) (conn : ConnPast) → ids_of (map (put id conn) conns) ≡ ids_of conns
+ids_put [] id conn = refl
+ids_put (e ∷ conns) id conn = ids_step (e.0 == id) e conns id conn refl (ids_put conns id conn)
+
+-- ---- what the connections of a world have accepted
+
+-- which debts a connection of this number, to the peer at this rank, may have accepted
+abbrev Owned : Type 1
+Owned = ℕ → ℕ → Owing → Type 0
+
+-- each debt that it has accepted is one of those
+abbrev HasOwned : Owned → ℕ → ConnPast → Type 0
+HasOwned O id conn = (ticket : ℕ) (debt : Owing) → slice_get (accepted conn.transcript) ticket ≡ Some debt
+    → O conn.rank id debt
+
+abbrev AllOwned : Owned → List Entry → Type 0
+AllOwned O conns = (id : ℕ) (conn : ConnPast) → conn_at conns id ≡ Some conn → HasOwned O id conn
+
+none_owned : (O : Owned) → AllOwned O []
+none_owned O id conn here = let never : None ≡ Some conn = here in absurd cc
+
+put_owned : (O : Owned) (conns : List Entry) (id : ℕ) (conn : ConnPast) → AllOwned O conns → HasOwned O id conn
+    → AllOwned O (map (put id conn) conns)
+put_owned O conns id conn all one at found here = elim (cases_eq at id) [
+  | inl same ↦
+      let own = put_own conns id conn found (sym (ap (conn_at (map (put id conn) conns)) same) ∙ here) in
+      subst (λ (n : ℕ). HasOwned O n found) (sym same) (subst (HasOwned O id) (sym own) one)
+  | inr apart ↦ all at found (sym (put_other conns id at conn apart) ∙ here)
+]
+
+-- a connection more has accepted none
+push_owned : (O : Owned) (conns : List Entry) (number rank : ℕ) → AllOwned O conns
+    → AllOwned O (conns ++ (number, fresh_conn rank) ∷ [])
+push_owned O conns number rank all id found here =
+    elim (at_last conns (number, fresh_conn rank) id found here) [
+      | inl there ↦ all id found there
+      | inr is ↦
+          subst (HasOwned O id) (sym is) (λ ticket debt none. absurd (let never : None ≡ Some debt = none in cc))
+    ]
+
+-- the laws of one connection
+abbrev pub VerdictsAreRight : Type 0
+VerdictsAreRight = (options : Options) (h : List Happening) → Arises options h → AllRight options h
+
+abbrev pub EndsAreOwn : Type 0
+EndsAreOwn = (options : Options) (h : List Happening) → AllAreTheirOwn options h
+
+all_dropped : {A : Type 0} (P : A → Type 0) (n : ℕ) (xs : List A) → AllByRecursion P xs
+    → AllByRecursion P (drop n xs)
+all_dropped P zero xs all = all
+all_dropped P (suc n) [] all = tt
+all_dropped P (suc n) (x ∷ xs) all = all_dropped P n xs all.1
+
+all_mapped : (P : Outcome → Type 0) (xs all : List End) → ((x : End) → Contains xs x → Contains all x)
+    → ((x : End) → Contains all x → P x.outcome) → AllByRecursion P (map (λ (x : End). x.outcome) xs)
+all_mapped P [] all among each = tt
+all_mapped P (x ∷ xs) all among each = (
+  each x (among x (contains_first xs x)),
+  all_mapped P xs all (λ y has. among y (contains_more xs x y has)) each,
+)
+
+-- each outcome that is still to go to the peer has what each that came out has
+unsettled_all : (P : Outcome → Type 0) (options : Options) (conn : ConnPast)
+    → ((x : End) → Contains (ends options conn.transcript) x → P x.outcome)
+    → AllByRecursion P (unsettled options conn)
+unsettled_all P options conn each =
+    let all = ends options conn.transcript in
+    all_dropped P conn.settled (outcomes options conn.transcript) (all_mapped P all all (λ x has. has) each)
+
+-- ---- verdicts in a world
+
+-- a connection of this world, to the peer at this rank, has come to a verdict of this number and code
+record HasCome (life : Life) (rank number : ℕ) (code : FinalCode) : Type 0 where
+  id : ℕ
+  conn : ConnPast
+  peer : PeerPast
+  is : IsConn id life conn peer
+  its : conn.rank ≡ rank
+  end : End
+  among : Contains (ends (options_of peer.conf) conn.transcript) end
+  verdict : Verdict
+  is_final : end.outcome ≡ FinalOutcome verdict
+  of_number : verdict.debt.0 ≡ number
+  of_code : verdict.code ≡ code
+
+-- what a step makes of a world whose connections have accepted such debts alone
+record Rights (O : Owned) (life later : Life) : Type 0 where
+  right : AllRightly (HasCome later) life.past.peers later.past.peers
+  owned : AllOwned O later.conns
+
+-- each connection is there still, and no debt was accepted
+abbrev Carries : Life → Life → Type 0
+Carries life later = (id : ℕ) (conn : ConnPast) → conn_at life.conns id ≡ Some conn
+    → (next : ConnPast) × (conn_at later.conns id ≡ Some next) × (next.rank ≡ conn.rank)
+    × Grew conn.transcript next.transcript
+
+-- a verdict stands as its connection goes on
+come_on : (V : Says) (life later : Life) → Carries life later → AllRightly V life.past.peers later.past.peers
+    → (rank number : ℕ) (code : FinalCode) → HasCome life rank number code → HasCome later rank number code
+come_on V life later carries all rank number code come =
+    let next = carries come.id come.conn come.is.conn_is in
+    let peer = all.fore come.conn.rank come.peer come.is.peer_is in
+    let here : slice_get later.past.peers next.0.rank ≡ Some peer.0 =
+    ap (slice_get later.past.peers) next.2 ∙ peer.1 in
+    record {
+      id = come.id;
+      conn = next.0;
+      peer = peer.0;
+      is = record { conn_is = next.1; peer_is = here };
+      its = next.2 ∙ come.its;
+      end = come.end;
+      among = subst (λ (conf : PeerConf). Contains (ends (options_of conf) next.0.transcript) come.end) (sym peer.2)
+          (ends_grew (options_of come.peer.conf) come.conn.transcript next.0.transcript next.3 come.end come.among);
+      verdict = come.verdict;
+      is_final = come.is_final;
+      of_number = come.of_number;
+      of_code = come.of_code;
+    }
+
+-- ---- what follows a step on a connection
+
+module _ (O : Owned) (id : ℕ) (conn : ConnPast) (life later : Life) (f : WentOn id conn life later)
+    (there : ConnPast) (is_there : conn_at life.conns id ≡ Some there) where
+  abbrev its_options : Options
+  its_options = options_of f.peer.conf
+
+  abbrev behind : Life
+  behind = with_conn (with_past life f.past) id f.next
+
+  next_there : conn_at behind.conns id ≡ Some f.next
+  next_there = put_here life.conns id f.next there is_there
+
+  follows_right : HasOwned O id conn → AllOwned O life.conns → Rights O life later
+  follows_right one owned =
+      let h = conn.transcript in
+      let kept = (none_lost life.past f.past _ f.settles).fore conn.rank f.peer f.here in
+      let right : (x : End) → Contains (ends its_options h) x → IsRight (HasCome behind) conn.rank x.outcome =
+      λ x among verdict final. record {
+        id = id;
+        conn = f.next;
+        peer = kept.0;
+        is = record { conn_is = next_there; peer_is = ap (slice_get f.past.peers) f.grew.0 ∙ kept.1 };
+        its = f.grew.0;
+        end = x;
+        among = subst (λ (conf : PeerConf). Contains (ends (options_of conf) f.next.transcript) x) (sym kept.2)
+            (ends_grew its_options h f.next.transcript f.grew.1 x among);
+        verdict = verdict;
+        is_final = final;
+        of_number = refl;
+        of_code = refl;
+      } in
+      subst (Rights O life) (sym f.changed) (record {
+        right = events_keep (rightly (HasCome behind)) life.past f.past _ f.settles
+            (right_settles (HasCome behind) conn.rank id life.now f.done
+            (prefix_all (IsRight (HasCome behind) conn.rank) f.done f.left
+            (subst (AllByRecursion (IsRight (HasCome behind) conn.rank)) f.split
+            (unsettled_all (IsRight (HasCome behind) conn.rank) its_options conn right))));
+        owned = put_owned O life.conns id f.next owned (λ ticket debt is.
+            subst (λ (n : ℕ). O n id debt) (sym f.grew.0)
+            (one ticket debt (sym (ap (λ (l : List Owing). slice_get l ticket) f.grew.1.same) ∙ is)));
+      })
+
+  follows_carries : conn.rank ≡ there.rank → Grew there.transcript conn.transcript → Carries life later
+  follows_carries rank grew = subst (Carries life) (sym f.changed) (λ at found here. elim (cases_eq at id) [
+    | inl same ↦
+        let own = once found there (sym here ∙ (ap (conn_at life.conns) same ∙ is_there)) in (
+          f.next,
+          ap (conn_at behind.conns) same ∙ next_there,
+          f.grew.0 ∙ (rank ∙ ap (λ (c : ConnPast). c.rank) (sym own)),
+          subst (λ (c : ConnPast). Grew c.transcript f.next.transcript) (sym own)
+              (grew_then there.transcript conn.transcript f.next.transcript grew f.grew.1),
+        )
+    | inr apart ↦ (found, put_other life.conns id at f.next apart ∙ here, refl, grew_same found.transcript)
+  ])
+
+-- a connection whose transcript has grown has accepted no more
+grown_owned : (O : Owned) (id : ℕ) (conn new : ConnPast) → new.rank ≡ conn.rank
+    → Grew conn.transcript new.transcript → HasOwned O id conn → HasOwned O id new
+grown_owned O id conn new rank grew one ticket debt is =
+    subst (λ (n : ℕ). O n id debt) (sym rank)
+    (one ticket debt (sym (ap (λ (l : List Owing). slice_get l ticket) grew.same) ∙ is))
+
+-- connections are told the moment, and none comes or goes
+ticks_numbers : (begun : Life) (count : ℕ) (outputs : List Said) (later : Life) → TicksEach begun count outputs later
+    → ids_of later.conns ≡ ids_of begun.conns
+ticks_numbers begun _ _ _ NoneTicked = refl
+ticks_numbers begun _ _ _ (OneTicked count outputs more mid later id conn peer ticks here at follows) =
+    ap (λ (l : Life). ids_of l.conns) follows.changed ∙ ids_put mid.conns id _
+    ∙ ticks_numbers begun count outputs mid ticks
+
+-- ---- steps
+
+-- on tapes no final answer is noted
+abbrev Never : Says
+Never rank number code = ⊥
+
+never_right : (V : Says) (was now : Past) → AllRightSince Never was now → AllRightSince V was now
+never_right V was now all = right_weaker Never V (λ rank number code never. absurd never) was.peers now.peers all
+
+-- where the step hands a debt over, the peer owed it
+abbrev HandsOwed : Owned → Step → Life → Type 0
+HandsOwed O step life = (rank id : ℕ) (debt : Owing) (conn : ConnPast) (peer : PeerPast) → step ≡ Hand id
+    → IsConn id life conn peer → conn.rank ≡ rank
+    → IsCandidate life.now peer debt → O rank id debt
+
+module _ (O : Owned) where
+  handed_owned : (id : ℕ) (life : Life) (conn : ConnPast) (peer : PeerPast) (handed : Handover) (h : List Happening)
+      (later : Past)
+      → HandsOwed O (Hand id) life
+      → HandsOver id life.now conn peer life.past handed h later → IsConn id life conn peer → HasOwned O id conn
+      → HasOwned O id (with_transcript conn h)
+  handed_owned id life conn peer _ _ _ owes (None_there tape works none reads) there one = one
+  handed_owned id life conn peer _ _ _ owes (Taken_over debt later is ready does) there one =
+      λ ticket other has. elim (accepted_offered (options_of peer.conf) conn.transcript debt ticket other has) [
+        | inl first ↦ one ticket other first
+        | inr own ↦ subst (O conn.rank id) (sym own) (owes conn.rank id debt conn peer refl there refl is)
+      ]
+  handed_owned id life conn peer _ _ _ owes (Has_no_room debt later is ready does) there one = one
+  handed_owned id life conn peer _ _ _ owes (Is_shut debt later is ready does) there one = one
+
+  -- what a step makes of a world whose numbers rise, if the debts that it hands over were owed
+  abbrev MakesRight : Step → Life → Life → Type 0
+  MakesRight step life later = HandsOwed O step life → IsStrictlyIncreasing (ids_of life.conns)
+      → AllOwned O life.conns → Rights O life later
+
+  changes_right : (step : Step) (life later : Life) → AllRightSince Never life.past later.past
+      → later.conns ≡ life.conns → MakesRight step life later
+  changes_right step life later right same owes rising owned = record {
+    right = never_right (HasCome later) life.past later.past right;
+    owned = subst (AllOwned O) (sym same) owned;
+  }
+
+  -- no connection is left
+  halts_right : (step : Step) (life later : Life) → AllRightSince Never life.past later.past → later.conns ≡ []
+      → MakesRight step life later
+  halts_right step life later right none owes rising owned = record {
+    right = never_right (HasCome later) life.past later.past right;
+    owned = subst (AllOwned O) (sym none) (none_owned O);
+  }
+
+  connects_right : (step : Step) (life later : Life) (number rank : ℕ) → later.past ≡ life.past
+      → later.conns ≡ life.conns ++ (number, fresh_conn rank) ∷ [] → MakesRight step life later
+  connects_right step life later number rank same conns owes rising owned = record {
+    right = none_put (HasCome later) life.past later.past (ap (λ (p : Past). p.peers) same);
+    owned = subst (AllOwned O) (sym conns) (push_owned O life.conns number rank owned);
+  }
+
+  goes_right : (step : Step) (id : ℕ) (conn new : ConnPast) (peer : PeerPast) (life later : Life)
+      → IsConn id life conn peer → new.rank ≡ conn.rank → Grew conn.transcript new.transcript
+      → WentOn id new life later → MakesRight step life later
+  goes_right step id conn new peer life later is rank grew went owes rising owned =
+      follows_right O id new life later went conn is.conn_is
+      (grown_owned O id conn new rank grew (owned id conn is.conn_is)) owned
+
+  hands_right : (id : ℕ) (conn : ConnPast) (peer : PeerPast) (handed : Handover) (h : List Happening) (past : Past)
+      (life later : Life)
+      → IsConn id life conn peer → HandsOver id life.now conn peer life.past handed h past
+      → AllRightSince Never life.past past → WentOn id (with_transcript conn h) (with_past life past) later
+      → MakesRight (Hand id) life later
+  hands_right id conn peer handed h past life later is over right went owes rising owned =
+      let one = handed_owned id life conn peer handed h past owes over is (owned id conn is.conn_is) in
+      let follows = follows_right O id (with_transcript conn h) (with_past life past) later went conn is.conn_is one
+      owned in
+      record {
+        right = all_then (HasCome later) life.past.peers past.peers later.past.peers
+            (never_right (HasCome later) life.past past right) follows.right;
+        owned = follows.owned;
+      }
+
+  -- the moment hands nothing over
+  moves_right : (now : ℕ) (life later : Life) → MakesRight (Tick now) (at_moment now life) later
+      → MakesRight (Tick now) life later
+  moves_right now life later makes owes rising owned =
+      let rights = makes (λ rank id debt conn peer hand is its candidate. absurd cc) rising owned in
+      record { right = rights.right; owned = rights.owned }
+
+  -- a connection was told the moment, and went on
+  ticks_right : (now : ℕ) (begun mid later : Life) (count : ℕ) (outputs : List Said) (id : ℕ) (conn : ConnPast)
+      (peer : PeerPast)
+      → TicksEach begun count outputs mid → MakesRight (Tick now) begun mid
+      → slice_get mid.conns count ≡ Some (id, conn)
+      → WentOn id (ticked mid.now peer conn) mid later → MakesRight (Tick now) begun later
+  ticks_right now begun mid later count outputs id conn peer before makes here went owes rising owned =
+      let rights = makes owes rising owned in
+      let numbers = ticks_numbers begun count outputs mid before in
+      let is = conn_there mid.conns (subst IsStrictlyIncreasing (sym numbers) rising) count id conn here in
+      let options = options_of peer.conf in
+      let new = ticked mid.now peer conn in
+      let grew = grew_outside options conn.transcript (Ticked mid.now) refl in
+      let went_right = follows_right O id new mid later went conn is
+      (grown_owned O id conn new refl grew (rights.owned id conn is)) rights.owned in
+      let carries = follows_carries O id new mid later went conn is refl grew in
+      record {
+        right = all_then (HasCome later) begun.past.peers mid.past.peers later.past.peers
+            (right_weaker (HasCome mid) (HasCome later) (come_on (HasCome later) mid later carries went_right.right)
+            begun.past.peers mid.past.peers rights.right) went_right.right;
+        owned = went_right.owned;
+      }
+
+  abbrev passage_right : Passage
+  passage_right = record {
+    tapes = rightly Never;
+    on_claims = λ rank id now. tt;
+    on_returns = λ rank id number. tt;
+    on_opens = λ rank. tt;
+    on_intake = tt;
+    keeps_left = left_right Never;
+    MAKES = MakesRight;
+    changes = changes_right;
+    halts = halts_right;
+    connects = connects_right;
+    goes_on = goes_right;
+    hands = hands_right;
+    moves = moves_right;
+    ticks = ticks_right;
+  }
+
+-- ---- any steps
+
+sound_at : (peers : List PeerPast) (conns : List Entry) (id : ℕ) (conn : ConnPast)
+    → AllByRecursion (λ (entry : Entry). IsSoundConn peers entry.1) conns
+    → conn_at conns id ≡ Some conn → IsSoundConn peers conn
+sound_at peers [] id conn all here = let never : None ≡ Some conn = here in cc
+sound_at peers (e ∷ conns) id conn all here =
+    sound_step (e.0 == id) e (conn_at conns id) all.0 here (λ rest. sound_at peers conns id conn all.1 rest)
+  where
+    sound_step : (b : Bool) (e : Entry) (o : Option ConnPast) → IsSoundConn peers e.1
+        → cond b (Some e.1) o ≡ Some conn
+        → (o ≡ Some conn → IsSoundConn peers conn) → IsSoundConn peers conn
+    sound_step true e o one is rest = subst (IsSoundConn peers) (once e.1 conn is) one
+    sound_step false e o one is rest = rest is
+
+module _ (law : VerdictsAreRight) (own : EndsAreOwn) where
+  own_debt : (options : Options) (h : List Happening) (x : End) → Contains (ends options h) x → (verdict : Verdict)
+      → x.outcome ≡ FinalOutcome verdict → slice_get (accepted h) x.ticket ≡ Some verdict.debt
+  own_debt options h x among verdict final =
+      all_contained (λ (y : End). slice_get (accepted h) y.ticket ≡ Some (debt_in y.outcome)) (ends options h) x
+      (own options h) among ∙ ap (λ (o : Outcome). Some (debt_in o)) final
+
+  -- a connection of a world that is sound has come to its verdicts rightly
+  rules_so : (life : Life) → IsSoundLife life → (rank number : ℕ) (code : FinalCode)
+      → (come : HasCome life rank number code)
+      → Rules life rank come.id come.verdict
+  rules_so life sound rank number code come =
+      let options = options_of come.peer.conf in
+      let h = come.conn.transcript in
+      let is = sound_at life.past.peers life.conns come.id come.conn sound.conns.each come.is.conn_is in
+      let same = once is.peer come.peer (sym is.here ∙ come.is.peer_is) in
+      let arises : Arises options h = subst (λ (p : PeerPast). Arises (options_of p.conf) h) same is.arises in
+      record {
+        conn = come.conn;
+        peer = come.peer;
+        is = come.is;
+        its = come.its;
+        arises = arises;
+        end = come.end;
+        among = come.among;
+        is_final = come.is_final;
+        own = own_debt options h come.end come.among come.verdict come.is_final;
+        right = all_contained (λ (y : End). IsRightAt options h y.ticket y.outcome) (ends options h) come.end
+            (law options h arises) come.among;
+      }
+
+  -- the step was taken, and told this, or refused, and told nothing
+  abbrev IsNext : Step → Life → List (List Said) → Life → Type 0
+  IsNext step life more later =
+      ((outputs : List Said) × (more ≡ outputs ∷ []) × Takes step life outputs later)
+      ⊎ ((fault : Fault) × (more ≡ []) × RefusesStep step life fault later)
+
+  comes_next : (begun : Life) (steps : List Step) (step : Step) (lines more : List (List Said)) (mid later : Life)
+      → Comes begun steps lines mid → IsNext step mid more later → IsSafe later.past → IsSoundLife later
+      → Comes begun (steps ++ step ∷ []) (lines ++ more) later
+  comes_next begun steps step lines more mid later comes (inl (outputs, is, takes)) safe sound =
+      subst (λ (l : List (List Said)). Comes begun (steps ++ step ∷ []) (lines ++ l) later) (sym is)
+      (Step_taken steps step lines outputs mid later comes takes safe sound)
+  comes_next begun steps step lines more mid later comes (inr (fault, is, refuses)) safe sound =
+      subst (λ (l : List (List Said)). Comes begun (steps ++ step ∷ []) (lines ++ l) later) (sym is)
+      (subst (λ (l : List (List Said)). Comes begun (steps ++ step ∷ []) l later) (sym (append-nil lines))
+      (Step_refused steps step lines fault mid later comes refuses safe sound))
+
+  abbrev passes_last : (begun : Life) (steps : List Step) (lines : List (List Said)) (later : Life)
+      → Comes begun steps lines later → Passes begun steps lines later later
+  passes_last begun steps lines later comes = record {
+    first = steps;
+    others = [];
+    first_lines = lines;
+    other_lines = [];
+    steps_are = sym (append-nil steps);
+    lines_are = sym (append-nil lines);
+    made = comes;
+    went_on = No_step (comes_safe begun steps lines later comes) (comes_sound begun steps lines later comes);
+  }
+
+  abbrev passes_on : (begun : Life) (steps : List Step) (lines : List (List Said)) (mid : Life) (step : Step)
+      (more : List (List Said)) (later life : Life)
+      → IsNext step mid more later → IsSafe later.past → IsSoundLife later → Passes begun steps lines mid life
+      → Passes begun (steps ++ step ∷ []) (lines ++ more) later life
+  passes_on begun steps lines mid step more later life next safe sound p = record {
+    first = p.first;
+    others = p.others ++ step ∷ [];
+    first_lines = p.first_lines;
+    other_lines = p.other_lines ++ more;
+    steps_are = ap (λ (l : List Step). l ++ step ∷ []) p.steps_are ∙ append_assoc p.first p.others (step ∷ []);
+    lines_are = ap (λ (l : List (List Said)). l ++ more) p.lines_are ∙ append_assoc p.first_lines p.other_lines more;
+    made = p.made;
+    went_on = comes_next life p.others step p.other_lines more mid later p.went_on next safe sound;
+  }
+
+  -- which debts connections may have accepted
+  abbrev RunOwned : Life → List Step → List (List Said) → Life → Owned
+  RunOwned begun steps lines later rank id debt =
+      WasTaken begun steps lines later rank id debt ⊎ WasAccepted begun rank id debt
+
+  record RunRight (begun : Life) (steps : List Step) (lines : List (List Said)) (later : Life) : Type 0 where
+    right : AllRightly (HasVerdict begun steps lines later) begun.past.peers later.past.peers
+    owned : AllOwned (RunOwned begun steps lines later) later.conns
+
+  module _ (begun : Life) (steps : List Step) (step : Step) (lines more : List (List Said)) (life later : Life)
+      (comes : Comes begun steps lines life) (one : IsNext step life more later) (safe : IsSafe later.past)
+      (sound : IsSoundLife later) where
+    rising : IsStrictlyIncreasing (ids_of life.conns)
+    rising = (comes_sound begun steps lines life comes).conns.rising
+
+    abbrev all_steps : List Step
+    all_steps = steps ++ step ∷ []
+
+    abbrev all_lines : List (List Said)
+    all_lines = lines ++ more
+
+    abbrev passes_here : (at : Life) → Passes begun steps lines life at → Passes begun all_steps all_lines later at
+    passes_here at p = passes_on begun steps lines life step more later at one safe sound p
+
+    owned_on : (rank id : ℕ) (debt : Owing) → RunOwned begun steps lines life rank id debt
+        → RunOwned begun all_steps all_lines later rank id debt
+    owned_on rank id debt (inl was) = inl (record {
+      life = was.life;
+      passes = passes_here was.life was.passes;
+      behind = was.behind ++ step ∷ [];
+      hand = ap (λ (l : List Step). l ++ step ∷ []) was.hand;
+      conn = was.conn;
+      peer = was.peer;
+      is = was.is;
+      its = was.its;
+      candidate = was.candidate;
+    })
+    owned_on rank id debt (inr was) = inr was
+
+    verdict_on : (rank number : ℕ) (code : FinalCode) → HasVerdict begun steps lines life rank number code
+        → HasVerdict begun all_steps all_lines later rank number code
+    verdict_on rank number code has = record {
+      life = has.life;
+      passes = passes_here has.life has.passes;
+      id = has.id;
+      verdict = has.verdict;
+      rules = has.rules;
+      of_number = has.of_number;
+      of_code = has.of_code;
+      owed = owned_on rank has.id has.verdict.debt has.owed;
+    }
+
+    abbrev OwnedNow : Owned
+    OwnedNow = RunOwned begun all_steps all_lines later
+
+    verdict_now : AllOwned OwnedNow later.conns → (rank number : ℕ) (code : FinalCode)
+        → HasCome later rank number code → HasVerdict begun all_steps all_lines later rank number code
+    verdict_now owned rank number code come = record {
+      life = later;
+      passes = passes_last begun all_steps all_lines later
+          (comes_next begun steps step lines more life later comes one safe sound);
+      id = come.id;
+      verdict = come.verdict;
+      rules = rules_so later sound rank number code come;
+      of_number = come.of_number;
+      of_code = come.of_code;
+      owed = subst (λ (n : ℕ). OwnedNow n come.id come.verdict.debt) come.its
+          (owned come.id come.conn come.is.conn_is come.end.ticket come.verdict.debt
+          (own_debt (options_of come.peer.conf) come.conn.transcript come.end come.among come.verdict come.is_final));
+    }
+
+    -- where the step hands a debt over, the peer owed it
+    owes_now : HandsOwed OwnedNow step life
+    owes_now rank id debt conn peer hand is its candidate = inl (record {
+      life = life;
+      passes = passes_here life (passes_last begun steps lines life comes);
+      behind = [];
+      hand = ap (λ (s : Step). s ∷ []) hand;
+      conn = conn;
+      peer = peer;
+      is = is;
+      its = its;
+      candidate = candidate;
+    })
+
+    next_right : IsNext step life more later → AllOwned OwnedNow life.conns → Rights OwnedNow life later
+    next_right (inl (outputs, is, takes)) owned =
+        takes_make (passage_right OwnedNow) step life outputs later takes owes_now rising owned
+    next_right (inr (fault, is, refuses)) owned =
+        refuses_make (passage_right OwnedNow) step life fault later refuses owes_now rising owned
+
+    run_goes : RunRight begun steps lines life → RunRight begun all_steps all_lines later
+    run_goes before =
+        let V = HasVerdict begun all_steps all_lines later in
+        let now = next_right one (λ id conn here ticket debt is.
+        owned_on conn.rank id debt (before.owned id conn here ticket debt is)) in
+        record {
+          right = all_then V begun.past.peers life.past.peers later.past.peers
+              (right_weaker (HasVerdict begun steps lines life) V verdict_on begun.past.peers life.past.peers
+              before.right)
+              (right_weaker (HasCome later) V (verdict_now now.owned) life.past.peers later.past.peers now.right);
+          owned = now.owned;
+        }
+
+  comes_right : (begun : Life) (steps : List Step) (lines : List (List Said)) (later : Life)
+      → Comes begun steps lines later
+      → RunRight begun steps lines later
+  comes_right begun _ _ _ (No_step safe sound) =
+      record {
+        right = all_same (HasVerdict begun [] [] begun) begun.past.peers;
+        owned = λ id conn here ticket debt has.
+            inr (record { conn = conn; is = here; its = refl; ticket = ticket; accepts = has });
+      }
+  comes_right begun _ _ _ (Step_taken steps step lines outputs life later comes takes safe sound) =
+      run_goes begun steps step lines (outputs ∷ []) life later comes (inl (outputs, refl, takes)) safe sound
+      (comes_right begun steps lines life comes)
+  comes_right begun _ _ _ (Step_refused steps step lines fault life later comes refuses safe sound) =
+      subst (λ (l : List (List Said)). RunRight begun (steps ++ step ∷ []) l later) (append-nil lines)
+      (run_goes begun steps step lines [] life later comes (inr (fault, refl, refuses)) safe sound
+      (comes_right begun steps lines life comes))
+
+  pub finals_right : AllFinalsAreRight
+  finals_right = λ begun later steps lines comes rank number code has.
+      let all = (comes_right begun steps lines later comes).right in
+      let at = all.back rank has.0 has.1 in
+      elim (at.right.1 number code has.2) [
+        | inl before ↦ inl (at.before, at.here, before)
+        | inr verdict ↦ inr verdict
+      ]

@@ -1,0 +1,82 @@
+-- The names of the peers stay, whatever steps are taken.
+use Rattle.std.proofs.Common.{◌≡◌, ℕ, List, length, map, refl, sym, ap, ◌∙◌}
+use Rattle.std.specs.List.{AllZip}
+use Rattle.disk_model.specs.declared.Disk.{Ghosts}
+use Rattle.world_core.specs.Past.{Life, Past, PeerPast, with_tape}
+use Rattle.world_core.specs.Runs.{Runs}
+use Rattle.world_core.specs.Sound.{names_of}
+use Rattle.world_core.specs.Stands.{PeerStands, StageStands, StoppedStands, WorldStands}
+use Rattle.world_core.specs.Output.{Said}
+use Rattle.world_core.specs.Turn.{names_at}
+use Rattle.world_core.specs.declared.peer.Peer.{Peer}
+use Rattle.world_core.specs.declared.peer.StoppedPeer.{StoppedPeer}
+use Rattle.world_core.specs.declared.step.Step.{Step}
+use Rattle.world_core.specs.declared.world.Stage.{Stage}
+use Rattle.world_core.specs.declared.world.Stage.TheVariants.{Running, Stopped}
+use Rattle.world_core.specs.declared.world.World.{World}
+use Rattle.world_core.proofs.TapesStopped.{names_left}
+use Rattle.world_core.proofs.NamesOverEvents.{names_does, names_put}
+use Rattle.world_core.proofs.SoundOverEvents.{names_begun}
+use Rattle.world_core.proofs.WalkOverSteps.{runs_all}
+use Rattle.world_core.proofs.WalkOverTapes.{Keeper}
+use Rattle.world_core.proofs.RelatedLists.{zip_length, zip_equal}
+
+-- the names of its peers
+abbrev named : Life → List (List ℕ)
+named life = names_of life.past.peers
+
+-- they stay
+abbrev SameNames : Past → Past → Type 0
+SameNames was now = names_of now.peers ≡ names_of was.peers
+
+abbrev naming : Keeper
+naming = record {
+  ON = λ event. Unit {0};
+  on_tape = λ event on. tt;
+  KEEPS = SameNames;
+  alike = λ was now same. ap names_of same;
+  joined = λ was mid now one other. other ∙ one;
+  at_same = λ was now rank peer tape here is same. names_put was now rank peer (with_tape peer tape) here refl is;
+  event_does = λ event on. names_does event;
+  keeps_begun = λ past. names_begun past.peers;
+}
+
+pub names_runs : (begun later : Life) (steps : List Step) (lines : List (List Said)) → Runs begun steps lines later
+    → named later ≡ named begun
+names_runs begun later steps lines runs =
+    runs_all naming (λ event. tt) (λ manner past. names_left manner past.peers) begun steps lines later runs
+
+-- ---- what stands for them has their names
+
+module _ {D : Type 0} {g : Ghosts D} where
+  open_names : (pasts : List PeerPast) (peers : List (Peer D g)) → AllZip PeerStands pasts peers
+      → map (λ (peer : Peer D g). peer.conf.name) peers ≡ names_of pasts
+  open_names pasts peers all =
+      zip_equal PeerStands (λ (past : PeerPast). past.conf.name) (λ (peer : Peer D g). peer.conf.name)
+      (λ past peer is. ap (λ conf. conf.name) is.conf) pasts peers all
+
+stopped_names : (pasts : List PeerPast) (peers : List StoppedPeer) → AllZip StoppedStands pasts peers
+    → map (λ (peer : StoppedPeer). peer.conf.name) peers ≡ names_of pasts
+stopped_names pasts peers all =
+    zip_equal StoppedStands (λ (past : PeerPast). past.conf.name) (λ (peer : StoppedPeer). peer.conf.name)
+    (λ past peer is. ap (λ conf. conf.name) is.conf) pasts peers all
+
+stage_names : (life : Life) (stage : Stage) → StageStands life stage → names_at stage ≡ named life
+stage_names life (Running stations connections) stands = open_names life.past.peers stations.peers.items stands.1.peers
+stage_names life (Stopped peers intake) stands = stopped_names life.past.peers peers.items stands.1
+
+pub names_stage : (world : World) (life : Life) → WorldStands world life → names_at world.stage ≡ named life
+names_stage world life stands = stage_names life world.stage stands.stage
+
+-- how many peers a stage has
+abbrev pub count_at : Stage → ℕ
+count_at (Running stations connections) = length stations.peers.items
+count_at (Stopped peers intake) = length peers.items
+
+stage_count : (life : Life) (stage : Stage) → StageStands life stage → count_at stage ≡ length life.past.peers
+stage_count life (Running stations connections) stands =
+    sym (zip_length PeerStands life.past.peers stations.peers.items stands.1.peers)
+stage_count life (Stopped peers intake) stands = sym (zip_length StoppedStands life.past.peers peers.items stands.1)
+
+pub count_stage : (world : World) (life : Life) → WorldStands world life → count_at world.stage ≡ length life.past.peers
+count_stage world life stands = stage_count life world.stage stands.stage

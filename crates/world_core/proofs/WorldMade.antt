@@ -1,0 +1,430 @@
+-- Worlds as they are made: their tapes are opened.
+use Rattle.std.proofs.Common.{◌≡◌, ℕ, zero, suc, ◌+◌, ◌<◌, Bool, true, false, None, Some, List, [], ◌∷◌, ◌++◌, length}
+use Rattle.std.proofs.Common.{get_or, map, take, refl, sym, ap, ◌∙◌, subst, inl, arith}
+use Rattle.std.specs.Cmp.Lexicographic.{slice_cmp}
+use Rattle.std.specs.List.{All, AllByRecursion, AllZip, IsDistinct, slice_get}
+use Rattle.std.specs.List.Sorted.{IsPermutation, IsSortedBy}
+use Rattle.std.specs.Ordering.{is_eq, is_lt, nat_cmp, ordering_reverse}
+use Rattle.std.specs.Str.{bytes_eq}
+use Rattle.std.specs.declared.cmp.Ordering.{Ordering}
+use Rattle.std.specs.declared.cmp.Ordering.TheVariants.{Less, Equal, Greater}
+use Rattle.std.proofs.lemmas.Cmp.{nat_list_cmp_total}
+use Rattle.std.proofs.lemmas.List.Elements.{All-cons, All-head, All-nil, All-tail}
+use Rattle.std.proofs.lemmas.List.MinMax.{ranks_by}
+use Rattle.std.proofs.lemmas.List.Sorted.{All-permutation, IsPermutation-map, sorted_far}
+use Rattle.std.proofs.lemmas.Map.Keys.{IsDistinct-IsPermutation, IsDistinct-head, IsDistinct-tail}
+use Rattle.std.proofs.lemmas.Map.Text.{is_eq-slice_cmp}
+use Rattle.disk_model.specs.Disk.{Event}
+use Rattle.disk_model.specs.Disk.Event.{Made}
+use Rattle.disk_model.specs.InMemory.{events, faults_in}
+use Rattle.disk_model.specs.declared.memory.MemDisk.{MemDisk}
+use Rattle.disk_model.specs.declared.Disk.{Ghosts}
+use Rattle.feed_conf.specs.declared.conf.PeerConf.{PeerConf}
+use Rattle.ledger_core.specs.State.{State, keys, start}
+use Rattle.peer_queue.specs.DebtPlace.{all_ready}
+use Rattle.peer_queue.specs.Words.{limits_of as station_limits, places_of, tape_of}
+use Rattle.recovery.specs.Image.{IsNoTapeAt, IsSomeTape, IsTape, Log, Octets}
+use Rattle.recovery.specs.TapeLaws.{tape_nowhere_damaged, tape_once}
+use Rattle.recovery.specs.Leaving.{broken_of}
+use Rattle.recovery.specs.Notes.{found}
+use Rattle.recovery.specs.Tape.{IsOpenedTape, StandsFor, contents_of}
+use Rattle.recovery.specs.Words.{IsBroken, IsOpenFault, ledger_of, log_of, faults_of}
+use Rattle.recovery.specs.declared.fault.TapeFault.{TapeFault}
+use Rattle.recovery.specs.declared.fault.TapeFault.TheVariants.{Damaged, Disk, Broken, TapeFull, GenerationFull}
+use Rattle.recovery.specs.declared.fault.TapeFault.TheVariants.{PendingFull, NoMemory as NoTapeMemory, Note}
+use Rattle.recovery.specs.declared.tape.Tape.{Tape as OpenTape}
+use Rattle.world_core.specs.Past.{Life, Past, PeerPast, limits_of}
+use Rattle.world_core.specs.Safe.{HasAcknowledged}
+use Rattle.world_core.specs.Given.{BeginsFrom, GivenPeer, IsFound, IsGivenPeer, OpensGiven, RefusesFirst, RefusesTape}
+use Rattle.world_core.specs.Given.{StopsFor, RefusesPeer, RefusesTapes, found_peer, found_tape, given_names, given_octets}
+use Rattle.world_core.specs.Making.{Begins, HasNoOctets, IsMakeFault}
+use Rattle.world_core.specs.Opening.{HasNoneHeld}
+use Rattle.world_core.specs.Sound.{IsBefore, NamesRise, names_of}
+use Rattle.world_core.specs.Stands.{IsFreshPeer, PeerStands, Stands}
+use Rattle.world_core.specs.StopDisk.{all_faults, beneath, happened, own_faults}
+use Rattle.world_core.specs.declared.fault.Fault.TheVariants.{Tape as FromTape}
+use Rattle.world_core.specs.declared.fault.TapesFault.{TapesFault}
+use Rattle.world_core.specs.declared.fault.TapesFault.TheVariants.{NoMemory, Tape}
+use Rattle.world_core.specs.declared.peer.Peer.{Peer}
+use Rattle.world_core.specs.declared.stop.StopDisk.{StopDisk}
+use Rattle.world_core.specs.declared.world.Stage.TheVariants.{Running}
+use Rattle.world_core.specs.declared.world.World.{World}
+use Rattle.world_core.proofs.AcknowledgedLines.{all_at}
+use Rattle.world_core.proofs.PeerCalls.{not_true}
+use Rattle.world_core.proofs.SoundOverEvents.{each_prefix, safe_of}
+use Rattle.world_core.proofs.WorldStopped.{tied_none}
+use Rattle.world_core.proofs.PeerOpened.{none_held}
+use Rattle.world_core.proofs.RelatedLists.{zip_push, zip_first}
+
+-- ---- names in order
+
+before : (one other : List ℕ) → is_lt (slice_cmp nat_cmp other one) ≡ false → bytes_eq one other ≡ false
+    → IsBefore one other
+before one other above apart = by (slice_cmp nat_cmp one other) refl
+  where
+    by : (r : Ordering) → slice_cmp nat_cmp one other ≡ r → IsBefore one other
+    by Less is = is
+    by Equal is = absurd (let same = sym (is_eq-slice_cmp one other) ∙ ap is_eq is in cc)
+    by Greater is =
+        absurd (let up = ap is_lt (nat_list_cmp_total.antisymm other one ∙ ap ordering_reverse is) in cc)
+
+turned : (r : Ordering) → is_eq (ordering_reverse r) ≡ is_eq r
+turned Less = refl
+turned Equal = refl
+turned Greater = refl
+
+same_back : (x y : List ℕ) → bytes_eq x y ≡ bytes_eq y x
+same_back x y =
+    sym (is_eq-slice_cmp x y) ∙ ap is_eq (nat_list_cmp_total.antisymm x y) ∙ turned (slice_cmp nat_cmp y x)
+    ∙ is_eq-slice_cmp y x
+
+abbrev is_below : GivenPeer → GivenPeer → Bool
+is_below one other = is_lt (slice_cmp nat_cmp one.0.name other.0.name)
+
+all_before : (peer : GivenPeer) (given : List GivenPeer)
+    → ((k : ℕ) (d : GivenPeer) → k < length given → is_below (get_or given k d) peer ≡ false)
+    → AllByRecursion (λ (y : List ℕ). bytes_eq peer.0.name y ≡ false) (given_names given)
+    → AllByRecursion (IsBefore peer.0.name) (given_names given)
+all_before peer [] each apart = tt
+all_before peer (other ∷ given) each apart = (
+  before peer.0.name other.0.name (each 0 other (omega arith)) apart.0,
+  all_before peer given (λ k d within. each (suc k) d (omega (arith, within))) apart.1,
+)
+
+sorted_tail : (peer : GivenPeer) (given : List GivenPeer) → IsSortedBy is_below (peer ∷ given)
+    → IsSortedBy is_below given
+sorted_tail peer given up = λ k d low high.
+    let next : suc k + 1 ≡ suc (k + 1) = omega arith in
+    subst (λ (n : ℕ). is_below (get_or (peer ∷ given) n d) (get_or given k d) ≡ false) next
+    (up (suc k) d (omega arith) (omega (arith, high)))
+
+names_rise : (given : List GivenPeer) → IsSortedBy is_below given → IsDistinct bytes_eq (given_names given)
+    → NamesRise (given_names given)
+names_rise [] up apart = tt
+names_rise (peer ∷ given) up apart = (
+  all_before peer given
+      (λ k d within. sorted_far is_below (ranks_by nat_list_cmp_total (λ (x : GivenPeer). x.0.name)) (peer ∷ given) up
+      0 (suc k) d (omega arith) (omega (arith, within)))
+      (IsDistinct-head bytes_eq peer.0.name (given_names given) apart),
+  names_rise given (sorted_tail peer given up) (IsDistinct-tail bytes_eq peer.0.name (given_names given) apart),
+)
+
+-- the peers in order have names that rise
+pub sorted_rise : (given ordered : List GivenPeer) → IsPermutation given ordered → IsSortedBy is_below ordered
+    → IsDistinct bytes_eq (given_names given) → NamesRise (given_names ordered)
+sorted_rise given ordered permuted up apart =
+    names_rise ordered up (IsDistinct-IsPermutation bytes_eq same_back (given_names given) (given_names ordered)
+    (IsPermutation-map (λ (x : GivenPeer). x.0.name) given ordered permuted) apart)
+
+-- ---- a tape is opened
+
+nothing_lies : IsTape ([], []) start
+nothing_lies = record {
+  second = false;
+  lives = record {
+    one = 0;
+    other = 0;
+    first_has = inl (tt, refl);
+    second_has = inl (tt, refl);
+    greater = ((λ is. absurd cc), (λ less. absurd (omega (arith, less))));
+  };
+  generation = 0;
+  payloads = [];
+  reads = tt;
+  restores = inl (tt, refl, ([], tt, refl, tt, refl));
+}
+
+module _ {D : Type 0} {g : Ghosts D} where
+  is_found : (state : State) (tape : OpenTape D g) → StandsFor tape (found state) → faults_of tape ≡ (0, 0)
+      → (IsBroken tape → ⊥) → IsFound state tape
+  is_found state tape stands outputs works =
+      record { stands = stands; log = refl; faults = outputs; broken = not_true (broken_of tape) works }
+
+  -- the peer's tape was opened on the given octets
+  pub opens_given : (given : GivenPeer) (old : Log) (peer : Peer D g) → old ≡ (Made given.1.items ∷ [], [])
+      → IsOpenedTape old (tape_of peer.station) → faults_of (tape_of peer.station) ≡ (0, 0)
+      → (IsBroken (tape_of peer.station) → ⊥)
+      → places_of peer.station ≡ all_ready (keys (ledger_of (tape_of peer.station)))
+      → station_limits peer.station ≡ limits_of given.0 → peer.conf ≡ given.0 → peer.parted ≡ false
+      → OpensGiven given peer
+  opens_given given old peer log opened outputs works ready limits conf parts = record {
+    state = opened.state;
+    was = subst (λ (l : Log). IsTape (contents_of l) opened.state) log opened.was;
+    stands = record {
+      conf = conf;
+      limits = limits;
+      tape = is_found opened.state (tape_of peer.station) opened.stands outputs works;
+      places = ready ∙ ap (λ (state : State). all_ready (keys state)) opened.stands.ledger;
+      parted = parts;
+    };
+  }
+
+  -- that of the intake on none
+  pub opens_empty : (old : Log) (tape : OpenTape D g) → old ≡ ([], []) → IsOpenedTape old tape → faults_of tape ≡ (0, 0)
+      → (IsBroken tape → ⊥) → IsFound start tape
+  opens_empty old tape log opened outputs works =
+      let there = subst (λ (l : Log). IsTape (contents_of l) opened.state) log opened.was in
+      let none : opened.state ≡ start = tape_once ([], []) opened.state start there nothing_lies in
+      subst (λ (state : State). IsFound state tape) none (is_found opened.state tape opened.stands outputs works)
+
+-- what has happened to a disk in memory is what has happened to the disk over it
+pub happened_as : (disk : StopDisk) (memory : MemDisk) (log : List Event) → beneath disk ≡ memory → events memory ≡ log
+    → happened disk ≡ log
+happened_as disk memory log is has = ap events is ∙ has
+
+pub no_faults : (disk : StopDisk) (memory : MemDisk) → beneath disk ≡ memory → own_faults disk ≡ 0
+    → faults_in memory ≡ 0 → all_faults disk ≡ 0
+no_faults disk memory is own faults =
+    let none : faults_in (beneath disk) ≡ 0 = ap faults_in is ∙ faults in
+    rw (own, none) refl
+
+pub both_are : {A B : Type 0} {one other : A} {this that : B} → one ≡ other → this ≡ that
+    → ◌≡◌ {A = A × B} (one, this) (other, that)
+both_are {A} {B} {one} {other} {this} {that} first second =
+    let before : B → A × B = λ y. (other, y) in
+    let behind : A → A × B = λ x. (x, this) in
+    ap behind first ∙ ap before second
+
+-- the octets were refused for this fault
+pub refuses_tape : (octets : Octets) (fault : TapeFault) → IsOpenFault fault → (fault ≡ NoTapeMemory → ⊥)
+    → ((segment at : ℕ) → fault ≡ Damaged segment at → IsNoTapeAt octets segment at) → RefusesTape octets fault
+refuses_tape octets (Damaged segment at) kind memory damaged = damaged segment at refl
+refuses_tape octets Disk kind memory damaged = tt
+refuses_tape octets Broken kind memory damaged = absurd kind
+refuses_tape octets TapeFull kind memory damaged = absurd kind
+refuses_tape octets GenerationFull kind memory damaged = absurd kind
+refuses_tape octets PendingFull kind memory damaged = absurd kind
+refuses_tape octets NoTapeMemory kind memory damaged = absurd (memory refl)
+refuses_tape octets (Note fault) kind memory damaged = absurd kind
+
+-- ---- one after another
+
+module _ {D : Type 0} {g : Ghosts D} where
+  are_tapes : (given : List GivenPeer) (peers : List (Peer D g)) → AllZip OpensGiven given peers
+      → AllByRecursion (λ (other : GivenPeer). IsSomeTape (given_octets other)) given
+  are_tapes given peers all =
+      zip_first OpensGiven (λ (other : GivenPeer). IsSomeTape (given_octets other)) (λ one peer is. (is.state, is.was))
+      given peers all
+
+  -- one more was opened
+  pub opens_more : (prefix : List GivenPeer) (peers new : List (Peer D g)) (given : GivenPeer) (peer : Peer D g)
+      → AllZip OpensGiven prefix peers → OpensGiven given peer → new ≡ peers ++ peer ∷ []
+      → AllZip OpensGiven (prefix ++ given ∷ []) new
+  opens_more prefix peers new given peer all one more =
+      subst (AllZip OpensGiven (prefix ++ given ∷ [])) (sym more) (zip_push OpensGiven prefix peers given peer all one)
+
+  -- behind those that were opened comes one that is refused
+  pub stops_for : (given prefix : List GivenPeer) (peers : List (Peer D g)) (peer : GivenPeer) (fault : TapesFault)
+      → AllZip OpensGiven prefix peers → prefix ≡ take (length prefix) given
+      → slice_get given (length prefix) ≡ Some peer → RefusesPeer peer fault
+      → StopsFor given fault
+  stops_for given prefix peers peer (Tape name fault) all so_far here refused = record {
+    rank = length prefix;
+    peer = peer;
+    here = here;
+    named = refused.0;
+    before = subst (AllByRecursion (λ (other : GivenPeer). IsSomeTape (given_octets other))) so_far
+        (are_tapes prefix peers all);
+    why = refused.1;
+  }
+  stops_for given prefix peers peer NoMemory all so_far here refused = tt
+
+-- the first in order is reported
+pub refuses_tapes : (given ordered : List GivenPeer) (fault : TapesFault) → IsPermutation given ordered
+    → NamesRise (given_names ordered) → StopsFor ordered fault → RefusesTapes given fault
+refuses_tapes given ordered (Tape name fault) permuted rises stops =
+    record { ordered = ordered; permuted = permuted; rises = rises; stops = stops }
+refuses_tapes given ordered NoMemory permuted rises stops = tt
+
+-- ---- a world of them
+
+module _ {D : Type 0} {g : Ghosts D} where
+  -- what the peers that were opened have been through
+  record HavePasts (given : List GivenPeer) (peers : List (Peer D g)) : Type 0 where
+    pasts : List PeerPast
+    given_are : AllZip IsGivenPeer given pasts
+    stand : AllZip PeerStands pasts peers
+    names : names_of pasts ≡ given_names given
+    acknowledged : AllByRecursion (HasAcknowledged 0) pasts
+    free : AllByRecursion HasNoneHeld pasts
+
+  have_pasts : (given : List GivenPeer) (peers : List (Peer D g)) → AllZip OpensGiven given peers
+      → HavePasts given peers
+  have_pasts [] [] all =
+      record { pasts = []; given_are = tt; stand = tt; names = refl; acknowledged = tt; free = tt }
+  have_pasts [] (peer ∷ peers) all = absurd all
+  have_pasts (one ∷ given) [] all = absurd all
+  have_pasts (one ∷ given) (peer ∷ peers) all =
+      let rest = have_pasts given peers all.1 in
+      let past = found_peer one.0 all.0.state (log_of (tape_of peer.station)) in
+      record {
+        pasts = past ∷ rest.pasts;
+        given_are = (
+          record {
+            state = all.0.state;
+            was = all.0.was;
+            fresh = record {
+              conf_is = refl;
+              tape = record {
+                history = refl;
+                faults = refl;
+                works = refl;
+                safe = each_prefix past (tape_of peer.station) all.0.stands.tape;
+              };
+              places = refl;
+              parted = refl;
+            };
+          },
+          rest.given_are,
+        );
+        stand = (all.0.stands, rest.stand);
+        names = ap (λ (names : List (List ℕ)). one.0.name ∷ names) rest.names;
+        acknowledged = (tt, rest.acknowledged);
+        free = ((λ id number. none_held (keys all.0.state) id number), rest.free);
+      }
+
+-- the world runs, with no connection, and no stop is armed
+abbrev at_start : Past → Life
+at_start past = record { past = past; conns = []; connected = 0; now = 0; armed = None; running = true }
+
+pub begins_from : (given ordered : List GivenPeer) (world : World) (stations : _) (conns : _)
+    → world.stage ≡ Running stations conns → IsPermutation given ordered → NamesRise (given_names ordered)
+    → AllZip OpensGiven ordered stations.peers.items → IsFound start stations.intake → stations.last ≡ 0
+    → stations.begun ≡ None → conns.items ≡ []
+    → world.armed ≡ None → world.connected ≡ 0 → world.now ≡ 0 → BeginsFrom given world
+begins_from given ordered world stations conns is permuted rises all intake last begun none armed connected moment =
+    let have = have_pasts ordered stations.peers.items all in
+    let past : Past = record {
+      peers = have.pasts;
+      intake = found_tape start (log_of stations.intake);
+      last = 0;
+      begun = None;
+    } in
+    let stands : Stands stations past = record {
+      peers = have.stand;
+      intake = intake;
+      last = last;
+      begun = begun;
+      sound = record {
+        names = subst NamesRise (sym have.names) rises;
+        fits = omega arith;
+        marked = omega arith;
+        acknowledged = have.acknowledged;
+        kept = λ number e. absurd cc;
+        parted = λ number e. absurd cc;
+      };
+    } in
+    let safe = safe_of stations past stands in
+    record {
+      ordered = ordered;
+      permuted = permuted;
+      rises = rises;
+      life = at_start past;
+      fresh = record {
+        peers = have.given_are;
+        intake = record { history = refl; faults = refl; works = refl; safe = safe.intake };
+        rest = refl;
+      };
+      stands = record {
+        stage = rw (is, none) (refl, stands, tt);
+        armed = rw (armed) refl;
+        connected = connected;
+        now = moment;
+        sound = record {
+          past = stands.sound;
+          conns = tied_none (at_start past) refl
+              (λ rank peer here. all_at HasNoneHeld have.pasts rank peer have.free here);
+        };
+      };
+    }
+
+-- ---- of empty tapes
+
+abbrev HasNone : GivenPeer → Type 0
+HasNone given = given.1.items ≡ []
+
+all_none : (confs : List PeerConf) (given : List GivenPeer) → AllZip HasNoOctets confs given → All HasNone given
+all_none [] [] all = All-nil HasNone
+all_none [] (one ∷ given) all = absurd all
+all_none (conf ∷ confs) [] all = absurd all
+all_none (conf ∷ confs) (one ∷ given) all = All-cons HasNone one given all.0.none (all_none confs given all.1)
+
+confs_are : (confs : List PeerConf) (given : List GivenPeer) → AllZip HasNoOctets confs given
+    → map (λ (x : GivenPeer). x.0) given ≡ confs
+confs_are [] [] all = refl
+confs_are [] (one ∷ given) all = absurd all
+confs_are (conf ∷ confs) [] all = absurd all
+confs_are (conf ∷ confs) (one ∷ given) all =
+    ap (λ (c : PeerConf). c ∷ map (λ (x : GivenPeer). x.0) given) all.0.conf_is
+    ∙ ap (λ (cs : List PeerConf). conf ∷ cs) (confs_are confs given all.1)
+
+names_are : (given : List GivenPeer)
+    → map (λ (c : PeerConf). c.name) (map (λ (x : GivenPeer). x.0) given) ≡ given_names given
+names_are [] = refl
+names_are (one ∷ given) = ap (λ (names : List (List ℕ)). one.0.name ∷ names) (names_are given)
+
+-- the names are those of the settings
+pub same_names : (confs : List PeerConf) (given : List GivenPeer) → AllZip HasNoOctets confs given
+    → IsDistinct bytes_eq (map (λ (c : PeerConf). c.name) confs) → IsDistinct bytes_eq (given_names given)
+same_names confs given all apart = subst (IsDistinct bytes_eq)
+    (ap (map (λ (c : PeerConf). c.name)) (sym (confs_are confs given all)) ∙ names_are given) apart
+
+fresh_peers : (given : List GivenPeer) (pasts : List PeerPast) → AllZip IsGivenPeer given pasts → All HasNone given
+    → AllZip (λ (conf : PeerConf). IsFreshPeer conf start) (map (λ (x : GivenPeer). x.0) given) pasts
+fresh_peers [] [] all none = tt
+fresh_peers [] (past ∷ pasts) all none = absurd all
+fresh_peers (one ∷ given) [] all none = absurd all
+fresh_peers (one ∷ given) (past ∷ pasts) all none =
+    let there = subst (λ (o : List ℕ). IsTape (o, []) all.0.state) (All-head HasNone one given none) all.0.was in (
+      subst (λ (state : State). IsFreshPeer one.0 state past)
+          (tape_once ([], []) all.0.state start there nothing_lies) all.0.fresh,
+      fresh_peers given pasts all.1 (All-tail HasNone one given none),
+    )
+
+pub begins : (confs : List PeerConf) (given : List GivenPeer) (world : World) → AllZip HasNoOctets confs given
+    → BeginsFrom given world → Begins confs world
+begins confs given world all is =
+    let ordered = map (λ (x : GivenPeer). x.0) is.ordered in
+    let none = All-permutation HasNone given is.ordered is.permuted (all_none confs given all) in
+    record {
+      confs = ordered;
+      permuted = subst (λ (cs : List PeerConf). IsPermutation cs ordered) (confs_are confs given all)
+          (IsPermutation-map (λ (x : GivenPeer). x.0) given is.ordered is.permuted);
+      rises = subst NamesRise (sym (names_are is.ordered)) is.rises;
+      life = is.life;
+      fresh = record {
+        peers = fresh_peers is.ordered is.life.past.peers is.fresh.peers none;
+        intake = is.fresh.intake;
+        rest = is.fresh.rest;
+      };
+      stands = is.stands;
+    }
+
+none_at : (given : List GivenPeer) (rank : ℕ) (one : GivenPeer) → All HasNone given
+    → slice_get given rank ≡ Some one → HasNone one
+none_at [] rank one none here = absurd cc
+none_at (x ∷ given) zero one none here =
+    let same : x ≡ one = cc in
+    subst HasNone same (All-head HasNone x given none)
+none_at (x ∷ given) (suc rank) one none here = none_at given rank one (All-tail HasNone x given none) here
+
+not_damaged : (octets : Octets) (fault : TapeFault) → octets ≡ ([], []) → RefusesTape octets fault → fault ≡ Disk
+not_damaged octets (Damaged segment at) empty is =
+    absurd (tape_nowhere_damaged ([], []) start segment at nothing_lies
+    (subst (λ (o : Octets). IsNoTapeAt o segment at) empty is))
+not_damaged octets Disk empty is = refl
+not_damaged octets Broken empty is = absurd is
+not_damaged octets TapeFull empty is = absurd is
+not_damaged octets GenerationFull empty is = absurd is
+not_damaged octets PendingFull empty is = absurd is
+not_damaged octets NoTapeMemory empty is = absurd is
+not_damaged octets (Note fault) empty is = absurd is
+
+-- none but a disk in memory refuses them
+pub make_fault : (confs : List PeerConf) (given : List GivenPeer) (name : List ℕ) (fault : TapeFault)
+    → AllZip HasNoOctets confs given → RefusesFirst given name fault → IsMakeFault (FromTape fault)
+make_fault confs given name fault all is =
+    let none = All-permutation HasNone given is.ordered is.permuted (all_none confs given all) in
+    let empty = none_at is.ordered is.stops.rank is.stops.peer none is.stops.here in
+    inl (ap FromTape (not_damaged (given_octets is.stops.peer) fault (ap (λ (o : List ℕ). (o, [])) empty)
+    is.stops.why))
