@@ -14,7 +14,7 @@ use Rattle.ledger_core.specs.declared.note.Note.{Note}
 use Rattle.backlog_files.specs.Imports.{Begins, Goes_on, Imports, TakesIn, TakesLine, TakesSome, closed, no_line}
 use Rattle.backlog_files.specs.declared.import_report.ImportReport.{ImportReport}
 
--- one line more
+-- one more line
 line_more : (begun now next : State) (number next_number : ℕ) (before report : ImportReport) (given : List (List ℕ))
     (line kept : List ℕ) (notes : List Note) → Imports begun (map clipped given) now before → number ≡ length given
     → next_number ≡ number + 1 → kept ≡ clipped line → TakesLine now next_number kept before notes report
@@ -71,7 +71,7 @@ module _ {R : Type 0} {g : Ghosts R} where
     counted = zero;
   }
 
-  -- one line more was given and taken
+  -- one more line was given and taken
   pub reaches_line : (octets : List ℕ) (begun now next : State) (number next_number : ℕ) (before report : ImportReport)
       (file new : LineFile R g) (kept : List ℕ) → Reaches octets begun now number before file
       → ((read : List ℕ) (given : List (List ℕ)) → HasGiven file read given
@@ -92,7 +92,7 @@ module _ {R : Type 0} {g : Ghosts R} where
         counted = omega (arith, length-append r.given (line.0 ∷ []), c, raised);
       }
 
-  -- nothing more was given, and a piece more was read
+  -- nothing more was given, and one more piece was read
   pub reaches_piece : (octets : List ℕ) (begun now : State) (number : ℕ) (report : ImportReport)
       (file new : LineFile R g) (piece : List ℕ) → Reaches octets begun now number report file
       → Consumes (left_of file) (left_of new) piece

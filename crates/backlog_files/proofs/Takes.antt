@@ -14,7 +14,7 @@ use Rattle.peer_queue.specs.declared.limits.Owed.TheVariants.{Already, New}
 use Rattle.backlog_files.specs.Imports.{Is_malformed, Is_owed, Is_passed, TakesLine}
 use Rattle.backlog_files.specs.declared.import_report.ImportReport.{ImportReport}
 
--- a good line is owed, or passed over
+-- a good line is owed, or skipped
 pub takes_good : (owed : Owed) (past now : State) (number : ℕ) (line token id : List ℕ) (before report : ImportReport)
     → IsBacklogLine line token id
     → (owed ≡ New → (past.import_mark < number) × (now ≡ step past (Owe (key_of (past.closed + 1) number) token id)))

@@ -5,6 +5,6 @@ use Rattle.peer_queue.specs.declared.fault.StationFault.{StationFault}
 use Rattle.peer_queue.specs.declared.fault.StationFault.TheVariants.{Tape}
 use Rattle.recovery.specs.declared.fault.TapeFault.TheVariants.{PendingFull}
 
--- as a debt is refused, but not for want of room among the notes that pend, since a flush makes room; or as a flush is
+-- as a debt is refused, except for want of room among the pending notes, because a flush makes room; or as a flush is
 abbrev pub IsImportFault : StationFault → Type 0
 IsImportFault fault = (IsOweFault fault × (fault ≢ Tape PendingFull)) ⊎ IsFlushFault fault

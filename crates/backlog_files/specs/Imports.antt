@@ -12,8 +12,7 @@ use Rattle.ledger_core.specs.declared.note.Note.TheVariants.{Closed, Owe}
 use Rattle.backlog_files.specs.declared.import_report.ImportReport.{ImportReport}
 
 -- The notes that the line of this number makes, after this ledger, and the report with it: a good line is owed under
--- its number in the source that is open, or passed over if lines up to its number were noted; a malformed one owes
--- nothing.
+-- its number in the open source, or skipped if lines up to its number were noted; a malformed one owes nothing.
 pub data TakesLine (past : State) (number : ℕ) (line : List ℕ) (before : ImportReport) : List Note → ImportReport → Type 0 where
   Is_owed : (token id : List ℕ) → IsBacklogLine line token id → past.import_mark < number
       → TakesLine past number line before (Owe (key_of (past.closed + 1) number) token id ∷ [])
@@ -24,23 +23,23 @@ pub data TakesLine (past : State) (number : ℕ) (line : List ℕ) (before : Imp
       → TakesLine past number line before []
       (record before { malformed = Some (first_of before.malformed number fault) })
 
--- the report of no line
+-- the report before the first line
 abbrev pub no_line : ImportReport
 no_line = record { taken = 0; passed = 0; malformed = None; has_rest = false }
 
--- What these lines, one after another and the first of them line 1, make of a ledger, and the report of them.
+-- What these lines, one after another and numbered from 1, make of a ledger, and the report of them.
 pub data Imports (begun : State) : List (List ℕ) → State → ImportReport → Type 0 where
   Begins : Imports begun [] begun no_line
   Goes_on : (lines : List (List ℕ)) (past : State) (before report : ImportReport) (line : List ℕ) (notes : List Note)
       → Imports begun lines past before → TakesLine past (length lines + 1) line before notes report
       → Imports begun (lines ++ line ∷ []) (after past notes) report
 
--- the ledger after the note that closes the source which is open
+-- the ledger after the note that closes the open source
 abbrev pub closed : State → State
 closed past = step past (Closed (past.closed + 1))
 
--- The file that has these octets was taken in: its lines, of which no more is kept than shows that they are too long,
--- and then the note that closes their source. A rest without LF is no line.
+-- The file with these octets was taken in: its lines (no more of a line is kept than shows that it is too long), and
+-- then the note that closes their source. A rest without LF is not a line.
 pub record TakesIn (octets : List ℕ) (begun now : State) (report : ImportReport) : Type 0 where
   pub lines : List (List ℕ)
   pub rest : List ℕ
@@ -51,7 +50,8 @@ pub record TakesIn (octets : List ℕ) (begun now : State) (report : ImportRepor
   pub ends : now ≡ closed past
   pub reports : report ≡ record counts { has_rest = nat_lt 0 (length rest) }
 
--- Of the file that has these octets the first lines were taken in, and the note may be made that closes their source.
+-- The first lines of the file with these octets were taken in, and the note that closes their source may have been
+-- made.
 pub record TakesSome (octets : List ℕ) (begun now : State) : Type 0 where
   pub lines : List (List ℕ)
   pub behind : List ℕ

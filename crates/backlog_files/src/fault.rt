@@ -1,14 +1,14 @@
-// Why a backlog file was not taken in.
+// Why a backlog file was not imported.
 use peer_queue::StationFault;
 use std::alloc::AllocError;
 use std::io;
 use thiserror::Error;
 
-/// Why a file was not taken in to its end, or not all of it is acknowledged. What was taken in stays; unless the last
+/// Why a file was not taken in to its end, or not all of it is acknowledged. What was taken in stays. Unless the last
 /// flush failed, its source stays open, so that the next try goes on after what was taken in.
 #[derive(Debug, Drop, Error)]
 pub enum ImportFault {
-    /// The file cannot be read on, for the system's reason; or memory was refused.
+    /// The file cannot be read further, for the system's reason; or memory was refused.
     #[error("{0}")]
     Unread(io::Error),
     /// The station refused.
@@ -42,10 +42,10 @@ impl From<StationFault> for ImportFault {
 /// Why the backlog file of a peer was not taken in, or not removed.
 #[derive(Debug, Drop, Error)]
 pub enum BacklogFault {
-    /// The file at this path cannot be read, or is none that is taken in, for this reason. It is left as it is.
+    /// The file at this path cannot be read, or must not be taken in, for this reason. It is left as it is.
     #[error("cannot read {path}: {reason}")]
     Unread { path: String, reason: io::Error },
-    /// The file at this path was taken in, and cannot be removed for this reason.
+    /// The file at this path was taken in but cannot be removed, for this reason.
     #[error("cannot remove {path}: {reason}")]
     Unremoved { path: String, reason: io::Error },
     /// The peer's station refused.
@@ -57,7 +57,6 @@ pub enum BacklogFault {
 }
 
 impl BacklogFault {
-    // The lines of the file at this path were not all taken in.
     pub(crate) fn of_import(path: String, fault: ImportFault) -> Self {
         match fault {
             ImportFault::Unread(reason) => BacklogFault::Unread { path, reason },

@@ -27,17 +27,16 @@ pub struct BacklogFiles<'a, F> {
 /// A backlog file that was taken in.
 #[derive(Debug, Drop)]
 pub struct Imported {
-    /// Its path.
     pub path: String,
     /// What became of its lines.
     pub report: ImportReport,
-    /// Whether it was left where it is, since there is another or a longer file by now: the next import takes that one
+    /// Whether it was left in place because there is another or a longer file by now: the next import takes that one
     /// in.
     pub is_left: bool,
 }
 
 impl<'a, F: AllocGlobal + Files<File = File>> BacklogFiles<'a, F> {
-    /// Those of the directory at this path, which is locked.
+    /// The backlog files of the directory at this path, which is locked.
     pub fn new(files: &'a F, tapes: &'a TapeDirectory, directory: &'a str) -> Self {
         BacklogFiles {
             files,
@@ -47,7 +46,7 @@ impl<'a, F: AllocGlobal + Files<File = File>> BacklogFiles<'a, F> {
         }
     }
 
-    /// The file at this path, if there is one, serves another purpose, and is never taken in.
+    /// Marks the file at this path, if there is one, as one that serves another purpose and is never taken in.
     ///
     /// # Errors
     /// Memory was refused.
@@ -59,12 +58,13 @@ impl<'a, F: AllocGlobal + Files<File = File>> BacklogFiles<'a, F> {
     }
 
     /// Takes in the file with the name of this peer, and removes it once all its lines are acknowledged; `None` if
-    /// there is none. An import that was cut off is ended: by the same file, or without it, so that a file that is put
-    /// there later is not taken for the rest of it.
+    /// there is none. An import that was cut off is ended: by the same file, or without it, so that a file that is
+    /// put there later is not taken for the rest of it.
     ///
     /// # Errors
-    /// `Unread` if it is no regular file, or serves another purpose: it was not touched; or if it cannot be opened, or
-    /// read to its end. `Station`: what the station refused. `Unremoved`: all was taken in, and would be once more.
+    /// `Unread` if it is not a regular file, or serves another purpose: then it was not touched; or if it cannot be
+    /// opened, or read to its end. `Station`: what the station refused. `Unremoved`: all was taken in, and would be
+    /// taken in again.
     pub fn take_in<D: Disk>(&self, peer: &mut Peer<D>) -> Result<Option<Imported>, BacklogFault> {
         let path = self.path_of(&peer.name)?;
         match fs::symlink_metadata(self.files, path.as_str()) {
@@ -80,7 +80,6 @@ impl<'a, F: AllocGlobal + Files<File = File>> BacklogFiles<'a, F> {
         }
     }
 
-    // Takes in the file that was found at this path.
     fn take_found<D: Disk>(
         &self,
         peer: &mut Peer<D>,
@@ -107,9 +106,9 @@ impl<'a, F: AllocGlobal + Files<File = File>> BacklogFiles<'a, F> {
         }
     }
 
-    // Opens the file that was found at this path, if it is to be taken in. It is checked first, since opening a FIFO
-    // might never return. What it has is made durable: else, after a power cut in the middle of the import, other lines
-    // might come under numbers that are noted.
+    // Opens the file that was found at this path, if it is to be taken in. It is checked first, because opening a
+    // FIFO might never return. Its content is made durable: otherwise, after a power cut in the middle of the import,
+    // other lines might come under numbers that are noted.
     fn open(&self, path: &str, found: &Metadata) -> io::Result<File> {
         if !found.is_file() {
             return Err(no_backlog("it is not a regular file"));
@@ -125,8 +124,8 @@ impl<'a, F: AllocGlobal + Files<File = File>> BacklogFiles<'a, F> {
         Ok(file)
     }
 
-    // Removes the file that was read, and makes that durable, unless another file is at this path by now, or a longer
-    // one. Whether no file is there any more.
+    // Removes the file that was read, and makes that durable, unless there is another file at this path by now, or a
+    // longer one. Returns whether there is no file any more.
     fn remove(&self, path: &str, lines: &LineFile<File>) -> io::Result<bool> {
         let (file, read) = lines.reader();
         let was = FileId::of(&file.metadata()?);
@@ -140,7 +139,6 @@ impl<'a, F: AllocGlobal + Files<File = File>> BacklogFiles<'a, F> {
         Ok(true)
     }
 
-    // The path of a peer's backlog file.
     fn path_of(&self, name: &PeerName) -> Result<String, AllocError> {
         // The name of a peer is text.
         let name = str::from_utf8(name.bytes()).unwrap_or("");
@@ -151,7 +149,7 @@ impl<'a, F: AllocGlobal + Files<File = File>> BacklogFiles<'a, F> {
     }
 }
 
-// Why a file is none that is taken in.
+// The error of a file that must not be taken in.
 fn no_backlog(why: &'static str) -> io::Error {
     io::Error::new(ErrorKind::InvalidInput, why)
 }

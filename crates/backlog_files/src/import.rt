@@ -41,12 +41,12 @@ impl Import {
         }
     }
 
-    /// Takes the next line: it gets the next number, and a good one is owed to this peer, unless lines up to its number
-    /// were noted before.
+    /// Takes the next line: it gets the next number, and a good one is owed to this peer, unless lines up to its
+    /// number were noted before.
     ///
     /// # Errors
-    /// `Tape(Note(CountFull))` if no number is left; those of [`Peer::import`], but for `Tape(PendingFull)`, since a
-    /// flush makes room; those of [`Peer::flush_or_rotate`]; `NoMemory`. The line is not taken then.
+    /// `Tape(Note(CountFull))` if no number is left; the errors of [`Peer::import`], except `Tape(PendingFull)`,
+    /// because a flush makes room; those of [`Peer::flush_or_rotate`]; `NoMemory`. The line is not taken then.
     pub fn take<D: Disk>(&mut self, peer: &mut Peer<D>, line: &[u8]) -> Result<(), StationFault>
         ensures taken { OnOk result ((notes : List Note)
             × TakesLine (ledger_of peer.old.station) self.new.number line.now self.old.report notes
@@ -67,7 +67,6 @@ impl Import {
         Ok(())
     }
 
-    // The report with the line of this number, which is taken.
     fn report_with<D: Disk>(
         &self,
         peer: &mut Peer<D>,
@@ -100,7 +99,7 @@ impl Import {
     }
 }
 
-// Owes a line of the source that is open, after a flush if no more notes may be pending.
+// Owes a line of the open source, after a flush if no more notes may be pending.
 fn owe<D: Disk>(
     peer: &mut Peer<D>,
     number: u64,
@@ -126,7 +125,7 @@ fn owe<D: Disk>(
     }
 }
 
-// Closes the source that is open, and returns it; after a flush if no more notes may be pending.
+// Closes the open source, and returns it; after a flush if no more notes may be pending.
 fn close_source<D: Disk>(peer: &mut Peer<D>) -> Result<u32, StationFault>
     ensures source { IfOk result (λ source. source ≡ (ledger_of peer.old.station).closed + 1) }
     ensures closed { OnOk result
@@ -144,11 +143,10 @@ fn close_source<D: Disk>(peer: &mut Peer<D>) -> Result<u32, StationFault>
     }
 }
 
-/// Closes the source that is open, flushes, and returns the source: from then on the next one is open, even after a
-/// crash.
+/// Closes the open source, flushes, and returns the source: from then on the next one is open, even after a crash.
 ///
 /// # Errors
-/// Those of [`Peer::close_import`], but for `Tape(PendingFull)`, since a flush makes room; those of
+/// The errors of [`Peer::close_import`], except `Tape(PendingFull)`, because a flush makes room; those of
 /// [`Peer::flush_or_rotate`].
 pub(crate) fn close<D: Disk>(peer: &mut Peer<D>) -> Result<u32, StationFault>
     ensures source { IfOk result (λ source. source ≡ (ledger_of peer.old.station).closed + 1) }
@@ -166,13 +164,13 @@ pub(crate) fn close<D: Disk>(peer: &mut Peer<D>) -> Result<u32, StationFault>
     Ok(source)
 }
 
-/// Takes in all lines of a file for this peer, as those of the source that is open, closes that source, and flushes:
-/// from `Ok` on they are acknowledged. The first line is line 1; a malformed one has a number, and owes nothing; a rest
-/// without LF is no line. No more than one piece of the file is in memory.
+/// Takes in all lines of a file for this peer, as lines of the open source, closes that source, and flushes: once it
+/// returns `Ok`, they are acknowledged. The first line is line 1; a malformed one has a number, and owes nothing; a
+/// rest without LF is not a line. No more than one piece of the file is in memory.
 ///
 /// # Errors
-/// The file cannot be read on; the station's. What was taken in stays. Unless its last flush failed the source
-/// stays open, so that the next call with the same file goes on after what was taken in.
+/// The file cannot be read further; the station's errors. What was taken in stays. Unless its last flush failed, the
+/// source stays open, so that the next call with the same file goes on after what was taken in.
 pub fn take_in<D: Disk, R: Read + Drop>(
     alloc: Global,
     peer: &mut Peer<D>,

@@ -10,14 +10,14 @@ use std::fmt::{self, Display, Formatter, Write};
 /// What became of the lines of a backlog file.
 #[derive(Clone, Copy, Debug, PartialEq, Eq)]
 pub struct ImportReport {
-    /// How many lines are owed from now on, at most the greatest u64.
+    /// How many lines are owed from now on, at most 2 ^ 64 - 1.
     pub taken: u64,
-    /// How many good lines were passed over, at most the greatest u64: an earlier import, which was cut off, has taken
-    /// in all lines up to them.
+    /// How many good lines were skipped, at most 2 ^ 64 - 1: an earlier import, which was cut off, has taken in all
+    /// lines up to them.
     pub passed: u64,
     /// The malformed lines, if there are any.
     pub malformed: Option<Malformed>,
-    /// Whether a rest without LF, which is no line, follows the last line.
+    /// Whether a rest without LF, which is not a line, follows the last line.
     pub has_rest: bool,
 }
 
@@ -33,7 +33,6 @@ impl ImportReport {
         }
     }
 
-    /// With one more good line.
     pub(crate) fn with_good(self, owed: Owed) -> Self
         ensures new { owed ≡ Owed.New → result ≡ record self { taken = one_more self.taken } }
         ensures already { owed ≡ Owed.Already
@@ -51,7 +50,6 @@ impl ImportReport {
         }
     }
 
-    /// With one more malformed line, of this number.
     pub(crate) fn with_malformed(self, number: u64, fault: LineFault) -> Self
         ensures { result ≡ record self {
           malformed = Some (first_of self.malformed number fault);

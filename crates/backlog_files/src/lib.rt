@@ -2,7 +2,7 @@
 //! taken in as debts of that peer, and removed.
 //!
 //! May touch the files of that directory, and the tape of the peer. The crate above uses [`BacklogFiles`]: `take_in`
-//! takes in the file of a peer, if there is one. Proved is what the lines of a file make of the peer's ledger
+//! takes in the file of a peer, if there is one. What the lines of a file make of the peer's ledger is proved
 //! (`specs/Imports.antt`: [`take_in`]); what the system's files give is tested.
 #![tactic(auto)]
 

@@ -2,7 +2,7 @@
 use std::fs::Metadata;
 use std::os::unix::fs::MetadataExt;
 
-/// A file, by its device and its number there: no two that are there at a time have both.
+/// A file, by its device and its number there: no two files that exist at the same time share both.
 #[derive(Clone, Copy, PartialEq, Eq)]
 pub(crate) struct FileId {
     device: u64,

@@ -15,7 +15,7 @@ pub enum RowFault {
     /// A script of it prints or ends otherwise than it should.
     #[error("{0}")]
     Differs(String),
-    /// What a script of it prints is no text.
+    /// What one of its scripts prints is not text.
     #[error("it prints what is not UTF-8")]
     NoText,
     /// A file of it cannot be read, or memory was refused.

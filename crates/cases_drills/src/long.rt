@@ -1,5 +1,5 @@
-// Lines that stand for many: `{FIRST..LAST}` in a line says that it stands there once for each of these numbers, with
-// the number in that place.
+// Lines that stand for many: a line with `{FIRST..LAST}` stands for one line for each of these numbers, with the
+// number in that place.
 use std::alloc::{AllocError, Global};
 
 /// The numbers FIRST to LAST of `FIRST..LAST`, in digits.
@@ -17,7 +17,7 @@ pub fn write_out(alloc: Global, text: &str) -> Result<String, AllocError> {
     Ok(out)
 }
 
-/// The lines of a text whose last line ends, too.
+/// The lines of a text, whether or not the last one ends with LF.
 pub fn lines_of(text: &str) -> std::str::Split<'_, char> {
     text.strip_suffix('\n').unwrap_or(text).split('\n')
 }
@@ -32,7 +32,7 @@ fn add_line(out: &mut String, line: &str) -> Result<(), AllocError> {
     Ok(())
 }
 
-// What stands before a line's range, the range, and what stands after it.
+// What comes before a line's range, the range, and what comes after it.
 fn split_range(line: &str) -> Option<(&str, (u64, u64), &str)> {
     let (before, rest) = line.split_once('{')?;
     let (range, after) = rest.split_once('}')?;

@@ -45,7 +45,6 @@ struct Tally {
 }
 
 impl Tally {
-    // Counts one more row.
     fn add(&mut self, checked: &Result<u64, RowFault>) {
         self.rows = self.rows.saturating_add(1);
         match checked {
@@ -55,7 +54,6 @@ impl Tally {
     }
 }
 
-// Runs each row of the index, and prints a line of each.
 fn check_rows<R: AllocGlobal + Files + Print>(rt: &R, index: &str) -> io::Result<Tally> {
     let mut tally = Tally {
         rows: 0,
@@ -94,7 +92,7 @@ fn print_result<R: Print>(rt: &R, line: &str, checked: &Result<u64, RowFault>) -
     }
 }
 
-// How many files of rows stand in the folder that the index does not list. A line of each is printed.
+// How many files of rows in the folder the index does not list. Prints a line for each.
 fn count_unlisted<R: AllocGlobal + Files + Print + Clone + Drop>(
     rt: &R,
     index: &str,

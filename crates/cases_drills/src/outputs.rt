@@ -1,4 +1,4 @@
-// What a script may print, and where it prints something else.
+// What a script may print, and where its output differs.
 use std::alloc::{AllocError, Global};
 use std::fmt;
 
@@ -26,7 +26,7 @@ fn shown(line: Option<&str>) -> &str {
     line.unwrap_or("(no such line)")
 }
 
-/// Where what was printed differs from the allowed output with which it begins furthest.
+/// Where the output differs from the allowed output with which it agrees longest.
 pub fn first_difference<'a>(outputs: &'a [String], printed: &'a str) -> Difference<'a> {
     let mut furthest = Difference {
         line: 0,
@@ -56,7 +56,8 @@ fn compare<'a>(wanted: &'a str, printed: &'a str) -> Difference<'a> {
     }
 }
 
-/// The outputs that a file allows, with an empty line between them; of an empty file that nothing is printed.
+/// The outputs that a file allows, with an empty line between them; an empty file allows only that nothing is
+/// printed.
 pub fn read_outputs(alloc: Global, text: &str) -> Result<Vec<String>, AllocError> {
     let mut outputs = Vec::new(alloc);
     if text.is_empty() {

@@ -6,14 +6,14 @@ use drill::Ending;
 pub enum Form {
     /// `NAME.drill` is the script.
     Script,
-    /// `NAME.long` is the script, in which a line with a range `{FIRST..LAST}` stands for a line for each number.
+    /// `NAME.long` is the script; a line in it with a range `{FIRST..LAST}` stands for one line for each number.
     Long,
     /// `NAME.each` is a template of many scripts.
     Each,
 }
 
 impl Form {
-    /// The form of a file whose name ends so, after its dot.
+    /// The form of a file whose name ends with this word, after its dot.
     pub fn read(word: &str) -> Option<Form> {
         match word {
             "drill" => Some(Form::Script),
@@ -24,7 +24,7 @@ impl Form {
     }
 }
 
-/// How the scripts of a row end, whatever line or tape is refused.
+/// How the scripts of a row end, whichever line or tape is refused.
 #[derive(Clone, Copy, Debug, PartialEq, Eq)]
 pub enum End {
     Done,
@@ -34,7 +34,7 @@ pub enum End {
 }
 
 impl End {
-    /// The end of a drill that ended so.
+    /// The end of a drill with this ending.
     pub fn of(ending: Ending) -> End {
         match ending {
             Ending::Done => End::Done,
@@ -44,7 +44,6 @@ impl End {
         }
     }
 
-    // Reads the word for an end.
     fn read(word: &str) -> Option<End> {
         match word {
             "done" => Some(End::Done),
@@ -61,7 +60,7 @@ impl End {
 pub struct Row<'a> {
     /// Its file, without the folder.
     pub file: &'a str,
-    /// What stands before the dot of that.
+    /// The part of the file name before the dot.
     pub name: &'a str,
     pub form: Form,
     /// How each script ends.

@@ -9,7 +9,7 @@ use std::alloc::Global;
 use std::fs;
 use std::rt::Files;
 
-// What each script of a row is to do.
+// What each script of a row should do.
 #[derive(Clone, Copy)]
 struct Wanted<'a> {
     // One of these is printed.
@@ -17,7 +17,8 @@ struct Wanted<'a> {
     end: End,
 }
 
-/// Runs each script of a row, up to the first that prints or ends otherwise than it should. Returns how many they are.
+/// Runs each script of a row, up to the first that prints or ends otherwise than it should. Returns how many there
+/// are.
 ///
 /// # Errors
 /// What is wrong with the row.
@@ -43,7 +44,6 @@ pub fn check_row<R: AllocGlobal + Files>(rt: &R, row: &Row) -> Result<u64, RowFa
     }
 }
 
-// A row of one script.
 fn check_one(alloc: Global, script: &str, printed: String, end: End) -> Result<u64, RowFault> {
     let wanted = Wanted {
         outputs: &[printed],
@@ -53,7 +53,6 @@ fn check_one(alloc: Global, script: &str, printed: String, end: End) -> Result<u
     Ok(1)
 }
 
-// A row of the scripts of a template.
 fn check_each(alloc: Global, template: &Template, wanted: &Wanted) -> Result<u64, RowFault> {
     let count = template.count();
     if count == 0 {
@@ -69,7 +68,7 @@ fn check_each(alloc: Global, template: &Template, wanted: &Wanted) -> Result<u64
     Ok(count)
 }
 
-// What differs, of which of a template's scripts.
+// What differs, and in which of a template's scripts.
 fn difference_in(alloc: Global, what: &str, script: &str) -> RowFault {
     match format!(in alloc; "{what}, by the script {script:?}") {
         Ok(difference) => RowFault::Differs(difference),
@@ -77,7 +76,6 @@ fn difference_in(alloc: Global, what: &str, script: &str) -> RowFault {
     }
 }
 
-// Runs a script, and looks at what it prints and how it ends.
 fn check_script(alloc: Global, script: &str, wanted: &Wanted) -> Result<(), RowFault> {
     let mut printed = Vec::new(alloc);
     let mut reader = script.as_bytes();

@@ -1,6 +1,6 @@
-// Templates: many scripts in one file. At its head stand lines `#NAME VALUE`, each a value of the variable NAME, or its
-// values FIRST to LAST if VALUE is `FIRST..LAST`; other lines there that begin with `#` are comments. After them
-// stands the script, in which `{NAME}` stands for a value: there is a script for each choice of a value of each
+// Templates: many scripts in one file. The file begins with lines `#NAME VALUE`, each a value of the variable NAME,
+// or its values FIRST to LAST if VALUE is `FIRST..LAST`; other lines there that begin with `#` are comments. The
+// script follows, in which `{NAME}` stands for a value: there is one script for each choice of a value of each
 // variable.
 use crate::long::{lines_of, read_range};
 use std::alloc::{AllocError, Global};
@@ -8,7 +8,6 @@ use std::alloc::{AllocError, Global};
 // A variable and its values, one or more.
 #[derive(Drop)]
 struct Variable {
-    // `{NAME}`.
     place: String,
     values: Vec<String>,
 }
@@ -21,7 +20,6 @@ pub struct Template {
 }
 
 impl Template {
-    /// Reads a template.
     pub fn read(alloc: Global, text: &str) -> Result<Template, AllocError> {
         let mut template = Template {
             variables: Vec::new(alloc),
@@ -88,7 +86,7 @@ impl Template {
     }
 }
 
-// The value, or the numbers of a range.
+// A single value, or the numbers of a range.
 fn values_of(alloc: Global, value: &str) -> Result<Vec<String>, AllocError> {
     let mut values = Vec::new(alloc);
     match read_range(value) {

@@ -10,10 +10,10 @@ use std::os::unix::fs::symlink;
 use std::sync::Wait;
 use std::thread::Threads;
 
-// Two peers at whose ports nobody listens, in another order than that of their names.
+// Two peers at whose ports nobody listens, not in the order of their names.
 const PEERS: &str = "peer q { port-number: 1 }\npeer p { port-number: 1 }";
 
-/// Backlog files are taken in and removed; and what is none is not touched.
+/// Backlog files are taken in and removed; other files are not touched.
 pub(crate) fn backlog_files<R: AllocGlobal + Threads + Wait + Print + Send + Sync + Drop + 'static>(
     rt: &R,
     host: HostRuntime,
@@ -23,7 +23,7 @@ pub(crate) fn backlog_files<R: AllocGlobal + Threads + Wait + Print + Send + Syn
     meet_reserved(rt, host)
 }
 
-// Does what is ordered, and prints its output, and what the backlog directory has then beside the tapes.
+// Does what is ordered, and prints its output, and what the backlog directory has then besides the tapes.
 fn print_run<R: AllocGlobal + Threads + Wait + Print + Send + Sync + Drop + 'static>(
     rt: &R,
     host: HostRuntime,
@@ -68,7 +68,7 @@ fn take_files<R: AllocGlobal + Threads + Wait + Print + Send + Sync + Drop + 'st
     print_run(rt, host, &row, "and is owed", list_owed())
 }
 
-// What is no regular file is not touched, and nothing else is done.
+// What is not a regular file is not touched, and nothing else is done.
 fn meet_others<R: AllocGlobal + Threads + Wait + Print + Send + Sync + Drop + 'static>(
     rt: &R,
     host: HostRuntime,
@@ -95,7 +95,7 @@ fn meet_others<R: AllocGlobal + Threads + Wait + Print + Send + Sync + Drop + 's
     print_run(rt, host, &row, "and is owed", list_owed())
 }
 
-// The funnel, the configuration and the status file are no backlog files, whatever their names.
+// The funnel, the configuration and the status file are not backlog files, whatever their names.
 fn meet_reserved<R: AllocGlobal + Threads + Wait + Print + Send + Sync + Drop + 'static>(
     rt: &R,
     host: HostRuntime,

@@ -33,7 +33,7 @@ impl Times {
         Ok(())
     }
 
-    // Whether this many seconds, less the one that is cut off, lie before this time and the one before it.
+    // Whether at least this many seconds, less one for rounding, lie between these two times.
     fn is_late(&self, index: usize, seconds: u64) -> bool {
         let (Some(time), Some(before)) = (
             self.seconds.get(index.saturating_add(1)),
@@ -89,7 +89,7 @@ fn feed_pipe<R: Threads + Wait + Send + Sync + Drop + 'static>(
     row.obey_conf(rt, speed, conf, feed_from(&path))
 }
 
-// Has one session, and answers the first CHECK with 431: the times of the CHECKs.
+// Has one session, and answers the first CHECK with 431. Returns the times of the CHECKs.
 fn defer_once(alloc: Global, listener: TcpListener, system: Fast) -> Times {
     let mut times = Times {
         seconds: Vec::new(alloc),
@@ -118,7 +118,7 @@ fn check_twice(
             writer.write_all(b"203 ok\r\n")?;
         } else if line.starts_with(b"CHECK") {
             times.add(&system)?;
-            // The second time it is known.
+            // The second time the article is known.
             let code: &[u8] = if times.seconds.len() == 1 {
                 b"431"
             } else {
@@ -134,7 +134,7 @@ fn check_twice(
     Ok(())
 }
 
-// Closes three connections, then what the funnel comes out of: the times at which they came.
+// Closes three connections, and then the source of the funnel. Returns the times at which they came.
 fn close_thrice(alloc: Global, listener: TcpListener, system: Fast, funnel: PipeWriter) -> Times {
     let mut times = Times {
         seconds: Vec::new(alloc),
@@ -177,7 +177,7 @@ pub(crate) fn status<R: AllocGlobal + Threads + Wait + Print + Send + Sync + Dro
     print_output(rt, &output)
 }
 
-// Waits until a file is there, and closes what the funnel comes out of: when it was there.
+// Waits until a file is there, and closes the source of the funnel. Returns when the file was there.
 fn await_file(system: Fast, path: String, funnel: PipeWriter) -> Option<Duration> {
     for _ in 0..2_000 {
         if fs::metadata(&system.host, path.as_str()).is_ok() {

@@ -11,15 +11,15 @@ use std::sync::Wait;
 use std::thread::{self, Threads};
 use std::time::Duration;
 
-// How long the first segment of an empty directory is waited for, in milliseconds.
+// How long to wait for the first segment of an empty directory, in milliseconds.
 const AWAITED_MS: u64 = 300;
 
-// What is done to a directory. A name of digits stands for a segment's, which has zeros before it.
+// A change to a directory. A name of digits stands for a segment's, which has zeros before it.
 #[derive(Clone, Copy)]
 enum Change {
-    // Adds this text to this file, which is made if it is not there.
+    // Adds this text to this file, which is created if it is missing.
     Add(&'static str, &'static str),
-    // Writes this text in directory of this file.
+    // Replaces this file by one with this text.
     Replace(&'static str, &'static str),
     // Removes this file.
     Remove(&'static str),
@@ -40,7 +40,7 @@ enum ReadMode {
     FollowedTidied,
 }
 
-// A run: what is done before it, and what each time one more line is printed.
+// A run: what is done before it, and after each further line that it prints.
 #[derive(Clone, Copy)]
 struct RunCase {
     what: &'static str,
@@ -68,7 +68,6 @@ impl FunnelDirectory {
         Ok(directory)
     }
 
-    // The path of a file of this name.
     fn path(&self, name: &str) -> io::Result<String> {
         let alloc = self.host.alloc();
         if name.bytes().all(|octet| octet.is_ascii_digit()) {
@@ -77,7 +76,6 @@ impl FunnelDirectory {
         Ok(format!(in alloc; "{}/{name}", self.directory)?)
     }
 
-    // Makes these changes, one after another.
     fn change_all(&self, changes: &[Change]) -> io::Result<()> {
         for change in changes {
             self.change(*change)?;
@@ -117,7 +115,7 @@ impl FunnelDirectory {
     }
 }
 
-// A standard output that makes one step after another, each once a line more has come.
+// A standard output that takes one step after another, each when a further line has come.
 #[derive(Drop)]
 struct Stepping<'a> {
     directory: &'a FunnelDirectory,
@@ -144,7 +142,6 @@ impl Write for Stepping<'_> {
     }
 }
 
-// The order to feed from the funnel at this path.
 fn order(path: &str, mode: ReadMode) -> Order<'_> {
     Order::Feed {
         conf: "conf",
@@ -157,7 +154,8 @@ fn order(path: &str, mode: ReadMode) -> Order<'_> {
     }
 }
 
-// Feeds from the directory, and prints its output, which files it has then, and why it was not read on.
+// Feeds from the directory, and prints its output, which files the directory has then, and why it was not read
+// further.
 fn print_run<R: AllocGlobal + Threads + Wait + Print + Send + Sync + Drop + 'static>(
     rt: &R,
     row: &Row,
@@ -183,7 +181,7 @@ fn print_run<R: AllocGlobal + Threads + Wait + Print + Send + Sync + Drop + 'sta
     Ok(())
 }
 
-// Prints the output, and of the log why a file was not read or removed.
+// Prints the output, and the log lines on why a file was not read or removed.
 fn print_reasons<R: AllocGlobal + Print>(rt: &R, output: RunOutput) -> Result<()> {
     let mut output = output;
     let mut reasons = Vec::new(rt.alloc());
@@ -460,7 +458,7 @@ const ROWS: [(&'static str, &'static [RunCase]); 12] = [
     ),
 ];
 
-/// What runs print over directories of segments, and which of their lines are owed.
+/// What runs over directories of segments print, and which of their lines are owed.
 pub(crate) fn read_directories<
     R: AllocGlobal + Threads + Wait + Print + Send + Sync + Drop + 'static,
 >(rt: &R, host: HostRuntime) -> Result<()> {
@@ -477,7 +475,6 @@ pub(crate) fn read_directories<
     read_long(rt, host)
 }
 
-// Prints what is owed.
 fn print_owed<R: AllocGlobal + Threads + Wait + Print + Send + Sync + Drop + 'static>(
     rt: &R,
     row: &Row,
@@ -514,7 +511,7 @@ fn await_first<R: AllocGlobal + Threads + Wait + Print + Send + Sync + Drop + 's
     Ok(())
 }
 
-// A pipe that has the name of a segment is not opened; and no pipe or file is tidied.
+// A pipe with the name of a segment is not opened, and no pipe or file is tidied.
 fn meet_pipe<R: AllocGlobal + Threads + Wait + Print + Send + Sync + Drop + 'static>(
     rt: &R,
     host: HostRuntime,

@@ -12,7 +12,7 @@ use std::sync::Wait;
 use std::thread::Threads;
 use std::time::Duration;
 
-/// The file that has what a run logs.
+/// The file with what a run logs.
 pub(crate) const LOG: &str = "rows/log";
 
 /// A clock that runs `speed` times as fast as the system's, and the file `LOG` as the log.
@@ -23,7 +23,6 @@ pub(crate) struct Fast {
 }
 
 impl Fast {
-    // Adds a line to the log.
     fn add<D: Display>(&self, line: &D) -> io::Result<()> {
         let text = format!(in self.host.alloc(); "{line}\n")?;
         let mut log = OpenOptions::new()
@@ -54,7 +53,7 @@ pub(crate) struct FastFeeds<'a, R> {
 }
 
 impl<'a, R> FastFeeds<'a, R> {
-    /// With what may start threads, and what opens files in this one.
+    /// `threads` may start threads, and `files` opens files in this one.
     pub fn new(threads: &R, files: &'a HostRuntime, system: Fast) -> Self {
         FastFeeds {
             files,

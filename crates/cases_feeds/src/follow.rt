@@ -16,14 +16,13 @@ use std::time::Duration;
 // How many times as fast the clock runs in the row whose connections are closed.
 const FAST: u32 = 30;
 
-// How many times as fast it runs in the row with idle connections: a feeder that nothing wakes looks once in a second
-// of the system's clock, so once in 20 of these.
+// How many times as fast it runs in the row with idle connections: a feeder that nothing wakes looks once a second of
+// the system's clock, so once in 20 of these.
 const IDLE: u32 = 20;
 
 // After how many seconds of that clock a peer closes an idle connection itself.
 const CLOSES_AFTER_SECONDS: u64 = 50;
 
-// The order to follow the funnel at this path.
 fn follow(path: &String) -> Order<'_> {
     Order::Feed {
         conf: "conf",
@@ -47,7 +46,7 @@ enum Deed {
     Stop,
 }
 
-// A standard output that does one deed after another, each once a line more has come.
+// A standard output that does one deed after another, each when a further line has come.
 #[derive(Drop)]
 struct Doing {
     host: HostRuntime,
@@ -97,7 +96,6 @@ impl Write for Doing {
     }
 }
 
-// Adds this to the file at this path.
 fn add(host: HostRuntime, path: &str, text: &[u8]) -> io::Result<()> {
     OpenOptions::new()
         .append(true)
@@ -121,8 +119,8 @@ fn run_deeds<R: Threads + Wait + Send + Sync + Drop + 'static>(
     Ok(output)
 }
 
-/// What is added at the end of a funnel is taken, a rest without LF only once that has come, until the run is asked to
-/// end; one that becomes shorter cannot be read.
+/// What is added at the end of a funnel is taken, a rest only once its LF has come, until the run is asked to end; a
+/// funnel that becomes shorter cannot be read.
 pub(crate) fn grows<R: AllocGlobal + Threads + Wait + Print + Send + Sync + Drop + 'static>(
     rt: &R,
     host: HostRuntime,
@@ -162,8 +160,8 @@ struct IdlePeer {
     connections: u64,
 }
 
-/// A connection that has held nothing for a minute is left, and the next article has another one at once; one that its
-/// peer closes when it has held nothing for some seconds costs no wait.
+/// A connection that has held nothing for a minute is left, and the next article gets another one at once; one that
+/// its peer closes after it has held nothing for some seconds causes no wait.
 pub(crate) fn idle<R: AllocGlobal + Threads + Wait + Print + Send + Sync + Drop + 'static>(
     rt: &R,
     host: HostRuntime,
@@ -189,7 +187,7 @@ pub(crate) fn idle<R: AllocGlobal + Threads + Wait + Print + Send + Sync + Drop 
     print_output(rt, &output)
 }
 
-// Has three sessions, each with an article: what was seen.
+// Has three sessions, each with an article. Returns what was seen.
 fn be_idle(
     host: HostRuntime,
     alloc: Global,
@@ -225,7 +223,7 @@ fn be_idle(
     Some(seen)
 }
 
-// Knows each article, and closes or waits for QUIT: how long it then heard nothing.
+// Knows each article, and closes or waits for QUIT. Returns how long it then heard nothing.
 fn converse(alloc: Global, stream: &TcpStream, system: Fast, closes: bool) -> io::Result<u64> {
     let mut writer = stream;
     writer.write_all(b"200 hi\r\n")?;
@@ -280,13 +278,13 @@ pub(crate) fn closes<R: AllocGlobal + Threads + Wait + Print + Send + Sync + Dro
     let output = row.obey_conf(rt, FAST, &conf, follow(&path))?;
     let waited = peer.join(rt).unwrap_or(0);
     println!(rt; "a connection each 30 s: {}", waited >= 58)?;
-    // Whether the line is put off, which is logged, hangs on how much was sent before each close.
+    // Whether the line is put off, which is logged, depends on how much was sent before each close.
     println!(rt; "status {}", output.status)?;
     print_lines(rt, "", &output.out)?;
     print_lines(rt, "", &output.err)
 }
 
-// Closes three connections after 203: the seconds of the clock from the first to the third.
+// Closes three connections after 203. Returns the seconds of the clock from the first to the third.
 fn close_agreed(
     host: HostRuntime,
     alloc: Global,

@@ -57,7 +57,7 @@ pub(crate) fn shed<R: AllocGlobal + Threads + Wait + Print + Send + Sync + Drop 
     print_output(rt, &row.obey_conf(rt, 1, &conf, list_owed())?)
 }
 
-/// Lines that name unknown peers, and lines that are malformed, are logged without -v, each once.
+/// Lines that name unknown peers and malformed lines are logged without -v, each once.
 pub(crate) fn nowhere<R: AllocGlobal + Threads + Wait + Print + Send + Sync + Drop + 'static>(
     rt: &R,
     host: HostRuntime,

@@ -1,5 +1,5 @@
-//! What the program prints of whole feeds, and what a peer hears of them, over sockets of this machine and files that
-//! it makes in the folder that it runs in (README.md).
+//! What the program reports of whole feeds, and what a peer hears of them, over sockets of this machine and files
+//! that it makes in the folder that it runs in (README.md).
 //!
 //! It may start threads, listen on and connect to 127.0.0.1, make files, and print. Nothing stands above this crate.
 #![tactic(auto)]
@@ -27,11 +27,11 @@ use std::fs;
 use std::sync::Wait;
 use std::thread::Threads;
 
-// How many octets a peer answers to one article, from its greeting to the final answer.
+// How many octets a peer sends in answer to one article, from its greeting to the final answer.
 const ANSWERS_OCTETS: usize = 38;
 
 fn main(rt: HostRuntime) -> Result<()> {
-    // What a run that was broken off has left.
+    // What a run that was interrupted has left.
     let _ = fs::remove_dir_all(&rt, "rows");
 
     let row = Row::new(&rt, rt, "nobody")?;
@@ -109,7 +109,7 @@ fn gone<R: AllocGlobal + Threads + Wait + Print + Send + Sync + Drop + 'static>(
     row.owed(rt, "and is owed")
 }
 
-// A funnel that has not all lines that were acknowledged is another.
+// A funnel without all lines that were acknowledged is another funnel.
 fn short<R: AllocGlobal + Threads + Wait + Print + Send + Sync + Drop + 'static>(
     rt: &R,
     host: HostRuntime,

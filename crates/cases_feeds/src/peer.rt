@@ -8,7 +8,7 @@ use std::net::{Shutdown, TcpListener, TcpStream};
 pub(crate) enum Manner {
     /// It takes each article by CHECK and TAKETHIS.
     Streams,
-    /// It knows no MODE STREAM, and takes each article by IHAVE.
+    /// It does not know MODE STREAM, and takes each article by IHAVE.
     Ihave,
     /// It wants each article later.
     Defers,
@@ -16,15 +16,15 @@ pub(crate) enum Manner {
     Ends,
     /// It says nothing.
     Silent,
-    /// It streams; in its first session it sends this many octets, then its end, and says no more.
+    /// It streams; in its first session it sends this many octets, then the end of the stream, and no more.
     Cut(usize),
 }
 
-/// How long a peer may take to answer, in seconds: so long that none is ever late.
+/// How long a peer may take to answer, in seconds: long enough that none is ever late.
 pub(crate) const PATIENCE_SECONDS: u64 = 60;
 
 impl Manner {
-    /// How long the feeder is to wait for an answer of such a peer, in seconds.
+    /// How long the feeder should wait for an answer of such a peer, in seconds.
     pub fn patience(self) -> u64 {
         match self {
             Manner::Silent => 1,
@@ -36,7 +36,7 @@ impl Manner {
 /// What a peer has heard.
 #[derive(Drop)]
 pub(crate) struct Heard {
-    /// All its lines, those of articles too.
+    /// All its lines, including those of articles.
     pub lines: Vec<u8>,
 }
 
@@ -49,7 +49,7 @@ struct Session<'a> {
     left: usize,
 }
 
-/// Has sessions, one after another, until one begins with END, and gives what it heard before.
+/// Has sessions, one after another, until one begins with END, and returns what it heard before.
 pub(crate) fn serve(alloc: Global, listener: TcpListener, manner: Manner) -> Heard {
     let mut heard = Heard {
         lines: Vec::new(alloc),
@@ -109,7 +109,7 @@ fn converse(
     Ok(false)
 }
 
-// Sends its end, and hears all that still comes: closed earlier, the connection would be reset.
+// Sends the end of the stream, and hears all that still comes: if it closed earlier, the connection would be reset.
 fn hear_out(alloc: Global, stream: &TcpStream) -> io::Result<()> {
     stream.shutdown(Shutdown::Write)?;
     let mut reader = BufReader::new(alloc, stream)?;
@@ -122,7 +122,6 @@ fn hear_out(alloc: Global, stream: &TcpStream) -> io::Result<()> {
     Ok(())
 }
 
-// Reads an article to its end.
 fn read_article<B: BufRead>(reader: &mut B, heard: &mut Heard) -> io::Result<()> {
     for _ in 0..100_000 {
         let from = heard.lines.len();
@@ -138,7 +137,6 @@ fn read_article<B: BufRead>(reader: &mut B, heard: &mut Heard) -> io::Result<()>
     Ok(())
 }
 
-// The second word of a line.
 fn id_of(line: &[u8]) -> &[u8] {
     let mut words = line.split(|octet| *octet == b' ');
     let _ = words.next();
@@ -146,7 +144,7 @@ fn id_of(line: &[u8]) -> &[u8] {
 }
 
 impl Session<'_> {
-    // Says a line, as far as it may. False if that is the end.
+    // Sends a line, as far as it may. False if that is the end.
     fn say(&mut self, text: &[u8]) -> io::Result<bool> {
         if matches!(self.manner, Manner::Silent) {
             return Ok(true);
@@ -184,7 +182,6 @@ impl Session<'_> {
         Ok(code != "205" && code != "400")
     }
 
-    // The code of the answer to a line.
     fn code(&self, line: &[u8]) -> Option<&'static str> {
         let word = line.split(|octet| *octet == b' ').next()?.trim_ascii_end();
         match (word, self.manner) {

@@ -12,8 +12,8 @@ use std::thread::{self, Threads};
 const LINES: &[u8] =
     b"1 <1@x> a\n2 <2@x> b\n3 <3@x> a c d\n4 <4@x> c\n5 <5@x> d b\n6 <6@x> b a\n7 <7@x>\n8 <8@x> a b\n";
 
-/// Four peers whose lines differ: one streams, one knows IHAVE alone, at one's port nobody listens, and one says
-/// nothing. Each gets its own articles, each under its id.
+/// Four peers whose lines differ: one streams, one knows only IHAVE, one has a port at which nobody listens, and one
+/// says nothing. Each gets its own articles, each under its id.
 pub(crate) fn four_peers<R: AllocGlobal + Threads + Wait + Print + Send + Sync + Drop + 'static>(
     rt: &R,
     host: HostRuntime,
@@ -61,7 +61,7 @@ pub(crate) fn four_peers<R: AllocGlobal + Threads + Wait + Print + Send + Sync +
     print_output(rt, &row.obey_conf(rt, 1, &conf, list_owed())?)
 }
 
-// The peers, in another order than that of their names. Nobody is c.
+// The peers, not in the order of their names. Nobody is c.
 fn conf_of(host: HostRuntime, a: u16, b: u16, d: u16) -> Result<String> {
     let alloc = host.alloc();
     let mut conf = format!(in alloc; "response-timeout: {PATIENCE_SECONDS}\n")?;
@@ -77,7 +77,6 @@ fn conf_of(host: HostRuntime, a: u16, b: u16, d: u16) -> Result<String> {
     Ok(conf)
 }
 
-/// The order to feed from this funnel.
 pub(crate) fn feed_from(path: &String) -> Order<'_> {
     Order::Feed {
         conf: "conf",
@@ -90,7 +89,6 @@ pub(crate) fn feed_from(path: &String) -> Order<'_> {
     }
 }
 
-/// The order to feed from the backlogs alone.
 pub(crate) fn feed_from_backlogs<'a>() -> Order<'a> {
     Order::Feed {
         conf: "conf",

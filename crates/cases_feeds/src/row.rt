@@ -20,7 +20,6 @@ pub(crate) struct Row {
     name: &'static str,
 }
 
-/// What lists what is owed.
 pub(crate) fn list_owed() -> Order<'static> {
     Order::Owed {
         conf: "conf",
@@ -28,7 +27,6 @@ pub(crate) fn list_owed() -> Order<'static> {
     }
 }
 
-// A configuration.
 #[derive(Drop)]
 struct ConfFile {
     text: Vec<u8>,
@@ -92,7 +90,7 @@ impl Row {
         self.funnel(&text)
     }
 
-    /// Writes a funnel of `count` lines, of which only each hundredth names an article that is there.
+    /// Writes a funnel of `count` lines, of which only every hundredth names an article that is there.
     pub fn lines_of_gone(&self, count: u64) -> Result<()> {
         let mut text = Vec::new(self.host.alloc());
         for number in 1..=count {
@@ -119,7 +117,7 @@ pub(crate) struct RunOutput {
 }
 
 impl Row {
-    /// Takes the funnel's lines for a peer that nobody is, and prints its output.
+    /// Takes the funnel's lines for a peer that is not there, and prints its output.
     pub fn take<R: Threads + Wait + Print + Send + Sync + Drop + 'static>(
         &self,
         rt: &R,
@@ -129,7 +127,7 @@ impl Row {
         print_output(rt, &self.run(rt, NOBODY, PATIENCE_SECONDS, true)?)
     }
 
-    /// Feeds this peer from the backlog alone, and prints its output and what the peer heard.
+    /// Feeds this peer only from the backlog, and prints its output and what the peer heard.
     pub fn feed<R: Threads + Wait + Print + Send + Sync + Drop + 'static>(
         &self,
         rt: &R,
@@ -174,7 +172,7 @@ impl Row {
         Ok(())
     }
 
-    /// Feeds from the backlog a peer that closes once it has sent `octets` octets, and prints what is owed then.
+    /// Feeds from the backlog a peer that closes after it has sent `octets` octets, and prints what is owed then.
     pub fn cut<R: Threads + Wait + Print + Send + Sync + Drop + 'static>(
         &self,
         rt: &R,
@@ -193,7 +191,6 @@ impl Row {
         Ok(())
     }
 
-    // Feeds a peer that is there.
     fn meet<R: Threads + Wait + Send + Sync + Drop + 'static>(
         &self,
         rt: &R,
@@ -302,7 +299,6 @@ impl Row {
     }
 }
 
-/// Prints what a run wrote, and its status.
 pub(crate) fn print_output<R: Print>(rt: &R, output: &RunOutput) -> Result<()> {
     println!(rt; "status {}", output.status)?;
     print_lines(rt, "", &output.out)?;

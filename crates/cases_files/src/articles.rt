@@ -8,8 +8,8 @@ use std::fs;
 use std::os::unix::fs::symlink;
 use std::rt::Files;
 
-// A file, one with no LF at its end, no octet, a NUL, no file, a directory, a path through a file, a device, and a file
-// again.
+// A file, one with no LF at its end, an empty one, one with a NUL, a missing one, a directory, a path through a file,
+// a device, and a file again.
 const TOKENS: [&str; 9] = [
     "present",
     "no_line_end",
@@ -41,12 +41,11 @@ pub(crate) fn print_folder<R: AllocGlobal + Files + Print + Copy + Send + Drop>(
     Ok(())
 }
 
-// What goes into a thread, as a store of files does: it owns its handle.
+// Moves a value as into a thread: a store of files owns its handle, so it can be moved.
 fn hand_over<T: Send>(value: T) -> T {
     value
 }
 
-// Prints the path of a token, and what is under it.
 fn tell<R: Files + Print + Drop>(
     rt: &R,
     alloc: Global,

@@ -1,4 +1,4 @@
-//! What becomes of files: what `Folder` of article_store has under each token, over the files that lie in `data/`; what
+//! What becomes of files: what `Folder` of article_store has under each token, over the files in `data/`; what
 //! becomes of tapes in the files of a directory, and which directories and files are refused (README.md).
 //!
 //! It may touch the folder that it runs in, in which it makes the link `device` and the directory `tapes` and removes

@@ -39,7 +39,7 @@ fn tell_directory<R: AllocGlobal + Files<File = File> + Print>(rt: &R, path: &st
     Ok(())
 }
 
-// A tape is made, and notes are flushed to it, each over an opening of its own.
+// Makes a tape and flushes notes to it, opening it again for each.
 fn keep_tape<R: AllocGlobal + Files<File = File> + Print>(
     rt: &R,
     directory: &TapeDirectory,
@@ -54,7 +54,6 @@ fn keep_tape<R: AllocGlobal + Files<File = File> + Print>(
     tell_tape(rt, directory, "peer")
 }
 
-// The octets of the file of this name.
 fn octets_of<R: AllocGlobal + Files>(rt: &R, name: &str) -> Result<Vec<u8>> {
     let path = format!(in rt.alloc(); "tapes/{name}")?;
     Ok(fs::read(rt, path.as_str())?)
@@ -90,7 +89,7 @@ fn open_tape<R: AllocGlobal + Files<File = File>>(
     Ok(opened(rt, directory, name)??)
 }
 
-// What is owed by the tape in the files of this name, and their octets.
+// What the tape in the files of this name owes, and their octets.
 fn tell_tape<R: AllocGlobal + Files<File = File> + Print>(
     rt: &R,
     directory: &TapeDirectory,
@@ -109,12 +108,10 @@ fn tell_tape<R: AllocGlobal + Files<File = File> + Print>(
     Ok(())
 }
 
-// The key of a line of the funnel.
 fn line(number: u64) -> Key {
     Key::new(0, number)
 }
 
-// The note of a debt.
 fn owe(alloc: Global, number: u64) -> Result<Note> {
     Ok(Note::Owe {
         key: line(number),
@@ -123,7 +120,6 @@ fn owe(alloc: Global, number: u64) -> Result<Note> {
     })
 }
 
-// Opens the tape and flushes a note to it.
 fn note<R: AllocGlobal + Files<File = File>>(
     rt: &R,
     directory: &TapeDirectory,
@@ -137,7 +133,6 @@ fn note<R: AllocGlobal + Files<File = File>>(
     Ok(())
 }
 
-// Opens the tape and rotates it with a note that pends.
 fn rotate<R: AllocGlobal + Files<File = File>>(
     rt: &R,
     directory: &TapeDirectory,
@@ -150,7 +145,7 @@ fn rotate<R: AllocGlobal + Files<File = File>>(
     Ok(tape.rotate()?)
 }
 
-// What stands behind the end of a tape is cut off.
+// Octets after the end of a tape are cut off.
 fn tell_octets_behind_the_end<R: AllocGlobal + Files<File = File> + Print>(
     rt: &R,
     directory: &TapeDirectory,
@@ -171,7 +166,7 @@ fn tell_cut<R: AllocGlobal + Files<File = File> + Print>(
     tell_damaged(rt, directory, "cut", &octets, &[])
 }
 
-// Why the tape of files of these octets is refused, and whether they are left as they were.
+// Why the tape in files of these octets is refused, and whether they are left as they were.
 fn tell_damaged<R: AllocGlobal + Files<File = File> + Print>(
     rt: &R,
     directory: &TapeDirectory,
@@ -194,8 +189,8 @@ fn tell_damaged<R: AllocGlobal + Files<File = File> + Print>(
     Ok(())
 }
 
-// A tape is rotated twice, which leaves the segment that lived as it was; and the younger segment
-// is damaged where it is cut by hand.
+// A tape is rotated twice, which leaves the segment that was live before unchanged; and the younger segment is
+// damaged if it is cut by hand.
 fn tell_rotated<R: AllocGlobal + Files<File = File> + Print>(
     rt: &R,
     directory: &TapeDirectory,
@@ -211,7 +206,7 @@ fn tell_rotated<R: AllocGlobal + Files<File = File> + Print>(
     tell_damaged(rt, directory, "short", &first, &second)
 }
 
-// What is no regular file is not opened, nor what may not be read.
+// What is not a regular file is not opened, nor what may not be read.
 fn tell_no_file<R: AllocGlobal + Files<File = File> + Print>(
     rt: &R,
     directory: &TapeDirectory,
@@ -238,13 +233,13 @@ fn tell_file<R: Files<File = File> + Print>(
     Ok(())
 }
 
-// A file in a directory's place can be locked, and has no file in it.
+// A file in place of a directory can be locked, and has no file in it.
 fn tell_directory_in_a_file<R: AllocGlobal + Files<File = File> + Print>(rt: &R) -> Result<()> {
     let file = TapeDirectory::lock(rt, "tapes/peer~a")?;
     tell_file(rt, &file, "peer~a")
 }
 
-// What is synced is asked of the system, which refuses it of a device that keeps nothing (fdatasync(2)).
+// A sync is passed to the system, which refuses it for a device that keeps nothing (fdatasync(2)).
 fn tell_synced<R: AllocGlobal + Files<File = File> + Print>(rt: &R) -> Result<()> {
     let device = OpenOptions::new().write(true).open(rt, "/dev/full")?;
     let mut file = TapeFile::new(rt.alloc(), device, "full")?;

@@ -31,7 +31,7 @@ pub line_is_lost : (held : Option (List ℕ)) (error : Error) (line : Option (Li
 line_is_lost held error None = Keeps-refl held
 line_is_lost held error (Some line) = tt
 
--- what an order comes to, in words that follow
+-- what an order comes to, stated in weaker words
 pub comes_as : (a b : Exit → Option (List ℕ) → Type 0)
     → ((exit : Exit) (line : Option (List ℕ)) → a exit line → b exit line)
     → (result : Result Exit OrderFault) → Comes a result → Comes b result

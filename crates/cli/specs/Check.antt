@@ -17,7 +17,7 @@ abbrev pub report_text : Report → List ℕ
 report_text report =
     codes "line " ++ decimal report.line ++ codes ": " ++ report.key ++ ending report.limited ++ 10 ∷ []
 
--- how many peers there are
+-- the line on how many peers there are
 abbrev pub count_text : ℕ → List ℕ
 count_text count = codes "peers " ++ decimal count ++ 10 ∷ []
 

@@ -57,7 +57,7 @@ PrintsBeside said text old new exit line =
 abbrev pub Prints : List ℕ → Option (List ℕ) → Option (List ℕ) → Exit → Option (List ℕ) → Type 0
 Prints = PrintsBeside None
 
--- the line that reports the ending of a drill, whose script has this source: which line or which peer's tape was
+-- the line that reports the ending of a drill whose script has this source: which line or which peer's tape was
 -- refused, and why
 abbrev pub line_of_ending : List ℕ → Ending → Option (List ℕ)
 line_of_ending source AllTaken = None
@@ -65,7 +65,7 @@ line_of_ending source (LineRefused refusal) = Some (refusal_text source refusal)
 line_of_ending source (TapeRefused refusal) = Some (no_tape_text refusal)
 line_of_ending source WantsMemory = None
 
--- The script was run: standard output gets what that prints, and the status and the line report its ending; or standard
+-- The script was run: standard output gets what it prints, and the status and the line report its ending; or standard
 -- output could not be written.
 abbrev pub Runs : (text source : List ℕ) → Option (List ℕ) → Option (List ℕ) → Exit → Option (List ℕ) → Type 0
 Runs text source old new exit line =
@@ -96,12 +96,12 @@ Checks says path verbose old new exit line =
     ⊎ (MissesFile says path exit line × Keeps old new)
     ⊎ LacksMemory exit line
 
--- what feeds was asked, did this by these settings, and ended so: the status and the lines report that end
+-- what feeds was asked, did this by these settings, and ended like this: the status and the lines report that end
 abbrev pub EndsFeed : (Outcome → FeedEnd → Type 0) → Outcome → Exit → Option (List ℕ) → Type 0
 EndsFeed did outcome exit line =
     (end : FeedEnd) × did outcome end × (exit ≡ exit_of_end end) × (line ≡ Some (end_text end))
 
--- Something that what feeds does with the settings in a file; it is asked for nothing if there are none.
+-- Something that what feeds does with the settings in a file; it is not asked if there are none.
 abbrev pub Works : (Option (List ℕ) → Type 0) → (did : Outcome → FeedEnd → Type 0) → (unasked : Type 0) → List ℕ →
     (verbose : Bool) → Option (List ℕ) → Option (List ℕ) → Exit → Option (List ℕ) → Type 0
 Works says did unasked path verbose old new exit line =
@@ -126,7 +126,7 @@ DrillsFile says path old new exit line =
     ⊎ (MissesFile says path exit line × Keeps old new)
     ⊎ LacksMemory exit line
 
--- What an order comes to, if this is said of the files and known of what feeds, if standard input holds this, and if
+-- What an order comes to, if this is known of the files and of what feeds, if standard input holds this, and if
 -- standard output had and has these octets.
 abbrev pub Does : (List ℕ → Option (List ℕ) → Type 0) → Feeding →
     Option (List ℕ) → Option (List ℕ) → Option (List ℕ) → Order → Exit → Option (List ℕ) → Type 0
@@ -144,8 +144,8 @@ Does says feeds holds old new (Print text) exit line = Prints (string_bytes text
 Does says feeds holds old new (Mistake what) exit line =
     (exit ≡ Usage) × (line ≡ Some (mistake_text (string_bytes what))) × Keeps old new
 
--- What a line, a feed's lines or none makes of standard error, which had and has these octets; of one that could not be
--- written nothing is known.
+-- What a line, a feed's lines or nothing makes of standard error, which had and has these octets; nothing is known of
+-- a line that could not be written.
 abbrev pub Reports : Option (List ℕ) → Option (List ℕ) → Result Unit Error → Option (List ℕ) → Type 0
 Reports old new reported None = Keeps old new
 Reports old new reported (Some line) = OnOk reported (Appends old new line)

@@ -1,4 +1,4 @@
--- What is asked of what feeds peers.
+-- What an errand asks of what feeds peers.
 use Rattle.std.specs.Prelude.{ℕ, Bool, List, Option}
 use Rattle.feed_conf.specs.Settings.{Outcome}
 use Rattle.cli.specs.Feeding.{Source, feeding_of, source_view}
@@ -6,7 +6,7 @@ use Rattle.cli.specs.declared.feeds.FeedEnd.{FeedEnd}
 use Rattle.cli.specs.declared.runner.Errand.{Errand}
 use Rattle.cli.specs.declared.runner.Errand.TheVariants.{List as ListOwed, Feed}
 
--- the errand was run by these settings, and ended so
+-- the errand was run by these settings, and ended like this
 abbrev pub DoesErrand : {P : Type 0}
     → (fed : P → Option (List ℕ) → Outcome → Source → Bool → FeedEnd → P → Option (List ℕ) → Type 0)
     → (listed : P → Option (List ℕ) → Outcome → Bool → FeedEnd → P → Option (List ℕ) → Type 0)

@@ -6,8 +6,8 @@ use Rattle.cli.specs.declared.feeds.FeedEnd.{FeedEnd}
 use Rattle.cli.specs.declared.feeds.FileError.{FileError}
 use Rattle.cli.specs.declared.feeds.TapeError.{TapeError}
 
--- by the errors of tapes, whether memory, a thread or a system resource for sockets was refused, and the errors of other
--- files
+-- the status, by the errors of tapes, whether memory, a thread or a system resource for sockets was refused, and the
+-- errors of other files
 abbrev pub worst : List TapeError → Bool → List FileError → Exit
 worst (error ∷ more) lacks_resources files = Tape
 worst [] true files = NoMemory

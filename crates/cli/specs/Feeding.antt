@@ -9,7 +9,7 @@ use Rattle.cli.specs.declared.order.Order.TheVariants.{DrillFromInput, Drill, Ch
 
 -- where the lines of a feed come from
 pub data Source : Type 0 where
-  -- from nowhere: peers are fed from their backlogs alone
+  -- from nowhere: peers are fed only from their backlogs
   Backlogs : Source
   -- from the funnel at this path, with what is added to it or up to its end, and with its acknowledged segments removed
   -- or kept
@@ -19,14 +19,15 @@ abbrev pub source_view : HeldSource → Source
 source_view held.Backlogs = Backlogs
 source_view (held.Funnel path followed tidied) = Funnel path.now followed tidied
 
--- What became of it, and of standard output, if it fed by these settings, from this source, logging or not, and ended
--- so; if it listed what is owed by these settings, logging or not, and ended so; and if it was not asked.
+-- What became of it and of standard output in each case: it fed by these settings, from this source, logging or not,
+-- and ended like this; it listed what is owed by these settings, logging or not, and ended like this; it was not
+-- asked.
 pub record Feeding : Type 1 where
   pub fed : Outcome → Source → Bool → FeedEnd → Type 0
   pub listed : Outcome → Bool → FeedEnd → Type 0
   pub unasked : Type 0
 
--- of what feeds, before and after the order, and with what standard output had and has
+-- the same for this value of what feeds, before and after the order, and for what standard output had and has
 abbrev pub feeding_of : {P : Type 0}
     → (fed : P → Option (List ℕ) → Outcome → Source → Bool → FeedEnd → P → Option (List ℕ) → Type 0)
     → (listed : P → Option (List ℕ) → Outcome → Bool → FeedEnd → P → Option (List ℕ) → Type 0)

@@ -27,7 +27,8 @@ exit_of_fault (Output error) = Unreadable
 exit_of_fault (Mistake what) = Usage
 exit_of_fault (Fed end) = exit_of_end end
 
--- the line that reports it, or a feed's lines; none if memory was refused; why a stream failed is the system's text
+-- the line that reports it, or a feed's lines; none if memory was refused; the text for why a stream failed is the
+-- system's
 abbrev pub IsLineOf : OrderFault → Option (List ℕ) → Type 0
 IsLineOf NoMemory line = line ≡ None
 IsLineOf (Config fault more) line = line ≡ Some (config_text fault ++ more.items)

@@ -17,11 +17,11 @@ use std::alloc::{AllocError, Global};
 pub struct Checked {
     /// On standard output: a line for each setting that is ignored or limited, and then how many peers there are.
     pub report: Vec<u8>,
-    /// On standard error: what that means for the feed, if `verbose`.
+    /// For standard error, if `verbose`: what that means for the feed.
     pub advice: Option<Vec<u8>>,
 }
 
-/// Checks the configuration in this text, which is that of the file at `path`.
+/// Checks the configuration with this text, which was read from the file at `path`.
 ///
 /// # Errors
 /// The configuration's fault; `NoMemory`.
@@ -47,7 +47,7 @@ pub fn check<'a>(
     }
 }
 
-/// The settings in this text, which is that of the file at `path`.
+/// Reads the settings in this text, which was read from the file at `path`.
 ///
 /// # Errors
 /// The configuration's fault, with an explanation if `verbose`; `NoMemory`.
@@ -72,7 +72,6 @@ pub fn settings_of<'a>(
     }
 }
 
-// The explanation of a fault.
 fn more(
     alloc: Global,
     path: &str,

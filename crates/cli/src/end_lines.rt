@@ -7,7 +7,8 @@ use crate::feeds::{FeedEnd, FileError, Owing, TapeError};
 use recovery::TapeFault;
 use std::alloc::{AllocError, Global};
 
-/// The lines that report how a feed ended: what is wrong with tapes, with other files, and how much each peer is owed.
+/// The lines that report how a feed ended: what is wrong with tapes and with other files, and how much each peer is
+/// owed.
 ///
 /// # Errors
 /// Memory was refused.

@@ -13,7 +13,7 @@ use feed_conf::ConfFault;
 use std::alloc::{AllocError, Global};
 use std::io::{self, ErrorKind};
 
-// What follows a mistake in the arguments.
+// The usage, which follows a mistake in the arguments.
 const USAGE: &[u8] =
     b"; usage: innfeed -c FILE [-C] [-x] [-v] [--owed] [--follow] [--tidy] [FUNNEL] | innfeed --drill FILE \
     | innfeed < SCRIPT\n";
@@ -52,7 +52,7 @@ impl From<AllocError> for OrderFault<'_> {
 }
 
 impl<'a> OrderFault<'a> {
-    /// The file at this path could not be read.
+    /// The fault if the file at this path could not be read: `NoMemory` if memory was refused for that.
     pub fn of_file(path: &'a str, error: io::Error) -> Self
         ensures { IsFaultOf error (OrderFault.Unread path.entry) result }
     {
@@ -62,7 +62,7 @@ impl<'a> OrderFault<'a> {
         }
     }
 
-    /// Standard input could not be read.
+    /// The fault if standard input could not be read: `NoMemory` if memory was refused for that.
     pub fn of_input(error: io::Error) -> Self
         ensures { IsFaultOf error (OrderFault.Input error) result }
     {
@@ -72,7 +72,7 @@ impl<'a> OrderFault<'a> {
         }
     }
 
-    /// Standard output could not be written.
+    /// The fault if standard output could not be written: `NoMemory` if memory was refused for that.
     pub fn of_output(error: io::Error) -> Self
         ensures { IsFaultOf error (OrderFault.Output error) result }
     {
@@ -97,7 +97,7 @@ impl<'a> OrderFault<'a> {
         }
     }
 
-    /// The line that reports it, with its LF, or all lines of a feed. None if memory was refused.
+    /// The line that reports it, with its LF, or all lines of a feed. `None` if memory was refused.
     ///
     /// # Errors
     /// Memory was refused.

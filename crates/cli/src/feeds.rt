@@ -1,4 +1,4 @@
-// What feeds peers, and how a feed ends.
+// The trait of what feeds peers, and how a feed ends.
 ghost use Rattle.std.specs.Prelude.{ℕ, List, Option, Bool};
 ghost use Rattle.feed_conf.specs.ConfView.{conf_view};
 ghost use Rattle.feed_conf.specs.Settings.{Outcome};
@@ -15,7 +15,7 @@ use std::io::Write;
 /// What is wrong with the tapes.
 #[derive(Drop)]
 pub enum TapeError {
-    /// Another process works on the backlog directory of this path.
+    /// Another process works on the backlog directory at this path.
     Taken(String),
     /// The tape of this name, a peer's or `~intake`, could not be opened, or failed during the run.
     Failed { name: Vec<u8>, fault: TapeFault },
@@ -37,9 +37,8 @@ pub enum FileError {
 /// A peer that is still owed debts.
 #[derive(Drop)]
 pub struct Owing {
-    /// Its name.
     pub name: Vec<u8>,
-    /// How many debts it is owed, which is not 0.
+    /// How many debts it is owed, at least 1.
     pub owed: u64,
 }
 
@@ -73,7 +72,7 @@ impl FeedEnd {
         }
     }
 
-    /// Its status: errors of tapes go first, then refused resources, then errors of other files.
+    /// Its exit status: errors of tapes go first, then refused resources, then errors of other files.
     pub fn exit(&self) -> Exit
         ensures { result ≡ exit_of_end self.now }
     {
@@ -91,8 +90,8 @@ impl FeedEnd {
 
 /// What feeds peers, and lists what they are owed.
 pub trait Feeds {
-    /// What a feed with these settings, from this source, logging or not, made of the value and of what was written, if
-    /// it ended like this. The default holds of everything: it says no more than that the feed ended.
+    /// What a feed with these settings, from this source, logging or not, made of this value and of what was written,
+    /// if it ended like this. The default holds of everything: it says only that the feed ended.
     ghost fed: { Self → Option (List ℕ) → Outcome → Source → Bool → FeedEnd → Self
         → Option (List ℕ) → Type 0 } = { λ _ _ _ _ _ _ _ _. Unit {0} };
 
@@ -100,8 +99,8 @@ pub trait Feeds {
     ghost listed: { Self → Option (List ℕ) → Outcome → Bool → FeedEnd → Self
         → Option (List ℕ) → Type 0 } = { λ _ _ _ _ _ _ _. Unit {0} };
 
-    /// Feeds the peers of these settings, which were read from the file at `path`, from this source, and writes `taken
-    /// N` for each acknowledged batch of lines. If `verbose`, what becomes of connections is logged.
+    /// Feeds the peers of these settings, which were read from the file at `path`, from this source, and writes
+    /// `taken N` for each acknowledged batch of lines. If `verbose`, logs what becomes of connections.
     fn feed<W: Write>(
         &mut self,
         alloc: Global,
@@ -115,8 +114,8 @@ pub trait Feeds {
             (source_view source.entry) verbose result self.new
             (W.contents out.new) };
 
-    /// Writes a line for each debt of the peers of these settings, `NAME NUMBER TOKEN ID`, by name and rising number.
-    /// If `verbose`, the last line that is acknowledged is logged.
+    /// Writes a line `NAME NUMBER TOKEN ID` for each debt of the peers of these settings, by name and rising number.
+    /// If `verbose`, logs the last line that is acknowledged.
     fn list_owed<W: Write>(
         &mut self,
         alloc: Global,

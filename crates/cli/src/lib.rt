@@ -1,12 +1,12 @@
 //! What each order of the command line does: drills, checks of a configuration, feeds, and what is printed if one
 //! fails.
 //!
-//! May touch the reader of files, what feeds peers, the reader and the two writers that it is given and nothing else;
-//! it stands on `drill` and `feed_conf`, and on `recovery` for the faults of tapes. What feeds peers is a trait here,
+//! May touch only the reader of files, what feeds peers, the reader and the two writers that it is given; it stands
+//! on `drill` and `feed_conf`, and on `recovery` for the faults of tapes. What feeds peers is a trait here,
 //! [`Feeds`], so that threads and sockets stay out of it. The program above uses `run`: its clause says which exit
-//! status comes with which text on standard output and which line on standard error (docs/MANUAL.md), and a status is
-//! never lost if that line cannot be written. What a drill prints is given by the contract of `drill`, which that
-//! clause cites (`specs/Ends.antt`).
+//! status comes with which text on standard output and which line on standard error (docs/MANUAL.md), and that the
+//! status is not lost if that line cannot be written. The contract of `drill` says what a drill prints; that clause
+//! cites it (`specs/Ends.antt`).
 #![tactic(auto)]
 
 mod check;

@@ -8,7 +8,7 @@ pub enum Source<'a> {
     /// From the funnel at this path, a file or a directory of segments.
     Funnel {
         path: &'a str,
-        /// Whether what is added to it is read too, until the run is asked to end.
+        /// Whether what is added to the funnel is read too, until the run is asked to end.
         is_followed: bool,
         /// Whether segments whose lines are all acknowledged are removed.
         is_tidied: bool,

@@ -23,12 +23,12 @@ use std::io::{self, Read, Write};
 pub struct Ended {
     /// The exit status.
     pub exit: Exit,
-    /// Whether its line on standard error was written; `Ok` if it had none.
+    /// Whether its line on standard error was written; `Ok` if there was none.
     pub reported: io::Result<()>,
 }
 
-/// Does what an order asks for. If that fails, writes one line on standard error, but none if memory was refused. The
-/// status is the same whether that line could be written or not.
+/// Does what an order asks for. If that fails, writes one line on standard error, or none if memory was refused. The
+/// status is the same whether or not that line could be written.
 pub fn run<F: ReadFile, P: Feeds, S: Read, W: Write, E: Write>(
     alloc: Global,
     order: Order<'_>,
@@ -59,7 +59,6 @@ pub fn run<F: ReadFile, P: Feeds, S: Read, W: Write, E: Write>(
     }
 }
 
-// Writes the line that reports a fault.
 fn report_fault<E: Write>(alloc: Global, fault: &OrderFault<'_>, err: &mut E) -> io::Result<()>
     ensures { (line : Option (List ℕ)) × IsLineOf fault.now line
         × Reports (E.contents err.old) (E.contents err.new) result line }
@@ -71,7 +70,6 @@ fn report_fault<E: Write>(alloc: Global, fault: &OrderFault<'_>, err: &mut E) ->
     }
 }
 
-// Writes all of a text, and flushes it.
 fn write_whole<W: Write>(writer: &mut W, text: &[u8]) -> io::Result<()>
     ensures { OnOk result (Appends (W.contents writer.old) (W.contents writer.new) text.now) }
 {
@@ -147,7 +145,7 @@ fn drill_file<'a, F: ReadFile, W: Write>(
     }
 }
 
-// Runs a drill script, which messages name by its source.
+// Runs a drill script; messages name it by `source`.
 fn drill<'a, W: Write>(
     alloc: Global,
     script: &[u8],
@@ -185,7 +183,7 @@ fn check_file<'a, F: ReadFile, W: Write>(
     }
 }
 
-// Prints the report of a configuration on standard output, and hands on the advice for standard error.
+// Prints the report of a configuration on standard output, and returns the advice for standard error.
 fn print_checked<'a, W: Write>(out: &mut W, checked: Checked) -> Result<Exit, OrderFault<'a>>
     ensures { Comes (PrintsBeside (option_map (λ lines. lines.items) checked.advice)
         checked.report.items (W.contents out.old) (W.contents out.new)) result }
@@ -200,12 +198,12 @@ fn print_checked<'a, W: Write>(out: &mut W, checked: Checked) -> Result<Exit, Or
     }
 }
 
-// What is to be done with the settings in a file.
+// What to do with the settings in a file.
 #[derive(Clone, Copy)]
 enum Errand<'a> {
-    // Lists what their peers are owed.
+    // List what their peers are owed.
     List { verbose: bool },
-    // Feeds their peers.
+    // Feed their peers.
     Feed { source: Source<'a>, verbose: bool },
 }
 
@@ -234,7 +232,6 @@ fn serve<'a, F: ReadFile, P: Feeds, W: Write>(
     }
 }
 
-// Runs an errand with these settings, which were read from the file at `path`.
 fn run_errand<P: Feeds, W: Write>(
     alloc: Global,
     feeds: &mut P,

@@ -26,11 +26,11 @@ abbrev pub AsksDrill : List ℕ → Given → Type 0
 AsksDrill path given =
     (option_map (λ file. file.now) given.drill ≡ Some path) × IsNone given.config × (HasMore given → ⊥)
 
--- `-C` acts alone; with `-v` it is explained.
+-- `-C` wins over all others; with `-v` its result is explained.
 abbrev pub AsksCheck : Bool → Given → Type 0
 AsksCheck verbose given = (given.check ≡ true) × (verbose ≡ given.verbose)
 
--- Otherwise `--owed` does; with `-v` a bad configuration is explained.
+-- Otherwise `--owed` wins; with `-v` a bad configuration is explained.
 abbrev pub AsksOwed : Bool → Given → Type 0
 AsksOwed verbose given = (given.check ≡ false) × (given.owed ≡ true) × (verbose ≡ given.verbose)
 
@@ -46,7 +46,7 @@ abbrev pub AsksFeed : Source → Bool → Given → Type 0
 AsksFeed source verbose given = (given.check ≡ false) × (given.owed ≡ false) × (verbose ≡ given.verbose)
     × AsksSource source given
 
--- What is asked for on the configuration of this path.
+-- What is asked for on the configuration at this path.
 abbrev pub AsksOf : List ℕ → Given → Order → Type 0
 AsksOf conf given DrillFromInput = ⊥
 AsksOf conf given (Drill path) = ⊥

@@ -41,7 +41,7 @@ pub fn read_args<'a>(alloc: Global, args: &'a [String]) -> Result<Order<'a>, All
     }
 }
 
-// What stands on the command line.
+// What is given on the command line.
 #[derive(Clone, Copy)]
 struct Given<'a> {
     config: Option<&'a str>,
@@ -55,7 +55,6 @@ struct Given<'a> {
     drill: Option<&'a str>,
 }
 
-// The command line, with its help.
 fn command<'a>(alloc: Global) -> Result<Command<'a>, AllocError> {
     let config = Arg::new(alloc, "config")
         .short('c')
@@ -138,7 +137,6 @@ fn verbose_flag<'a>(alloc: Global) -> Arg<'a> {
         )
 }
 
-// What `clap` found on the command line.
 fn given_by<'a>(matches: &ArgMatches<'a>) -> Given<'a>
     ensures config { option_map (λ path. path.now) result.config
         ≡ first_value (found_of matches.now) (codes "config") }
@@ -179,7 +177,7 @@ fn has_more(given: &Given<'_>) -> bool
         || given.funnel.is_some()
 }
 
-// A drill's file takes no other argument; anything else needs a configuration.
+// With a drill's file no other argument is allowed; anything else needs a configuration.
 fn order_of<'a>(alloc: Global, given: Given<'a>) -> Result<Order<'a>, AllocError>
     ensures { IfOk result (Asks given.entry) }
 {
@@ -191,7 +189,6 @@ fn order_of<'a>(alloc: Global, given: Given<'a>) -> Result<Order<'a>, AllocError
     }
 }
 
-// The order on a configuration.
 fn order_on<'a>(alloc: Global, conf: &'a str, given: Given<'a>) -> Result<Order<'a>, AllocError>
     ensures { IfOk result (AsksOf conf.now given.entry) }
 {
@@ -243,7 +240,8 @@ fn mistake<'a>(alloc: Global, what: &str) -> Result<Order<'a>, AllocError>
     Ok(Order::Mistake(String::from_str(alloc, what)?))
 }
 
-// What to do if `clap` has no matches: print the help or the version if they are asked for; anything else is a mistake.
+// What to do if `clap` finds no matches: print the help or the version if they are asked for; anything else is a
+// mistake.
 fn answer<'a>(alloc: Global, error: Error) -> Result<Order<'a>, AllocError>
     ensures printed { (kind_of error ≡ ErrorKind.DisplayHelp)
         ⊎ (kind_of error ≡ ErrorKind.DisplayVersion) → IfOk result IsPrinted }
@@ -264,8 +262,8 @@ fn answer<'a>(alloc: Global, error: Error) -> Result<Order<'a>, AllocError>
     }
 }
 
-// The mistake, by the first paragraph of `clap`'s text, which names the argument at fault. Line ends and other control
-// characters of the argument are shown as `?`.
+// The mistake, taken from the first paragraph of `clap`'s text, which names the argument at fault. Line ends and
+// other control characters of the argument are shown as `?`.
 fn mistake_in(alloc: Global, text: &str) -> Result<String, AllocError> {
     let text = text.strip_prefix("error: ").unwrap_or(text);
     let what = text.split("\n\n").next().unwrap_or(text);

@@ -1,4 +1,4 @@
--- What a drill has played has come about by its script's steps.
+-- The world of a drill has come about by its script's steps.
 use Rattle.std.proofs.Common.{◌≡◌, ◌+◌, ◌++◌, ℕ, zero, suc, List, [], ◌∷◌, take, Some, ap, sym, ◌∙◌, subst, arith}
 use Rattle.std.specs.List.{slice_get}
 use Rattle.drill_script.specs.declared.read.Script.{Script}

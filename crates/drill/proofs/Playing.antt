@@ -1,4 +1,4 @@
--- What a run of a script's steps outputs is what the script was played to.
+-- What a run of a script's steps outputs is what the drill prints.
 use Rattle.std.proofs.Common.{◌≡◌, ◌≢◌, ◌+◌, ◌<◌, ◌++◌, ℕ, List, [], length, suc, Some, inl, inr, refl}
 use Rattle.std.proofs.Common.{sym, subst, ap, ◌∙◌, arith, Result, Ok, Err, IfOk}
 use Rattle.std.specs.Prelude.{flat_map, slice_index_or}
@@ -143,7 +143,7 @@ module _ (script : Script) (world later : World) (fault : WorldFault) (printed :
     | inr room ↦ no_room room ending ends
   ]
 
--- what is printed for a step that was refused is what the script was played to
+-- what is printed for a step that was refused
 pub stopped_told : {E : Type 0} (script : Script) (world later : World) (fault : WorldFault) (answer : Result Played E)
     (steps : List Step) (lines : List ℕ) → steps ≡ script.steps.items → lines ≡ script.lines.items →
     BeginsFrom script.peers.items world → Ends steps world fault later →

@@ -1,4 +1,4 @@
--- What a text comes to as a drill: what is printed, and how it ends (docs/FORMATS.md).
+-- A text, played as a drill: what is printed, and how it ends (docs/FORMATS.md).
 use Rattle.std.specs.Prelude.{◌≡◌, ◌≢◌, ◌⊎◌, ◌+◌, slice_index_or, ℕ, zero, suc, Option, Some, List, [], ◌++◌}
 use Rattle.std.specs.Prelude.{flat_map, length, slice_get, take, IfSome}
 use Rattle.std.specs.Io.KnownBytes.{Appends, Keeps}
@@ -25,14 +25,15 @@ use Rattle.drill.specs.declared.ending.TapeRefusal.{TapeRefusal}
 use Rattle.drill.specs.declared.ending.Why.{Why}
 use Rattle.drill.specs.declared.ending.Why.TheVariants.{Script as ByScript, Step as ByStep}
 
--- a world of these peers as it is made, in byte order of their names: it begins from their tapes, and it runs
+-- a new world of these peers, in byte order of their names: it begins from their tapes, and it runs
 pub record IsBegun (peers : List GivenPeer) (life : Life) : Type 0 where
   pub ordered : List GivenPeer
   pub permuted : IsPermutation peers ordered
   pub rises : NamesRise (given_names ordered)
   pub fresh : IsGiven ordered life
 
--- All steps were taken: the lines of what each output are printed, each peer's counts, and how many steps there were.
+-- All steps were taken: what each of them outputs is printed, a line for each, then each peer's counts, and how many
+-- steps there were.
 pub record WasTaken (script : Script) (printed : List ℕ) : Type 0 where
   pub begun : Life
   pub begins : IsBegun script.peers.items begun
@@ -42,8 +43,8 @@ pub record WasTaken (script : Script) (printed : List ℕ) : Type 0 where
   pub prints : printed
       ≡ steps_text lines ++ (flat_map totals_text (counts_of later) ++ end_text (length script.steps.items))
 
--- The step that this line says was refused for this fault: the lines of what those before it output are printed, and
--- the refusal.
+-- The step on this line was refused for this fault: what the steps before it output is printed, a line for each, and
+-- then the refusal.
 pub record WasRefused (script : Script) (printed : List ℕ) (line : ℕ) (fault : Fault) : Type 0 where
   pub begun : Life
   pub begins : IsBegun script.peers.items begun
@@ -60,28 +61,28 @@ pub record WasRefused (script : Script) (printed : List ℕ) (line : ℕ) (fault
   pub sound : IsSoundLife later
   pub prints : printed ≡ steps_text lines ++ refused_text (index + 1) fault
 
--- there was no memory for a step, for what all of them output, or for the tapes, for which nothing is printed
+-- there was no memory for a step, for what all of them output, or for the tapes, in which case nothing is printed
 abbrev pub LacksMemory : Script → List ℕ → Type 0
 LacksMemory script printed =
     ((line : ℕ) × WasRefused script printed line NoMemory) ⊎ ((printed ≡ refused_text 1 NoMemory) ⊎ (printed ≡ []))
 
--- the step that this line says was refused, and not for want of memory
+-- the step on this line was refused, and not for want of memory
 abbrev pub EndsAt : Script → (printed : List ℕ) → (line : ℕ) → Why → Type 0
 EndsAt script printed line (ByScript reason) = ⊥
 EndsAt script printed line (ByStep fault) = (fault ≢ NoMemory) × WasRefused script printed line fault
 
--- Of the peers' tapes, in byte order of their names, this one is the first that was refused: nothing is printed.
+-- Among the peers' tapes, in byte order of the names, this is the first that was refused: nothing is printed.
 abbrev pub HasNoTape : Script → (printed : List ℕ) → TapeRefusal → Type 0
 HasNoTape script printed refusal = (printed ≡ []) × RefusesFirst script.peers.items refusal.peer refusal.fault
 
--- A script was played, which printed this and ended so.
+-- A script was played: it printed this and ended like this.
 abbrev pub IsPlayed : Script → (printed : List ℕ) → Ending → Type 0
 IsPlayed script printed Done = WasTaken script printed
 IsPlayed script printed (Refused refusal) = EndsAt script printed refusal.line refusal.why
 IsPlayed script printed (NoTape refusal) = HasNoTape script printed refusal
 IsPlayed script printed NoMemoryLeft = LacksMemory script printed
 
--- The text is no script: the first line that breaks the rules of one is printed and reported, and why it does.
+-- The text is not a script: the first line that breaks the rules is printed and reported, with the reason.
 pub record IsNoScript (text printed : List ℕ) (ending : Ending) : Type 0 where
   pub line : ℕ
   pub reason : BrokenRule
@@ -89,20 +90,20 @@ pub record IsNoScript (text printed : List ℕ) (ending : Ending) : Type 0 where
   pub prints : printed ≡ broken_text line
   pub ends : ending ≡ Refused (record { line = line; why = ByScript reason })
 
--- A text was played: it is a script, or none.
+-- A text was played, whether or not it is a script.
 abbrev pub IsDrill : (text printed : List ℕ) → Ending → Type 0
 IsDrill text printed ending =
     ((script : Script) × IsScript text script × IsPlayed script printed ending) ⊎ IsNoScript text printed ending
 
--- What a reader has left, if that is known, was played, and what that printed is all that the writer got; or there
--- was no memory for the script or for what it prints, and the writer got nothing.
+-- What a reader has left, if that is known, was played, and the writer got exactly what that printed; or there was no
+-- memory for the script or for what it prints, and the writer got nothing.
 abbrev pub Drills : (says old new : Option (List ℕ)) → Ending → Type 0
 Drills says old new ending =
     ((text printed : List ℕ) × IfSome says (λ octets. text ≡ octets) × Appends old new printed
     × IsDrill text printed ending)
     ⊎ ((ending ≡ NoMemoryLeft) × Keeps old new)
 
--- how a drill ends for which no world was made
+-- how a drill ends if no world was made
 abbrev pub ending_without : TapesFault → Ending
 ending_without (TapeOf peer fault) = NoTape (record { peer = peer; fault = fault })
 ending_without NoTapesMemory = NoMemoryLeft

@@ -23,10 +23,10 @@ pub enum Ending {
 /// Which peer's tape was refused, and why.
 #[derive(Drop)]
 pub struct TapeRefusal {
-    /// The peer, the first in byte order of the names whose tape is refused.
+    /// The peer whose tape was refused; if there are several, the first in byte order of the names.
     pub peer: PeerName,
-    /// Why it was refused: `Damaged` if what the script gives is no tape, or `Disk` if a disk in memory was refused
-    /// memory.
+    /// Why it was refused: `Damaged` if what the script gives is not a tape, or `Disk` if a disk in memory was
+    /// refused memory.
     pub fault: TapeFault,
 }
 
@@ -44,7 +44,7 @@ pub struct Refusal {
 pub enum Why {
     /// It is the first that breaks the rules of a script.
     Script(BrokenRule),
-    /// Its step was refused.
+    /// The step that it says was refused.
     Step(Fault),
 }
 
@@ -60,7 +60,6 @@ impl Why {
     }
 }
 
-// Why a step is refused.
 fn step_words(fault: Fault) -> &'static str
     ensures { result.now ≡ step_words fault }
 {
@@ -77,7 +76,6 @@ fn step_words(fault: Fault) -> &'static str
     }
 }
 
-// Why a tape refused.
 fn tape_words(fault: TapeFault) -> &'static str
     ensures { result.now ≡ tape_words fault }
 {

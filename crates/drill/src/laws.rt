@@ -5,8 +5,8 @@ ghost use Rattle.world_core.specs.Laws.{Comes};
 ghost use Rattle.world_core.specs.declared.fault.Fault.{Fault};
 ghost use Rattle.drill.specs.Drill.{WasRefused, WasTaken};
 
-/// What a drill prints is of a world that has come about by the steps of its script: by all of them, or by those up to
-/// the one that was refused, and it. So each law over any steps (`world_core`) holds of it.
+/// What a drill prints comes from a world that has come about by the steps of its script: by all of them, or by those
+/// up to and including the one that was refused. So each law over any steps (`world_core`) holds of it.
 pub fn a_drill_is_a_run()
     ensures taken { (script : Script) (printed : List ℕ) → (was : WasTaken script printed)
         → Comes was.begun script.steps.items was.lines was.later }

@@ -1,9 +1,9 @@
 //! Drills: a script's steps, taken by a world whose disks are in memory, and the lines that report them.
 //!
-//! May touch the reader and the writer that it is given and nothing else; it stands on `drill_script` for what is read
-//! and on `world_core` for what is run. The crates above use `run_script` (docs/FORMATS.md): what is printed and how a
-//! drill ends is said of the script that the text is and of the run of its steps (`specs/Drill.antt`). The laws of
-//! whole runs hold of each drill (`laws`).
+//! May touch the reader and the writer that it is given and nothing else; it stands on `drill_script` for what is
+//! read and on `world_core` for what is run. The crates above use `run_script` (docs/FORMATS.md), whose contract says
+//! what is printed and how a drill ends, by the script that the text is and the run of its steps
+//! (`specs/Drill.antt`). The laws of whole runs hold of each drill (`laws`).
 #![tactic(auto)]
 
 mod ending;

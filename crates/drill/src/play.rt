@@ -1,4 +1,4 @@
-// What a text comes to as a drill: what is printed, and how it ends.
+// A text, played as a drill: what is printed, and how it ends.
 ghost use Rattle.std.specs.Prelude.{◌≡◌, ◌≢◌, ◌++◌, [], flat_map, length, IfOk};
 ghost use Rattle.std.specs.List.{IsDistinct};
 ghost use Rattle.std.specs.Str.{bytes_eq};
@@ -17,9 +17,7 @@ use world_core::{Fault, Report, TapesFault, World, WorldFault};
 /// What a drill prints, and how it ends.
 #[derive(Drop)]
 pub struct Played {
-    /// What it prints.
     pub printed: Vec<u8>,
-    /// How it ends.
     pub ending: Ending,
 }
 
@@ -66,7 +64,6 @@ fn play_script(alloc: Global, script: Script) -> Result<Played, AllocError>
     }
 }
 
-// No world was made. Nothing is printed.
 fn not_begun(alloc: Global, fault: TapesFault) -> Played
     ensures prints { result.printed.items ≡ [] }
     ensures ends { result.ending ≡ ending_without fault }
@@ -81,7 +78,6 @@ fn not_begun(alloc: Global, fault: TapesFault) -> Played
     }
 }
 
-// All steps were taken.
 fn done(alloc: Global, report: &Report, steps: usize) -> Result<Played, AllocError>
     ensures prints { IfOk result (λ played. played.printed.items
         ≡ steps_text (said_by report.now.lines.items)
@@ -119,7 +115,7 @@ fn refused(alloc: Global, lines: &[usize], fault: &WorldFault) -> Result<Played,
     })
 }
 
-// How a drill ends if a step was refused; these are the steps' lines.
+// How a drill ends if this step was refused; `lines` has the line of each step.
 fn ending_of(lines: &[usize], step: usize, kind: Fault) -> Ending
     ensures no_memory { kind ≡ Fault.NoMemory → result ≡ Ending.NoMemory }
     ensures refused { kind ≢ Fault.NoMemory → result ≡ Ending.Refused (record {
@@ -136,7 +132,7 @@ fn ending_of(lines: &[usize], step: usize, kind: Fault) -> Ending
     }
 }
 
-// The line of a step, from 1, or 0 if there is no such step.
+// The line of a step, from 1; 0 if there is no such step.
 fn line_of(lines: &[usize], step: usize) -> usize
     ensures { result ≡ line_of lines.now step }
 {

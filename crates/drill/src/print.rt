@@ -9,7 +9,6 @@ use ledger_core::Totals;
 use std::alloc::AllocError;
 use world_core::{Fault, PeerTotals, Output};
 
-/// The lines that the steps print.
 pub fn add_steps(out: &mut Vec<u8>, lines: &[Vec<Output>]) -> Result<(), AllocError>
     ensures { OnOk result (out.new.items ≡ out.old.items ++ steps_text (said_by lines.now)) }
 {
@@ -19,7 +18,6 @@ pub fn add_steps(out: &mut Vec<u8>, lines: &[Vec<Output>]) -> Result<(), AllocEr
     Ok(())
 }
 
-// The lines that a step prints.
 fn add_step(out: &mut Vec<u8>, step: &[Output]) -> Result<(), AllocError>
     ensures { OnOk result (out.new.items ≡ out.old.items ++ step_text (map said_of step.now)) }
 {
@@ -30,7 +28,7 @@ fn add_step(out: &mut Vec<u8>, step: &[Output]) -> Result<(), AllocError>
     Ok(())
 }
 
-/// A line of each peer's counts.
+/// Adds a line of counts for each peer.
 pub fn add_totals(out: &mut Vec<u8>, totals: &[PeerTotals]) -> Result<(), AllocError>
     ensures { OnOk result
         (out.new.items ≡ out.old.items ++ flat_map totals_text (counts_in totals.now)) }
@@ -92,7 +90,6 @@ pub fn add_refused(out: &mut Vec<u8>, step: usize, kind: Fault) -> Result<(), Al
     Ok(())
 }
 
-// A word and a number.
 fn add_count(out: &mut Vec<u8>, word: &[u8], number: u64) -> Result<(), AllocError>
     ensures { OnOk result (out.new.items ≡ out.old.items ++ (word.now ++ digits_of number)) }
 {

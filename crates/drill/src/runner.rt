@@ -7,7 +7,7 @@ use crate::play::play;
 use std::alloc::Global;
 use std::io::{self, Read, Write};
 
-/// Runs the drill script that the reader gives, writes what it prints, and returns how it ended.
+/// Runs the drill script in the reader, writes what it prints, and returns how it ended.
 ///
 /// # Errors
 /// The reader's and the writer's.

@@ -2,7 +2,7 @@
 use Rattle.std.proofs.Common.{◌≡◌, ◌≢◌, List, [], ◌∷◌, ℕ, None, length, refl}
 use Rattle.drill_script.specs.StopRequest.{request_of}
 
--- so many words arm no stop
+-- this many words arm no stop
 pub none_armed : (words : List (List ℕ)) → length words ≢ 3 → length words ≢ 4 → None ≡ request_of words
 none_armed [] three four = refl
 none_armed (a ∷ []) three four = refl

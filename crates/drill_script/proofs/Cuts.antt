@@ -1,4 +1,4 @@
--- Octets are cut at their first space in one way.
+-- Octets are cut at their first space in only one way.
 use Rattle.std.proofs.Common.{◌≡◌, ◌≢◌, ◌==◌, ℕ, Bool, true, false, not, List, [], ◌∷◌, ◌++◌, Option, None, Some}
 use Rattle.std.proofs.Common.{inl, inr, refl, sym, subst, ap, ◌∙◌, arith}
 use Rattle.std.specs.Prelude.{◌⊎◌}
@@ -30,7 +30,7 @@ solid_from (octet ∷ word) pass =
     let parts = and_parts (is_solid octet) (list_all is_solid word) pass in
     All-cons (λ o. o ≢ 32) octet word (λ same. solid_not octet same parts.0) (solid_from word parts.1)
 
--- two words before a space, and what stands after it
+-- two words before a space, and the texts after it
 pub words_once : (a b x y : List ℕ) → IsSolid a → IsSolid b → a ++ 32 ∷ x ≡ b ++ 32 ∷ y → (a ≡ b) × (x ≡ y)
 words_once [] [] x y p q e = (refl, cc)
 words_once [] (o ∷ b) x y p q e = let same : o ≡ 32 = cc in absurd (solid_head o b q same)
@@ -42,12 +42,12 @@ words_once (o ∷ a) (c ∷ b) x y p q e =
     let others : a ≡ b = cut.0 in
     (cc, cut.1)
 
--- a word with a space after it is no word
+-- a word followed by a space is not a word
 pub spaced_is_not_solid : (a x : List ℕ) → IsSolid (a ++ 32 ∷ x) → ⊥
 spaced_is_not_solid [] x p = solid_head 32 x p refl
 spaced_is_not_solid (o ∷ a) x p = spaced_is_not_solid a x (solid_tail o (a ++ 32 ∷ x) p)
 
--- the two cuts of the same octets
+-- two cuts of the same octets
 pub record SameCut (a b : List ℕ) (x y : Option (List ℕ)) : Type 0 where
   pub word : a ≡ b
   pub text : x ≡ y

@@ -1,4 +1,4 @@
--- The names that a script declares differ.
+-- The names that a script declares are distinct.
 use Rattle.std.proofs.Common.{◌≡◌, ℕ, List, [], ◌∷◌, ◌++◌, map, sym, subst, ◌∙◌}
 use Rattle.std.proofs.Common.{append-nil, append_assoc}
 use Rattle.std.specs.Prelude.{IsPermutation}
@@ -34,12 +34,12 @@ none_differ = tt
 same_back : (x y : List ℕ) → bytes_eq x y ≡ bytes_eq y x
 same_back x y = nat_list_eq_equiv.symm x y
 
--- names that differ do so in any order
+-- distinct names are distinct in any order
 pub permuted_differ : (names others : List (List ℕ)) → IsPermutation names others → HasDistinct names →
     HasDistinct others
 permuted_differ names others permuted d = IsDistinct-IsPermutation bytes_eq same_back names others permuted d
 
--- the names of a script's peers differ
+-- the names of a script's peers are distinct
 pub names_differ : (text : List ℕ) (script : Script) → IsScript text script →
     HasDistinct (given_names script.peers.items)
 names_differ text script is =

@@ -14,7 +14,7 @@ use Rattle.drill_script.specs.declared.fault.BrokenRule.TheVariants.{NoStep, NoP
 use Rattle.drill_script.specs.declared.fault.BrokenRule.TheVariants.{TapeBehindStep, NoPeerOfTape, TapeTwice, Unended}
 use Rattle.drill_script.proofs.Once.{says_once}
 
--- no line stands first in what is left that may stand after these sentences, and something is left
+-- the first line that is left may not follow these sentences, and something is left
 pub record Blocks (before : List SentenceView) (left : List ℕ) : Type 0 where
   pub some : left ≢ []
   pub none : (line behind : List ℕ) → BeginsWithLine left line behind → (said : SentenceView) →
@@ -27,7 +27,7 @@ line_is_some (o ∷ line) behind e = cc
 begun_is_some : (left line behind : List ℕ) → BeginsWithLine left line behind → left ≢ []
 begun_is_some left line behind begins none = line_is_some line behind (sym begins.0 ∙ none)
 
--- the same line stands first
+-- the first line is the same
 same_line : (left l m x y : List ℕ) → BeginsWithLine left l x → BeginsWithLine left m y → l ≡ m
 same_line left l m x y p q = (first_line_once l m x y p.1 q.1 (sym p.0 ∙ q.0)).0
 
@@ -106,7 +106,7 @@ pub record Keeps (before : List SentenceView) (lines : List (List ℕ)) (sentenc
   pub says : AllZip LineSays lines sentences
   pub order : KeepsOrder before sentences
 
--- a prefix that goes on after the line number at which the other one ends
+-- a prefix goes on after the line number at which the other one ends
 goes_on : (before : List SentenceView) (line : List ℕ) (lines : List (List ℕ)) (said : SentenceView)
     (sentences : List SentenceView) (x y : List ℕ) →
     Keeps before (line ∷ lines) (said ∷ sentences) → x ≡ ended (line ∷ lines) ++ y → Blocks before x → ⊥
@@ -114,7 +114,7 @@ goes_on before line lines said sentences x y keeps e blocks =
     blocks.none line (ended lines ++ y) (e ∙ ended_first line lines y, All-head IsUnended line lines keeps.each)
     said keeps.says.0 keeps.order.0
 
--- two prefixes of one text, the first of which is blocked, and the other is blocked or is all
+-- two prefixes of one text: the first is blocked, and the other is blocked or is the whole text
 ends_once : (f g : List (List ℕ)) (a b before : List SentenceView) (x y : List ℕ) → Keeps before f a →
     Keeps before g b →
     ended f ++ x ≡ ended g ++ y → Blocks (before ++ a) x → (y ≡ []) ⊎ Blocks (before ++ b) y →

@@ -111,7 +111,7 @@ step_form line word (Some rest) (Arms armed) cut says = (rest, cut ∙ ap (λ w.
 step_form line word None Restarts cut says = cut ∙ says
 step_form line word (Some rest) Restarts cut says = absurd says
 
--- A word that names a step, whichever way the line is cut.
+-- A word that names a step, however the line is cut.
 module _ (line word : List ℕ) (text : Option (List ℕ)) (solid : IsSolid word) (cut : IsCut line word text) where
   -- the cut is the one at this word
   at_word : (w : List ℕ) (t : Option (List ℕ)) → list_all is_solid w ≡ true → IsCut line w t → SameCut word w text t
@@ -124,7 +124,7 @@ module _ (line word : List ℕ) (text : Option (List ℕ)) (solid : IsSolid word
       subst (λ (x : List ℕ). StepOf x text step) (sym same.word)
       (subst (λ (o : Option (List ℕ)). StepOf w o step) (sym same.text) says)
 
-  -- the number of a connection, and what stands after it
+  -- the number of a connection, and what follows it
   on_step : (w written : List ℕ) (t : Option (List ℕ)) (rest : List ℕ) (number : ℕ) (action : ActionView) →
       list_all is_solid w ≡ true → line ≡ w ++ 32 ∷ rest →
       IsCut rest written t → u64_of written ≡ Some number → ActionOf w t action →

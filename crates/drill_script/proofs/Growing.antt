@@ -1,4 +1,4 @@
--- One line more.
+-- One more line.
 use Rattle.std.proofs.Common.{◌≡◌, ◌≢◌, ◌↔◌, ◌+◌, ℕ, if◌then◌else◌, Bool, false, true, not, Option, None, Some}
 use Rattle.std.proofs.Common.{MatchOption, List, [], ◌∷◌}
 use Rattle.std.specs.Prelude.{IfErr, Result, Ok, Err, option_map}
@@ -55,7 +55,7 @@ peers_of-append (Declares peer ∷ a) b = ap (λ (s : List Settings). peer ∷ s
 peers_of-append (Gives name octets ∷ a) b = peers_of-append a b
 peers_of-append (Takes step ∷ a) b = peers_of-append a b
 
--- the line numbers of some sentences go on after those of others
+-- the line numbers of later sentences go on after those of earlier ones
 line_numbers_append : (line_number next : ℕ) (a b : List SentenceView) → next ≡ line_number + length a →
     line_numbers_from line_number (a ++ b) ≡ line_numbers_from line_number a ++ line_numbers_from next b
 line_numbers_append line_number next [] b e =
@@ -80,7 +80,7 @@ tape_first : (this : Bool) (octets : List ℕ) (all one other : Option (List ℕ
 tape_first true octets all one other e = refl
 tape_first false octets all one other e = e
 
--- the tape that some sentences give comes before that which later ones give
+-- the tape that earlier sentences give goes before one that later sentences give
 tape_of-append : (a b : List SentenceView) (name : List ℕ) →
     tape_of (a ++ b) name ≡ or_else (tape_of a name) (tape_of b name)
 tape_of-append [] b name = refl
@@ -91,7 +91,7 @@ tape_of-append (Gives peer octets ∷ a) b name =
     (tape_of-append a b name)
 tape_of-append (Takes step ∷ a) b name = tape_of-append a b name
 
--- the names that some sentences declare stand in front of those of others
+-- the names that earlier sentences declare come before those of later ones
 pub names_of-append : (a b : List SentenceView) → names_of (a ++ b) ≡ names_of a ++ names_of b
 names_of-append a b =
     ap (map (λ (p : Settings). p.name)) (peers_of-append a b) ∙ map-append (λ (p : Settings). p.name) (peers_of a)
@@ -107,7 +107,7 @@ strange name names none = elim (cases_Bool (list_any (bytes_eq name) names)) [
   | inr other ↦ other
 ]
 
--- names differ with those of one sentence more
+-- distinct names with those of one more sentence
 pub one_more : (before : List SentenceView) (said : SentenceView) → HasDistinct (names_of before) →
     MayFollow before said → HasDistinct (names_of before ++ names_of (said ∷ []))
 one_more before Blank d may = subst HasDistinct (sym (append-nil (names_of before))) d
@@ -136,7 +136,7 @@ order_push before (s ∷ later) said order may = (
       (subst (λ (b : List SentenceView). MayFollow b said) (sym (append_assoc before (s ∷ []) later)) may),
 )
 
--- a text of which one line more is read
+-- a text of which one more line is read
 pub reads_more : (text rest line more : List ℕ) (sentences : List SentenceView) (said : SentenceView) →
     Reads text sentences rest → BeginsWithLine rest line more →
     LineSays line said → MayFollow sentences said → Reads text (sentences ++ said ∷ []) more
@@ -152,7 +152,7 @@ reads_more text rest line more sentences said r begins says may = record {
 pub reads_none : (text : List ℕ) → Reads text [] text
 reads_none text = record { lines = []; whole = refl; each = All-nil IsUnended; says = tt; order = tt }
 
--- a draft with what one line more says
+-- a draft with what one more line says
 gains : (old new : Draft) (before : List SentenceView) (said : SentenceView) → MayFollow before said →
     map settings_view new.peers.items ≡ peers_of before ++ peers_of (said ∷ []) →
     ((name : List ℕ) →

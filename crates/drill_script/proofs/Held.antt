@@ -31,13 +31,13 @@ Tapes = BTreeMap Octets Octets
 same : (a b : List ℕ) → is_eq (slice_cmp nat_cmp a b) ≡ true → a ≡ b
 same a b e = (bytes_eq-Decides a b).0 (sym (is_eq-slice_cmp a b) ∙ e)
 
--- no key is both of two names
+-- no key equals two names
 apart : (name other key : List ℕ) → other ≢ name → is_eq (slice_cmp nat_cmp name key) ≡ true →
     is_eq (slice_cmp nat_cmp other key) ≡ false
 apart name other key differ e =
     false_from_ne_true (is_eq (slice_cmp nat_cmp other key)) (λ h. differ (same other key h ∙ sym (same name key e)))
 
--- the second map has under each other name what the first has
+-- the second map has the same as the first under each other name
 abbrev pub Keeps : List ℕ → (old new : Tapes) → Type 0
 Keeps name old new =
     KeepsOthers (λ (x y : Octets). is_eq (slice_cmp nat_cmp x.items y.items))
@@ -62,7 +62,7 @@ pub held_none : (found : Option Octets) (told : Option (List ℕ)) → option_ma
 held_none None told e none = sym e
 held_none (Some octets) told e none = cc
 
--- what is under the names from this line number on is as it was
+-- what is under the names from this line number on is unchanged
 abbrev pub KeepsFrom : (names : List (List ℕ)) → ℕ → (old new : Tapes) → Type 0
 KeepsFrom names from old new =
     (k : ℕ) → from ≤ k → k < length names → held_at new (get_or names k []) ≡ held_at old (get_or names k [])
@@ -88,7 +88,7 @@ pub given_octets : (found : Option Octets) (none : Octets) (held : Option (List 
 given_octets None none held e empty = empty ∙ ap (λ h. unwrap_or h []) e
 given_octets (Some octets) none held e empty = ap (λ h. unwrap_or h []) e
 
--- the peers that are given something are those that there were
+-- the peers that are given something are those that were declared
 pub given_confs : (tapes : Tapes) (confs : List PeerConf) (given : List GivenPeer) →
     AllZip (IsGiven tapes) confs given → confs_of given ≡ confs
 given_confs tapes [] [] all = refl

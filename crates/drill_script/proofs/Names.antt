@@ -42,7 +42,7 @@ cases_prefix x y xs h = elim (Contains-append_cases (x ∷ []) xs y h) [
   | inr more ↦ inr more
 ]
 
--- the order tells names apart
+-- names that compare as equal are equal
 same_octets : (a b : List ℕ) → slice_cmp nat_cmp a b ≡ Equal → a ≡ b
 same_octets a b e = exact_bytes a b e
 
@@ -73,7 +73,7 @@ pub found : (name : List ℕ) (keys : List Octets) → list_any (is_at (named na
 found name [] e = cc
 found name (k ∷ keys) e = found_at name k keys (slice_cmp nat_cmp name k.items) refl e (found name keys)
 
--- and one that it does not find is not
+-- and a key that it does not find is not
 unfound_at : (name : List ℕ) (k : Octets) (keys : List Octets) (o : Ordering) → slice_cmp nat_cmp name k.items ≡ o →
     (is_eq o || list_any (is_at (named name)) keys) ≡ false →
     (list_any (is_at (named name)) keys ≡ false → Contains (texts keys) name → ⊥) →
@@ -95,7 +95,7 @@ unfound name (k ∷ keys) e h =
     unfound_at name k keys (slice_cmp nat_cmp name k.items) refl e (unfound name keys)
     (cases_prefix k.items name (texts keys) h)
 
--- what a set has that was given one key more
+-- what a set holds after one more key was added
 gains_at : (key k : Octets) (keys rest : List Octets) (name : List ℕ) (o : Ordering) → octets_cmp key k ≡ o →
     (Contains (texts rest) name → Contains (texts keys) name ⊎ (key.items ≡ name)) →
     Contains (texts (match_ordering o (key ∷ k ∷ keys) (k ∷ keys) (k ∷ rest))) name →
@@ -117,7 +117,7 @@ gains_key key [] name h = elim (cases_prefix key.items name [] h) [ inl same ↦
 gains_key key (k ∷ keys) name h =
     gains_at key k keys (insert_key octets_cmp keys key) name (octets_cmp key k) refl (gains_key key keys name) h
 
--- it has what it had, and the key
+-- it holds what it held, and the key
 keeps_at : (key k : Octets) (keys rest : List Octets) (name : List ℕ) (o : Ordering) → octets_cmp key k ≡ o →
     (Contains (texts keys) name ⊎ (key.items ≡ name) → Contains (texts rest) name) →
     Contains (texts (k ∷ keys)) name ⊎ (key.items ≡ name) →

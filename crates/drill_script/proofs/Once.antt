@@ -1,4 +1,4 @@
--- A line says one thing at most.
+-- A line says at most one thing.
 use Rattle.std.proofs.Common.{◌≡◌, ◌≢◌, ◌==◌, ℕ, Bool, true, false, List, [], ◌∷◌, ◌++◌, Option, None, Some, inl}
 use Rattle.std.proofs.Common.{inr, refl, sym, subst, ap, ◌∙◌, get_or}
 use Rattle.std.specs.Prelude.{codes, is_some, if◌then◌else◌}
@@ -19,7 +19,7 @@ use Rattle.drill_script.proofs.Peers.{peer_once}
 use Rattle.drill_script.proofs.Tapes.{behind_once, names_once, tape_once}
 use Rattle.drill_script.proofs.Writing.{written_once}
 
--- two numbers that the test tells apart
+-- two numbers that the test finds different
 apart : (m n : ℕ) → (m == n) ≡ false → m ≡ n → ⊥
 apart m n other same = eqb-false m n other same
 
@@ -123,7 +123,7 @@ tag_is word (Some rest) (Parts name) says = ap (λ w. tag_for w true) says.0
 tag_is word (Some rest) Seals says = absurd says
 tag_is word (Some rest) (Imports name text) says = ap (λ w. tag_for w true) says.0
 
--- words that begin with other octets
+-- words that begin with different octets
 differs : (v w : List ℕ) → (get_or v 0 0 == get_or w 0 0) ≡ false → (word : List ℕ) → word ≡ v → word ≡ w → ⊥
 differs v w other word p q = apart (get_or v 0 0) (get_or w 0 0) other (ap (λ (x : List ℕ). get_or x 0 0) (sym p ∙ q))
 
@@ -227,7 +227,7 @@ once_behind word rest Begins b p q e = absurd p
 once_behind word rest Seals b p q e = absurd p
 once_behind word rest a b p q e = absurd (apart (step_tag a) (step_tag b) refl e)
 
--- `import` says nothing of a connection
+-- `import` says nothing about a connection
 pub import_acts_not : (word rest : List ℕ) → word ≡ codes "import" → (number : ℕ) (action : ActionView) →
     SaysOn word rest number action → ⊥
 import_acts_not word rest is number action says =
@@ -245,7 +245,7 @@ step_once line a b p q =
     parts_once h.word h.text a b (step_parts line h.word h.text h.solid h.cut a p)
     (step_parts line h.word h.text h.solid h.cut b q)
 
--- a line whose first word is no step's says none
+-- a line whose first word is not a step's says none
 no_step : (line word : List ℕ) (text : Option (List ℕ)) → IsSolid word → IsCut line word text →
     tag_for word (is_some text) ≡ 0 →
     (step : StepView) → SaysStep line step → ⊥
@@ -264,13 +264,13 @@ blank_no_step line step (inr comment) says =
     (tag_of_comment h.word h.text) step
     (subst (λ (l : List ℕ). SaysStep l step) comment.1 says)
 
--- a line of a peer begins with another octet than a comment
+-- a line of a peer does not begin like a comment
 peer_no_blank : (line behind : List ℕ) → line ≡ codes "peer " ++ behind → Says line Blank → ⊥
 peer_no_blank line behind e (inl none) = let never : codes "peer " ++ behind ≡ [] = sym e ∙ none in cc
 peer_no_blank line behind e (inr comment) =
     differs (codes "peer " ++ behind) (codes "#" ++ comment.0) refl line e comment.1
 
--- and so does a line of a tape
+-- nor does a line of a tape
 tape_no_blank : (line behind : List ℕ) → line ≡ codes "tape " ++ behind → Says line Blank → ⊥
 tape_no_blank line behind e (inl none) = let never : codes "tape " ++ behind ≡ [] = sym e ∙ none in cc
 tape_no_blank line behind e (inr comment) =
@@ -283,7 +283,7 @@ tape_no_step : (line name octets : List ℕ) (step : StepView) → SaysTape line
 tape_no_step line name octets step p q =
     no_step line (codes "tape") (Some p.0) (solid_from (codes "tape") refl) p.1 refl step q
 
--- a line of a tape that is written otherwise says nothing
+-- a line that begins like a tape's but is written otherwise says nothing
 pub no_tape_none : (line text : List ℕ) → line ≡ codes "tape " ++ text →
     ((name octets : List ℕ) → NamesText Spells text name octets → ⊥) → (said : SentenceView) →
     Says line said → ⊥

@@ -1,4 +1,4 @@
--- What a `peer` line declares, in one way.
+-- A `peer` line declares only one thing.
 use Rattle.std.proofs.Common.{◌≡◌, ◌≢◌, ℕ, true, List, [], ◌∷◌, ◌++◌, map, Option, None, Some, Result, Ok, Err}
 use Rattle.std.proofs.Common.{MatchOption, inl, inr, refl, sym, subst, ap, ◌∙◌, arith}
 use Rattle.std.specs.Prelude.{IsTrue, codes, unwrap_or}
@@ -39,7 +39,7 @@ pub cut_named : (declaration name : List ℕ) (text : Option (List ℕ)) → IsC
 cut_named declaration name None cut = inl (cut, refl)
 cut_named declaration name (Some items) cut = inr cut
 
--- a cut, and the items that stand after it
+-- a cut, and the items after it
 record NamedCut (declaration name items : List ℕ) : Type 0 where
   text : Option (List ℕ)
   cut : IsCut declaration name text
@@ -70,7 +70,7 @@ parts_once declaration m n i j p q a b =
 pub behind_once : (x y : List ℕ) → codes "peer " ++ x ≡ codes "peer " ++ y → x ≡ y
 behind_once x y e = cc
 
--- lines have one list of lexemes
+-- a line has one list of lexemes
 line_lexemes : (line : List ℕ) (one other : List Lexeme) → HasLexemes line one → HasLexemes line other → one ≡ other
 line_lexemes line one other p q = sym (lexemes-are line one p) ∙ lexemes-are line other q
 
@@ -92,7 +92,7 @@ ok_once one other e = cc
 head_once : (one other : Settings) → one ∷ [] ≡ other ∷ [] → one ≡ other
 head_once one other e = cc
 
--- a text of settings has one peer alone in one way
+-- a text of settings has its only peer in one way
 only_once : (text : List ℕ) (one other : Settings) → HasOnly text one → HasOnly text other → one ≡ other
 only_once text one other p q =
     let lexemes = lexemes_same (lines_of text) p.lexemes q.lexemes p.have q.have in
@@ -112,7 +112,7 @@ peer_once line one other p q =
     ap (λ (n : List ℕ). peer_text n p.items) parts.name ∙ ap (peer_text other.name) parts.items in
     only_once (peer_text other.name q.items) one other (subst (λ (t : List ℕ). HasOnly t one) text p.has) q.has
 
--- values of one peer alone come from one peer alone
+-- the values of an only peer come from an only peer
 alone : (name : List ℕ) (peer : Settings) (peers : List PeerConf) → map settings_view peers ≡ peer ∷ [] →
     peer.name ≡ name →
     ((conf : PeerConf) → peers ≡ conf ∷ [] → conf.name ≢ name) → ⊥
@@ -122,9 +122,9 @@ alone name peer (conf ∷ []) e n none =
     none conf refl (ap (λ (s : Settings). s.name) same ∙ n)
 alone name peer (conf ∷ other ∷ rest) e n none = cc
 
--- What was read of the text of a declaration, which is cut there.
+-- What was read of the text of a declaration with this cut.
 module _ (declaration name items : List ℕ) (solid : IsSolid name) (parts : IsNamedWith declaration name items) where
-  -- the text of any peer that is said is this one
+  -- whichever peer the line says, its text is this one
   text_is : (peer : Settings) → (p : SaysPeer (codes "peer " ++ declaration) peer) →
       SameParts peer.name name p.items items
   text_is peer p =
@@ -149,7 +149,7 @@ module _ (declaration name items : List ℕ) (solid : IsSolid name) (parts : IsN
       let never : Err fault ≡ Ok has.outcome = sym (means has.lexemes has.have) ∙ has.means in
       cc
 
-  -- and a good one declares what it has alone, if that is of this name
+  -- a text without a fault declares the peer that it has alone, if that is of this name
   pub says_found : (outcome : Outcome) (peers : List PeerConf) (found : Option PeerConf) →
       ((lines : List (List Lexeme)) → HaveLexemes (lines_of (peer_text name items)) lines →
       meaning lines ≡ Ok outcome) →

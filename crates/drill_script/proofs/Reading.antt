@@ -1,4 +1,4 @@
--- A whole script, up to where its reader came.
+-- A whole script, up to the point that its reader has reached.
 use Rattle.std.proofs.Common.{◌≡◌, ◌≢◌, ◌+◌, ◌↔◌, ℕ, List, [], ◌∷◌, ◌++◌, length, Result, Ok, Err, refl, sym, subst}
 use Rattle.std.proofs.Common.{ap, ◌∙◌, arith, length-append, suc}
 use Rattle.std.proofs.lemmas.List.{length-map}
@@ -79,7 +79,7 @@ longer : (before : List SentenceView) (said : SentenceView) (line_number : ℕ) 
     line_number + 1 ≡ length (before ++ said ∷ []) + 1
 longer before said line_number at = simp length-append (omega (arith, at))
 
--- a line more is read
+-- one more line is read
 pub has_more : (text rest line more : List ℕ) (line_number : ℕ) (old new : Draft) → BeginsWithLine rest line more →
     HasRead text rest line_number old →
     ((before : List SentenceView) → Drafts old before → line_number ≡ length before + 1 →

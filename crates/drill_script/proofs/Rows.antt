@@ -22,7 +22,7 @@ lone_line = inl (refl, refl)
 line_of_a_feed : SaysStep (codes "line a/1 <x@y> p") (Lines (codes "a/1 <x@y> p"))
 line_of_a_feed = inr refl
 
--- octets after the one space belong to the text
+-- further octets after the one space belong to the text
 line_with_a_leading_space : SaysStep (codes "line  a") (Lines (codes " a"))
 line_with_a_leading_space = inr refl
 
@@ -64,7 +64,7 @@ part_line = (refl, refl)
 seal_line : SaysStep (codes "seal") Seals
 seal_line = refl
 
--- octets are written in digits of either case, one pair or more
+-- octets are written in digits of either case, at least one pair
 tape_line : Spells (codes "a5Ff") (165 ∷ 255 ∷ []) → Says (codes "tape p a5Ff") (Gives (codes "p") (165 ∷ 255 ∷ []))
 tape_line spells = (codes "p a5Ff", refl, (codes "a5Ff", refl, refl, spells))
 
@@ -89,7 +89,7 @@ tape_of_one = refl
 tape_of_none : tape_of (Gives (codes "q") (0 ∷ []) ∷ []) (codes "p") ≡ None
 tape_of_none = refl
 
--- the numbers of a script: digits alone, of 64 bits
+-- the numbers of a script: only digits, and at most 64 bits
 greatest_number : u64_of (codes "18446744073709551615") ≡ Some 18446744073709551615
 greatest_number = refl
 
@@ -106,6 +106,6 @@ call_zero = refl
 fill_too_great : request_of (codes "p" ∷ codes "1" ∷ codes "1" ∷ codes "256" ∷ []) ≡ None
 fill_too_great = refl
 
--- steps may stand after one another, and blank lines anywhere
+-- steps may follow one another, and blank lines may come anywhere
 steps_in_order : KeepsOrder [] (Takes Stops ∷ Blank ∷ Takes Restarts ∷ [])
 steps_in_order = (tt, (tt, (tt, tt)))

@@ -16,7 +16,7 @@ use Rattle.world_core.specs.declared.step.Step.{Step}
 use Rattle.drill_script.proofs.Cuts.{cuts_once}
 use Rattle.drill_script.proofs.Forms.{number_solid, step_form, step_parts}
 
--- neither a lone word nor one with a text
+-- neither a word alone nor one with a text
 pub says_none : {T : Type 0} (view : T → List ℕ) (word : List ℕ) (text : Option T) →
     (text ≡ None → (word ≢ codes "hand") × (word ≢ codes "break")) →
     ((t : T) → text ≡ Some t → (word ≢ codes "say") × (word ≢ codes "raw") × (word ≢ codes "article")) →
@@ -33,7 +33,7 @@ says_none view word (Some t) lone more (Supplies Gone) says = (more t refl).2 sa
 says_none view word (Some t) lone more (Supplies Unsendable) says = says
 says_none view word (Some t) lone more Breaks says = says
 
--- a word that names no step that stands alone says none
+-- a word that names no step without a text says none
 pub says_none_alone : (word : List ℕ) → word ≢ codes "line" → word ≢ codes "flush" → word ≢ codes "begin" →
     word ≢ codes "seal" → word ≢ codes "stop" → word ≢ codes "restart" → (said : StepView) → StepOf word None said → ⊥
 says_none_alone word line flush begin seal stop restart (Lines text) says = line says.0
@@ -51,7 +51,7 @@ says_none_alone word line flush begin seal stop restart Stops says = stop says
 says_none_alone word line flush begin seal stop restart (Arms request) says = says
 says_none_alone word line flush begin seal stop restart Restarts says = restart says
 
--- a word that names none of the other steps says a step on a connection, if one is said
+-- a word that names none of the other steps says a step on a connection, if it says one
 module _ (word : List ℕ) (line : word ≢ codes "line") (part : word ≢ codes "part") (connect : word ≢ codes "connect")
     (shed : word ≢ codes "shed") (rotate : word ≢ codes "rotate") (tick : word ≢ codes "tick")
     (stop : word ≢ codes "stop") where
@@ -94,7 +94,7 @@ behind_other word rest (Ok None) other h =
     record { acts = h; imports = λ is name octets names. absurd (other is) }
 behind_other word rest (Ok (Some step)) other h = h
 
--- What stands after a word is cut there.
+-- What follows a word has this cut.
 module _ (word rest written : List ℕ) (text : Option (List ℕ)) (solid : IsSolid written)
     (cut : IsCut rest written text) where
   -- no number is written there

@@ -1,4 +1,4 @@
--- A peer's name with a text after it is read in one way: what a `tape` line says, and an `import` line.
+-- A peer's name with a text after it is read in only one way: what a `tape` line says, and an `import` line.
 use Rattle.std.proofs.Common.{◌≡◌, ℕ, List, ◌∷◌, ◌++◌, Option, None, Some, sym, subst, ◌∙◌}
 use Rattle.std.specs.Prelude.{◌↔◌, IsSome, IsTrue, codes}
 use Rattle.funnel.specs.Names.{is_peer_name}
@@ -29,9 +29,9 @@ tape_once line m n a b p q =
     let same = behind_once p.0 q.0 (sym p.1 ∙ q.1) in
     names_once Spells spells_once q.0 m n a b (subst (λ (r : List ℕ). NamesText Spells r m a) same p.2) q.2
 
--- Octets that are cut at their first space, and begin with no name and a space.
+-- Octets that are cut at their first space, and do not begin with a name and a space.
 module _ (text word : List ℕ) (rest : Option (List ℕ)) (solid : IsSolid word) (cut : IsCut text word rest) where
-  -- nothing stands after the word
+  -- nothing follows the word
   pub none_behind : rest ≡ None → (name behind : List ℕ) → text ≡ name ++ 32 ∷ behind → IsTrue (is_peer_name name) → ⊥
   none_behind none name behind says named =
       let once = cuts_once text word name rest (Some behind) solid (name_solid name named) cut says in
@@ -47,7 +47,7 @@ module _ (text word : List ℕ) (rest : Option (List ℕ)) (solid : IsSolid word
       cc
   none_named (Some t) both none name behind says named = cc
 
--- What is split from its name is a writing of nothing.
+-- A text that is split from its name is a writing of nothing.
 pub none_spelt : (W : Writing) (text name written : List ℕ) →
     (text ≡ name ++ 32 ∷ written) × IsTrue (is_peer_name name) → ((spelt : List ℕ) → W written spelt → ⊥) →
     (own octets : List ℕ) → NamesText W text own octets → ⊥

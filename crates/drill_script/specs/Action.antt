@@ -11,7 +11,7 @@ pub data ActionView : Type 0 where
   Hands : ActionView
   -- these octets come in
   Receives : List ℕ → ActionView
-  -- this was found of the wanted article
+  -- this was found for the wanted article
   Supplies : Found → ActionView
   -- the connection breaks
   Breaks : ActionView
@@ -26,7 +26,7 @@ action_view Break = Breaks
 abbrev pub line_of : List ℕ → List ℕ
 line_of text = text ++ 13 ∷ 10 ∷ []
 
--- pairs of hexadecimal digits, one or more, spell these octets
+-- one or more pairs of hexadecimal digits spell these octets
 abbrev pub Spells : List ℕ → List ℕ → Type 0
 Spells digits octets = (digits ≢ []) × (decode_of digits ≡ Ok octets)
 

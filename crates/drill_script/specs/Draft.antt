@@ -1,4 +1,4 @@
--- What the reader of a script holds of the lines so far.
+-- What the draft of a script holds of the lines so far.
 use Rattle.std.specs.Prelude.{◌≡◌, ◌↔◌, ℕ, List, ◌∷◌, [], ◌++◌, ◌≢◌, ◌+◌, length, map, Contains, Option, None}
 use Rattle.std.specs.Prelude.{option_map, unwrap_or}
 use Rattle.std.specs.BTreeMap.{BTreeMap, get_by}
@@ -23,7 +23,7 @@ use Rattle.drill_script.specs.declared.fault.ScriptFault.{ScriptFault}
 use Rattle.drill_script.specs.declared.fault.ScriptFault.TheVariants.{Broken, NoMemory}
 use Rattle.world_core.specs.Given.{GivenPeer}
 
--- what the tape of the peer of this name holds among these, or none if it is not among them
+-- what the tape of the peer of this name holds, or none if the name is not among these
 abbrev pub held_at : BTreeMap (Vec ℕ) (Vec ℕ) → List ℕ → Option (List ℕ)
 held_at tapes name = option_map vec_items (get_by (λ key. slice_cmp nat_cmp name (vec_items key)) tapes)
 
@@ -40,21 +40,21 @@ pub record Drafts (draft : Draft) (sentences : List SentenceView) : Type 0 where
 abbrev pub HaveOtherNames : List PeerConf → Type 0
 HaveOtherNames confs = IsDistinct bytes_eq (map (λ (conf : PeerConf). conf.name) confs)
 
--- a peer is given what its tape holds among these, or nothing if it is not among them
+-- a peer is given what its tape holds, or nothing if its name is not among these
 abbrev pub IsGiven : BTreeMap (Vec ℕ) (Vec ℕ) → PeerConf → GivenPeer → Type 0
 IsGiven tapes conf given = (given.0 ≡ conf) × (given.1.items ≡ unwrap_or (held_at tapes conf.name) [])
 
--- a draft has taken in one sentence more, which may stand there
+-- a draft has taken in one more sentence, which may follow the others
 pub record Gains (old new : Draft) (before : List SentenceView) (said : SentenceView) : Type 0 where
   pub may : MayFollow before said
   pub drafts : Drafts new (before ++ said ∷ [])
 
--- the line is refused at its line number for a reason that it has after these sentences
+-- the line is refused at its line number for a reason that holds after these sentences
 abbrev pub IsRefusal : (line_number : ℕ) (line : List ℕ) → List SentenceView → ScriptFault → Type 0
 IsRefusal line_number line before (Broken at reason) = (at ≡ line_number) × IsWhyLine before line reason
 IsRefusal line_number line before NoMemory = Unit {0}
 
--- why a peer may not stand after these sentences
+-- why a peer may not follow these sentences
 abbrev pub IsWhyPeer : List SentenceView → Settings → BrokenRule → Type 0
 IsWhyPeer before peer NoStep = ⊥
 IsWhyPeer before peer NoPeer = ⊥
@@ -66,12 +66,12 @@ IsWhyPeer before peer NoPeerOfTape = ⊥
 IsWhyPeer before peer TapeTwice = ⊥
 IsWhyPeer before peer Unended = ⊥
 
--- the peer is refused at its line number for a reason that it has after these sentences
+-- the peer is refused at its line number for a reason that holds after these sentences
 abbrev pub IsPeerRefusal : (line_number : ℕ) → Settings → List SentenceView → ScriptFault → Type 0
 IsPeerRefusal line_number peer before (Broken at reason) = (at ≡ line_number) × IsWhyPeer before peer reason
 IsPeerRefusal line_number peer before NoMemory = Unit {0}
 
--- why this peer's tape may not stand after these sentences
+-- why this peer's tape may not follow these sentences
 abbrev pub IsWhyTape : List SentenceView → List ℕ → BrokenRule → Type 0
 IsWhyTape before name NoStep = ⊥
 IsWhyTape before name NoPeer = ⊥
@@ -84,12 +84,12 @@ IsWhyTape before name TapeTwice =
     (steps_of before ≡ []) × Contains (names_of before) name × (tape_of before name ≢ None)
 IsWhyTape before name Unended = ⊥
 
--- the tape is refused at its line number for a reason that it has after these sentences
+-- the tape is refused at its line number for a reason that holds after these sentences
 abbrev pub IsTapeRefusal : (line_number : ℕ) → List ℕ → List SentenceView → ScriptFault → Type 0
 IsTapeRefusal line_number name before (Broken at reason) = (at ≡ line_number) × IsWhyTape before name reason
 IsTapeRefusal line_number name before NoMemory = Unit {0}
 
--- of a line that says nothing: whether it begins as the line of a peer or of a tape
+-- the reason for a line that says nothing: whether it begins like the line of a peer, of a tape, or neither
 abbrev pub IsReasonOf : List ℕ → BrokenRule → Type 0
 IsReasonOf line NoStep = (BeginsAsPeer line → ⊥) × (BeginsAsTape line → ⊥)
 IsReasonOf line NoPeer = BeginsAsPeer line

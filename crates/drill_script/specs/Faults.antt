@@ -1,11 +1,10 @@
--- What messages say of a line that breaks the rules of a script (docs/MANUAL.md).
+-- The words in messages for a line that breaks the rules of a script (docs/MANUAL.md).
 use Rattle.std.specs.Prelude.{ℕ, List, codes}
 use Rattle.drill_script.specs.declared.fault.BrokenRule.{BrokenRule}
 use Rattle.drill_script.specs.declared.fault.BrokenRule.TheVariants.{NoStep, NoPeer, PeerBehindStep, DeclaredTwice}
 use Rattle.drill_script.specs.declared.fault.BrokenRule.TheVariants.{NoTape, TapeBehindStep, NoPeerOfTape, TapeTwice}
 use Rattle.drill_script.specs.declared.fault.BrokenRule.TheVariants.{Unended}
 
--- why a line breaks the rules of a script
 abbrev pub reason_words : BrokenRule → List ℕ
 reason_words NoStep = codes "unknown or malformed step"
 reason_words NoPeer = codes "malformed settings of a peer"

@@ -12,12 +12,12 @@ use Rattle.drill_script.specs.Step.{StepView, Lines, Flushes, Begins, Parts, Sea
 use Rattle.drill_script.specs.Step.{Rotates}
 use Rattle.drill_script.specs.Step.{Imports, Stops, Arms, Restarts}
 
--- the name of a peer, one space, and after it what is a writing of these octets
+-- the name of a peer, one space, and then a writing of these octets
 abbrev pub NamesText : (IsWriting : List ℕ → List ℕ → Type 0) → (text name octets : List ℕ) → Type 0
 NamesText IsWriting text name octets =
     (written : List ℕ) × (text ≡ name ++ 32 ∷ written) × IsTrue (is_peer_name name) × IsWriting written octets
 
--- a line asks this of the connection whose number is written so
+-- a line asks this of the connection with this written number
 abbrev pub SaysAction : (line number : List ℕ) → ActionView → Type 0
 SaysAction line number Hands = line ≡ codes "hand " ++ number
 SaysAction line number (Receives octets) =

@@ -1,4 +1,4 @@
--- What the first word of a line says with what stands after it: the forms of a line, cut at their first spaces.
+-- What the first word of a line says with the text after it: the forms of a line, cut at their first spaces.
 use Rattle.std.specs.Prelude.{◌≡◌, ◌≢◌, ◌⊎◌, ◌==◌, ℕ, List, [], Option, None, Some, IsTrue, codes}
 use Rattle.std.specs.List.{slice_split}
 use Rattle.article_store.specs.declared.store.Found.TheVariants.{Article, Gone, Unsendable}
@@ -12,7 +12,7 @@ use Rattle.drill_script.specs.Step.{Rotates}
 use Rattle.drill_script.specs.Step.{Imports, Stops, Arms, Restarts}
 use Rattle.drill_script.specs.Words.{IsCut}
 
--- a word with what stands after the connection's number says this action
+-- a word says this action, with the text after the connection's number
 abbrev pub ActionOf : List ℕ → Option (List ℕ) → ActionView → Type 0
 ActionOf word None Hands = word ≡ codes "hand"
 ActionOf word None (Receives octets) = ⊥
@@ -27,7 +27,7 @@ ActionOf word (Some text) (Supplies Gone) = (word ≡ codes "article") × (text 
 ActionOf word (Some text) (Supplies Unsendable) = ⊥
 ActionOf word (Some text) Breaks = ⊥
 
--- a word, and the number of a connection with what stands after it, say this action of that connection
+-- a word says this action of the connection with this number, with the text after the number
 pub record SaysOn (word rest : List ℕ) (number : ℕ) (action : ActionView) : Type 0 where
   pub written : List ℕ
   pub text : Option (List ℕ)
@@ -35,7 +35,7 @@ pub record SaysOn (word rest : List ℕ) (number : ℕ) (action : ActionView) : 
   pub connection : u64_of written ≡ Some number
   pub says : ActionOf word text action
 
--- a word with what stands after it says this step
+-- a word says this step, with the text after it
 abbrev pub StepOf : List ℕ → Option (List ℕ) → StepView → Type 0
 StepOf word None (Lines text) = (word ≡ codes "line") × (text ≡ [])
 StepOf word (Some rest) (Lines text) = (word ≡ codes "line") × (text ≡ rest)
@@ -67,7 +67,7 @@ StepOf word (Some rest) (Arms armed) =
 StepOf word None Restarts = word ≡ codes "restart"
 StepOf word (Some rest) Restarts = ⊥
 
--- a word with what stands after it says neither what a connection does nor that a backlog file is taken in
+-- a word with the text after it says neither an action of a connection nor that a backlog file is taken in
 pub record SaysNoneBehind (word rest : List ℕ) : Type 0 where
   pub acts : (number : ℕ) (action : ActionView) → SaysOn word rest number action → ⊥
   pub imports : word ≡ codes "import" → (name octets : List ℕ) → NamesText IsWritten rest name octets → ⊥

@@ -29,7 +29,7 @@ steps_of (Declares peer ∷ sentences) = steps_of sentences
 steps_of (Gives name octets ∷ sentences) = steps_of sentences
 steps_of (Takes step ∷ sentences) = step ∷ steps_of sentences
 
--- the line numbers of the lines that say them, if the first sentence's line has this line number
+-- the line numbers of the steps, if the first sentence's line has this line number
 abbrev pub line_numbers_from : ℕ → List SentenceView → List ℕ
 line_numbers_from line_number [] = []
 line_numbers_from line_number (Blank ∷ sentences) = line_numbers_from (line_number + 1) sentences
@@ -37,11 +37,10 @@ line_numbers_from line_number (Declares peer ∷ sentences) = line_numbers_from 
 line_numbers_from line_number (Gives name octets ∷ sentences) = line_numbers_from (line_number + 1) sentences
 line_numbers_from line_number (Takes step ∷ sentences) = line_number ∷ line_numbers_from (line_number + 1) sentences
 
--- the line number of each step's line, from 1
+-- the line number of each step, from 1
 abbrev pub line_numbers_of : List SentenceView → List ℕ
 line_numbers_of sentences = line_numbers_from 1 sentences
 
--- the peers that they declare
 abbrev pub peers_of : List SentenceView → List Settings
 peers_of [] = []
 peers_of (Blank ∷ sentences) = peers_of sentences
@@ -52,7 +51,7 @@ peers_of (Takes step ∷ sentences) = peers_of sentences
 abbrev pub names_of : List SentenceView → List (List ℕ)
 names_of sentences = map (λ (peer : Settings). peer.name) (peers_of sentences)
 
--- what the first of them that gives this peer's tape says that it holds; none if none does
+-- what this peer's tape holds by the first sentence that gives it; none if there is none
 abbrev pub tape_of : List SentenceView → List ℕ → Option (List ℕ)
 tape_of [] name = None
 tape_of (Blank ∷ sentences) name = tape_of sentences name
@@ -60,8 +59,8 @@ tape_of (Declares peer ∷ sentences) name = tape_of sentences name
 tape_of (Gives peer octets ∷ sentences) name = if bytes_eq peer name then Some octets else tape_of sentences name
 tape_of (Takes step ∷ sentences) name = tape_of sentences name
 
--- a sentence may stand after these: a peer if no step is among them and none of its name, and a tape if no step
--- is among them, its peer is, and no tape of that
+-- a sentence may follow these: a peer if there is no step among them and no peer of its name; a tape if there is no
+-- step among them, its peer is declared, and its tape is not given
 abbrev pub MayFollow : List SentenceView → SentenceView → Type 0
 MayFollow before Blank = Unit {0}
 MayFollow before (Declares peer) = (steps_of before ≡ []) × (Contains (names_of before) peer.name → ⊥)
@@ -74,11 +73,11 @@ abbrev pub KeepsOrder : (earlier later : List SentenceView) → Type 0
 KeepsOrder earlier [] = Unit {0}
 KeepsOrder earlier (sentence ∷ later) = MayFollow earlier sentence × KeepsOrder (earlier ++ sentence ∷ []) later
 
--- a line says this sentence, one CR before its LF aside
+-- a line says this sentence, without the CR before its LF
 abbrev pub LineSays : List ℕ → SentenceView → Type 0
 LineSays line sentence = Says (without_cr line) sentence
 
--- The text begins with whole lines that say these sentences and keep their order, and after them stands this rest.
+-- The text begins with whole lines that say these sentences and keep their order, and this is the rest after them.
 pub record Reads (text : List ℕ) (sentences : List SentenceView) (rest : List ℕ) : Type 0 where
   pub lines : List (List ℕ)
   pub whole : text ≡ ended lines ++ rest
@@ -94,11 +93,11 @@ KeepsRules text = (sentences : List SentenceView) × Reads text sentences []
 abbrev pub confs_of : List GivenPeer → List PeerConf
 confs_of peers = map (λ (given : GivenPeer). given.0) peers
 
--- the peers stand in byte order of their names
+-- the peers are in byte order of their names
 abbrev pub IsInByteOrder : List PeerConf → Type 0
 IsInByteOrder peers = IsSortedBy (λ (a : PeerConf) (b : PeerConf). is_lt (slice_cmp nat_cmp a.name b.name)) peers
 
--- a peer's tape holds what its line says, or nothing if it has none
+-- a peer's tape holds what its line says, or nothing if there is no such line
 abbrev pub HoldsTape : List SentenceView → GivenPeer → Type 0
 HoldsTape sentences given = given.1.items ≡ unwrap_or (tape_of sentences given.0.name) []
 
@@ -115,19 +114,19 @@ pub record Holds (script : Script) (sentences : List SentenceView) : Type 0 wher
 abbrev pub IsScript : List ℕ → Script → Type 0
 IsScript text script = (sentences : List SentenceView) × Reads text sentences [] × Holds script sentences
 
--- a line that begins as the line of a peer
+-- a line that begins like the line of a peer
 abbrev pub BeginsAsPeer : List ℕ → Type 0
 BeginsAsPeer line = (declaration : List ℕ) × (line ≡ codes "peer " ++ declaration)
 
--- a line that begins as the line of a tape
+-- a line that begins like the line of a tape
 abbrev pub BeginsAsTape : List ℕ → Type 0
 BeginsAsTape line = (text : List ℕ) × (line ≡ codes "tape " ++ text)
 
--- a line says nothing that a line may say
+-- the line has none of the forms
 abbrev pub SaysNone : List ℕ → Type 0
 SaysNone line = (said : SentenceView) → Says line said → ⊥
 
--- why a line may not stand after these sentences
+-- why a line may not follow these sentences
 abbrev pub IsWhyLine : List SentenceView → (line : List ℕ) → BrokenRule → Type 0
 IsWhyLine before line NoStep = (BeginsAsPeer line → ⊥) × (BeginsAsTape line → ⊥) × SaysNone line
 IsWhyLine before line NoPeer = BeginsAsPeer line × SaysNone line
@@ -177,7 +176,7 @@ IsFirstBroken text line_number = (reason : BrokenRule) × BreaksAt text line_num
 abbrev pub NamesLine : Result Script ScriptFault → ℕ → Type 0
 NamesLine answer line_number = (reason : BrokenRule) × (answer ≡ Err (Broken line_number reason))
 
--- a fault that names a line names the first broken one, and says why it is
+-- a fault that names a line names the first broken one, and its reason
 abbrev pub IsReportedOf : List ℕ → ScriptFault → Type 0
 IsReportedOf text (Broken line_number reason) = BreaksAt text line_number reason
 IsReportedOf text NoMemory = Unit {0}

@@ -26,7 +26,7 @@ pub data StepView : Type 0 where
   Ticks : ℕ → StepView
   -- what exceeds this peer's backlog limit is dropped
   Sheds : List ℕ → StepView
-  -- what is owed to this peer is written anew
+  -- the tape of this peer is rotated
   Rotates : List ℕ → StepView
   -- a backlog file of this peer, which has this text, is taken in
   Imports : (name text : List ℕ) → StepView
@@ -37,7 +37,7 @@ pub data StepView : Type 0 where
   -- all tapes are opened again
   Restarts : StepView
 
--- what a step of a world carries; of a stop at rest nothing is looked at
+-- what a step of a world carries; nothing is looked at for a stop at rest
 abbrev pub step_view : Step → StepView
 step_view (Line text) = Lines text.items
 step_view Flush = Flushes

@@ -15,18 +15,18 @@ use world_core::Step;
 /// What a step does with a connection.
 #[derive(Drop)]
 pub enum Action {
-    /// The least candidate of its peer is claimed, and offered.
+    /// The least candidate of the peer is claimed and offered.
     Hand,
     /// These octets come in from the peer.
     Receive(Vec<u8>),
-    /// This was found of the article that is wanted.
+    /// This was found for the article that is wanted.
     Supply(Found),
-    /// It breaks.
+    /// The connection breaks.
     Break,
 }
 
 impl Action {
-    /// Reads the action that a word names, with the text after the connection's number; None if it names none.
+    /// Reads the action that a word names, with the text after the connection's number; `None` if it names none.
     ///
     /// # Errors
     /// Memory was refused.
@@ -68,7 +68,7 @@ impl Action {
     }
 }
 
-// A text with CR LF.
+// Adds CR LF to a text.
 fn line_of(alloc: Global, text: &[u8]) -> Result<Vec<u8>, AllocError>
     ensures { IfOk result (λ line. line.items ≡ line_of text.now) }
 {
@@ -77,7 +77,7 @@ fn line_of(alloc: Global, text: &[u8]) -> Result<Vec<u8>, AllocError>
     Ok(line)
 }
 
-/// The octets that one pair or more of hexadecimal digits spell; None if anything else is among them.
+/// The octets spelled by one or more pairs of hexadecimal digits; `None` if anything else is among them.
 ///
 /// # Errors
 /// Memory was refused.
@@ -96,7 +96,7 @@ pub(crate) fn octets_of(alloc: Global, digits: &[u8]) -> Result<Option<Vec<u8>>,
     }
 }
 
-// What was found of an article by this text: that it is gone, or its text; None if it says neither.
+// The article that this text says was found, or that it is gone; `None` if the text says neither.
 fn found_of(alloc: Global, text: &[u8]) -> Result<Option<Found>, AllocError>
     ensures { IfOk result (λ found. MatchOption found
         ((told : Found) → ActionOf (codes "article") (Some text.now) (Supplies told) → ⊥)
@@ -111,7 +111,7 @@ fn found_of(alloc: Global, text: &[u8]) -> Result<Option<Found>, AllocError>
     }
 }
 
-/// The text that is written with escapes; None if a backslash escapes no known letter.
+/// Reads a text that is written with escapes; `None` if a backslash escapes no known letter.
 ///
 /// # Errors
 /// Memory was refused.
@@ -132,7 +132,7 @@ pub(crate) fn unescape(alloc: Global, written: &[u8]) -> Result<Option<Vec<u8>>,
     Ok(Some(text))
 }
 
-// The first octet that is written, and what follows it; None if a backslash escapes no known letter.
+// The first octet that is written, and what follows it; `None` if a backslash escapes no known letter.
 fn first_octet(written: &[u8]) -> Option<(u8, &[u8])>
     ensures none { IfNone result (written.now ≢ []
         → (text : List ℕ) → IsWritten written.now text → ⊥) }
@@ -150,7 +150,6 @@ fn first_octet(written: &[u8]) -> Option<(u8, &[u8])>
     }
 }
 
-// The octet that a letter after a backslash stands for; None if it stands for none.
 fn escaped_octet(letter: u8) -> Option<u8>
     ensures { MatchOption result ((octet : ℕ) → Escapes letter octet → ⊥)
         (λ octet. Escapes letter octet) }

@@ -1,4 +1,4 @@
-// A script of which some lines are read.
+// The draft of a script: what its lines so far say.
 ghost use Rattle.std.specs.Prelude.{◌≡◌, ◌+◌, [], length, IfErr, IfOk, List, MatchOption, OnOk, ℕ};
 ghost use Rattle.std.specs.List.{AllZip};
 ghost use Rattle.feed_conf.specs.PeerView.{settings_view};
@@ -23,18 +23,15 @@ use world_core::Step;
 pub struct Draft {
     // The peers, in the order of their lines.
     peers: Vec<PeerConf>,
-    // Their names.
     names: BTreeSet<Vec<u8>>,
-    // What their tapes hold, by their names, if a line gives it.
+    // What their tapes hold, by name, if a line gives it.
     tapes: BTreeMap<Vec<u8>, Vec<u8>>,
-    // The steps, in order.
     steps: Vec<Step>,
-    // The line number of each step's line, from 1.
+    // The line number of each step, from 1.
     lines: Vec<usize>,
 }
 
 impl Draft {
-    /// A draft of no lines.
     pub fn new(alloc: Global) -> Self
         ensures { Drafts result [] }
     {
@@ -47,7 +44,7 @@ impl Draft {
         }
     }
 
-    /// Takes in the line at this line number, which is without its LF and the CR before that.
+    /// Takes in the line at this line number, without its LF and the CR before that.
     ///
     /// # Errors
     /// `Broken` if the line breaks the rules, after the lines so far; `NoMemory`.
@@ -73,7 +70,6 @@ impl Draft {
         }
     }
 
-    // Takes a step of the line at this line number.
     fn take(&mut self, line_number: usize, step: Step) -> Result<(), AllocError>
         ensures { OnOk result ((before : List SentenceView) → Drafts self.old before
             → line_number ≡ length before + 1
@@ -84,7 +80,6 @@ impl Draft {
         Ok(())
     }
 
-    // Declares a peer of the line at this line number.
     fn declare(
         &mut self,
         alloc: Global,
@@ -114,7 +109,7 @@ impl Draft {
         Ok(())
     }
 
-    // Gives the peer of this name its tape by the line at this line number.
+    // Gives the peer of this name its tape.
     fn give(
         &mut self,
         alloc: Global,
@@ -138,7 +133,7 @@ impl Draft {
         Ok(())
     }
 
-    // Why the tape of the peer of this name may not follow the lines so far; None if it may.
+    // Why no tape of this peer may follow the lines so far; `None` if one may.
     fn why_no_tape(&self, name: &PeerName) -> Option<BrokenRule>
         ensures { (before : List SentenceView) → Drafts self.now before → MatchOption result
             ((octets : List ℕ) → MayFollow before (Gives name.now octets))
@@ -155,7 +150,7 @@ impl Draft {
         }
     }
 
-    /// The script that the lines so far are.
+    /// The script that the lines so far make.
     ///
     /// # Errors
     /// Memory was refused.
@@ -179,7 +174,7 @@ impl Draft {
     }
 }
 
-// The peers, each with what its tape holds. Their names differ.
+// The peers, each with what its tape holds. Their names are distinct.
 fn with_tapes(
     alloc: Global,
     peers: Vec<PeerConf>,
@@ -196,7 +191,6 @@ fn with_tapes(
     Ok(given)
 }
 
-// Why a line that says nothing breaks the rules.
 fn reason_of(line: &[u8]) -> BrokenRule
     ensures { IsReasonOf line.now result }
 {

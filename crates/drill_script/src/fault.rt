@@ -1,4 +1,4 @@
-// Why a text is no script.
+// Why a text is not a script.
 ghost use Rattle.std.specs.Prelude.{◌≡◌};
 ghost use Rattle.drill_script.specs.Faults.{reason_words};
 ghost use Rattle.drill_script.specs.declared.fault.ScriptFault.TheVariants.{NoMemory};
@@ -12,13 +12,13 @@ use thiserror::Error;
 pub enum BrokenRule {
     /// It is neither a peer, a tape, a step nor a comment.
     NoStep,
-    /// It begins like the line of a peer, and its settings are not those of one peer of that name.
+    /// It begins like the line of a peer, but its settings are not those of one peer of that name.
     NoPeer,
     /// It declares a peer after a step.
     PeerBehindStep,
     /// It declares a peer whose name is declared already.
     DeclaredTwice,
-    /// It begins like the line of a tape, and is not followed by a name and pairs of hexadecimal digits.
+    /// It begins like the line of a tape, but no name and pairs of hexadecimal digits follow.
     NoTape,
     /// It gives a tape after a step.
     TapeBehindStep,

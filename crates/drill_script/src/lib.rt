@@ -1,10 +1,10 @@
-//! The reading of drill scripts: which peers a script declares, what their tapes hold at first and which step each line
-//! says, or its first broken line.
+//! The reader of drill scripts: it returns which peers a script declares, what their tapes hold at first and which
+//! step each line says, or its first broken line.
 //!
 //! May touch nothing but memory; it stands on `feed_conf` and `funnel` for the peers and their names, on `world_core`
-//! for the steps, on `article_store` and `disk_model` for what they carry.
-//! The crates above use `read_script` (docs/FORMATS.md): what each line says stands form by form in
-//! `specs/Line.antt`, what a whole script is and which line is its first broken one in `specs/Script.antt`.
+//! for the steps, on `article_store` and `disk_model` for what they carry. The crates above use `read_script`
+//! (docs/FORMATS.md). `specs/Line.antt` defines form by form what each line says, `specs/Script.antt` what a whole
+//! script is and which line is its first broken one.
 #![tactic(auto)]
 
 mod action;

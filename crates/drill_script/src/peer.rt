@@ -11,9 +11,8 @@ use crate::words::split_word;
 use feed_conf::{ConfFaultKind, PeerConf, read_conf};
 use std::alloc::{AllocError, Global};
 
-/// What the text after `peer ` declares: the settings of a name and its items on one line, if they are those of one
-/// peer of that name. Items may close their block, so another peer may stand after it, and one that has no name is
-/// none.
+/// Reads the text after `peer `: the settings of a name and its items on one line, if they are those of one peer of
+/// that name. Items may close their block, so another peer may follow it; text without a name declares none.
 ///
 /// # Errors
 /// Memory was refused.
@@ -33,7 +32,6 @@ pub fn read_peer(alloc: Global, declaration: &[u8]) -> Result<Option<PeerConf>, 
     }
 }
 
-// A peer's name, and the items after the first space.
 fn split_peer(declaration: &[u8]) -> (&[u8], &[u8])
     ensures parts { IsNamedWith declaration.now result.0.now result.1.now }
     ensures solid { IsSolid result.0.now }
@@ -57,7 +55,7 @@ fn write_peer(alloc: Global, name: &[u8], items: &[u8]) -> Result<Vec<u8>, Alloc
     Ok(text)
 }
 
-// The only peer, if it has this name.
+// The peer, if it is the only one and has this name.
 fn only_peer(mut peers: Vec<PeerConf>, name: &[u8]) -> Option<PeerConf>
     ensures { MatchOption result
         ((conf : PeerConf) → peers.items ≡ conf ∷ [] → conf.name ≢ name.now)

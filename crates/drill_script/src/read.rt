@@ -16,11 +16,12 @@ use world_core::Step;
 /// A script that keeps its rules.
 #[derive(Drop)]
 pub struct Script {
-    /// The peers, in byte order of their names, each with what the first disk of its tape holds before the first step.
+    /// The peers, in byte order of their names, each with what the first disk of its tape holds before the first
+    /// step.
     pub peers: Vec<(PeerConf, Vec<u8>)>,
     /// The steps, in order.
     pub steps: Vec<Step>,
-    /// The line number of each step's line among all lines, from 1.
+    /// The line number of each step among all lines, from 1.
     pub lines: Vec<usize>,
 }
 
@@ -29,17 +30,14 @@ pub struct Script {
 /// # Errors
 /// `Broken` at the first line that breaks the rules; octets after the last LF count as a line. `NoMemory`.
 pub fn read_script(alloc: Global, text: &[u8]) -> Result<Script, ScriptFault>
-    // What a script says.
     ensures ok { IfOk result (IsScript text.now) }
-    // The names of its peers differ.
+    // The names of its peers are distinct.
     ensures distinct { IfOk result (λ script. IsDistinct bytes_eq
         (given_names script.peers.items)) }
-    // Each step has its line.
     ensures placed { IfOk result
         (λ script. length script.lines.items ≡ length script.steps.items) }
-    // Which line a fault names, and why.
     ensures broken { IfErr result (IsReportedOf text.now) }
-    // Memory aside, each of the two comes exactly where it should.
+    // Except for want of memory, `Ok` and `Err` each come exactly when they should.
     ensures keeps { result ≢ Err NoMemory → IsOk result ↔ KeepsRules text.now }
     ensures first { (line : ℕ) → result ≢ Err NoMemory
         → NamesLine result line ↔ IsFirstBroken text.now line }

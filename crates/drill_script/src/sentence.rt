@@ -25,7 +25,7 @@ pub enum Sentence {
     Step(Step),
 }
 
-/// What a line says, without its LF and the CR before that; None if it says none of these.
+/// Reads a line, without its LF and the CR before that; `None` if it says none of these.
 ///
 /// # Errors
 /// Memory was refused.

@@ -14,7 +14,7 @@ use funnel::PeerName;
 use std::alloc::{AllocError, Global};
 use world_core::Step;
 
-/// Reads a step; None if the line says none.
+/// Reads a step; `None` if the line says none.
 ///
 /// # Errors
 /// Memory was refused.
@@ -27,7 +27,6 @@ pub fn read_step(alloc: Global, line: &[u8]) -> Result<Option<Step>, AllocError>
     step_of(alloc, word, text)
 }
 
-// The step that a word names, with the text after it.
 fn step_of(alloc: Global, word: &[u8], text: Option<&[u8]>) -> Result<Option<Step>, AllocError>
     ensures { IfOk result (λ step. MatchOption step
         ((said : StepView) → StepOf word.now (option_map (λ t. t.now) text.entry) said → ⊥)
@@ -64,7 +63,6 @@ fn step_of(alloc: Global, word: &[u8], text: Option<&[u8]>) -> Result<Option<Ste
     }
 }
 
-// A step of one word.
 fn lone_step(alloc: Global, word: &[u8]) -> Option<Step>
     ensures { MatchOption result ((said : StepView) → StepOf word.now None said → ⊥)
         (λ made. StepOf word.now None (step_view made)) }
@@ -111,7 +109,7 @@ fn step_behind(alloc: Global, word: &[u8], rest: &[u8]) -> Result<Option<Step>, 
     }
 }
 
-// A step on one connection, whose number follows the word.
+// A step on a connection, whose number follows the word.
 fn step_on(alloc: Global, word: &[u8], rest: &[u8]) -> Result<Option<Step>, AllocError>
     ensures { IfOk result (λ step. MatchOption step
         ((number : ℕ) (said : ActionView) → SaysOn word.now rest.now number said → ⊥)

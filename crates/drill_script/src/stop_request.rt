@@ -8,15 +8,14 @@ use funnel::PeerName;
 use std::alloc::{AllocError, Global};
 use world_core::Step;
 
-// The name of the intake's tape.
 const INTAKE: &[u8] = b"~intake";
 
 /// A stop that is to be armed.
 #[derive(Drop)]
 pub struct StopRequest {
-    /// The peer at whose tape it comes; None for the intake's.
+    /// The peer at whose tape the stop comes; `None` for the intake's.
     pub peer: Option<PeerName>,
-    /// At which counted call it comes, from 1.
+    /// The counted call at which it comes, from 1.
     pub call: u64,
     /// What it leaves of each disk.
     pub choice: Choice,
@@ -27,7 +26,7 @@ impl StopRequest {
     ghost use Rattle.drill_script.specs.StopRequest.{armed, armed_by, request_of, view_of};
     ghost use Rattle.drill_script.specs.Step.{Arms, step_view};
 
-    /// Reads `TAPE CALL BITS` or `TAPE CALL BITS FILL`; None if the text is neither. TAPE is a peer's name or
+    /// Reads `TAPE CALL BITS` or `TAPE CALL BITS FILL`; `None` if the text is neither. TAPE is a peer's name or
     /// `~intake`.
     ///
     /// # Errors
@@ -86,7 +85,6 @@ impl StopRequest {
         Ok(Some(StopRequest { peer, call, choice }))
     }
 
-    /// The step that arms it.
     pub(crate) fn into_step(self) -> Step
         ensures { step_view result ≡ Arms (armed_by self) }
     {
@@ -95,7 +93,7 @@ impl StopRequest {
     }
 }
 
-// The words of a text, each separated by one space.
+// The words of a text, each separated from the next by one space.
 fn words_of(alloc: Global, text: &[u8]) -> Result<Vec<&[u8]>, AllocError>
     ensures { IfOk result (λ words.
         map (λ word. word.now) words.items ≡ slice_split (λ octet. octet == 32) text.now) }

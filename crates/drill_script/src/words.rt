@@ -7,7 +7,7 @@ use funnel::PeerName;
 use memchr::memchr;
 use std::alloc::{AllocError, Global};
 
-/// The text before the first space, and after it if there is one.
+/// The text before the first space, and the text after it if there is a space.
 pub fn split_word(text: &[u8]) -> (&[u8], Option<&[u8]>)
     ensures cut { IsCut text.now result.0.now (option_map (λ t. t.now) result.1) }
     ensures solid { IsSolid result.0.now }
@@ -18,7 +18,7 @@ pub fn split_word(text: &[u8]) -> (&[u8], Option<&[u8]>)
     }
 }
 
-/// The name of a peer before the first space, and the text after it; None if there is no such name or space.
+/// The peer's name before the first space, and the text after it; `None` if there is no such name or no space.
 ///
 /// # Errors
 /// Memory was refused.

@@ -9,21 +9,21 @@ use std::rt::Files;
 // How many octets are read at once.
 const ROOM: usize = 65_536;
 
-// The most octets that the line before an article has, with its LF.
+// The length of the longest line before an article, in octets with its LF.
 const LONGEST_LINE: u64 = 64;
 
-// Under which tokens articles are filed, and where.
+// Where articles are filed, and under which tokens.
 #[derive(Drop)]
 struct Filer<'a> {
     waiting: Waiting,
     directory: Directory<'a>,
 }
 
-/// Files each article of standard input that a token waits for, and prints the token.
+/// Files each article of standard input for which a token waits, and prints the token.
 ///
 /// # Errors
-/// `Line` and `Cut` if standard input is no batch, `Unread` if it cannot be read, `Unwritten` if a file or standard
-/// output cannot be written, `NoMemory`. Each article before that is filed.
+/// `Line` and `Cut` if standard input is not a batch, `Unread` if it cannot be read, `Unwritten` if a file or
+/// standard output cannot be written, `NoMemory`. The articles before the error are filed.
 pub fn file_all<R: AllocGlobal + Input + Print + Files<File: Write>>(
     rt: &R,
     directory: &str,
@@ -73,7 +73,7 @@ impl Filer<'_> {
     }
 }
 
-// The length of the next article, behind so many; `None` at the end of the batch.
+// The length of the next article, after `count` articles; `None` at the end of the batch.
 fn next_length<B: BufRead>(
     alloc: Global,
     reader: &mut B,

@@ -15,15 +15,17 @@ pub struct Directory<'a> {
 }
 
 impl<'a> Directory<'a> {
-    /// The one at this path.
+    /// The directory at this path.
     pub fn new(alloc: Global, path: &'a str) -> Self {
         Directory { alloc, path }
     }
 
-    /// Writes the article to a new file, named by the token, and prints the token. If that fails, the file is removed.
+    /// Writes the article to a new file, named by the token, and prints the token. If that fails, the file is
+    /// removed.
     ///
     /// # Errors
-    /// `Unwritten`, also if there is a file of that name, which stays as it is, and for standard output; `NoMemory`.
+    /// `Unwritten` if there is already a file of that name, which stays as it is, if the file cannot be written, and
+    /// for standard output; `NoMemory`.
     pub fn file<R: Files<File: Write> + Print>(
         &self,
         rt: &R,
@@ -52,7 +54,6 @@ impl<'a> Directory<'a> {
     }
 }
 
-// What is printed for a token.
 fn line_of(alloc: Global, token: &Token) -> Result<Vec<u8>, AllocError> {
     let mut line = Vec::from_slice(alloc, token.bytes())?;
     line.push(b'\n')?;
@@ -63,7 +64,7 @@ fn line_of(alloc: Global, token: &Token) -> Result<Vec<u8>, AllocError> {
 fn path_of(alloc: Global, directory: &str, token: &Token) -> Result<String, Fault> {
     let mut path = String::from_str(alloc, directory)?;
     path.push_str("/")?;
-    // (a token is ASCII)
+    // A token is ASCII.
     path.push_str(str::from_utf8(token.bytes()).unwrap_or(""))?;
     Ok(path)
 }

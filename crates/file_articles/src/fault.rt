@@ -6,10 +6,10 @@ use thiserror::Error;
 /// Why a run ends before the batch does.
 #[derive(Debug, Drop, Error)]
 pub enum Fault {
-    /// The words of the command line are none that it knows.
+    /// The arguments of the command line are wrong.
     #[error("usage: file-articles DIRECTORY LINES")]
     Usage,
-    /// After so many articles there is neither the batch's end nor the line before an article.
+    /// After this many articles there is neither the end of the batch nor the line before an article.
     #[error("file-articles: standard input has no line `#! rnews LENGTH` after {0} articles")]
     Line(u64),
     /// The batch ends within an article.
@@ -36,7 +36,7 @@ impl From<AllocError> for Fault {
 }
 
 impl Fault {
-    /// Why the file at this path was not read.
+    /// The fault if the file at this path could not be read: `NoMemory` if memory was refused.
     pub fn unread(alloc: Global, path: &str, reason: io::Error) -> Self {
         match (reason.kind(), String::from_str(alloc, path)) {
             (ErrorKind::OutOfMemory, _) | (_, Err(_)) => Fault::NoMemory,
@@ -44,7 +44,7 @@ impl Fault {
         }
     }
 
-    /// Why the file at this path was not written.
+    /// The fault if the file at this path could not be written: `NoMemory` if memory was refused.
     pub fn unwritten(alloc: Global, path: &str, reason: io::Error) -> Self {
         match (reason.kind(), String::from_str(alloc, path)) {
             (ErrorKind::OutOfMemory, _) | (_, Err(_)) => Fault::NoMemory,
@@ -52,7 +52,6 @@ impl Fault {
         }
     }
 
-    /// The exit status.
     pub fn status(&self) -> u8 {
         match self {
             Fault::Line(_) | Fault::Cut => 1,

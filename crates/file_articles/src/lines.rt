@@ -1,4 +1,4 @@
-// The lines, which tell which tokens wait for an article.
+// The funnel lines, which say which tokens wait for an article.
 use crate::fault::Fault;
 use funnel::{LineFault, Token, read_line};
 use rnews::Waiting;
@@ -12,11 +12,11 @@ use std::rt::Files;
 // The greatest descriptor of a standard stream.
 const LAST: i32 = 2;
 
-/// The tokens that wait, of the lines in this file. A line that is no funnel line is passed over, and so is one whose
-/// token is no name of a file, or stands in a line before.
+/// The tokens that wait, from the lines of this file. A line that is not a funnel line is skipped, and so is one
+/// whose token cannot name a file, or is in a line before.
 ///
 /// # Errors
-/// `Unread`; `NoMemory`; `Closed` if a standard stream is closed: the file has got its descriptor then.
+/// `Unread`; `NoMemory`; `Closed` if a standard stream is closed: then the file has got its descriptor.
 pub fn read_lines<R: AllocGlobal + Files<File = File>>(
     rt: &R,
     path: &str,
@@ -36,7 +36,6 @@ pub fn read_lines<R: AllocGlobal + Files<File = File>>(
     }
 }
 
-// The tokens that wait, of these lines.
 fn waiting_of(alloc: Global, text: &[u8]) -> Result<Waiting, Fault> {
     let mut waiting = Waiting::new(alloc);
     let mut known = BTreeSet::new(alloc);
@@ -64,14 +63,14 @@ fn add_line(
     }
 }
 
-// Whether the token is not known yet, which it is from now on.
+// Whether the token is new; it is known from now on.
 fn is_new(alloc: Global, known: &mut BTreeSet<Vec<u8>>, token: &Token) -> Result<bool, AllocError> {
     let name = Vec::from_slice(alloc, token.bytes())?;
     let is_new = known.insert(name)?;
     Ok(is_new)
 }
 
-// Whether the token names a file in a directory, and not the directory itself or what is elsewhere.
+// Whether the token names a file in a directory, and not the directory itself or a file elsewhere.
 fn is_file_name(token: &Token) -> bool {
     let name = token.bytes();
     !matches!(name, b"." | b"..") && !name.contains(&b'/')

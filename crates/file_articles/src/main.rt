@@ -1,7 +1,7 @@
 //! `file-articles`: takes a batch of articles from standard input, and files each under its token (README.md).
 //!
 //! It may touch its arguments, the file with the lines, the directory that it files in, standard input and both
-//! outputs. Which article is which is told by `rnews`; each function here is proved to be safe and to return. Nothing
+//! outputs. `rnews` decides which article is which; each function here is proved to be safe and to return. Nothing
 //! stands above this crate.
 #![tactic(auto)]
 
@@ -31,7 +31,6 @@ fn main(rt: HostRuntime) -> ExitCode {
     ExitCode::from(status)
 }
 
-// Does what the command line asks for.
 fn run<R: AllocGlobal + Input + Print + Env + Files<File = File>>(rt: &R) -> Result<(), Fault> {
     let mut words = match env::args(rt) {
         Ok(words) => words,

@@ -1,4 +1,4 @@
--- Lines that are passed over, piece by piece.
+-- Lines that are skipped, piece by piece.
 use Rattle.std.specs.Prelude.{◌≡◌, ◌≢◌, ◌+◌, ◌-◌, ◌<◌, ◌⊎◌, ℕ}
 use Rattle.std.specs.Prelude.{List, [], ◌∷◌, ◌++◌, Option, refl}
 use Rattle.std.proofs.Common.{ap, arith, inl, inr}
@@ -63,7 +63,7 @@ passes_more lines left missing a b c piece p read counted some = record {
   within = inr some;
 }
 
--- lines after octets that end none of them alone
+-- whole lines after octets that end none of them
 whole : (octets lines : List ℕ) (left : ℕ) → (octets ≡ []) ⊎ (0 < left) → ends_in lines ≡ left
     → (lines ≡ []) ⊎ ((body : List ℕ) × (lines ≡ body ++ 10 ∷ []))
     → (octets ++ lines ≡ []) ⊎ ((body : List ℕ) × (octets ++ lines ≡ body ++ 10 ∷ []))

@@ -25,7 +25,7 @@ lines_leave (line ∷ lines) =
     ∙ ap (λ left. leaves_rest left (ended lines)) (leaves-push false line 10)
     ∙ lines_leave lines
 
--- after octets among which there is no LF, all of them are
+-- octets without an LF are all a rest
 unended_leave : (octet : ℕ) (octets : List ℕ) → IsUnended (octet ∷ octets) → leaves_rest false (octet ∷ octets) ≡ true
 unended_leave octet octets unended = all false octet octets unended
   where

@@ -4,11 +4,11 @@ use std::alloc::AllocError;
 use std::io::{self, ErrorKind};
 use thiserror::Error;
 
-/// Why a funnel cannot be read on, or a segment of it cannot be removed. The text is for a log, after the funnel's
-/// path. `segment` is the number of a segment's first line, which names it.
+/// Why a funnel cannot be read further, or one of its segments cannot be removed. The text is for a log, after the
+/// funnel's path. `segment` is the number of a segment's first line, which names the segment.
 #[derive(Debug, Drop, Error)]
 pub enum FunnelFault {
-    /// The funnel itself is no directory, so that segments cannot be removed from it.
+    /// The funnel is not a directory, so segments cannot be removed from it.
     #[error("it is not a directory, so no segments can be removed from it")]
     NotADirectory,
     /// The directory has no segment.
@@ -26,16 +26,16 @@ pub enum FunnelFault {
     /// A segment that is followed has become shorter than what was read of it.
     #[error("segment {segment:020} has become shorter")]
     Shrunk { segment: u64 },
-    /// A segment does not fit to the next one.
+    /// A segment does not fit the next one.
     #[error("{0}")]
     Misfit(Misfit),
-    /// The system's reason why a segment cannot be read.
+    /// A segment cannot be read, for the system's reason.
     #[error("segment {segment:020}: {reason}")]
     Segment { segment: u64, reason: io::Error },
-    /// The system's reason why a segment cannot be removed.
+    /// A segment cannot be removed, for the system's reason.
     #[error("cannot remove {path}: {reason}")]
     Unremoved { path: String, reason: io::Error },
-    /// The system's reason, or that memory was refused.
+    /// The system's error, or that memory was refused.
     #[error("{0}")]
     Failed(io::Error),
 }

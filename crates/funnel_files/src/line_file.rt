@@ -1,4 +1,4 @@
-// The lines of whatever gives octets.
+// The lines of anything that can be read.
 ghost use Rattle.std.specs.Prelude.{◌≡◌, ◌↔◌, ◌+◌, ◌<◌, ◌≤◌, [], ◌∷◌, ◌++◌};
 ghost use Rattle.std.specs.Prelude.{IfErr, IfOk, OnErr, OnOk};
 ghost use Rattle.std.specs.Prelude.{ℕ, IfNone, IfSome, IsErrOf, IsTrue, List, length, nat_lt, take};
@@ -15,13 +15,13 @@ use thiserror::Error;
 // How many octets are read at a time.
 const PIECE_OCTETS: usize = 65_536;
 
-/// Why lines were not passed over.
+/// Why lines were not skipped.
 #[derive(Debug, Drop, Error)]
 pub(crate) enum SkipFault {
     /// There are fewer: this many are missing.
     #[error("{missing} lines are missing")]
     Short { missing: u64 },
-    /// The system's reason, or that memory was refused.
+    /// The system's error, or that memory was refused.
     #[error("{0}")]
     Failed(io::Error),
 }
@@ -54,7 +54,7 @@ pub struct LineFile<R: Read + Drop> {
     reader: R,
     cutter: LineCutter,
     piece: Vec<u8>,
-    // How many octets were read, at most the greatest u64.
+    // How many octets were read, at most 2 ^ 64 - 1.
     read: u64,
     // Whether what was read does not end in an LF.
     has_rest: bool,
@@ -64,7 +64,7 @@ pub struct LineFile<R: Read + Drop> {
 impl<R: Read + Drop> LineFile<R> {
     ghost use Rattle.funnel_files.specs.Lines.{HasGiven, left_of, reader_of};
 
-    /// The lines of what this gives.
+    /// The lines of this reader.
     ///
     /// # Errors
     /// Memory was refused.
@@ -81,7 +81,7 @@ impl<R: Read + Drop> LineFile<R> {
         })
     }
 
-    /// The next line without its LF, of what was read so far, or of a longer line its first 8,193 octets.
+    /// The next line of what was read so far, without its LF; of a longer line, its first 8,193 octets.
     pub fn next_read(&mut self) -> Option<Vec<u8>>
         ensures line { IfSome result (λ octets. (read : List ℕ) (given : List (List ℕ))
             → HasGiven self.old read given
@@ -95,12 +95,12 @@ impl<R: Read + Drop> LineFile<R> {
         self.cutter.next()
     }
 
-    /// What it reads from, and how many octets were read, at most the greatest u64.
+    /// What it reads from, and how many octets were read, at most 2 ^ 64 - 1.
     pub fn reader(&self) -> (&R, u64) {
         (&self.reader, self.read)
     }
 
-    /// Whether what was read ends in a rest without LF. That is no line.
+    /// Whether what was read ends in a rest without LF, which is not a line.
     pub fn has_rest(&self) -> bool
         ensures { (read : List ℕ) (given : List (List ℕ)) (rest : List ℕ)
             → HasGiven self.now read given → Splits read given rest
@@ -109,10 +109,10 @@ impl<R: Read + Drop> LineFile<R> {
         self.has_rest
     }
 
-    /// Reads a piece. Returns whether there was one: at the end there is none. A rest without LF is no line.
+    /// Reads a piece, and returns whether there was one: at the end there is none. A rest without LF is not a line.
     ///
     /// # Errors
-    /// The system's; memory was refused: then nothing more may be read.
+    /// The system's error; or memory was refused: then nothing more may be read.
     pub fn read_piece(&mut self) -> io::Result<bool>
         ensures read { IfOk result (λ some. (piece : List ℕ)
             × Consumes (left_of self.old) (left_of self.new) piece
@@ -127,11 +127,11 @@ impl<R: Read + Drop> LineFile<R> {
         Ok(count > 0)
     }
 
-    /// Passes over the first `lines` lines, without a copy, and takes in what follows them in the piece that has the
-    /// last of them. Nothing may have been read before.
+    /// Skips the first `lines` lines, without a copy, and takes in what follows them in the piece that has the last
+    /// of them. Nothing may have been read before.
     ///
     /// # Errors
-    /// `Short` if there are fewer lines; the system's.
+    /// `Short` if there are fewer lines; the system's error.
     #[tactic(auto, using(crate::proofs::Passes::passes_none, crate::proofs::Passes::passes_more))]
     pub(crate) fn skip(&mut self, lines: u64) -> Result<(), SkipFault>
         requires { StandsFor self.old.cutter [] [] }
@@ -189,7 +189,7 @@ fn leaves_rest(before: bool, piece: &[u8]) -> bool
     }
 }
 
-// What follows the first `lines` lines of a piece; if it has fewer, how many are missing.
+// What follows the first `lines` lines of a piece; `Err` with how many are missing if it has fewer.
 #[tactic(auto, using(crate::proofs::Passes::behind_none, crate::proofs::Passes::behind_more))]
 fn behind(piece: &[u8], lines: u64) -> Result<&[u8], u64>
     ensures found { IfOk result (λ rest. IsBehind lines piece.now rest.now) }

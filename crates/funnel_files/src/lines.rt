@@ -14,20 +14,19 @@ pub enum Next {
     Line(Vec<u8>),
     /// Nothing came for a tenth of a second.
     Silence,
-    /// It is at its end for now, and more may be added.
+    /// The funnel is at its end for now, and more may be added.
     Pause,
-    /// Its end; a rest without LF is no line.
+    /// The funnel has ended; a rest without LF is not a line.
     End,
 }
 
-/// The funnel, and the path that it was opened by.
+/// A funnel, with the path by which it was opened.
 #[derive(Drop)]
 pub struct Funnel<'a, F> {
     path: Vec<u8>,
     lines: Lines<'a, F>,
 }
 
-// Where the lines come from.
 #[derive(Drop)]
 enum Lines<'a, F> {
     File(PlainFunnel),
@@ -35,13 +34,13 @@ enum Lines<'a, F> {
 }
 
 impl<'a, F: AllocGlobal + Files<File = File>> Funnel<'a, F> {
-    /// Opens the funnel at this path, after the line `mark`: a file, a pipe or the like, or a directory of segments. If
-    /// it is followed, more may be added at its end. If it is tidied, [`Funnel::tidy`] removes segments.
+    /// Opens the funnel at this path, after the line `mark`: a file, a pipe or the like, or a directory of segments.
+    /// If it is followed, more may be added at its end. If it is tidied, [`Funnel::tidy`] removes segments.
     ///
     /// # Errors
-    /// `NotADirectory` if it is to be tidied and is no directory; `Failed` with `UnexpectedEof` if a file has fewer
-    /// lines; of a directory, `NoSegment` if it has none and is not followed, and those of [`Funnel::next`]; the
-    /// system's.
+    /// `NotADirectory` if it is to be tidied and is not a directory; `Failed` with `UnexpectedEof` if a file has
+    /// fewer lines; for a directory, `NoSegment` if it has none and is not followed, and the errors of
+    /// [`Funnel::next`]; the system's error.
     pub fn open<C: Net>(
         files: &'a F,
         net: &C,
@@ -70,7 +69,7 @@ impl<'a, F: AllocGlobal + Files<File = File>> Funnel<'a, F> {
         })
     }
 
-    /// The path that it was opened by.
+    /// The path by which it was opened.
     pub fn path(&self) -> &[u8] {
         &self.path
     }
@@ -78,8 +77,8 @@ impl<'a, F: AllocGlobal + Files<File = File>> Funnel<'a, F> {
     /// What comes next. Nothing more may be read after an error.
     ///
     /// # Errors
-    /// `Failed` with `UnexpectedEof` if a file that is followed has become shorter than what was read of it; of a
-    /// directory `NoNumber`, `NoFile`, `Short`, `Shrunk`, `Misfit` and `Segment`; the system's.
+    /// `Failed` with `UnexpectedEof` if a file that is followed has become shorter than what was read of it; for a
+    /// directory `NoNumber`, `NoFile`, `Short`, `Shrunk`, `Misfit` and `Segment`; the system's error.
     pub fn next(&mut self) -> Result<Next, FunnelFault> {
         match &mut self.lines {
             Lines::File(file) => Ok(file.next()?),
@@ -87,11 +86,11 @@ impl<'a, F: AllocGlobal + Files<File = File>> Funnel<'a, F> {
         }
     }
 
-    /// Removes the segments of a directory that is tidied which lie wholly at or below this mark and were read, if some
-    /// may have become removable since the last call. The last segment stays.
+    /// Removes those segments of a tidied directory that are wholly at or below this mark and were read, if some may
+    /// have become removable since the last call. The last segment stays.
     ///
     /// # Errors
-    /// `Unremoved` if one cannot be removed; the system's; `NoNumber`.
+    /// `Unremoved` if one cannot be removed; the system's error; `NoNumber`.
     pub fn tidy(&mut self, mark: u64) -> Result<(), FunnelFault> {
         match &mut self.lines {
             Lines::File(_) => Ok(()),

@@ -7,26 +7,25 @@ use std::io::{self, ErrorKind};
 use std::net::Net;
 use std::rt::Files;
 
-// How long one wait for a silent funnel is at most.
+// The longest single wait for a silent funnel, in milliseconds.
 const SILENCE_MAX_MS: u64 = 100;
 
 /// The lines of a file, a pipe or the like.
 #[derive(Drop)]
 pub(crate) struct PlainFunnel {
     lines: LineFile<File>,
-    // None if reading never has to wait.
+    // `None` if reading never has to wait.
     watch: Option<Watch>,
-    // Whether something may be added at its end.
     is_followed: bool,
 }
 
 impl PlainFunnel {
-    /// Opens the file at this path, after its first `lines` lines. If it is followed, more may be added at its end. The
-    /// first piece of a plain file is read, so that a path that cannot be read is known at once; what may be silent is
-    /// read here only if lines have to be passed over.
+    /// Opens the file at this path, after its first `lines` lines. If it is followed, more may be added at its end.
+    /// The first piece of a plain file is read, so that a path that cannot be read is known at once; a file that may
+    /// be silent is read here only if lines have to be skipped.
     ///
     /// # Errors
-    /// The system's; `UnexpectedEof` if there are fewer lines.
+    /// The system's error; `UnexpectedEof` if there are fewer lines.
     pub fn open<F: AllocGlobal + Files<File = File>, C: Net>(
         files: &F,
         net: &C,
@@ -51,7 +50,7 @@ impl PlainFunnel {
     /// What comes next.
     ///
     /// # Errors
-    /// The system's; `UnexpectedEof` if a file that is followed has become shorter than what was read of it.
+    /// The system's error; `UnexpectedEof` if a file that is followed has become shorter than what was read of it.
     pub fn next(&mut self) -> io::Result<Next> {
         for _ in 0..u64::MAX {
             if let Some(line) = self.lines.next_read() {
@@ -69,7 +68,7 @@ impl PlainFunnel {
         Ok(Next::End)
     }
 
-    // What its end is: only to a plain file more can be added.
+    // What its end means: more can be added only to a plain file.
     fn end(&self) -> io::Result<Next> {
         if !self.is_followed || self.watch.is_some() {
             return Ok(Next::End);
@@ -82,7 +81,6 @@ impl PlainFunnel {
     }
 }
 
-// Why lines were not passed over, as an error of the system's.
 fn reason_of(fault: SkipFault) -> io::Error {
     match fault {
         SkipFault::Short { .. } => io::Error::from(ErrorKind::UnexpectedEof),

@@ -1,4 +1,4 @@
-// Where in its segments a funnel is read, and whether they fit together.
+// The position in the segments at which a funnel is read, and whether they fit together.
 ghost use Rattle.std.specs.Prelude.{◌≡◌, ◌↔◌, ◌<◌, ◌≤◌, ◌+◌, ◌^◌, ℕ, true, false};
 ghost use Rattle.std.specs.Prelude.{IfOk, IfSome, IsErrOf, None, OnErr, OnOk, Some};
 
@@ -21,19 +21,17 @@ pub enum Misfit {
     Full { segment: u64 },
 }
 
-/// Where a funnel is read: in which segment, and behind which line.
+/// The position at which a funnel is read: the segment, and the last line that was taken.
 #[derive(Clone, Copy, Debug, PartialEq, Eq)]
 pub(crate) struct Position {
-    // The number of the segment's first line.
     segment: u64,
-    // The number of the last line that was taken.
     last: u64,
-    // The number of the next segment's first line, if there is one: this one is complete then.
+    // The number of the next segment's first line, if there is a next one: then this one is complete.
     following: Option<u64>,
 }
 
 impl Position {
-    /// In this segment, after the line `last`, with `following` as the next segment, if there is one.
+    /// A position in this segment, after the line `last`; `following` is the next segment, if there is one.
     pub fn new(segment: u64, last: u64, following: Option<u64>) -> Self
         ensures { result ≡ record { segment = segment; last = last; following = following } }
     {
@@ -44,14 +42,13 @@ impl Position {
         }
     }
 
-    /// The number of the segment's first line.
     pub fn segment(&self) -> u64
         ensures { result ≡ self.now.segment }
     {
         self.segment
     }
 
-    /// The segment is complete, since there is a next one, which begins with this line.
+    /// The segment is complete, because there is a next one, which begins with this line.
     pub fn complete(&mut self, next: u64)
         ensures { self.new ≡ record self.old { following = Some next } }
     {
@@ -61,8 +58,8 @@ impl Position {
     /// Takes the segment's next line.
     ///
     /// # Errors
-    /// `Overlap` if the next segment has it or an earlier line; `Full` if no number is left for it. It counts as taken
-    /// if there is a number for it, so that the fault is found at the segment's end too.
+    /// `Overlap` if the next segment has this line or an earlier one; `Full` if there is no number left for it. If
+    /// there is a number, the line counts as taken even then, so that the fault is found at the segment's end too.
     pub fn take_line(&mut self) -> Result<(), Misfit>
         ensures overlap { (next : ℕ) → IsErrOf result (Misfit.Overlap self.old.segment next)
             ↔ ((self.old.following ≡ Some next) × (next ≤ self.old.last + 1)) }
@@ -82,7 +79,8 @@ impl Position {
         }
     }
 
-    /// The segment to go on with at the end of this one, whose last line may have no LF; none if no next one is known.
+    /// The segment to go on with at the end of this one, whose last line may have no LF; `None` if no next one is
+    /// known.
     ///
     /// # Errors
     /// If there is a next one: `Overlap` if this one has its first line; `NoEnd` if its last line has no LF; `Gap` if

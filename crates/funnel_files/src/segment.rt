@@ -8,8 +8,9 @@ use std::fs::File;
 use std::io;
 use std::rt::Files;
 
-/// A segment that is open, and where it is read. Its lines are durable before they are given: what is acknowledged must
-/// not be lost from the funnel in a power cut while the mark survives, else other lines come under the same numbers.
+/// An open segment, and the position in it. Its lines are made durable before they are given: what is acknowledged
+/// must not be lost from the funnel in a power cut that the mark survives, because other lines would then come under
+/// the same numbers.
 #[derive(Drop)]
 pub(crate) struct OpenSegment {
     pub position: Position,
@@ -17,10 +18,11 @@ pub(crate) struct OpenSegment {
 }
 
 impl OpenSegment {
-    /// Opens the segment of this place, one of these, after the lines up to this mark.
+    /// Opens the segment at this place, which is one of these, after the lines up to this mark.
     ///
     /// # Errors
-    /// `NoFile`; `Short`, or `Gap` if there is a next one, if it has not all lines up to the mark; the system's.
+    /// `NoFile`; if it does not have all lines up to the mark, `Gap` if there is a next segment and `Short` if not;
+    /// the system's error.
     pub fn open<F: AllocGlobal + Files<File = File>>(
         directory: &SegmentDirectory<'_, F>,
         segments: &Segments,
@@ -46,7 +48,7 @@ impl OpenSegment {
         Ok(open)
     }
 
-    /// The next line without its LF, of what was read so far.
+    /// The next line of what was read so far, without its LF.
     ///
     /// # Errors
     /// `Misfit` if the line is the next segment's.
@@ -61,7 +63,7 @@ impl OpenSegment {
     /// Reads a piece. Returns whether there was one.
     ///
     /// # Errors
-    /// The system's.
+    /// The system's error.
     pub fn read_piece(&mut self) -> Result<bool, FunnelFault> {
         let read = self.lines.read_piece();
         let is_more = read.map_err(|reason| self.failed(reason))?;
@@ -71,7 +73,7 @@ impl OpenSegment {
         Ok(is_more)
     }
 
-    /// The segment to go on with at the end of this one; none if no next one is known.
+    /// The segment to go on with at the end of this one; `None` if no next one is known.
     ///
     /// # Errors
     /// `Misfit` if the two do not fit together.
@@ -79,10 +81,10 @@ impl OpenSegment {
         Ok(self.position.next_segment(self.lines.has_rest())?)
     }
 
-    /// Looks whether it still has what was read of it.
+    /// Checks that it still has what was read of it.
     ///
     /// # Errors
-    /// `Shrunk` if not; the system's.
+    /// `Shrunk` if not; the system's error.
     pub fn look(&self) -> Result<(), FunnelFault> {
         let (file, read) = self.lines.reader();
         let there = file.metadata().map_err(|reason| self.failed(reason))?;
@@ -94,11 +96,11 @@ impl OpenSegment {
         Ok(())
     }
 
-    /// Whether another file has its name now, while nothing was read of it: what writes the funnel may give the place
-    /// of an empty segment to one with lines.
+    /// Whether another file has its name now, while nothing was read of it: the writer of the funnel may replace an
+    /// empty segment by one with lines.
     ///
     /// # Errors
-    /// The system's.
+    /// The system's error.
     pub fn is_replaced<F: AllocGlobal + Files<File = File>>(
         &self,
         directory: &SegmentDirectory<'_, F>,
@@ -111,13 +113,11 @@ impl OpenSegment {
         Ok(!is_there.map_err(|reason| self.failed(reason))?)
     }
 
-    // Makes what was read durable.
     fn sync(&self) -> Result<(), FunnelFault> {
         let (file, _) = self.lines.reader();
         file.sync_data().map_err(|reason| self.failed(reason))
     }
 
-    // It cannot be read, for this reason.
     fn failed(&self, reason: io::Error) -> FunnelFault {
         FunnelFault::Segment {
             segment: self.position.segment(),
@@ -126,7 +126,8 @@ impl OpenSegment {
     }
 }
 
-// What is wrong with a segment that ends at this line, before the mark, with this one after it, if there is one.
+// What is wrong with a segment that ends at the line `last`, before the mark; `next` is the segment after it, if
+// there is one.
 fn lacking(segment: u64, next: Option<u64>, last: u64, mark: u64) -> FunnelFault {
     match next {
         Some(next) => FunnelFault::Misfit(Misfit::Gap { after: last, next }),

@@ -16,10 +16,10 @@ pub(crate) struct SegmentDirectory<'a, F> {
 }
 
 impl<F: AllocGlobal + Files<File = File>> SegmentDirectory<'_, F> {
-    /// The segments that are in it.
+    /// The segments in it.
     ///
     /// # Errors
-    /// The system's; `NoNumber`.
+    /// The system's error; `NoNumber`.
     pub fn list(&self) -> Result<Segments, FunnelFault> {
         let mut segments = Segments::new(self.files.alloc());
         for entry in fs::read_dir(&self.files, self.path.as_str())? {
@@ -33,7 +33,7 @@ impl<F: AllocGlobal + Files<File = File>> SegmentDirectory<'_, F> {
         Ok(segments)
     }
 
-    // Adds the segment of this name, if the name is that of a segment.
+    // Adds the segment with this name, if it is the name of a segment.
     fn add(&self, segments: &mut Segments, name: &str) -> Result<(), FunnelFault> {
         match segments.add(name.as_bytes()) {
             Ok(_) => Ok(()),
@@ -44,10 +44,10 @@ impl<F: AllocGlobal + Files<File = File>> SegmentDirectory<'_, F> {
         }
     }
 
-    /// Opens a segment. It is checked first, since opening a FIFO might never return.
+    /// Opens a segment. It is checked first, because opening a FIFO might never return.
     ///
     /// # Errors
-    /// `NoFile`; the system's.
+    /// `NoFile`; the system's error.
     pub fn open(&self, segment: u64) -> Result<File, FunnelFault> {
         let path = self.path_of(segment)?;
         let opened = match fs::metadata(self.files, path.as_str()) {
@@ -58,10 +58,10 @@ impl<F: AllocGlobal + Files<File = File>> SegmentDirectory<'_, F> {
         opened.map_err(|reason| FunnelFault::Segment { segment, reason })
     }
 
-    /// Whether this file is still the one that has a segment's name.
+    /// Whether this file still has a segment's name.
     ///
     /// # Errors
-    /// The system's.
+    /// The system's error.
     pub fn has(&self, segment: u64, file: &File) -> io::Result<bool> {
         let there = fs::metadata(self.files, self.path_of(segment)?.as_str())?;
         let open = file.metadata()?;
@@ -71,7 +71,7 @@ impl<F: AllocGlobal + Files<File = File>> SegmentDirectory<'_, F> {
     /// Makes the names in it durable.
     ///
     /// # Errors
-    /// The system's.
+    /// The system's error.
     pub fn sync(&self) -> Result<(), FunnelFault> {
         File::open(self.files, self.path.as_str())?.sync_all()?;
         Ok(())

@@ -13,12 +13,12 @@ use std::rt::Files;
 #[derive(Drop)]
 pub(crate) struct SegmentedFunnel<'a, F> {
     directory: SegmentDirectory<'a, F>,
-    // None before the first segment has come.
+    // `None` before there is a first segment.
     open: Option<OpenSegment>,
-    // It begins after the line of this number.
+    // Reading begins after this line.
     mark: u64,
     is_followed: bool,
-    // None if no segments are to be removed.
+    // `None` if no segments are to be removed.
     tidying: Option<Tidying>,
 }
 
@@ -26,7 +26,8 @@ impl<'a, F: AllocGlobal + Files<File = File>> SegmentedFunnel<'a, F> {
     /// The lines of this directory, after the line of this number.
     ///
     /// # Errors
-    /// `NoSegment` if there is none and the directory is not followed; else those of [`SegmentedFunnel::next`].
+    /// `NoSegment` if there is none and the directory is not followed; otherwise the errors of
+    /// [`SegmentedFunnel::next`].
     pub fn open(
         directory: SegmentDirectory<'a, F>,
         mark: u64,
@@ -49,8 +50,8 @@ impl<'a, F: AllocGlobal + Files<File = File>> SegmentedFunnel<'a, F> {
     /// What comes next.
     ///
     /// # Errors
-    /// Segments do not fit together, are no regular files or become shorter; the system's. Nothing more may be read
-    /// then.
+    /// Segments do not fit together, are not regular files or become shorter; the system's error. Nothing more may be
+    /// read then.
     pub fn next(&mut self) -> Result<Next, FunnelFault> {
         for _ in 0..u64::MAX {
             let Some(open) = &mut self.open else {
@@ -73,7 +74,7 @@ impl<'a, F: AllocGlobal + Files<File = File>> SegmentedFunnel<'a, F> {
         Ok(Next::End)
     }
 
-    // Opens the segment that has the first line to be read, if there is any segment.
+    // Opens the segment with the first line to be read, if there is any segment.
     fn begin(&mut self) -> Result<bool, FunnelFault> {
         let segments = self.directory.list()?;
         let (after, mark) = (self.mark, self.mark);
@@ -87,7 +88,8 @@ impl<'a, F: AllocGlobal + Files<File = File>> SegmentedFunnel<'a, F> {
         }
     }
 
-    // At the end of what the open segment has: whether there may be more of it, or of the next one, which is opened.
+    // Goes on from the end of the open segment, into the next one if there is one. Returns whether there may be more
+    // to read.
     fn pass_end(&mut self) -> Result<bool, FunnelFault> {
         let Some(open) = &mut self.open else {
             return Ok(false);
@@ -115,13 +117,11 @@ impl<'a, F: AllocGlobal + Files<File = File>> SegmentedFunnel<'a, F> {
         Ok(is_replaced)
     }
 
-    // Opens the segment that begins with this line, which is the next one to be read.
     fn open_first(&mut self, segments: &Segments, first: u64) -> Result<(), FunnelFault> {
         let place = Place { first, skipped: 0 };
         self.open_at(segments, place, first.saturating_sub(1))
     }
 
-    // Opens the segment of this place, after the lines up to this mark.
     fn open_at(&mut self, segments: &Segments, place: Place, mark: u64) -> Result<(), FunnelFault> {
         let open = OpenSegment::open(&self.directory, segments, place, mark)?;
         self.open = Some(open);
@@ -131,11 +131,11 @@ impl<'a, F: AllocGlobal + Files<File = File>> SegmentedFunnel<'a, F> {
         Ok(())
     }
 
-    /// Removes the segments before the one that has the line after this mark, as far as they were read, if that is
-    /// asked for and some may have become removable since the last call.
+    /// Removes the segments before the one with the line after this mark, as far as they were read, if the funnel is
+    /// tidied and some may have become removable since the last call.
     ///
     /// # Errors
-    /// `Unremoved`; the system's; `NoNumber`.
+    /// `Unremoved`; the system's error; `NoNumber`.
     pub fn tidy(&mut self, mark: u64) -> Result<(), FunnelFault> {
         let (Some(tidying), Some(open)) = (&mut self.tidying, &self.open) else {
             return Ok(());

@@ -5,7 +5,7 @@ ghost use Rattle.funnel_files.specs.Due.{IsDue};
 /// When segments may have become removable: once all lines before a segment's first are acknowledged.
 #[derive(Clone, Copy, Debug, PartialEq, Eq)]
 pub(crate) struct Tidying {
-    // The number of that segment's first line; none if there is no such segment yet.
+    // The number of that segment's first line; `None` if there is no such segment yet.
     due: Option<u64>,
 }
 
@@ -27,7 +27,7 @@ impl Tidying {
         }
     }
 
-    /// The removable segments were removed. The last one that stays is followed by this one, if by any.
+    /// The removable segments were removed. `after` is the segment that follows the last one that stays, if any.
     pub fn remove(&mut self, after: Option<u64>)
         ensures { self.new.due ≡ after }
     {

@@ -1,4 +1,4 @@
-// Waiting for what may be silent.
+// Waits for a file that may be silent.
 use mio::unix::SourceFd;
 use mio::{Events, Interest, Poll, Token};
 use std::alloc::Global;
@@ -10,8 +10,8 @@ use std::time::Duration;
 
 const TOKEN: Token = Token(0);
 
-/// What waits until something can be read from a pipe, a terminal or the like. The descriptor stays as it is, since
-/// other processes may share it: it is not made non-blocking.
+/// Waits until something can be read from a pipe, a terminal or the like. The descriptor is not made nonblocking,
+/// because other processes may share it.
 #[derive(Drop)]
 pub(crate) struct Watch {
     poll: Poll,
@@ -20,11 +20,11 @@ pub(crate) struct Watch {
 }
 
 impl Watch {
-    /// For this file, as long as that is open. None if there is nothing to wait for: a plain file and a directory can
-    /// be read at once.
+    /// A watch of this file, for as long as that is open. `None` if there is nothing to wait for: a plain file and a
+    /// directory can be read at once.
     ///
     /// # Errors
-    /// The system's.
+    /// The system's error.
     pub fn new<C: Net>(alloc: Global, net: &C, file: &File) -> io::Result<Option<Self>> {
         let watch = Watch {
             poll: Poll::new(net)?,
@@ -46,9 +46,9 @@ impl Watch {
     /// Waits until something can be read or the end has come, `at_most` milliseconds at most. Returns whether it has.
     ///
     /// # Errors
-    /// The system's.
+    /// The system's error.
     pub fn wait(&mut self, at_most: u64) -> io::Result<bool> {
-        // Only after this is what was there before the last wait reported again.
+        // Only after this call is what was there before the last wait reported again.
         let mut source = SourceFd(&self.descriptor);
         self.poll
             .registry()

@@ -62,7 +62,7 @@ impl ListFault {
         }
     }
 
-    /// Adds it to how the list ended.
+    /// Adds the fault to how the list ended.
     pub fn add_to(self, end: &mut FeedEnd) {
         let added = match self {
             ListFault::NoMemory => false,

@@ -2,14 +2,13 @@
 ghost use Rattle.std.specs.Prelude.{◌≡◌};
 ghost use Rattle.owed_list.specs.FirstRecord.{first_record_of};
 
-// An open gate.
 const OPEN_GATE: u8 = 0xa5;
 
-// A record before its payload: the gate and the payload's length.
+// The length of a record before its payload: the gate and the payload's length.
 const RECORD_HEAD_OCTETS: usize = 5;
 
-/// The octets of the first record of a segment, or all octets if it is not whole. If the first gate is closed there is
-/// no record: then it is that gate.
+/// The octets of the first record of a segment, or all octets if it is not whole. If the first gate is closed there
+/// is no record: then it is that gate.
 pub(crate) fn first_record(octets: &[u8]) -> &[u8]
     ensures { result.now ≡ first_record_of octets.now }
 {

@@ -14,22 +14,21 @@ use std::io::{self, ErrorKind, Write};
 use std::rt::Files;
 use std::str;
 
-// The name of the intake tape.
 const INTAKE: &[u8] = b"~intake";
 
 // A tape as it was read.
 type ReadTape = Tape<FileDisk<Snapshot>>;
 
-/// Writes a line for each debt of these peers, in their order and by rising key, as the tapes in the backlog directory
-/// at this path have them. Nothing is written there, and what is missing is not made. One peer's tape at a time is in
-/// memory, with its ledger.
+/// Writes a line for each debt of these peers, in their order and by rising key, as the tapes in the backlog
+/// directory at this path have them. Nothing is written there, and what is missing is not created. Only one peer's
+/// tape at a time is in memory, with its ledger.
 ///
-/// If a run works on the directory, that is logged as a warning: the list is as of a moment ago. The number of the last
-/// line that is acknowledged is logged at the end. It is read first, so that each debt of a line up to that one is in
+/// If a run works on the directory, a warning is logged: the list is as of a moment ago. The number of the last line
+/// that is acknowledged is logged at the end. It is read first, so that each debt of a line up to that number is in
 /// the list or has ended.
 ///
-/// It ends at the first error: that of the directory, which is reported for the first tape; that of a peer's tape; that
-/// of the output; that of the intake tape.
+/// It ends at the first error: that of the directory, which is reported for the first tape; that of a peer's tape;
+/// that of the output; that of the intake tape.
 pub fn list_owed<R: AllocGlobal + Log, F: Files<File = File>, W: Write>(
     rt: &R,
     files: &F,
@@ -69,7 +68,6 @@ fn try_list<R: AllocGlobal + Log, F: Files<File = File>, W: Write>(
     Ok(())
 }
 
-// The name of the first tape.
 fn first_name(peers: &[PeerConf]) -> &[u8] {
     match peers.first() {
         Some(peer) => peer.name.bytes(),
@@ -77,7 +75,7 @@ fn first_name(peers: &[PeerConf]) -> &[u8] {
     }
 }
 
-// The directory's path as text. It is logged if a run works there.
+// The directory's path as text. Logs if a run works there.
 fn look_at<'a, R: Log, F: Files<File = File>>(
     rt: &R,
     files: &F,
@@ -106,7 +104,7 @@ fn is_locked<F: Files<File = File>>(files: &F, path: &str) -> io::Result<bool> {
     }
 }
 
-// Opens the tape of this name as its files were read.
+// Opens the tape of this name from what was read of its files.
 fn open_tape<R: AllocGlobal + Log, F: Files<File = File>>(
     rt: &R,
     files: &F,
@@ -135,7 +133,6 @@ fn open_tape<R: AllocGlobal + Log, F: Files<File = File>>(
     }
 }
 
-// Writes a line for each debt on the tape of this name.
 fn list_peer<W: Write>(
     alloc: Global,
     name: &[u8],

@@ -1,8 +1,8 @@
-// Reading the files of a tape while a run may work on them.
+// Reads the files of a tape while a run may work on them.
 //
 // A run adds records to the live segment, and writes the other one only in a rotation, its first record last
 // (docs/FORMATS.md). So if the first records of both are unchanged after both files were read, no rotation has ended
-// meanwhile, and what was read of the live segment is a prefix that it had.
+// meanwhile, and what was read of the live segment is a prefix of it.
 use crate::first_record::first_record;
 use log::{Log, info};
 use std::fs::{self, File};
@@ -22,11 +22,12 @@ pub(crate) struct TapePaths {
 /// The octets of the two files of a tape.
 pub(crate) type TapeOctets = (Vec<u8>, Vec<u8>);
 
-/// The octets of the files at these paths; a missing file has none. They are read again if a run has meanwhile rotated
-/// the tape or made a file shorter.
+/// The octets of the files at these paths; a missing file has none. They are read again if a run has meanwhile
+/// rotated the tape or made a file shorter.
 ///
 /// # Errors
-/// The system's, which is logged; `InvalidInput` if one is no regular file; `TimedOut` if 10 readings were disturbed.
+/// The system's error, which is logged; `InvalidInput` if one is not a regular file; `TimedOut` if 10 readings were
+/// disturbed.
 pub(crate) fn read_files<R: AllocGlobal + Log, F: Files<File = File>>(
     rt: &R,
     files: &F,
@@ -41,7 +42,7 @@ pub(crate) fn read_files<R: AllocGlobal + Log, F: Files<File = File>>(
     Err(io::Error::from(ErrorKind::TimedOut))
 }
 
-// Reads both files. None if that was disturbed.
+// Reads both files. `None` if that was disturbed.
 fn read_once<R: AllocGlobal + Log, F: Files<File = File>>(
     rt: &R,
     files: &F,
@@ -56,7 +57,7 @@ fn read_once<R: AllocGlobal + Log, F: Files<File = File>>(
     }
 }
 
-// The octets of a file, which has none if it is missing.
+// The octets of a file; none if it is missing.
 fn read_file<R: AllocGlobal + Log, F: Files<File = File>>(
     rt: &R,
     files: &F,
@@ -72,7 +73,7 @@ fn read_file<R: AllocGlobal + Log, F: Files<File = File>>(
     }
 }
 
-// Whether a file of which these octets were read still begins with the same first record, and is no shorter.
+// Whether a file of which these octets were read still begins with the same first record, and is not shorter.
 fn begins_as_read<R: AllocGlobal + Log, F: Files<File = File>>(
     rt: &R,
     files: &F,
@@ -89,7 +90,7 @@ fn begins_as_read<R: AllocGlobal + Log, F: Files<File = File>>(
     }
 }
 
-// The first octets of a file, `count` at most, and its length after they were read.
+// The first octets of a file, at most `count`, and its length after they were read.
 fn read_prefix<R: AllocGlobal>(
     rt: &R,
     file: &mut File,
@@ -100,7 +101,7 @@ fn read_prefix<R: AllocGlobal>(
     Ok((prefix, file.metadata()?.len()))
 }
 
-// Opens a file to be read; None if it is missing. It is checked first, since opening a FIFO might never return.
+// Opens a file for reading; `None` if it is missing. It is checked first, because opening a FIFO might never return.
 fn open_file<R: Log, F: Files<File = File>>(
     rt: &R,
     files: &F,
@@ -123,7 +124,6 @@ fn try_open<F: Files<File = File>>(files: &F, path: &str) -> io::Result<File> {
     File::open(files, path)
 }
 
-// Logs why an open file was not read.
 fn unread<R: Log>(rt: &R, path: &str, error: io::Error) -> io::Error {
     info!(rt; "tape file {}: {}", path, error);
     error

@@ -3,7 +3,7 @@ ghost use Rattle.std.specs.Prelude.{[]};
 
 use disk_model::{RawFault, RawFile};
 
-/// The octets of a tape's file, in memory. What is written goes there, and not into the file.
+/// The octets of a tape's file, in memory. What is written goes into memory, and not into the file.
 #[derive(Drop)]
 pub(crate) struct Snapshot {
     octets: Vec<u8>,

@@ -1,4 +1,4 @@
--- What comes of an answer.
+-- What an answer changes.
 use Rattle.std.proofs.Common.{◌≡◌, ◌∙◌, ℕ, ◌<◌, ◌≤◌, ◌==◌, List, length, take, ◌++◌, ap, refl, subst, sym, arith}
 use Rattle.std.specs.Prelude.{remove, slice_get, option_to_list, unwrap_or, Option, Some, None, position}
 use Rattle.std.proofs.lemmas.List.Quantifiers.{position-Some}
@@ -7,7 +7,7 @@ use Rattle.resolver.specs.declared.host.Answer.{Answer}
 use Rattle.resolver.specs.declared.latest_answer.LatestAnswer.{LatestAnswer}
 use Rattle.resolver.proofs.Places.{drop-remove, slice_get-remove, take-remove}
 
--- a host at a place of the first 8 stands in the list
+-- a host at an index below 8 is in the list
 inside : (asked : List ℕ) (host at : ℕ) → position (λ one. one == host) asked ≡ Some at → at < length asked
 inside asked host at is = (position-Some (λ one. one == host) asked at 0 is).0
 
@@ -26,7 +26,7 @@ answers old host at answer (is, runs) =
       latest = refl;
     }
 
--- one number alone is in an option
+-- an option holds only one number
 one : (place : Option ℕ) (at at' : ℕ) → place ≡ Some at → place ≡ Some at' → at' ≡ at
 one place at at' is is' = ap (λ o. unwrap_or o 0) (sym is' ∙ is)
 

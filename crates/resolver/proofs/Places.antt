@@ -1,4 +1,4 @@
--- What becomes of the first places of a list if an element is taken out of them.
+-- What becomes of the first elements of a list if one of them is removed.
 use Rattle.std.proofs.Common.{◌≡◌, ℕ, zero, suc, ◌<◌, ◌≤◌, List, [], ◌∷◌, ◌++◌, length, take, drop, refl, ap, arith}
 use Rattle.std.specs.Prelude.{remove, slice_get, option_to_list}
 
@@ -9,14 +9,14 @@ slice_get-first [] (suc n) = refl
 slice_get-first (x ∷ xs) zero = refl
 slice_get-first (x ∷ xs) (suc n) = slice_get-first xs n
 
--- one more of the first
+-- one more element is taken
 take-more : (xs : List ℕ) (n : ℕ) → take (suc n) xs ≡ take n xs ++ option_to_list (slice_get (drop n xs) 0)
 take-more [] zero = refl
 take-more [] (suc n) = refl
 take-more (x ∷ xs) zero = refl
 take-more (x ∷ xs) (suc n) = ap (λ ys. x ∷ ys) (take-more xs n)
 
--- one more is left out
+-- one more element is left out
 drop-more : (xs : List ℕ) (n : ℕ) → drop (suc n) xs ≡ drop 1 (drop n xs)
 drop-more [] zero = refl
 drop-more [] (suc n) = refl

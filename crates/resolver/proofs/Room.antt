@@ -24,7 +24,7 @@ few : (xs : List ℕ) (n : ℕ) → AreHosts n xs → length xs ≤ n
 few xs n (apart, all) =
     length-le_from_distinct_below xs n (IsDistinct-from_AllPairs Decides-eqb xs apart) (below xs n all)
 
--- one that is not among them, and comes last, is as well a host
+-- hosts still differ with one more at the end that is not among them
 still_hosts : (xs : List ℕ) (n host : ℕ) → AreHosts n xs → host < n → (Contains xs host → ⊥)
     → AreHosts n (xs ++ host ∷ [])
 still_hosts xs n host (apart, all) is_host absent = (

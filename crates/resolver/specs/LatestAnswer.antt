@@ -15,7 +15,7 @@ SaysSame (Unknown some) (Found others) = ⊥
 abbrev pub nothing : LatestAnswer
 nothing = record { count = 0; answer = None }
 
--- this answer is the latest; the count ends at its type's greatest number
+-- this answer is the latest; the count stops at the greatest number of its type
 abbrev pub with_answer : LatestAnswer → Answer → LatestAnswer
 with_answer latest answer = record { count = min (latest.count + 1) (2 ^ 64 - 1); answer = Some answer }
 
@@ -24,7 +24,8 @@ abbrev pub IsLatest : Option Answer → Answer → Type 0
 IsLatest None answer = ⊥
 IsLatest (Some latest) answer = SaysSame answer latest
 
--- what a caller who has seen this many answers gets: the latest and how many there were, unless there were just as many
+-- what a caller who has seen this many answers gets: the latest and how many there were, unless there were exactly as
+-- many
 abbrev pub IsNews : LatestAnswer → ℕ → Option (ℕ × Answer) → Type 0
 IsNews latest seen None = (latest.answer ≡ None) ⊎ (latest.count ≡ seen)
 IsNews latest seen (Some (count, answer)) =

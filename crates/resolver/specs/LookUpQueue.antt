@@ -19,7 +19,7 @@ running_of state = take 8 state.asked
 abbrev pub waiting_of : State → List ℕ
 waiting_of state = drop 8 state.asked
 
--- each is a host, and none stands twice
+-- each is a host, and none is there twice
 abbrev pub AreHosts : ℕ → List ℕ → Type 0
 AreHosts count hosts = AllPairs (λ one other. one ≢ other) hosts × All (λ host. host < count) hosts
 
@@ -27,24 +27,24 @@ AreHosts count hosts = AllPairs (λ one other. one ≢ other) hosts × All (λ h
 abbrev pub IsFree : State → ℕ → Type 0
 IsFree state host = (host < length state.latest) × (Contains state.asked host → ⊥)
 
--- a host that is asked for comes last
+-- a host that is asked for becomes the last
 abbrev pub joined : State → ℕ → State
 joined state host = record { asked = state.asked ++ host ∷ []; latest = state.latest }
 
--- the host stands at this place of the hosts that are asked for, among the first 8
+-- the host is at this index among those asked for, and is one of the first 8
 abbrev pub IsRunningIn : List ℕ → ℕ → ℕ → Type 0
 IsRunningIn asked host at = (position (λ one. one == host) asked ≡ Some at) × (at < 8)
 
--- the host at this place is being looked up
+-- the host at this index is being looked up
 abbrev pub IsRunning : State → ℕ → ℕ → Type 0
 IsRunning state = IsRunningIn state.asked
 
--- the latest answers, with this one for a host, if there is a host of this index
+-- the latest answers, with this one for a host, if there is a host with this index
 abbrev pub latest_with : List LatestAnswer → ℕ → Answer → List LatestAnswer
 latest_with latest host answer =
     elim (slice_get latest host) [ None ↦ latest | Some of_host ↦ slice_set latest host (with_answer of_host answer) ]
 
--- the look-up of the host at this place has ended in this answer, and the next one is to be looked up instead
+-- The look-up of the host at this index has ended in this answer, and the next one is to be looked up instead.
 pub record Answers (old new : State) (host at : ℕ) (answer : Answer) (result : Option ℕ) : Type 0 where
   -- the first that waits
   pub next : result ≡ slice_get (waiting_of old) 0

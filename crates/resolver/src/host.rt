@@ -4,7 +4,7 @@ ghost use Rattle.std.specs.Prelude.{IfOk};
 use std::alloc::{AllocError, Global};
 use std::net::{IpAddr, SocketAddr};
 
-/// A host, and the port that its addresses are to have.
+/// A host, and the port for its addresses.
 #[derive(Debug, Drop, PartialEq, Eq)]
 pub struct Host {
     /// A name, or a literal IPv4 or IPv6 address.
@@ -23,7 +23,7 @@ pub enum Answer {
 }
 
 impl Host {
-    /// The address that the host's name spells, if it is a literal address.
+    /// `None` if the name is not a literal address.
     pub(crate) fn literal(&self) -> Option<SocketAddr> {
         match self.name.as_str().parse::<IpAddr>() {
             Ok(address) => Some(SocketAddr::new(address, self.port)),
@@ -35,7 +35,7 @@ impl Host {
 impl Answer {
     ghost use Rattle.resolver.specs.LatestAnswer.{SaysSame};
 
-    /// The same answer once more.
+    /// A copy of the answer.
     ///
     /// # Errors
     /// Memory was refused.
@@ -48,7 +48,7 @@ impl Answer {
         }
     }
 
-    /// No address is known for this reason, which is left out if memory is refused.
+    /// No address is known for this reason; the reason is left out if memory is refused.
     pub(crate) fn unknown(alloc: Global, reason: &str) -> Answer {
         Answer::Unknown(String::from_str(alloc, reason).unwrap_or(String::new(alloc)))
     }

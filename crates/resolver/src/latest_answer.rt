@@ -8,7 +8,7 @@ use std::alloc::{AllocError, Global};
 /// The latest answer for one host, if there was one.
 #[derive(Drop)]
 pub(crate) struct LatestAnswer {
-    /// How many answers there were, at most the greatest u64.
+    /// How many answers there were, at most 2 ^ 64 - 1.
     pub count: u64,
     pub answer: Option<Answer>,
 }
@@ -23,7 +23,6 @@ impl LatestAnswer {
         }
     }
 
-    /// This answer is the latest.
     pub fn put(&mut self, answer: Answer)
         ensures { self.new ≡ with_answer self.old answer }
     {

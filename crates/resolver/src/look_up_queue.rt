@@ -1,4 +1,4 @@
-// The look-ups that run and wait: the state behind a resolver's lock.
+// The look-ups that run and wait: the state inside a resolver's lock.
 ghost use Rattle.std.specs.Prelude.{◌≡◌, ◌↔◌, ◌<◌, ◌≤◌, ◌==◌, ℕ, [], length};
 ghost use Rattle.std.specs.Prelude.{Contains, IfOk, IfSome, IsTrue, MatchOption, None, Some, position, slice_get};
 ghost use Rattle.resolver.specs.declared.look_up_queue.Start.TheVariants.{Now, Queued, Nothing};
@@ -10,15 +10,15 @@ use crate::latest_answer::LatestAnswer;
 use std::alloc::{AllocError, Global};
 use std::marker::Model;
 
-// How many look-ups run at once at most.
+// The most look-ups that run at once.
 pub(crate) const LOOK_UPS_MAX: usize = 8;
 
-/// What is to be done about a host that was asked for.
+/// What to do about a host that was asked for.
 #[derive(Clone, Copy, Debug, PartialEq, Eq)]
 pub(crate) enum Start {
     /// It is to be looked up now.
     Now,
-    /// It waits until a look-up has ended.
+    /// It has to wait until another look-up has ended.
     Queued,
     /// There is no such host, or it is being looked up or waits for it.
     Nothing,
@@ -46,7 +46,7 @@ impl Model for LookUpQueue {
 }
 
 impl LookUpQueue {
-    /// Nothing runs or waits, and these are the latest answers.
+    /// A queue in which nothing runs or waits, with these latest answers.
     ///
     /// # Errors
     /// Memory was refused.
@@ -88,8 +88,8 @@ impl LookUpQueue {
         }
     }
 
-    /// The look-up of a host has ended in this answer. Returns the host that is to be looked up in its place: the first
-    /// that waits, if one does. Nothing happens if the host was not being looked up.
+    /// Records that the look-up of a host has ended in this answer. Returns the host to look up in its place: the
+    /// first that waits, if one does. Nothing happens if the host was not being looked up.
     pub fn answered(&mut self, host: usize, answer: Answer) -> Option<usize>
         ensures ok { (at : ℕ) → IsRunning self.old host at
             → Answers self.old self.new host at answer result }
@@ -128,7 +128,7 @@ impl LookUpQueue {
     }
 }
 
-// The place of a host among those that are asked for, if it is being looked up.
+// The index of a host in `asked`, if it is being looked up.
 fn running_place(asked: &[usize], host: usize) -> Option<usize>
     ensures some { (at : ℕ) → IsRunningIn asked.now host at → result ≡ Some at }
     ensures runs { IfSome result (IsRunningIn asked.now host) }
@@ -139,21 +139,20 @@ fn running_place(asked: &[usize], host: usize) -> Option<usize>
     }
 }
 
-// The first place of a host among these.
 fn place_of(hosts: &[usize], host: usize) -> Option<usize>
     ensures { result ≡ position (λ asked. asked == host) hosts.now }
 {
     hosts.iter().position(|asked| *asked == host)
 }
 
-// The last of the hosts that are looked up at once, if they are as many as may be.
+// The last of the hosts that are being looked up, if no more may be.
 fn last_running(asked: &[usize]) -> Option<usize>
     ensures { result ≡ slice_get asked.now 7 }
 {
     asked.get(LOOK_UPS_MAX - 1).copied()
 }
 
-// Puts the answer of a host, if there is a host of this index.
+// Nothing happens if no host has this index.
 fn put_answer(latest: &mut Vec<LatestAnswer>, host: usize, answer: Answer)
     ensures latest { latest.new.items ≡ latest_with latest.old.items host answer }
     ensures count { length latest.new.items ≡ length latest.old.items }

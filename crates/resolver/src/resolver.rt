@@ -1,4 +1,4 @@
-// Looking hosts up in threads.
+// Looks hosts up in threads.
 use crate::host::{Answer, Host};
 use crate::latest_answer::LatestAnswer;
 use crate::look_up::LookUp;
@@ -14,12 +14,12 @@ use std::thread::Threads;
 /// Looks hosts up in threads of its own, at most 8 at once. Threads share it by reference or by copies of it
 /// ([`Resolver::try_clone`]); no call waits for a look-up.
 ///
-/// No call joins its threads: a look-up that never ends holds up neither the other hosts, as long as fewer than 8 do
-/// so, nor the end of the program. A thread ends once the last copy is dropped and its look-up has ended.
+/// No call joins its threads: a look-up that never ends holds up neither the end of the program nor, as long as there
+/// are fewer than 8 of them, the other hosts. A thread ends once the last copy is dropped and its look-up has ended.
 #[derive(Drop)]
 pub struct Resolver {
     shared: Arc<Shared>,
-    // What the threads take their next hosts from; none if no thread could be started.
+    // The channel by which the threads get their next hosts; `None` if no thread could be started.
     due: Option<Sender<usize>>,
 }
 
@@ -39,9 +39,9 @@ struct Capability<R>(PhantomData<R>);
 impl<R: Wait> Wait for Capability<R> {}
 
 impl Resolver {
-    /// A resolver of these hosts, which are named by their indices from here on. It starts as many threads as there
-    /// are hosts to look up, but no more than 8. Nothing is looked up until it is asked for; a literal address is known
-    /// from the start.
+    /// A resolver of these hosts, which are named by their indices from here on. It starts one thread for each host
+    /// to look up, but no more than 8. Nothing is looked up until it is asked for; a literal address is known from
+    /// the start.
     ///
     /// # Errors
     /// Memory was refused.
@@ -79,7 +79,7 @@ impl Resolver {
         })
     }
 
-    /// The same resolver once more, for another thread.
+    /// A copy of the resolver, for another thread.
     ///
     /// # Errors
     /// Memory was refused, or there are too many copies.
@@ -93,18 +93,18 @@ impl Resolver {
         })
     }
 
-    /// Has the waker woken by each answer from now on.
+    /// From now on each answer wakes this waker.
     ///
     /// # Errors
-    /// Memory was refused: it will not be woken.
+    /// Memory was refused: the waker will not be woken.
     pub fn wake_by<R: Wait>(&self, rt: &R, waker: Arc<Waker>) -> Result<(), AllocError> {
         self.shared.wakers.lock(rt).push(waker)?;
         Ok(())
     }
 
     /// Has a host looked up: at once, or as soon as fewer than 8 others are being looked up. Nothing happens if it is
-    /// being looked up or waits for it, if it is a literal address, or if there is none of this index. If no thread
-    /// could be started, it is unknown at once.
+    /// being looked up or waits for it, if it is a literal address, or if no host has this index. If no thread could
+    /// be started, it is unknown at once.
     pub fn ask<R: Wait>(&self, rt: &R, host: usize) {
         if self.shared.is_literal(host) {
             return;
@@ -119,7 +119,7 @@ impl Resolver {
         }
     }
 
-    // Whether a thread will take this host. There is room for all that are to be looked up now.
+    // Whether a thread will take this host. The channel has room for all hosts that are due now.
     fn has_sent<R: Wait>(&self, rt: &R, host: usize) -> bool {
         match &self.due {
             Some(due) => due.try_send(rt, host).is_ok(),
@@ -127,8 +127,8 @@ impl Resolver {
         }
     }
 
-    /// What has been found of a host since this caller's last answer: the latest, if there is one. `seen` is the
-    /// caller's own count for this host, 0 at first.
+    /// The latest answer for a host, if there is one that is new to this caller. `seen` is the caller's own count for
+    /// this host, 0 at first.
     ///
     /// # Errors
     /// Memory was refused: the answer is still new to the caller.
@@ -159,7 +159,6 @@ impl Resolver {
 }
 
 impl Shared {
-    // Whether this host is a literal address.
     fn is_literal(&self, host: usize) -> bool {
         match self.hosts.get(host) {
             Some(host) => host.literal().is_some(),
@@ -167,7 +166,6 @@ impl Shared {
         }
     }
 
-    // The answer of a look-up of this host.
     fn answer<L: LookUp>(&self, look_up: &L, host: usize) -> Answer {
         let Some(host) = self.hosts.get(host) else {
             return Answer::unknown(self.alloc, "no such host");
@@ -193,7 +191,6 @@ impl Shared {
     }
 }
 
-// Whether a thread could be started that looks up what is due.
 fn has_started<R: Threads + Wait + Send + 'static, L: LookUp + Send + Sync + Drop + 'static>(
     rt: &R,
     worker: Result<Worker<L>, AllocError>,
@@ -205,7 +202,6 @@ fn has_started<R: Threads + Wait + Send + 'static, L: LookUp + Send + Sync + Dro
     }
 }
 
-// The answers that are known from the start.
 fn latest_of(alloc: Global, hosts: &[Host]) -> Result<Vec<LatestAnswer>, AllocError> {
     let mut all = Vec::with_capacity(alloc, hosts.len())?;
     for host in hosts {

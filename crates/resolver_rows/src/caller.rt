@@ -1,4 +1,4 @@
-// A caller of a resolver, and what it is told.
+// A caller of a resolver, and the answers that it gets.
 use anyhow::{Result, bail};
 use resolver::{Answer, Host, Resolver};
 use std::alloc::{AllocError, Global};
@@ -11,13 +11,13 @@ use std::time::Duration;
 // How often an answer is looked for, once in each hundredth of a second.
 const TRIES: u64 = 2_000;
 
-/// A caller, who counts the answers of each host.
+/// A caller, who counts the answers for each host.
 #[derive(Drop)]
 pub(crate) struct Caller {
     seen: Vec<u64>,
 }
 
-/// Hosts of these names, whose port is 119.
+/// Hosts with these names and port 119.
 pub(crate) fn hosts(alloc: Global, names: &[&str]) -> Result<Vec<Host>, AllocError> {
     let mut hosts = Vec::new(alloc);
     for name in names {
@@ -30,14 +30,13 @@ pub(crate) fn hosts(alloc: Global, names: &[&str]) -> Result<Vec<Host>, AllocErr
 }
 
 impl Caller {
-    /// One who has had no answer of so many hosts.
+    /// A caller that has had no answer yet for any of these hosts.
     pub fn new(alloc: Global, hosts: usize) -> Result<Self, AllocError> {
         Ok(Caller {
             seen: vec![in alloc; 0u64; hosts]?,
         })
     }
 
-    // The news of a host.
     fn news<R: Wait>(
         &mut self,
         rt: &R,
@@ -50,7 +49,6 @@ impl Caller {
         }
     }
 
-    // The next news of a host, which are waited for.
     fn next<R: Wait + Clock>(
         &mut self,
         rt: &R,
@@ -93,7 +91,7 @@ impl Caller {
         print(rt, host, &answer)
     }
 
-    /// Waits for the news of a host, and tells whether they are addresses of this machine's own.
+    /// Waits for the news of a host, and returns whether they are addresses of this machine.
     pub fn is_own<R: Wait + Clock>(
         &mut self,
         rt: &R,
@@ -112,7 +110,6 @@ fn is_loopback(address: SocketAddr) -> bool {
     address.ip().is_loopback() && address.port() == 119
 }
 
-// Prints an answer.
 fn print<R: Print>(rt: &R, host: usize, answer: &Answer) -> Result<()> {
     match answer {
         Answer::Found(addresses) => {

@@ -1,18 +1,17 @@
-// A look-up that is held up until its gate is open.
+// Look-ups that wait until a gate is open.
 use resolver::LookUp;
 use std::alloc::{AllocError, Global};
 use std::io;
 use std::net::{IpAddr, Ipv4Addr, SocketAddr};
 use std::sync::{Arc, Condvar, Mutex, Wait};
 
-/// A gate that look-ups wait at, and what it has seen of them.
+/// A gate at which look-ups wait, and what it has seen of them.
 #[derive(Drop)]
 pub(crate) struct Gate {
     seen: Mutex<Seen>,
     changed: Condvar,
 }
 
-// What a gate has seen.
 #[derive(Drop)]
 struct Seen {
     is_open: bool,
@@ -21,7 +20,7 @@ struct Seen {
     most: u64,
 }
 
-/// Look-ups that wait at a gate, but for those of `fails.example`, which fail at once.
+/// Look-ups that wait at a gate, except those for `fails.example`, which fail at once.
 #[derive(Drop)]
 pub(crate) struct Gated<R: Drop> {
     pub rt: R,
@@ -47,7 +46,7 @@ impl Gate {
         self.changed.notify_all();
     }
 
-    /// Waits until so many look-ups are inside.
+    /// Waits until this many look-ups are inside.
     pub fn wait_for<R: Wait>(&self, rt: &R, count: u64) {
         let _ = self
             .changed
@@ -59,17 +58,16 @@ impl Gate {
         self.seen.lock(rt).calls
     }
 
-    /// How many are at it.
+    /// How many are at the gate now.
     pub fn inside<R: Wait>(&self, rt: &R) -> u64 {
         self.seen.lock(rt).inside
     }
 
-    /// How many were at it at once, at most.
+    /// The most that were at the gate at once.
     pub fn most<R: Wait>(&self, rt: &R) -> u64 {
         self.seen.lock(rt).most
     }
 
-    // Passes it once it is open.
     fn pass<R: Wait>(&self, rt: &R) {
         let mut seen = self.seen.lock(rt);
         seen.calls = seen.calls.saturating_add(1);

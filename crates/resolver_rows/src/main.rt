@@ -1,4 +1,4 @@
-//! What a resolver tells of hosts, row by row (README.md).
+//! What a resolver answers for hosts, row by row (README.md).
 //!
 //! It may start threads, wait for them, look `localhost` up, and print. Nothing stands above this crate.
 #![tactic(auto)]
@@ -31,7 +31,7 @@ fn main(rt: HostRuntime) -> Result<()> {
     never(rt)
 }
 
-// A resolver of hosts of these names, whose look-ups pass this gate.
+// A resolver of hosts with these names, whose look-ups pass this gate.
 fn resolver<R: AllocGlobal + Threads + Wait + Copy + Send + Sync + Drop + 'static>(
     rt: R,
     gate: &Arc<Gate, Global>,
@@ -62,7 +62,7 @@ fn literals<R: AllocGlobal + Threads + Wait + Clock + Print + Copy + Send + Sync
     Ok(())
 }
 
-// Eight run at once, and the others behind them.
+// Eight run at once, and the others after them.
 fn twenty<R: AllocGlobal + Threads + Wait + Clock + Print + Copy + Send + Sync + Drop + 'static>(
     rt: R,
 ) -> Result<()> {
@@ -94,7 +94,7 @@ fn twenty<R: AllocGlobal + Threads + Wait + Clock + Print + Copy + Send + Sync +
     caller.tell(&rt, &resolver, 0)
 }
 
-// A host that is being looked up or waits for it is not looked up once more.
+// A host that is being looked up or waits for it is not looked up again.
 fn asked_twice<
     R: AllocGlobal + Threads + Wait + Clock + Print + Copy + Send + Sync + Drop + 'static,
 >(rt: R) -> Result<()> {
@@ -115,7 +115,7 @@ fn asked_twice<
     Ok(())
 }
 
-// Asked for after its answer, it is looked up again.
+// A host that is asked for after its answer is looked up again.
 fn asked_again<
     R: AllocGlobal + Threads + Wait + Clock + Print + Copy + Send + Sync + Drop + 'static,
 >(rt: R) -> Result<()> {
@@ -148,7 +148,7 @@ fn failures<R: AllocGlobal + Threads + Wait + Clock + Print + Copy + Send + Sync
     Ok(())
 }
 
-// Two callers get each answer once each.
+// Two callers get each answer, each of them once.
 fn callers<R: AllocGlobal + Threads + Wait + Clock + Print + Copy + Send + Sync + Drop + 'static>(
     rt: R,
 ) -> Result<()> {
@@ -166,7 +166,7 @@ fn callers<R: AllocGlobal + Threads + Wait + Clock + Print + Copy + Send + Sync 
     second.tell(&rt, &other, 0)
 }
 
-// An index that no host has is passed over.
+// An index that no host has is ignored.
 fn no_such_host<
     R: AllocGlobal + Threads + Wait + Clock + Print + Copy + Send + Sync + Drop + 'static,
 >(rt: R) -> Result<()> {
@@ -183,7 +183,7 @@ fn no_such_host<
     Ok(())
 }
 
-// A look-up that takes long holds up no other.
+// A slow look-up does not hold up the others.
 fn slow<R: AllocGlobal + Threads + Wait + Clock + Print + Copy + Send + Sync + Drop + 'static>(
     rt: R,
 ) -> Result<()> {
@@ -230,7 +230,6 @@ fn woken<
     caller.tell(&rt, &resolver, 0)
 }
 
-// Waits until the poll is woken.
 fn tell_events<R: Print>(rt: &R, poll: &mut Poll, events: &mut Events<Global>) -> Result<()> {
     poll.poll(events, None)?;
     println!(rt; "{} event", events.iter().count())?;

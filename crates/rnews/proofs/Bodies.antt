@@ -1,4 +1,4 @@
--- What a field has, line by line.
+-- The body of a field, line by line.
 use Rattle.std.proofs.Common.{◌≡◌, ◌++◌, ◌∷◌, ◌+◌, ◌<◌, [], ℕ, Bor, true, false, List, length, map, drop}
 use Rattle.std.proofs.Common.{drop-cons, get_or, add-one, suc, refl, sym, ap, ◌∙◌}
 use Rattle.rnews.specs.Header.{begins_field, first_body, folds, is_folded}

@@ -1,4 +1,4 @@
--- The message-id that is read of what the one field has.
+-- The message-id that is read from the body of the one field.
 use Rattle.std.proofs.Common.{◌≡◌, ◌↔◌, ℕ, Bool, true, false, List, Option, Some, None, Result, Ok, Err, IfOk}
 use Rattle.std.proofs.Common.{IfSome, IsSome, IsTrue, count_by, refl, sym, ap, ◌∙◌}
 use Rattle.std.proofs.lemmas.Bool.{false≢true}

@@ -1,4 +1,4 @@
--- Maps whose keys are octets: what a change under one key leaves under each other.
+-- Maps whose keys are octets: what a change under one key leaves under every other.
 use Rattle.std.proofs.Common.{◌≡◌, ◌≢◌, ℕ, true, false, List, sym, ◌∙◌}
 use Rattle.std.specs.Cmp.{eq_by_cmp_equiv}
 use Rattle.std.specs.Cmp.Lexicographic.{slice_cmp}
@@ -13,7 +13,7 @@ use Rattle.std.proofs.lemmas.Slice.Eq.{bytes_eq-Decides}
 same : (a b : List ℕ) → is_eq (slice_cmp nat_cmp a b) ≡ true → a ≡ b
 same a b h = (bytes_eq-Decides a b).0 (sym (is_eq-slice_cmp a b) ∙ h)
 
--- no key is two
+-- no key equals two others
 apart : (one other key : List ℕ) → other ≢ one → is_eq (slice_cmp nat_cmp one key) ≡ true
     → is_eq (slice_cmp nat_cmp other key) ≡ false
 apart one other key differ h =

@@ -12,7 +12,7 @@ use Rattle.rnews.specs.declared.waiting.Tokens.{Tokens}
 use Rattle.rnews.specs.declared.waiting.Tokens.TheVariants.{One, Several}
 use Rattle.rnews.specs.Waits.{IsKeptFor, Wait, is_for, tokens_for}
 
--- whether two message-ids are one
+-- whether two message-ids are equal
 pub data Same (a b : List ℕ) : Type 0 where
   same : a ≡ b → Same a b
   differ : a ≢ b → bytes_eq a b ≡ false → Same a b
@@ -27,7 +27,7 @@ compare a b = by_answer a b (bytes_eq a b) refl
 is_same : (a : List ℕ) → bytes_eq a a ≡ true
 is_same a = (bytes_eq-Decides a a).1 refl
 
--- a token more for this message-id
+-- one more token for this message-id
 pub tokens_for-added : (id token : List ℕ) (waits : List Wait)
     → tokens_for id (waits ++ record { token = token; id = id } ∷ []) ≡ tokens_for id waits ++ token ∷ []
 tokens_for-added id token waits =
@@ -37,7 +37,7 @@ tokens_for-added id token waits =
     ∙ (ap (λ ws. map (λ wait. wait.token) (filter (is_for id) waits ++ ws)) here
     ∙ map-append (λ wait. wait.token) (filter (is_for id) waits) (wait ∷ []))
 
--- a token more for another
+-- one more token for another
 pub tokens_for-other : (id other token : List ℕ) (waits : List Wait) → bytes_eq other id ≡ false
     → tokens_for other (waits ++ record { token = token; id = id } ∷ []) ≡ tokens_for other waits
 tokens_for-other id other token waits h =
@@ -47,7 +47,7 @@ tokens_for-other id other token waits h =
     ∙ (ap (λ ws. filter (is_for other) waits ++ ws) here
     ∙ append-nil (filter (is_for other) waits)))
 
--- Without those for this message-id none is left for it.
+-- Without the tokens for this message-id there is none left for it.
 step_same : (id : List ℕ) (wait : Wait) (waits : List Wait) (answer : Bool) → is_for id wait ≡ answer
     → tokens_for id (filter (λ w. not (is_for id w)) waits) ≡ []
     → tokens_for id (filter (λ w. not (is_for id w)) (wait ∷ waits)) ≡ []
@@ -58,7 +58,7 @@ pub tokens_for-taken : (id : List ℕ) (waits : List Wait) → tokens_for id (fi
 tokens_for-taken id [] = refl
 tokens_for-taken id (wait ∷ waits) = step_same id wait waits (is_for id wait) refl (tokens_for-taken id waits)
 
--- Of those for another message-id none is lost.
+-- No token for another message-id is lost.
 step_other : (id other : List ℕ) (wait : Wait) (waits : List Wait) (mine yours : Bool) → is_for id wait ≡ mine
     → is_for other wait ≡ yours → other ≢ id
     → tokens_for other (filter (λ w. not (is_for id w)) waits) ≡ tokens_for other waits
@@ -76,7 +76,7 @@ tokens_for-kept id other (wait ∷ waits) apart =
     step_other id other wait waits (is_for id wait) (is_for other wait) refl refl apart
     (tokens_for-kept id other waits apart)
 
--- what is kept once a token more waits
+-- what is kept once one more token waits
 pub kept_added : (old : Option Tokens) (new : Tokens) (tokens : List (List ℕ)) (token : List ℕ) → IsKeptFor old tokens
     → (is_some old ≡ true → new ≡ Several) → (is_some old ≡ false → new ≡ One token)
     → IsKeptFor (Some new) (tokens ++ token ∷ [])

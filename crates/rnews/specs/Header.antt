@@ -6,7 +6,7 @@ use Rattle.std.specs.Char.{is_ascii_whitespace, to_ascii_lowercase}
 use Rattle.std.specs.Str.{str_eq_ignore_ascii_case}
 use Rattle.funnel.specs.Names.{is_msg_id}
 
--- a line, without its LF, that has nothing but its end
+-- a line, without its LF, that is empty or has only a CR
 abbrev pub is_empty_line : List ℕ → Bool
 is_empty_line line = length line == 0 || (length line == 1 && slice_index line 0 == 13)
 
@@ -18,25 +18,25 @@ header_lines article = take_while (λ line. not (is_empty_line line)) (slice_spl
 abbrev pub name : List ℕ
 name = 109 ∷ 101 ∷ 115 ∷ 115 ∷ 97 ∷ 103 ∷ 101 ∷ 45 ∷ 105 ∷ 100 ∷ 58 ∷ []
 
--- the field Message-ID begins on this line, its name in capitals or small letters
+-- the field Message-ID begins on this line; the case of its name does not matter
 abbrev pub begins_field : List ℕ → Bool
 begins_field line = nat_le 11 (length line) && str_eq_ignore_ascii_case (take 11 line) name
 
--- the line begins with a blank: it goes on with the field before it
+-- the line begins with a blank: it continues the field before it
 abbrev pub is_folded : List ℕ → Bool
 is_folded line = nat_lt 0 (length line) && (slice_index line 0 == 32 || slice_index line 0 == 9)
 
--- what the lines that are folded onto the one before them have
+-- the text of the lines that are folded onto the one before them
 abbrev pub folds : List (List ℕ) → List ℕ
 folds [] = []
 folds (line ∷ others) = if is_folded line then line ++ folds others else []
 
--- what the first field Message-ID of these lines has, unfolded; nothing if they have none
+-- the body of the first field Message-ID of these lines, unfolded; empty if they have none
 abbrev pub first_body : List (List ℕ) → List ℕ
 first_body [] = []
 first_body (line ∷ others) = if begins_field line then drop 11 line ++ folds others else first_body others
 
--- without the white space in front of it
+-- without the white space before it
 abbrev pub trimmed_start : List ℕ → List ℕ
 trimmed_start text = drop (prefix_len is_ascii_whitespace text) text
 
@@ -45,12 +45,12 @@ abbrev pub trimmed : List ℕ → List ℕ
 trimmed text =
     take (length (trimmed_start text) - suffix_len is_ascii_whitespace (trimmed_start text)) (trimmed_start text)
 
--- the message-id that the one field Message-ID of these lines has
+-- the message-id in the one field Message-ID of these lines
 abbrev pub id_in : List (List ℕ) → Option (List ℕ)
 id_in lines =
     if count_by begins_field lines == 1 && is_msg_id (trimmed (first_body lines)) then Some (trimmed
     (first_body lines)) else None
 
--- An article's message-id: its header has one field Message-ID, which has this message-id and nothing else.
+-- An article's message-id: its header has one field Message-ID, whose body is this message-id and nothing else.
 abbrev pub message_id_of : List ℕ → Option (List ℕ)
 message_id_of article = id_in (header_lines article)

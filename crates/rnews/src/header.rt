@@ -10,11 +10,11 @@ use std::alloc::{AllocError, Global};
 const NAME: &[u8] = b"message-id:";
 
 /// The message-id in the header of this article; `None` if the header has no field Message-ID, or has several, or if
-/// what the field has is no message-id (RFC 5536, section 3.1.3).
+/// the field's body is not a message-id (RFC 5536, section 3.1.3).
 ///
-/// The header ends at the first empty line. Its lines end with LF or with CR and LF. The field's name may be written in
-/// capitals or small letters, and what it has may be folded (RFC 5322, section 2.2.3); the white space around the
-/// message-id does not count.
+/// The header ends at the first empty line. Its lines end with LF or with CR and LF. The case of the field's name
+/// does not matter, and its body may be folded (RFC 5322, section 2.2.3); white space around the message-id is
+/// ignored.
 ///
 /// # Errors
 /// `NoMemory` if memory was refused.
@@ -40,28 +40,27 @@ fn header_lines(alloc: Global, article: &[u8]) -> Result<Vec<&[u8]>, AllocError>
         .collect(alloc)
 }
 
-// Whether nothing stands before the line's end, of which the LF is cut off.
+// Whether a line, without its LF, is empty or has only a CR.
 fn is_empty_line(line: &[u8]) -> bool
     ensures { result ≡ is_empty_line line.now }
 {
     line.is_empty() || (line.len() == 1 && line[0] == b'\r')
 }
 
-// How many fields are called Message-ID.
 fn count_fields(lines: &[&[u8]]) -> usize
     ensures { result ≡ count_by begins_field (map (λ line. line.now) lines.now) }
 {
     lines.iter().filter(|line| begins_field(line)).count()
 }
 
-// Whether the field called Message-ID begins on this line.
+// Whether a field called Message-ID begins on this line.
 fn begins_field(line: &[u8]) -> bool
     ensures { result ≡ begins_field line.now }
 {
     line.len() >= NAME.len() && line[..NAME.len()].eq_ignore_ascii_case(NAME)
 }
 
-// What the first of these fields has, unfolded; nothing if there is none.
+// The body of the first of these fields, unfolded; empty if there is none.
 fn first_body(alloc: Global, lines: &[&[u8]]) -> Result<Vec<u8>, AllocError>
     ensures { IfOk result (λ body.
         body.items ≡ first_body (map (λ line. line.now) lines.now)) }
@@ -76,7 +75,7 @@ fn first_body(alloc: Global, lines: &[&[u8]]) -> Result<Vec<u8>, AllocError>
     Ok(Vec::new(alloc))
 }
 
-// A text with those of the lines behind it that are folded onto it.
+// A text with those of the lines after it that are folded onto it.
 fn unfolded(alloc: Global, text: &[u8], others: &[&[u8]]) -> Result<Vec<u8>, AllocError>
     ensures { IfOk result (λ body.
         body.items ≡ text.now ++ folds (map (λ line. line.now) others.now)) }
@@ -91,7 +90,7 @@ fn unfolded(alloc: Global, text: &[u8], others: &[&[u8]]) -> Result<Vec<u8>, All
     Ok(body)
 }
 
-// Whether the line goes on with what the one before it has.
+// Whether the line continues the field before it.
 fn is_folded(line: &[u8]) -> bool
     ensures { result ≡ is_folded line.now }
 {

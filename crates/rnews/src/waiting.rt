@@ -22,7 +22,6 @@ pub struct Waiting {
 }
 
 impl Waiting {
-    /// No token waits.
     pub fn new(alloc: Global) -> Self
         ensures { StandsFor result [] }
     {
@@ -32,7 +31,7 @@ impl Waiting {
         }
     }
 
-    /// The token is to wait for the article that has this message-id. A token that is added twice waits twice.
+    /// Has the token wait for the article with this message-id. A token that is added twice waits twice.
     ///
     /// # Errors
     /// `NoMemory` if memory was refused; then the same tokens wait as before.
@@ -52,8 +51,8 @@ impl Waiting {
         Ok(())
     }
 
-    /// The one token that waits for the article with this message-id, which then waits no longer; `None`, and nothing
-    /// changes, if no token waits for it, or several do.
+    /// Takes out the one token that waits for the article with this message-id; `None`, and nothing changes, if no
+    /// token waits for it, or several do.
     pub fn take(&mut self, id: &MsgId) -> Option<Token>
         ensures { (waits : List Wait) → StandsFor self.old waits → MatchOption result
             (((token : List ℕ) → tokens_for id.now waits ≢ token ∷ [])

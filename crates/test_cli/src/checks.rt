@@ -16,7 +16,7 @@ group fast {
 peer three { colour: red }
 ";
 
-// Reports stand in reading order, a key's octets as they are written.
+// Reports are in reading order, and a key's octets are as they are written.
 const LIMITED: &[u8] =
     b"port-number: 65536\npeer p { max-connections: 0 : x }\ngroup g { news-spool: y }";
 

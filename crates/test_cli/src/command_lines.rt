@@ -165,7 +165,6 @@ const NEEDS_FILE: &str = "mistake '-c FILE' or '--drill FILE' is required";
 
 const DRILL_ALONE: &str = "mistake '--drill FILE' takes no other argument";
 
-// The words of a line.
 fn split_args(alloc: Global, line: &str) -> Result<Vec<String>, AllocError> {
     let mut words = Vec::new(alloc);
     for word in line.split(' ') {
@@ -174,14 +173,12 @@ fn split_args(alloc: Global, line: &str) -> Result<Vec<String>, AllocError> {
     Ok(words)
 }
 
-// Two texts, one after the other.
 fn joined(alloc: Global, first: &str, second: &str) -> Result<String, AllocError> {
     let mut text = String::from_str(alloc, first)?;
     text.push_str(second)?;
     Ok(text)
 }
 
-// What is done with a funnel.
 fn done_to_funnel(is_followed: bool, is_tidied: bool) -> &'static str {
     match (is_followed, is_tidied) {
         (false, false) => "feed ",
@@ -191,7 +188,6 @@ fn done_to_funnel(is_followed: bool, is_tidied: bool) -> &'static str {
     }
 }
 
-// What a feed is asked for with.
 fn feed_text(
     alloc: Global,
     conf: &str,
@@ -227,7 +223,6 @@ fn owed_text(verbose: bool) -> &'static str {
     if verbose { "explain owed " } else { "owed " }
 }
 
-// What a line's words ask for.
 fn asked(alloc: Global, line: &str) -> Result<String, AllocError> {
     let words = split_args(alloc, line)?;
     match read_args(alloc, &words)? {

@@ -1,4 +1,4 @@
-// Drills, texts that are printed, mistakes in the words, and files that cannot be read.
+// Drills, texts that are printed, mistakes in the arguments, and files that cannot be read.
 
 use crate::feeds::Ends;
 use crate::streams::{Asked, OneFile, printed};
@@ -52,7 +52,7 @@ const ROWS: [(Asked, OneFile, &[u8], &[u8]); 20] = [
         b"1\ntaken 0\nstep 2: NoConnection\n--\n\
             x: line 5: no connection has this number, or a stop ended it\n",
     ),
-    // Of two refused tapes the first by name is reported; a broken line goes before any.
+    // If two tapes are refused, the first by name is reported; a broken line goes before any.
     (
         Asked::Input,
         OneFile("x", Ok(b"")),
@@ -147,7 +147,6 @@ fn orders_are_done(rt: HostRuntime) -> Result<(), Fail> {
 // The tape of one debt, in digits.
 const TAPE: [u8; 50] = *b"a50000001301000000000000000103612f31053c7840793e00";
 
-// What a drill prints that is given the octets of these digits as a tape.
 fn printed_of(alloc: Global, digits: &[u8]) -> Result<Vec<u8>, Fail> {
     let mut script = Vec::from_slice(alloc, b"peer p\ntape p ")?;
     script.extend_from_slice(digits)?;

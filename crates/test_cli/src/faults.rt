@@ -1,4 +1,4 @@
-// Streams that fail: the status stands, and standard error says which stream it was.
+// Streams that fail: the status stays, and standard error says which stream it was.
 
 use crate::feeds::Ends;
 use crate::streams::{Asked, Broken, OneFile, Stuck, order_of};
@@ -7,7 +7,8 @@ use std::alloc::{AllocError, Global};
 use std::io::{ErrorKind, Read, Write};
 use std::test::Fail;
 
-// What is asked for of a file with two octets that are a configuration's fault and no script, and the status.
+// What is asked for, and the status. The file has a brace and LF: a fault as a configuration, and not a
+// script.
 const STATUSES: [(Asked, u8); 8] = [
     (Asked::Input, 0),
     (Asked::Drill("x"), 1),

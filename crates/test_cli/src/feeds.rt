@@ -8,7 +8,7 @@ use std::alloc::{AllocError, Global};
 use std::io::{ErrorKind, Write};
 use std::test::Fail;
 
-/// A feed that only says what it was asked for, and ends with these troubles: `t` another process, `T` a tape, `r`,
+/// A feed that only says what it was asked for, and ends with these errors: `t` another process, `T` a tape, `r`,
 /// `w`, `o` a file not read, one not written, standard output, `l` want of memory, `p` a peer that is owed 300.
 #[derive(Clone, Copy)]
 pub struct Ends(pub &'static str);
@@ -92,7 +92,6 @@ impl Feeds for Ends {
     }
 }
 
-// What else is done to a funnel.
 fn done_to_funnel(is_followed: bool, is_tidied: bool) -> &'static str {
     match (is_followed, is_tidied) {
         (false, false) => "",

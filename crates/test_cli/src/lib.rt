@@ -1,5 +1,5 @@
-//! Tests of `cli` and `cli_args`, over the one public call of each: what the words of a command line ask for,
-//! statuses, and what stands on standard output and on standard error.
+//! Tests of `cli` and `cli_args`, over the one public call of each: what the words of a command line ask for, exit
+//! statuses, and what is on standard output and on standard error.
 //!
 //! Files, streams and their faults are in memory. Nothing stands above it.
 #![tactic(auto)]

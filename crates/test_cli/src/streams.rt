@@ -5,7 +5,7 @@ use cli::{Order, ReadFile, Source, run};
 use std::alloc::{AllocError, Global};
 use std::io::{self, Error, ErrorKind, Read, Write};
 
-/// The one file that there is, with these octets, or a kind of error in their place.
+/// The only file that there is, with these octets, or a kind of error in their place.
 #[derive(Clone, Copy)]
 pub struct OneFile(pub &'static str, pub Result<&'static [u8], ErrorKind>);
 
@@ -21,7 +21,7 @@ impl ReadFile for OneFile {
     }
 }
 
-/// A stream of which each use fails so.
+/// A stream whose every use fails with this kind of error.
 #[derive(Clone, Copy)]
 pub struct Broken(pub ErrorKind);
 
@@ -41,7 +41,7 @@ impl Write for Broken {
     }
 }
 
-/// A writer that takes all and then cannot give it on.
+/// A writer that takes all octets and then fails to flush them.
 #[derive(Clone, Copy)]
 pub struct Stuck;
 
@@ -70,7 +70,6 @@ pub enum Asked {
     Mistake(&'static str),
 }
 
-/// The order that a test asks for.
 pub fn order_of(alloc: Global, asked: Asked) -> Result<Order<'static>, AllocError> {
     Ok(match asked {
         Asked::Input => Order::DrillFromInput,
@@ -110,8 +109,8 @@ pub fn order_of(alloc: Global, asked: Asked) -> Result<Order<'static>, AllocErro
     })
 }
 
-/// What a run prints whose feeds end with these errors: its status as a digit, standard output, and standard error,
-/// with a line between them.
+/// What is printed by a run whose feeds end with these errors: its status as a digit, standard output, and standard
+/// error, with a line between them.
 pub fn printed(
     alloc: Global,
     asked: Asked,

@@ -1,4 +1,4 @@
-// An exchange over a link in memory, and what is to come of it where the link ends early.
+// An exchange over a link in memory, and what should come of it if the link ends early.
 use crate::rows::{BACK, LATER, Step};
 use article_store::Found;
 use bytes::Bytes;
@@ -19,10 +19,10 @@ pub(crate) const OPTIONS: Options = Options {
     response_timeout: 300,
 };
 
-// Turns that no exchange uses up.
+// More turns than any exchange takes.
 const ENOUGH: u64 = 1_000_000;
 
-// How a link goes: the most octets that it moves at a time, and where each direction ends.
+// How a link behaves: the most octets that it moves at a time, and how each direction ends.
 #[derive(Clone, Copy, Debug)]
 pub(crate) struct Way {
     pub(crate) piece: usize,
@@ -36,12 +36,11 @@ pub(crate) struct Exchange {
     way: Way,
     conn: Conn,
     link: MemLink,
-    // How the last drive ended.
     driven: Driven,
-    // How many octets the server was to give so far, and those that it was to take.
+    // How many octets the server was to give so far, and how many it was to take.
     said: usize,
     sends: Vec<u8>,
-    // The debts that were taken, and those that were done, with a code or what is told in its place.
+    // The debts that were taken, and those that are done, each with a code or `LATER`.
     taken: Vec<Key>,
     done: Vec<(Key, u16)>,
 }
@@ -61,7 +60,7 @@ impl Exchange {
         })
     }
 
-    // Takes the steps of a row, and drives the connection behind each.
+    // Takes the steps of a row, and drives the connection after each.
     pub(crate) fn play(&mut self, row: &[Step]) -> Result<(), Fail> {
         for step in row {
             self.take(*step)?;
@@ -98,7 +97,7 @@ impl Exchange {
         Ok(())
     }
 
-    // Whether all that the server said so far came, and all that was to go out before went.
+    // Whether all that the server said so far came, and all that should be sent before was sent.
     fn is_whole(&self) -> bool {
         reaches(self.way.gives, self.said) && reaches(self.way.takes, self.sends.len())
     }
@@ -115,12 +114,12 @@ impl Exchange {
 
     fn hand(&mut self, number: u64, text: &[u8]) -> Result<(), Fail> {
         let found = Found::Article(Bytes::copy_from_slice(self.alloc, text)?);
-        // It is refused where the connection broke before.
+        // It is refused if the connection broke before.
         let _ = self.conn.article(line_key(number), found);
         Ok(())
     }
 
-    // Each debt that was taken comes out once: by its final reply where the whole of that came.
+    // Each debt that was taken comes out once: by its final reply if the whole of that came.
     pub(crate) fn assert_outcomes<A: Abort>(&mut self, rt: &A) -> Result<(), Fail> {
         let mut told = Vec::new(self.alloc);
         for _ in 0..ENOUGH {
@@ -141,7 +140,7 @@ impl Exchange {
         Ok(())
     }
 
-    // What the link took is what was to go out: all of it, where nothing broke.
+    // What the link took is what should be sent: all of it, if nothing broke.
     pub(crate) fn assert_taken<A: Abort>(&self, rt: &A) {
         let taken = self.link.taken();
         match self.driven {
@@ -163,7 +162,7 @@ impl Exchange {
     }
 }
 
-// Whether a direction goes on for so many octets.
+// Whether a direction goes on for this many octets.
 fn reaches(end: End, count: usize) -> bool {
     match end {
         End::Never => true,
@@ -171,7 +170,6 @@ fn reaches(end: End, count: usize) -> bool {
     }
 }
 
-// The key of the line of this number of the funnel.
 fn line_key(number: u64) -> Key {
     Key::new(0, number)
 }

@@ -1,6 +1,6 @@
-// The exchanges. What goes out in them was worked out by hand from RFC 4644 and RFC 3977, 6.3.2.
+// The exchanges. What should be sent in them was worked out by hand from RFC 4644 and RFC 3977, section 6.3.2.
 
-// What is told of a debt that no final reply ended, in place of the reply's code.
+// In place of a reply's code: no final reply ended the debt.
 pub(crate) const LATER: u16 = 1;
 
 pub(crate) const BACK: u16 = 2;
@@ -9,13 +9,13 @@ pub(crate) const BACK: u16 = 2;
 pub(crate) enum Step {
     // The server says this line.
     Says(&'static [u8]),
-    // The server says this line, with which the debt of this number is done: by this code, or put off.
+    // The server says this line, which ends the debt of this number: with this code, or deferred.
     Ends(u64, u16, &'static [u8]),
     // A debt of this number and message-id is offered.
     Offer(u64, &'static [u8]),
     // The article of this number, which is needed first, has this text.
     Text(u64, &'static [u8]),
-    // By now these octets went out too.
+    // By now these octets were sent too.
     Sends(&'static [u8]),
 }
 
@@ -41,7 +41,7 @@ pub(crate) const STREAMING: &[Step] = &[
     Step::Ends(3, 439, b"439 <w@y>"),
 ];
 
-// Streaming is refused: by IHAVE one article is put off, one is rejected behind its block, one is not wanted, and one
+// Streaming is refused: by IHAVE one article is deferred, one is rejected after its block, one is not wanted, and one
 // is taken.
 pub(crate) const ONE_BY_ONE: &[Step] = &[
     Step::Says(b"200"),

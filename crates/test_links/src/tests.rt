@@ -14,7 +14,7 @@ const WHOLE: Way = Way {
     takes: End::Never,
 };
 
-// A row over a link that goes this way: how it ended is wanted.
+// Plays a row over a link that behaves this way, and checks how it ended.
 fn play<A: Abort>(
     rt: &A,
     alloc: Global,
@@ -30,7 +30,7 @@ fn play<A: Abort>(
     Ok(exchange)
 }
 
-// A row whole, and with each direction closed, and failing, behind each number of octets.
+// A row whole, and with each direction closed, and failing, after each number of octets.
 fn play_cut<A: Abort>(rt: &A, alloc: Global, row: &[Step]) -> Result<(), Fail> {
     let whole = play(rt, alloc, row, WHOLE, Driven::Idle)?;
     for at in 0..=whole.said() {

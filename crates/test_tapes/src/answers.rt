@@ -1,8 +1,8 @@
-// What each table and each script shares.
+// What all tables and scripts share.
 use std::fmt::Debug;
 use std::process::Abort;
 
-// What was asked at this place of a script or of a table has to be answered as is wanted.
+// The answer at this place of a script or of a table has to be the wanted one.
 pub(crate) fn assert_answer<A: Abort, T: PartialEq + Debug>(
     rt: &A,
     at: usize,

@@ -58,7 +58,7 @@ const PLAIN_NOTED: [u8; 113] = [
     0, 0, 0, 0, 0, 0, 0, 5, 3, 0x61, 0x2f, 0x31, 5, 0x3c, 0x78, 0x40, 0x79, 0x3e, 0,
 ];
 
-// The three debts where the second gate is closed.
+// The three debts, with the second gate closed.
 const TORN: [u8; 73] = [
     0xa5, 0, 0, 0, 0x13, 1, 0, 0, 0, 0, 0, 0, 0, 1, 3, 0x61, 0x2f, 0x31, 5, 0x3c, 0x78, 0x40, 0x79,
     0x3e, 0, 0, 0, 0, 0x13, 1, 0, 0, 0, 0, 0, 0, 0, 2, 3, 0x61, 0x2f, 0x31, 5, 0x3c, 0x78, 0x40,
@@ -127,18 +127,16 @@ const EACH_KIND: &[Sample] = &[
     Sample::Seen(5),
 ];
 
-// The payload of a tape of one record.
 fn payload_of(tape: &[u8]) -> Result<&[u8], Fail> {
     let end = tape.len().saturating_sub(1);
     Ok(tape.get(5..end).ok_or("a record")?)
 }
 
-// The notes that a payload spells together.
 fn notes_of(alloc: Global, payload: &[u8]) -> Result<Vec<Note>, Fail> {
     Ok(decode_batch(alloc, payload)?.ok_or("a batch")?)
 }
 
-// A payload that is a batch, spelled once more.
+// A payload that is a batch, spelled again.
 fn spelled_again(alloc: Global, payload: &[u8]) -> Result<Vec<u8>, Fail> {
     let notes = decode_batch(alloc, payload)?.ok_or("a batch")?;
     Ok(encode_batch(alloc, &notes)?)
@@ -176,7 +174,7 @@ fn assert_notes<A: Abort>(rt: &A, at: usize, notes: &[Note], want: &[Sample]) {
     }
 }
 
-// A payload that is cut anywhere is no batch.
+// A payload that is cut anywhere is not a batch.
 fn assert_cut_short<A: Abort>(
     rt: &A,
     alloc: Global,
@@ -189,7 +187,7 @@ fn assert_cut_short<A: Abort>(
     Ok(())
 }
 
-// The note joins those of a payload, which has the length then that was told before.
+// Adds the note to a payload, which then has the length that was returned before.
 fn join_one<A: Abort>(rt: &A, at: usize, payload: &mut Vec<u8>, note: &[u8]) -> Result<(), Fail> {
     if note.len() > 1024 {
         return Err(Fail::from("a note"));
@@ -215,7 +213,7 @@ fn notes_join(rt: HostRuntime) -> Result<(), Fail> {
 
 #[test]
 fn batches_are_written_and_read(rt: HostRuntime) -> Result<(), Fail> {
-    // What lies on the first disk, where the second is empty, and what is done at each opening of the tape.
+    // What is on the first disk (the second is empty), and what is done at each opening of the tape.
     const SCRIPTS: &[(&[u8], &[Opening])] = &[
         // What a flush writes.
         (
@@ -286,7 +284,7 @@ fn batches_are_written_and_read(rt: HostRuntime) -> Result<(), Fail> {
                 Some((&IMPORTED, &[])),
             )],
         ),
-        // Notes that stand alone are read on, and a batch comes to lie after them.
+        // Notes that stand alone are read, and a batch comes after them.
         (
             &PLAIN,
             &[
@@ -336,7 +334,6 @@ fn batches_are_written_and_read(rt: HostRuntime) -> Result<(), Fail> {
     Ok(())
 }
 
-// The tape of these octets is damaged at this place of its first segment.
 fn assert_damaged_at<A: Abort>(
     rt: &A,
     alloc: Global,
@@ -350,14 +347,14 @@ fn assert_damaged_at<A: Abort>(
 
 #[test]
 fn other_batches_are_damage(rt: HostRuntime) -> Result<(), Fail> {
-    // The octet of the tape of two debts that is another, and that octet.
+    // The index of the octet that is changed in the tape of two debts, and the new octet.
     const ROWS: &[(usize, u8)] = &[
         // A count of 1, of 0, one that is too high, and one far above.
         (9, 1),
         (9, 0),
         (9, 3),
         (6, 0xff),
-        // The second debt has the first one's number, a text of another length, and another kind.
+        // The second debt has the number of the first, a text of another length, and another kind.
         (37, 1),
         (38, 4),
         (29, 5),
@@ -367,7 +364,7 @@ fn other_batches_are_damage(rt: HostRuntime) -> Result<(), Fail> {
     for (row, (place, octet)) in ROWS.iter().enumerate() {
         let mut tape = with_octet(rt.alloc(), &BATCHED, *place, *octet)?;
         assert_damaged_at(&rt, rt.alloc(), row, &tape, 0)?;
-        // The end gate is gone, and then a record is torn: damage of the segment goes before.
+        // The end gate is missing, and then a record is torn: damage of the segment goes before.
         tape.truncate(48);
         assert_damaged_at(&rt, rt.alloc(), row, &tape, 48)?;
         tape.extend_from_slice(&[0xa5, 0])?;
@@ -407,7 +404,7 @@ fn filled(alloc: Global, last: Sample) -> Result<Vec<u8>, Fail> {
     Ok(payload)
 }
 
-// The tape of two debts, and after them this payload, of so many octets.
+// The tape of two debts, and after them this payload, which has `len` octets.
 fn tape_with(alloc: Global, payload: &[u8], len: u32) -> Result<Vec<u8>, Fail> {
     let mut tape = Vec::from_slice(alloc, &BATCHED[..48])?;
     tape.push(0xa5)?;
@@ -417,7 +414,7 @@ fn tape_with(alloc: Global, payload: &[u8], len: u32) -> Result<Vec<u8>, Fail> {
     Ok(tape)
 }
 
-// With a Drop it has 65,536 octets and is a batch; with a Final it has one more, and is none.
+// With a Drop it has 65,536 octets and is a batch; with a Final it has one more, and is not.
 #[test]
 fn the_longest_batch(rt: HostRuntime) -> Result<(), Fail> {
     const ENDED: &[Step] = &[Step::Numbers(&[]), Step::Mark(7281)];
@@ -434,11 +431,11 @@ fn the_longest_batch(rt: HostRuntime) -> Result<(), Fail> {
     assert_damaged_at(&rt, alloc, 4, &tape, 48)
 }
 
-// A payload that is longer than any batch is refused at its gate. What comes after it is read all the same: a record
-// that is torn there goes before.
+// A payload that is longer than any batch is refused at its gate. What comes after it is still read: a record that is
+// torn there goes before.
 #[test]
 fn longer_payloads_are_damage(rt: HostRuntime) -> Result<(), Fail> {
-    // Those that are longer than a batch by one octet, and those around two and four times as long.
+    // One octet longer than a batch, and about two and four times as long.
     const LENGTHS: [u32; 5] = [65537, 131067, 131072, 131073, 262145];
     for (row, len) in LENGTHS.iter().enumerate() {
         let payload = padded(rt.alloc(), b"", 0, *len as usize)?;
@@ -452,14 +449,14 @@ fn longer_payloads_are_damage(rt: HostRuntime) -> Result<(), Fail> {
     Ok(())
 }
 
-// Steps at a tape that is empty first, the last of which flushes; the same where the flush fails; how many calls of the
-// first disk the flush makes, and how many octets lie there then.
+// Steps at a tape that is empty first, the last of which flushes; the same if the flush fails; how many calls of the
+// first disk the flush makes, and how many octets are on it then.
 type Flushed = (&'static [Step], &'static [Step], u64, u64);
 
 const DISK: Result<u64, TapeFault> = Err(TapeFault::Disk);
 
-// 3,449 debts of 19 octets fill a batch, and one more is a record by itself. As many notes as may pend are ten batches
-// of notes of 9 octets, and twenty of debts.
+// 3,449 debts of 19 octets fill a batch, and one more is a record by itself. As many notes as may be pending are ten
+// batches of notes of 9 octets, and twenty of debts.
 const FLUSHED: &[Flushed] = &[
     (
         &[Step::OweEach(1, 3450), Step::Flush(Ok(3449))],
@@ -495,16 +492,16 @@ const FLUSHED: &[Flushed] = &[
     ),
 ];
 
-// How many calls the opening of a tape makes of its first disk where that is empty.
+// The number of calls that opening a tape makes of an empty first disk.
 const OPENING_CALLS: u64 = 5;
 
-// Empty disks, of which the first passes an opening and so many calls.
+// Empty disks; the first passes an opening and then this many calls.
 fn empty_disks(alloc: Global, calls: u64) -> (FuseDisk<MemDisk>, FuseDisk<MemDisk>) {
     let disks = (MemDisk::new(alloc), MemDisk::new(alloc));
     fused(disks, (OPENING_CALLS.saturating_add(calls), u64::MAX))
 }
 
-// The flush makes so many calls and no fewer: on a disk that passes one call less it fails.
+// The flush makes exactly this many calls: on a disk that passes one call fewer it fails.
 #[test]
 fn the_longest_batches_are_written(rt: HostRuntime) -> Result<(), Fail> {
     let alloc = rt.alloc();
@@ -521,7 +518,7 @@ fn the_longest_batches_are_written(rt: HostRuntime) -> Result<(), Fail> {
     Ok(())
 }
 
-// These octets, and then so many of this one.
+// These octets, and then `more` copies of this one.
 fn padded(alloc: Global, begin: &[u8], octet: u8, more: usize) -> Result<Vec<u8>, Fail> {
     let mut octets = Vec::from_slice(alloc, begin)?;
     for _ in 0..more {
@@ -530,7 +527,7 @@ fn padded(alloc: Global, begin: &[u8], octet: u8, more: usize) -> Result<Vec<u8>
     Ok(octets)
 }
 
-// The note of a debt whose message-id is as long as any, and whose token is so many octets shorter.
+// The note of a debt with the longest message-id and a token that is `shorter` octets shorter than the longest.
 fn long_note(alloc: Global, key: Key, shorter: usize) -> Result<Note, Fail> {
     let token = padded(alloc, b"a/", b'x', 253usize.saturating_sub(shorter))?;
     let mut id = padded(alloc, b"<", b'i', 246)?;
@@ -542,7 +539,7 @@ fn long_note(alloc: Global, key: Key, shorter: usize) -> Result<Note, Fail> {
     })
 }
 
-// A source, so many debts of its first lines, and how many octets shorter than the others the last one is.
+// A source, the number of debts of its first lines, and how many octets the last one is shorter than the others.
 type Long = (u32, u64, usize);
 
 fn note_long<D: Disk>(
@@ -559,7 +556,7 @@ fn note_long<D: Disk>(
     Ok(())
 }
 
-// What the flush of long notes answers on disks that pass so many calls, and how many octets lie on the first then.
+// The result of a flush of long notes on disks that pass this many calls, and how many octets are on the first then.
 fn flushed_long(
     alloc: Global,
     long: Long,
@@ -576,11 +573,11 @@ fn flushed_long(
     }
 }
 
-// Of the longest notes of the funnel, 516 octets each, 126 fit into a batch, and one of 515 with them: 65,536 octets.
-// Of those of backlog files, 520 each, 126 fit as well: 65,525 octets.
+// 126 of the longest notes of the funnel, 516 octets each, fit into a batch together with one of 515: 65,536 octets.
+// 126 of those of backlog files, 520 octets each, fit as well: 65,525 octets.
 #[test]
 fn the_longest_notes_are_cut(rt: HostRuntime) -> Result<(), Fail> {
-    // The notes, how many calls their flush makes, and how many octets lie on the disk then.
+    // The notes, how many calls their flush makes, and how many octets are on the disk then.
     const ROWS: &[(Long, u64, u64)] = &[
         ((0, 126, 0), 4, 65027),
         ((0, 127, 1), 4, 65542),
@@ -598,7 +595,7 @@ fn the_longest_notes_are_cut(rt: HostRuntime) -> Result<(), Fail> {
     Ok(())
 }
 
-// Each image of the disks that a choice names is the tape of one of these numbers of first debts.
+// Each image of the disks that a choice names is the tape of the first debts, as many as one of these numbers.
 fn assert_ends<A: Abort>(
     rt: &A,
     alloc: Global,
@@ -613,8 +610,8 @@ fn assert_ends<A: Abort>(
     Ok(())
 }
 
-// Steps that a stop meets in their last one, a flush; how many calls of the first disk that makes, and the calls of
-// earlier flushes; and how many debts are left.
+// Steps, of which the last is a flush that a stop interrupts; how many calls it makes of the first disk, and how many
+// earlier flushes make; and how many debts are left.
 type Stopped = (&'static [Step], u64, u64, &'static [u64]);
 
 #[test]
@@ -650,7 +647,8 @@ fn a_stop_keeps_whole_batches(rt: HostRuntime) -> Result<(), Fail> {
     Ok(())
 }
 
-// A debt is told from its place in its batch, while its note pends, once it lies on the tape, and after a rotation.
+// A debt is read from its place in its batch, while its note is pending, once it is on the tape, and after a
+// rotation.
 #[test]
 fn debts_are_told_from_batches(rt: HostRuntime) -> Result<(), Fail> {
     const TOLD: &[Step] = &[
@@ -685,7 +683,7 @@ fn debts_are_told_from_batches(rt: HostRuntime) -> Result<(), Fail> {
     run_each(&rt, rt.alloc(), disks, &[(TOLD, None), (AGAIN, None)])
 }
 
-// Drops join the batch that pends, all or none.
+// Drops join the pending batch, all or none.
 #[test]
 fn drops_join_a_batch(rt: HostRuntime) -> Result<(), Fail> {
     const STEPS: &[Step] = &[

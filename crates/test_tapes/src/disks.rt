@@ -1,4 +1,5 @@
-// What a disk keeps, which images a stop leaves of it, and a fuse. The disks of journals and tapes are made here too.
+// What a disk keeps, which images a stop leaves of it, and a disk that fails after some calls. The disks of journals
+// and tapes are made here too.
 use crate::answers::assert_answer;
 use crate::planned_file::{Plan, PlannedFile};
 use disk_model::{Choice, Disk, DiskFault, DiskFile, FileDisk, FlakyDisk, FuseDisk, MemDisk};
@@ -32,7 +33,6 @@ fn make<D: Disk>(disk: &mut D, call: Call<'_>) -> Result<(), DiskFault> {
     }
 }
 
-// The disk that these calls leave of an empty one.
 fn disk_after(alloc: Global, calls: &[Call<'_>]) -> Result<MemDisk, Fail> {
     let mut disk = MemDisk::new(alloc);
     for call in calls {
@@ -41,7 +41,7 @@ fn disk_after(alloc: Global, calls: &[Call<'_>]) -> Result<MemDisk, Fail> {
     Ok(disk)
 }
 
-// A disk of these octets, of which no stop takes any away.
+// A disk of these octets, all of which survive a stop.
 pub(crate) fn disk_of(alloc: Global, octets: &[u8]) -> Result<MemDisk, Fail> {
     disk_after(alloc, &[Call::Write(0, octets), Call::Sync])
 }
@@ -51,7 +51,6 @@ pub(crate) fn beside_empty(alloc: Global, disk: MemDisk) -> (MemDisk, MemDisk) {
     (disk, MemDisk::new(alloc))
 }
 
-// The disks of a tape of these octets.
 pub(crate) fn disks_of(
     alloc: Global,
     (first, second): (&[u8], &[u8]),
@@ -59,7 +58,6 @@ pub(crate) fn disks_of(
     Ok((disk_of(alloc, first)?, disk_of(alloc, second)?))
 }
 
-// All octets of a disk.
 pub(crate) fn octets_of<D: Disk>(alloc: Global, disk: &mut D) -> Result<Vec<u8>, Fail> {
     let mut octets = vec![in alloc; 0; disk.len() as usize]?;
     if disk.len() < octets.len() as u64 {
@@ -69,7 +67,6 @@ pub(crate) fn octets_of<D: Disk>(alloc: Global, disk: &mut D) -> Result<Vec<u8>,
     Ok(octets)
 }
 
-// The disk has these octets in all.
 pub(crate) fn assert_octets<A: Abort, D: Disk>(
     rt: &A,
     alloc: Global,
@@ -81,7 +78,6 @@ pub(crate) fn assert_octets<A: Abort, D: Disk>(
     Ok(())
 }
 
-// The disks of a tape have these octets in all.
 pub(crate) fn assert_both<A: Abort, D: Disk>(
     rt: &A,
     alloc: Global,
@@ -120,7 +116,6 @@ fn a_disk_keeps_what_is_written(rt: HostRuntime) -> Result<(), Fail> {
 // wanted.
 type Image = (u64, u8, &'static [u8]);
 
-// The disk has each of these images.
 fn assert_images<A: Abort>(
     rt: &A,
     alloc: Global,
@@ -195,10 +190,10 @@ fn bit_63_tells_of_each_operation_from_63_on(rt: HostRuntime) -> Result<(), Fail
     assert_images(&rt, rt.alloc(), &written_singly(rt.alloc())?, IMAGES)
 }
 
-// A call, its answer that is wanted, and how many faults are told then.
+// A call, the wanted answer, and how many faults there are then.
 type Answered = (Call<'static>, Result<(), DiskFault>, u64);
 
-// Each call is answered as is wanted, and leaves so many faults.
+// Each call answers as is wanted, and leaves this many faults.
 fn assert_calls<A: Abort, D: Disk>(rt: &A, disk: &mut D, calls: &[Answered]) {
     for (at, (call, want, faults)) in calls.iter().enumerate() {
         assert_answer(rt, at, &make(disk, *call), want);
@@ -241,11 +236,11 @@ fn a_flaky_disk_fails_one_call(rt: HostRuntime) -> Result<(), Fail> {
     assert_octets(&rt, rt.alloc(), CALLS.len(), &mut within, &[7])
 }
 
-// An empty file, of which the call behind so many fails and keeps so much; the calls of its disk,
-// and the octets that they leave.
+// An empty file, of which the call after this many fails and keeps this much; the calls of its disk, and the octets
+// that they leave.
 type Failing = (u64, usize, &'static [Answered], &'static [u8]);
 
-// The file's own syncs answer Ok all the while: a disk made anew of it can be synced.
+// The file's own syncs still answer Ok: a new disk made of the file can be synced.
 fn assert_failing<A: Abort>(rt: &A, alloc: Global, at: usize, row: Failing) -> Result<(), Fail> {
     let (calls, kept, answered, want) = row;
     let file = PlannedFile::new(alloc, &[], Plan::failing(calls, kept))?;
@@ -306,7 +301,7 @@ fn the_disk_of_a_file_knows_what_failed(rt: HostRuntime) -> Result<(), Fail> {
             ],
             &[1, 9],
         ),
-        // Once a sync has failed each later one does.
+        // Once a sync has failed, each later one fails.
         (
             1,
             0,
@@ -326,7 +321,7 @@ fn the_disk_of_a_file_knows_what_failed(rt: HostRuntime) -> Result<(), Fail> {
     Ok(())
 }
 
-// A file is honest over an honest disk, and a disk is over an honest file.
+// A file is honest over an honest disk, and a disk over an honest file.
 #[test]
 fn a_disk_is_a_file_and_a_file_is_a_disk(rt: HostRuntime) -> Result<(), Fail> {
     const CALLS: &[Answered] = &[

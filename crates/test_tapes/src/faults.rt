@@ -12,15 +12,15 @@ use std::alloc::Global;
 use std::process::Abort;
 use std::test::Fail;
 
-// No sweep meets as many calls.
+// More calls than any sweep meets.
 const MOST_CALLS: u64 = 1_000;
 
 fn owe(alloc: Global, tape: &mut Tape<impl Disk>) -> Result<(), Fail> {
     Ok(note(alloc, tape, Sample::Owe(tape.mark().saturating_add(1)))??)
 }
 
-// Owes so many debts more, and flushes them. Answers how many debts are acknowledged then, of so
-// many before: a disk alone fails a flush, and every later one is broken.
+// Owes this many more debts, and flushes them. Returns how many debts are acknowledged then, if `acknowledged` were
+// before: only a disk fails a flush, and then every later one is broken.
 fn flush_more<A: Abort, D: Disk>(
     rt: &A,
     alloc: Global,
@@ -41,7 +41,7 @@ fn flush_more<A: Abort, D: Disk>(
     Ok(acknowledged)
 }
 
-// The same by a rotation to this generation.
+// The same for a rotation to this generation.
 fn rotate_more<A: Abort, D: Disk>(
     rt: &A,
     alloc: Global,
@@ -62,7 +62,7 @@ fn rotate_more<A: Abort, D: Disk>(
     Ok(acknowledged)
 }
 
-// Flushes two debts more, and then one more, rotates with one more to this generation, and flushes one more. Answers
+// Flushes two more debts, and then one more, rotates with one more to this generation, and flushes one more. Returns
 // how many debts are acknowledged, and how many were noted.
 fn work<A: Abort, D: Disk>(
     rt: &A,
@@ -86,7 +86,7 @@ fn work<A: Abort, D: Disk>(
     Ok((acknowledged, tape.mark()))
 }
 
-// The tape of these disks, which has to be opened, or to be handed back for a disk's fault.
+// The tape of these disks, which must open, or be handed back for a disk's fault.
 fn opened_or_back<A: Abort, D: Disk + Drop>(
     rt: &A,
     alloc: Global,
@@ -108,11 +108,12 @@ fn opened_again<D: Disk + Drop>(alloc: Global, disks: (D, D)) -> Result<Tape<D>,
     }
 }
 
-// What lies on two disks, and the generation of a rotation of the tape.
+// What is on two disks, and the generation of a rotation of the tape.
 type Rotated<'a> = (&'a [u8], &'a [u8], u64);
 
-// Disks of these octets, of each of which the call behind so many fails: where that is one of the opening, the disks
-// are opened a second time. What a stop leaves then is a prefix with every acknowledged debt. Whether that call came.
+// Disks of these octets, each of which fails the call after a number of calls: if that call is one of the opening,
+// the disks are opened a second time. What a stop leaves then is a prefix with every acknowledged debt. Returns
+// whether that call came.
 fn meets_fault<A: Abort>(
     rt: &A,
     alloc: Global,
@@ -131,7 +132,7 @@ fn meets_fault<A: Abort>(
     Ok(met)
 }
 
-// The call of the first disk that is to fail, or of the second, behind so many.
+// The call that fails, of the first disk or of the second, comes after this many.
 fn calls_before(second: bool, calls: u64) -> Calls {
     if second {
         (u64::MAX, calls)
@@ -140,7 +141,7 @@ fn calls_before(second: bool, calls: u64) -> Calls {
     }
 }
 
-// How many calls of the first disk there are to fail, or of the second.
+// How many calls of the first disk, or of the second, can fail.
 fn calls_of<A: Abort>(rt: &A, alloc: Global, tape: Rotated<'_>, second: bool) -> Result<u64, Fail> {
     for calls in 0..MOST_CALLS {
         if !meets_fault(rt, alloc, tape, calls_before(second, calls))? {
@@ -150,11 +151,11 @@ fn calls_of<A: Abort>(rt: &A, alloc: Global, tape: Rotated<'_>, second: bool) ->
     Err(Fail::from("no end of calls"))
 }
 
-// How many calls of each disk there are to fail. Opening makes five calls of an empty disk whose segment lives, and
-// three more where records lie there: two reads of what stands first, and one of all of it. It makes one call of the
-// other disk, behind two reads of what stands first there. A flush makes four calls, of two notes or of one, on the
-// disk whose segment lives; a rotation reads there all debts whose notes are on it by one call, as few as they are,
-// makes eight on the other, and the flush of one note behind it goes there.
+// How many calls of each disk can fail. Opening makes five calls of an empty disk whose segment is live, and three
+// more if it has records: two reads of what comes first, and one of all of it. It makes one call of the other disk,
+// after two reads of what comes first there. A flush makes four calls, for two notes or for one, on the disk whose
+// segment is live. A rotation reads from there all debts whose notes are on it, by one call since they are few, and
+// makes eight calls on the other disk, where the next flush of one note goes.
 const TAPES: [(Rotated<'static>, Calls); 4] = [
     ((&[], &[], 1), (14, 13)),
     ((&OWED, &[], 1), (17, 13)),
@@ -188,8 +189,8 @@ fn opened_anew(disk: FileDisk<PlannedFile>) -> Result<FileDisk<PlannedFile>, Fai
     Ok(FileDisk::new(disk.into_inner().opened_anew()?))
 }
 
-// The tape of files of these octets that go by these plans: as above, but that files are opened a second time as the
-// next process does.
+// The tape of files of these octets that follow these plans: as above, but files are opened a second time as the next
+// process opens them.
 fn tape_of_files<A: Abort>(
     rt: &A,
     alloc: Global,
@@ -202,7 +203,6 @@ fn tape_of_files<A: Abort>(
     }
 }
 
-// These octets are the tape of so many debts.
 fn assert_prefix<A: Abort>(
     rt: &A,
     alloc: Global,
@@ -214,7 +214,7 @@ fn assert_prefix<A: Abort>(
     Ok(())
 }
 
-// A front is what a read of the files gives, and what the device has.
+// A prefix is what a read of the files gives, and what the device has.
 fn file_meets_fault<A: Abort>(
     rt: &A,
     alloc: Global,
@@ -230,7 +230,7 @@ fn file_meets_fault<A: Abort>(
     Ok(!a.is_sound() && !b.is_sound())
 }
 
-// A call of the first file fails behind so many, or of the second, and keeps so much.
+// A call of the first file, or of the second, fails after this many, and keeps this much.
 fn plans_failing(second: bool, calls: u64, kept: usize) -> (Plan, Plan) {
     let sound = Plan::sound(7, u64::MAX);
     let failing = Plan::failing(calls, kept);
@@ -241,7 +241,7 @@ fn plans_failing(second: bool, calls: u64, kept: usize) -> (Plan, Plan) {
     }
 }
 
-// Each call of the first file fails in turn, or of the second, and keeps so much.
+// Each call of the first file, or of the second, fails in turn, and keeps this much.
 fn sweep_file<A: Abort>(
     rt: &A,
     alloc: Global,

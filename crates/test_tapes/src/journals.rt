@@ -30,11 +30,11 @@ const TWICE: [u8; 49] = [
 // What is done to a journal, or asked of it, and the answer that is wanted.
 #[derive(Clone, Copy)]
 enum Step {
-    // The payload is added so many times at once.
+    // The payload is added this many times at once.
     Append(u64, Result<(), AppendFault>),
-    // The payload is read back at this offset.
+    // The payload at this offset is read.
     ReadBack(u64, Result<(), ReadFault>),
-    // The octets of the payload at this offset, from that one on, so many at most.
+    // At most this many octets of the payload at this offset, from this one on.
     ReadPart(u64, u32, u32, Result<&'static [u8], ReadFault>),
     ReadAhead,
     ReadSingly,
@@ -42,7 +42,7 @@ enum Step {
     Bytes(u64),
 }
 
-// The payloads of a disk and its journal, or the disk handed back and why.
+// The payloads of a disk and its journal, or the disk handed back and the fault.
 fn opened<D: Disk + Drop>(
     alloc: Global,
     disk: D,
@@ -91,7 +91,6 @@ fn read_back<D: Disk>(
     }
 }
 
-// The part of the payload at this offset has to be answered as is wanted.
 fn assert_part<A: Abort, D: Disk>(
     rt: &A,
     at: usize,
@@ -128,8 +127,7 @@ fn take<A: Abort, D: Disk>(
     Ok(())
 }
 
-// Takes these steps at the journal of this disk, each of which has to answer as is wanted. Answers the disk that
-// they leave.
+// Takes these steps at the journal of this disk; each must answer as is wanted. Returns the disk that they leave.
 fn run<A: Abort, D: Disk + Drop>(
     rt: &A,
     alloc: Global,
@@ -210,7 +208,8 @@ fn damage_is_told_with_its_place(rt: HostRuntime) -> Result<(), Fail> {
 
 #[test]
 fn steps_are_taken_at_a_journal(rt: HostRuntime) -> Result<(), Fail> {
-    // A segment, after how many calls its disk fails, the steps, and the segment that they leave where it is asked for.
+    // A segment, after how many calls its disk fails, the steps, and the segment that they leave, if that is
+    // compared.
     const SCRIPTS: &[(&[u8], u64, &[Step], Option<&[u8]>)] = &[
         (
             &SEGMENT,
@@ -236,7 +235,7 @@ fn steps_are_taken_at_a_journal(rt: HostRuntime) -> Result<(), Fail> {
             &[Step::Append(2, Ok(())), Step::ReadBack(24, Ok(()))],
             Some(&TWICE),
         ),
-        // A part of a payload is read: fewer octets where the payload ends sooner.
+        // A part of a payload is read: fewer octets if the payload ends sooner.
         (
             &SEGMENT,
             u64::MAX,
@@ -258,7 +257,7 @@ fn steps_are_taken_at_a_journal(rt: HostRuntime) -> Result<(), Fail> {
             ],
             Some(&TWICE),
         ),
-        // A journal that reads ahead reads back what it adds, too.
+        // A journal that reads ahead also reads back what it adds.
         (
             &SEGMENT,
             u64::MAX,
@@ -275,7 +274,8 @@ fn steps_are_taken_at_a_journal(rt: HostRuntime) -> Result<(), Fail> {
             ],
             Some(&TWICE),
         ),
-        // Opening takes six calls, and the seventh reads ahead. No other is left, nor needed until it reads singly.
+        // Opening takes six calls, and the seventh reads ahead. No other call passes, and none is needed until it
+        // reads singly.
         (
             &SEGMENT,
             7,
@@ -330,7 +330,7 @@ fn a_refused_disk_is_handed_back(rt: HostRuntime) -> Result<(), Fail> {
     Ok(())
 }
 
-// The Base of generation 1, mark 1, one debt taken and live: the first payload of a tape that was written anew.
+// The Base of generation 1, mark 1, one debt taken and live: the first payload of a tape after a rotation.
 const BASE: [u8; 49] = [
     4, 0, 0, 0, 0, 0, 0, 0, 1, 0, 0, 0, 0, 0, 0, 0, 1, 0, 0, 0, 0, 0, 0, 0, 1, 0, 0, 0, 0, 0, 0, 0,
     0, 0, 0, 0, 0, 0, 0, 0, 0, 0, 0, 0, 0, 0, 0, 0, 1,
@@ -343,7 +343,7 @@ const RENEWED: [u8; 79] = [
     0, 0, 0, 0, 0, 0, 0, 1, 3, 0x61, 0x2f, 0x31, 5, 0x3c, 0x78, 0x40, 0x79, 0x3e, 0,
 ];
 
-// The journal of a whole segment of these payloads, or the disk handed back and why.
+// The journal of a whole segment of these payloads, or the disk handed back and the fault.
 fn renewed<D: Disk + Drop>(
     alloc: Global,
     disk: D,
@@ -372,7 +372,7 @@ fn renewed<D: Disk + Drop>(
 
 #[test]
 fn a_whole_segment_is_written(rt: HostRuntime) -> Result<(), Fail> {
-    // What the disk has first, the payloads, and the segment that they leave.
+    // What the disk has first, the payloads, and the segment that they make.
     const ROWS: &[(&[u8], &[u8], &[&[u8]], &[u8])] = &[
         (&[], &PAYLOAD, &[], &SEGMENT),
         (&SEGMENT, &BASE, &[&PAYLOAD], &RENEWED),
@@ -438,7 +438,7 @@ fn no_payload_too_long_is_gathered(rt: HostRuntime) -> Result<(), Fail> {
     Ok(())
 }
 
-// The first payload where it is this one, or none, or why none was told.
+// Whether the first payload is this one, or there is none, or why it was not returned.
 fn peeked<D: Disk>(
     alloc: Global,
     disk: &mut D,
@@ -454,7 +454,7 @@ fn peeked<D: Disk>(
 
 #[test]
 fn the_first_payload_is_told(rt: HostRuntime) -> Result<(), Fail> {
-    // A segment, its first payload, and whether it has one. What stands behind it isn't looked at.
+    // A segment, its first payload, and whether it has one. What follows the first payload is not looked at.
     const ROWS: &[(&[u8], &[u8], Result<Option<bool>, OpenFault>)] = &[
         (&[], &[], Ok(None)),
         (&[0xa5], &[], Ok(None)),
@@ -485,8 +485,8 @@ fn the_first_payload_is_told(rt: HostRuntime) -> Result<(), Fail> {
     Ok(())
 }
 
-// Adds two payloads to a journal that has so many, and then one. Answers how many it has for good,
-// and how many at most: the disk alone fails an addition, and every later one is broken.
+// Adds two payloads to a journal with this many, and then one. Returns how many it has for certain, and how many at
+// most: only the disk fails an addition, and then every later one is broken.
 fn work<A: Abort, D: Disk>(
     rt: &A,
     alloc: Global,
@@ -519,8 +519,7 @@ fn work<A: Abort, D: Disk>(
     Ok((kept, added))
 }
 
-// The journal of this disk, of which a call of the opening may fail: then it is opened a second
-// time.
+// The journal of this disk, of which a call of the opening may fail: then it is opened a second time.
 fn opened_at_last<A: Abort, D: Disk + Drop>(
     rt: &A,
     alloc: Global,
@@ -538,7 +537,7 @@ fn opened_at_last<A: Abort, D: Disk + Drop>(
     }
 }
 
-// Whether the call behind so many, which fails, comes.
+// Whether the call after this many, which fails, comes.
 fn meets_fault<A: Abort>(rt: &A, alloc: Global, segment: &[u8], calls: u64) -> Result<bool, Fail> {
     let disk = FlakyDisk::new(disk_of(alloc, segment)?, calls);
     let (payloads, mut journal) = opened_at_last(rt, alloc, disk)?;
@@ -567,8 +566,8 @@ fn calls_of<A: Abort>(rt: &A, alloc: Global, segment: &[u8]) -> Result<u64, Fail
     Err(Fail::from("no end of calls"))
 }
 
-// Opening an empty disk takes five calls, and one more, a read, where something lies there. Two
-// payloads take five calls, and one takes four.
+// Opening an empty disk takes five calls, and one more, a read, if it has octets. Two payloads take five calls, and
+// one takes four.
 #[test]
 fn a_fault_at_any_call_leaves_a_prefix(rt: HostRuntime) -> Result<(), Fail> {
     for (segment, calls) in [([].as_slice(), 14), (&SEGMENT, 15)] {
@@ -582,7 +581,6 @@ fn a_fault_at_any_call_leaves_a_prefix(rt: HostRuntime) -> Result<(), Fail> {
     Ok(())
 }
 
-// A segment of so many payloads, each of this length.
 pub(crate) fn segment_of(alloc: Global, count: u64, len: u32) -> Result<Vec<u8>, Fail> {
     let mut segment = Vec::new(alloc);
     for _ in 0..count {
@@ -612,7 +610,8 @@ fn reading_of(alloc: Global, segment: &[u8]) -> Result<(usize, u64), Fail> {
 #[test]
 fn a_long_segment_is_read_in_pieces(rt: HostRuntime) -> Result<(), Fail> {
     // How many payloads there are, the length of each, and how many reads they take. A piece has 131,072 octets. A
-    // payload that passes its end is read again with the next, and one that is as long is read by itself.
+    // payload that goes past its end is read again with the next, and one that is as long as a piece is read by
+    // itself.
     const ROWS: &[(usize, u32, u64)] = &[
         (0, 0, 1),
         (2_730, 43, 1),

@@ -6,13 +6,13 @@ use std::alloc::Global;
 use std::process::Abort;
 use std::test::Fail;
 
-// What is done to a ledger, or asked of it, and the answer that is wanted.
+// What is done to a ledger, or asked of it, and the wanted answer.
 #[derive(Clone, Copy)]
 enum Step {
     Apply(Sample, Result<(), LedgerFault>),
     Check(Sample, Result<(), LedgerFault>),
     Owes(u64, bool),
-    // Where the debt of this number stands, and how long its token and its message-id are.
+    // Where the debt of this number is, and how long its token and its message-id are.
     Spot(u64, Option<(u64, u8, u8)>),
     // What is owed is these lines of the funnel.
     Numbers(&'static [u64]),
@@ -77,7 +77,6 @@ fn take<A: Abort>(
     Ok(())
 }
 
-// Takes these steps, each of which has to answer as is wanted.
 fn run<A: Abort>(rt: &A, alloc: Global, mut ledger: Ledger, steps: &[Step]) -> Result<(), Fail> {
     for (at, step) in steps.iter().enumerate() {
         take(rt, alloc, &mut ledger, at, *step)?;
@@ -119,7 +118,7 @@ fn notes_leave_a_ledger(rt: HostRuntime) -> Result<(), Fail> {
             }),
             Step::Numbers(&[]),
         ],
-        // A check tells what a note would come to.
+        // A check returns what a note would return.
         &[
             Step::Check(Sample::Owe(1), Ok(())),
             Step::Check(Sample::Final(1), Err(LedgerFault::NotOwed)),
@@ -142,7 +141,7 @@ fn notes_leave_a_ledger(rt: HostRuntime) -> Result<(), Fail> {
             Step::Apply(Sample::Final(3), Ok(())),
             Step::Spot(3, None),
         ],
-        // Lines of the source that is open are owed, behind those of the funnel, until it is closed.
+        // Lines of the open source are owed, after those of the funnel, until it is closed.
         &[
             Step::Check(Sample::OweFrom(2, 1), Err(LedgerFault::OldNumber)),
             Step::Apply(Sample::OweFrom(1, 2), Ok(())),
@@ -309,7 +308,7 @@ fn a_tape_is_restored(rt: HostRuntime) -> Result<(), Fail> {
                 },
             )),
         ),
-        // With one it is what the Base tells, its debts, and the notes behind them.
+        // With one it is what the Base says, its debts, and the notes after them.
         (&[Payload::Base([1, 0, 0, 0, 0, 0])], Ok((1, 0, NOTHING))),
         (
             &[Payload::Base([1, 1, 1, 0, 0, 1]), OWE_1],
@@ -344,7 +343,7 @@ fn a_tape_is_restored(rt: HostRuntime) -> Result<(), Fail> {
                 },
             )),
         ),
-        // Behind its marks a debt may be of the source that is open, and of each before, of whatever number.
+        // After its marks a debt may be of the open source, and of each before, with any number.
         (
             &[
                 Payload::Imports([1, 1, 3, 0, 0, 3], 1, 5),
@@ -381,7 +380,7 @@ fn a_tape_is_restored(rt: HostRuntime) -> Result<(), Fail> {
                 },
             )),
         ),
-        // The last source is closed neither by a Base nor by a note.
+        // The last source cannot be closed, neither by a Base nor by a note.
         (
             &[Payload::Imports([1, 0, 0, 0, 0, 0], 4_294_967_295, 0)],
             Err(ReplayFault::Refused { index: 0 }),
@@ -393,7 +392,8 @@ fn a_tape_is_restored(rt: HostRuntime) -> Result<(), Fail> {
             ],
             Err(ReplayFault::Refused { index: 1 }),
         ),
-        // A debt of a later source than the one that is open, of that above its mark, and one that doesn't rise.
+        // A debt of a later source than the open one, a debt of the open one above its mark, and one that does not
+        // rise.
         (
             &[
                 Payload::Imports([1, 0, 1, 0, 0, 1], 1, 5),
@@ -416,7 +416,7 @@ fn a_tape_is_restored(rt: HostRuntime) -> Result<(), Fail> {
             ],
             Err(ReplayFault::Refused { index: 2 }),
         ),
-        // A Base without a generation, and counts that don't add up, in full numbers.
+        // A Base without a generation, and counts that do not add up, in full numbers.
         (
             &[Payload::Base([0, 1, 1, 0, 0, 1]), OWE_1],
             Err(ReplayFault::Refused { index: 0 }),
@@ -442,7 +442,8 @@ fn a_tape_is_restored(rt: HostRuntime) -> Result<(), Fail> {
             &[Payload::Base([1, 9, u64::MAX, 0, 0, u64::MAX]), OWE_1],
             Err(ReplayFault::Refused { index: 2 }),
         ),
-        // Payloads that are no debt where one is to stand: another note, one above the mark, one that doesn't rise.
+        // Payloads that are not a debt although one must come: another note, one above the mark, one that does not
+        // rise.
         (
             &[Payload::Base([1, 9, 2, 0, 0, 2]), OWE_1, FINAL_1],
             Err(ReplayFault::Refused { index: 2 }),
@@ -462,7 +463,7 @@ fn a_tape_is_restored(rt: HostRuntime) -> Result<(), Fail> {
             ],
             Err(ReplayFault::Refused { index: 1 }),
         ),
-        // Payloads that are no legal note behind the debts, a second Base among them.
+        // Payloads that are not a legal note after the debts, a second Base among them.
         (
             &[Payload::Base([1, 9, 1, 0, 0, 1]), OWE_1, OWE_9],
             Err(ReplayFault::Refused { index: 2 }),

@@ -1,9 +1,9 @@
-//! Tests of the disk model, the journal, the ledger, the tape and what waits: of what no clause of theirs says.
+//! Tests of the disk model, the journal, the ledger, the tape and what waits: of what none of their clauses says.
 //!
-//! May touch nothing but memory; it stands on the five crates that it tests, calls what is public in them, and nothing
-//! stands on it. The tests stand apart because a crate with tests in it is proved twice.
-//! Each crate has a module, whose rows are data: steps, each with the answer that is wanted. A function takes a step by
-//! one public call and says nothing of it in a clause, so its own check reads one contract; a row more costs nothing.
+//! May touch nothing but memory; it stands on the five crates that it tests, calls what is public in them, and
+//! nothing stands on it. The tests stand apart because a crate with tests in it is proved twice.
+//! Each crate has a module, whose rows are data: steps, each with the wanted answer. A function takes a step by one
+//! public call and has no clause about it, so its own check reads one contract; one more row costs nothing.
 #![tactic(auto)]
 
 #[cfg(test)]

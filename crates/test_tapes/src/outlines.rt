@@ -7,7 +7,7 @@ use std::alloc::Global;
 use std::process::Abort;
 use std::test::Fail;
 
-// What is done to an outline, or asked of it, and the answer that is wanted.
+// What is done to an outline, or asked of it, and the wanted answer.
 #[derive(Clone, Copy)]
 enum Step {
     // A note of this ordinal.
@@ -20,7 +20,7 @@ enum Step {
     Ordinal(Line, Option<u64>),
     Keys(&'static [Line]),
     Totals(Totals),
-    // The mark of the funnel, the source that was closed last, and the mark of the one behind it.
+    // The mark of the funnel, the source that was closed last, and the mark of the next one.
     Marks(u64, u32, u64),
 }
 
@@ -43,7 +43,6 @@ fn apply(
     }
 }
 
-// As `apply`.
 fn owe(
     alloc: Global,
     outline: &mut Outline,
@@ -112,7 +111,7 @@ fn take<A: Abort>(
     Ok(())
 }
 
-// Takes these steps at the outline of the ledger that these payloads leave.
+// The outline is that of the ledger which these payloads leave.
 fn run<A: Abort>(rt: &A, alloc: Global, payloads: &[Payload], steps: &[Step]) -> Result<(), Fail> {
     let restored = Ledger::restore(alloc, &spelled(alloc, payloads)?)?;
     let mut outline = Outline::of(alloc, &restored.ledger)?;
@@ -179,7 +178,7 @@ fn an_outline_goes_on_as_its_ledger(rt: HostRuntime) -> Result<(), Fail> {
                 Step::Marks(9, 1, 1),
             ],
         ),
-        // A check tells what a note would come to, and changes nothing.
+        // A check returns what a note would return, and changes nothing.
         (
             &[
                 Payload::Note(Sample::Owe(1)),
@@ -203,7 +202,7 @@ fn an_outline_goes_on_as_its_ledger(rt: HostRuntime) -> Result<(), Fail> {
                 Step::Keys(&[(0, 1), (1, 1)]),
             ],
         ),
-        // No note.
+        // Not a note.
         (
             &[],
             &[
@@ -221,7 +220,7 @@ fn an_outline_goes_on_as_its_ledger(rt: HostRuntime) -> Result<(), Fail> {
                 Step::Ordinal((0, 1), Some(0)),
             ],
         ),
-        // As many debts were taken as can be counted, and the source that is open is the last.
+        // No more debts can be counted as taken, and the open source is the last.
         (
             &[
                 Payload::Imports([1, 5, u64::MAX, u64::MAX - 1, 0, 1], 4_294_967_294, 0),

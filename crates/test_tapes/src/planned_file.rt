@@ -1,4 +1,4 @@
-// A file in memory whose calls go by a plan.
+// A file in memory whose calls follow a plan.
 ghost use Rattle.std.specs.Prelude.{[]};
 
 use disk_model::{RawFault, RawFile};
@@ -8,19 +8,18 @@ use std::cmp;
 // How the calls of a file go.
 #[derive(Clone, Copy)]
 pub(crate) struct Plan {
-    // A call moves at most so many octets.
+    // A call moves at most this many octets.
     piece: usize,
-    // So many calls, from the first on, are each interrupted once before they do anything.
+    // This many calls, from the first on, are each interrupted once before they do anything.
     interruptions: u64,
     // How many calls come before the one that fails, until that has come.
     fails: Option<u64>,
-    // So many octets are written by a write that fails, and so many made durable by a sync that
-    // fails. A cut that fails has happened unless this is 0.
+    // A write that fails writes this many octets, and a sync that fails makes this many durable. A cut that fails has
+    // happened unless this is 0.
     kept: usize,
 }
 
 impl Plan {
-    // No call fails.
     pub(crate) fn sound(piece: usize, interruptions: u64) -> Self {
         Plan {
             piece,
@@ -30,7 +29,7 @@ impl Plan {
         }
     }
 
-    // The call behind so many fails, and keeps so much.
+    // The call after this many fails, and keeps this much.
     pub(crate) fn failing(calls: u64, kept: usize) -> Self {
         Plan {
             piece: 7,
@@ -41,8 +40,8 @@ impl Plan {
     }
 }
 
-// A file: what a read gives, and what the device has. Once a sync has failed the later ones answer
-// Ok and make nothing durable, as the system's may (fsync(2), NOTES).
+// A file: what a read gives, and what the device has. Once a sync has failed, later ones answer Ok and make nothing
+// durable, as the system's may (fsync(2), NOTES).
 #[derive(Drop)]
 pub(crate) struct PlannedFile {
     octets: Vec<u8>,
@@ -76,18 +75,18 @@ impl PlannedFile {
         &self.durable
     }
 
-    // Whether the call that was to fail is still to come.
+    // Whether the call that should fail is still to come.
     pub(crate) fn is_sound(&self) -> bool {
         self.plan.fails.is_some()
     }
 
-    // The file as the next process opens it: what the system kept of it in memory is given up.
+    // The file as the next process opens it: what the system kept of it in memory is lost.
     pub(crate) fn opened_anew(self) -> Result<Self, AllocError> {
         let alloc = *self.durable.allocator();
         PlannedFile::new(alloc, &self.durable, self.plan)
     }
 
-    // Each call begins so.
+    // Each call begins with this.
     fn begin(&mut self) -> Result<(), RawFault> {
         self.interrupted = !self.interrupted && 0 < self.plan.interruptions;
         if self.interrupted {
@@ -104,7 +103,6 @@ impl PlannedFile {
         Ok(())
     }
 
-    // Makes the first so many octets durable.
     fn settle(&mut self, count: usize) -> Result<(), RawFault> {
         let count = cmp::min(count, self.octets.len());
         if count == self.octets.len() {
@@ -114,7 +112,7 @@ impl PlannedFile {
     }
 }
 
-// Writes these octets at this offset, or at the end where that comes first.
+// Writes these octets at this offset, or at the end if that comes first.
 fn overwrite(octets: &mut Vec<u8>, at: usize, from: &[u8]) -> Result<(), RawFault> {
     let at = cmp::min(at, octets.len());
     let (within, behind) = from.split_at(cmp::min(from.len(), octets.len() - at));

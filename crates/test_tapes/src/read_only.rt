@@ -1,9 +1,9 @@
-// A disk that can be read alone.
+// A disk that can only be read.
 ghost use Rattle.std.specs.Prelude.{◌+◌, ◌-◌, ◌^◌, min};
 
 use disk_model::{Disk, DiskFault};
 
-// Passes reads on, and fails each other call: its faults count the calls that were to change the disk.
+// Passes reads on, and fails every other call: its faults count the calls that would change the disk.
 #[derive(Drop)]
 pub(crate) struct ReadOnly<D: Disk> {
     disk: D,

@@ -17,7 +17,7 @@ fn reader_of<D: Disk + Drop>(alloc: Global, disk: D) -> Result<SegmentReader<D>,
 // What a reader gives up to the end of its segment.
 #[derive(Clone, Copy, Debug, PartialEq)]
 struct Given {
-    // How many payloads, and how many octets they have.
+    // How many payloads there are, and how many octets they have.
     payloads: u64,
     octets: u64,
     too_long: u64,
@@ -57,8 +57,8 @@ fn reading_of(alloc: Global, segment: &[u8]) -> Result<(Given, u64), Fail> {
 
 #[test]
 fn a_segment_is_read_record_by_record(rt: HostRuntime) -> Result<(), Fail> {
-    // How many payloads there are, the length of each, whether they are given, and how many reads that takes. Of one
-    // that is too long the head alone is read.
+    // How many payloads there are, the length of each, whether they are given, and how many reads that takes. Only
+    // the head is read of one that is too long.
     const ROWS: &[(u64, u32, bool, u64)] = &[
         (0, 0, true, 1),
         (1, 0, true, 1),

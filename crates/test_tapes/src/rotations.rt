@@ -1,5 +1,5 @@
-// Tapes of two segments, of which the one of greater generation lives, and rotations, which write the ledger into the
-// other.
+// Tapes of two segments, of which the one of greater generation is live, and rotations, which write the ledger into
+// the other.
 use crate::answers::assert_answer;
 use crate::disks::{assert_both, disks_of};
 use crate::samples::Sample;
@@ -63,7 +63,7 @@ const THRICE: [u8; 79] = [
     0, 0, 0, 0, 0, 0, 0, 7, 3, 0x61, 0x2f, 0x31, 5, 0x3c, 0x78, 0x40, 0x79, 0x3e, 0,
 ];
 
-// That segment with the Final 7 behind.
+// That segment with the Final 7 after it.
 const THRICE_NOTED: [u8; 95] = [
     0xa5, 0, 0, 0, 0x31, 4, 0, 0, 0, 0, 0, 0, 0, 3, 0, 0, 0, 0, 0, 0, 0, 9, 0, 0, 0, 0, 0, 0, 0, 6,
     0, 0, 0, 0, 0, 0, 0, 3, 0, 0, 0, 0, 0, 0, 0, 2, 0, 0, 0, 0, 0, 0, 0, 1, 0xa5, 0, 0, 0, 0x13, 1,
@@ -71,7 +71,7 @@ const THRICE_NOTED: [u8; 95] = [
     0x0b, 2, 0, 0, 0, 0, 0, 0, 0, 7, 0, 0xef, 0,
 ];
 
-// The fourth, where nothing is owed.
+// The fourth, when nothing is owed.
 const FOUR_TIMES: [u8; 55] = [
     0xa5, 0, 0, 0, 0x31, 4, 0, 0, 0, 0, 0, 0, 0, 4, 0, 0, 0, 0, 0, 0, 0, 9, 0, 0, 0, 0, 0, 0, 0, 6,
     0, 0, 0, 0, 0, 0, 0, 4, 0, 0, 0, 0, 0, 0, 0, 2, 0, 0, 0, 0, 0, 0, 0, 0, 0,
@@ -85,7 +85,7 @@ const LAST: [u8; 79] = [
     0x3e, 0,
 ];
 
-// That segment with the Owe 2 behind.
+// That segment with the Owe 2 after it.
 const LAST_NOTED: [u8; 103] = [
     0xa5, 0, 0, 0, 0x31, 4, 0xff, 0xff, 0xff, 0xff, 0xff, 0xff, 0xff, 0xff, 0, 0, 0, 0, 0, 0, 0, 1,
     0, 0, 0, 0, 0, 0, 0, 1, 0, 0, 0, 0, 0, 0, 0, 0, 0, 0, 0, 0, 0, 0, 0, 0, 0, 0, 0, 0, 0, 0, 0, 1,
@@ -109,20 +109,20 @@ const OTHER: [u8; 79] = [
     0, 0, 0, 0, 0, 0, 0, 2, 3, 0x61, 0x2f, 0x31, 5, 0x3c, 0x78, 0x40, 0x79, 0x3e, 0,
 ];
 
-// The second, of the same.
+// The second, with the same debt.
 const OTHER_TWICE: [u8; 79] = [
     0xa5, 0, 0, 0, 0x31, 4, 0, 0, 0, 0, 0, 0, 0, 2, 0, 0, 0, 0, 0, 0, 0, 2, 0, 0, 0, 0, 0, 0, 0, 1,
     0, 0, 0, 0, 0, 0, 0, 0, 0, 0, 0, 0, 0, 0, 0, 0, 0, 0, 0, 0, 0, 0, 0, 1, 0xa5, 0, 0, 0, 0x13, 1,
     0, 0, 0, 0, 0, 0, 0, 2, 3, 0x61, 0x2f, 0x31, 5, 0x3c, 0x78, 0x40, 0x79, 0x3e, 0,
 ];
 
-// The first generation, and octets behind it that are no segment.
+// The first generation, followed by octets that are not a segment.
 const UNENDED: [u8; 58] = [
     0xa5, 0, 0, 0, 0x31, 4, 0, 0, 0, 0, 0, 0, 0, 1, 0, 0, 0, 0, 0, 0, 0, 2, 0, 0, 0, 0, 0, 0, 0, 1,
     0, 0, 0, 0, 0, 0, 0, 0, 0, 0, 0, 0, 0, 0, 0, 0, 0, 0, 0, 0, 0, 0, 0, 1, 0, 0xa5, 0, 7,
 ];
 
-// A Base of no generation.
+// A Base without a generation.
 const NEVER: [u8; 79] = [
     0xa5, 0, 0, 0, 0x31, 4, 0, 0, 0, 0, 0, 0, 0, 0, 0, 0, 0, 0, 0, 0, 0, 1, 0, 0, 0, 0, 0, 0, 0, 1,
     0, 0, 0, 0, 0, 0, 0, 0, 0, 0, 0, 0, 0, 0, 0, 0, 0, 0, 0, 0, 0, 0, 0, 1, 0xa5, 0, 0, 0, 0x13, 1,
@@ -142,7 +142,7 @@ const MISSING: [u8; 55] = [
     0, 0, 0, 0, 0, 0, 0, 0, 0, 0, 0, 0, 0, 0, 0, 0, 0, 0, 0, 0, 0, 0, 0, 1, 0,
 ];
 
-// A Base below its debt.
+// A Base whose mark is below its debt.
 const ABOVE: [u8; 79] = [
     0xa5, 0, 0, 0, 0x31, 4, 0, 0, 0, 0, 0, 0, 0, 1, 0, 0, 0, 0, 0, 0, 0, 1, 0, 0, 0, 0, 0, 0, 0, 1,
     0, 0, 0, 0, 0, 0, 0, 0, 0, 0, 0, 0, 0, 0, 0, 0, 0, 0, 0, 0, 0, 0, 0, 1, 0xa5, 0, 0, 0, 0x13, 1,
@@ -156,7 +156,7 @@ const CUT: [u8; 78] = [
     0, 0, 0, 0, 0, 0, 0, 1, 3, 0x61, 0x2f, 0x31, 5, 0x3c, 0x78, 0x40, 0x79, 0x3e,
 ];
 
-// The first rotation with its debt once more.
+// The first rotation with its debt repeated.
 const REPEATED: [u8; 103] = [
     0xa5, 0, 0, 0, 0x31, 4, 0, 0, 0, 0, 0, 0, 0, 1, 0, 0, 0, 0, 0, 0, 0, 1, 0, 0, 0, 0, 0, 0, 0, 1,
     0, 0, 0, 0, 0, 0, 0, 0, 0, 0, 0, 0, 0, 0, 0, 0, 0, 0, 0, 0, 0, 0, 0, 1, 0xa5, 0, 0, 0, 0x13, 1,
@@ -164,7 +164,7 @@ const REPEATED: [u8; 103] = [
     0x13, 1, 0, 0, 0, 0, 0, 0, 0, 1, 3, 0x61, 0x2f, 0x31, 5, 0x3c, 0x78, 0x40, 0x79, 0x3e, 0,
 ];
 
-// The first generation, with a note behind.
+// The first generation, with a note after it.
 const OLDER: [u8; 103] = [
     0xa5, 0, 0, 0, 0x31, 4, 0, 0, 0, 0, 0, 0, 0, 1, 0, 0, 0, 0, 0, 0, 0, 1, 0, 0, 0, 0, 0, 0, 0, 1,
     0, 0, 0, 0, 0, 0, 0, 0, 0, 0, 0, 0, 0, 0, 0, 0, 0, 0, 0, 0, 0, 0, 0, 1, 0xa5, 0, 0, 0, 0x13, 1,
@@ -181,8 +181,8 @@ const YOUNGER: [u8; 119] = [
     0, 0, 0x0b, 2, 0, 0, 0, 0, 0, 0, 0, 1, 0, 0xef, 0,
 ];
 
-// A batch with a note of each kind: the line 3 is owed, the line 3 of a backlog file that was taken in, and the line 4
-// of the next.
+// A batch with a note of each kind: the line 3 is owed, the line 3 of a backlog file that was taken in, and the line
+// 4 of the next.
 const IMPORTED: [u8; 224] = [
     0xa5, 0, 0, 0, 0xda, 0x0b, 0, 0, 0, 0x0d, 1, 0, 0, 0, 0, 0, 0, 0, 1, 3, 0x61, 0x2f, 0x31, 5,
     0x3c, 0x78, 0x40, 0x79, 0x3e, 1, 0, 0, 0, 0, 0, 0, 0, 2, 3, 0x61, 0x2f, 0x31, 5, 0x3c, 0x78,
@@ -206,7 +206,7 @@ const IMPORTED_ONCE: [u8; 147] = [
     0, 0, 4, 3, 0x61, 0x2f, 0x31, 5, 0x3c, 0x78, 0x40, 0x79, 0x3e, 0,
 ];
 
-// A Base that closes the last source, behind which none could be open.
+// A Base that closes the last source, after which none could be open.
 const LAST_SOURCE: [u8; 91] = [
     0xa5, 0, 0, 0, 0x3d, 0x0a, 0, 0, 0, 0, 0, 0, 0, 1, 0, 0, 0, 0, 0, 0, 0, 1, 0, 0, 0, 0, 0, 0, 0,
     1, 0, 0, 0, 0, 0, 0, 0, 0, 0, 0, 0, 0, 0, 0, 0, 0, 0, 0, 0, 0, 0, 0, 0, 1, 0xff, 0xff, 0xff,
@@ -214,7 +214,7 @@ const LAST_SOURCE: [u8; 91] = [
     0x31, 5, 0x3c, 0x78, 0x40, 0x79, 0x3e, 0,
 ];
 
-// What lies on the disks, and what is done at each opening of the tape.
+// What is on the disks, and what is done at each opening of the tape.
 const SCRIPTS: &[(Octets, &[Opening])] = &[
     // The first rotation of one debt, and the next.
     (
@@ -240,7 +240,7 @@ const SCRIPTS: &[(Octets, &[Opening])] = &[
             (&[Step::Numbers(&[1]), Step::Debt(1, Ok(Some(1)))], None),
         ],
     ),
-    // Each rotation keeps the ledger, and what pends is in it.
+    // Each rotation keeps the ledger, and what is pending is in it.
     (
         (&[], &[]),
         &[
@@ -343,7 +343,7 @@ const SCRIPTS: &[(Octets, &[Opening])] = &[
             ),
         ],
     ),
-    // Lines of backlog files are kept by each opening and by each rotation, behind those of the funnel.
+    // Each opening and each rotation keeps lines of backlog files, after those of the funnel.
     (
         (&[], &[]),
         &[
@@ -407,12 +407,12 @@ const SCRIPTS: &[(Octets, &[Opening])] = &[
             ),
         ],
     ),
-    // A segment that does not live may close the last source.
+    // A segment that is not live may close the last source.
     (
         (&LAST_SOURCE, &OTHER_TWICE),
         &[(&[Step::Numbers(&[2])], None)],
     ),
-    // On a tie the first segment lives, with no Base and with one; else the one of greater generation.
+    // On a tie the first segment is live, with or without a Base; otherwise the one of greater generation.
     ((&OWED, &NOTED), &[(&[Step::Numbers(&[1])], None)]),
     ((&ROTATED, &OTHER), &[(&[Step::Numbers(&[1])], None)]),
     ((&OTHER, &ROTATED), &[(&[Step::Numbers(&[2])], None)]),
@@ -420,12 +420,12 @@ const SCRIPTS: &[(Octets, &[Opening])] = &[
     ((&NOTED, &ROTATED), &[(&[Step::Numbers(&[1])], None)]),
     ((&ROTATED, &OTHER_TWICE), &[(&[Step::Numbers(&[2])], None)]),
     ((&OTHER_TWICE, &ROTATED), &[(&[Step::Numbers(&[2])], None)]),
-    // Of the other segment nothing is read behind its first record, and nothing is repaired.
+    // Nothing after the first record of the other segment is read, and nothing is repaired.
     (
         (&UNENDED, &OTHER_TWICE),
         &[(&[Step::Numbers(&[2])], Some((&UNENDED, &OTHER_TWICE)))],
     ),
-    // A rotation goes over whatever the other segment was.
+    // A rotation overwrites whatever the other segment was.
     (
         (&NOTED, &ROTATED),
         &[
@@ -433,7 +433,7 @@ const SCRIPTS: &[(Octets, &[Opening])] = &[
             (&[Step::Numbers(&[1])], None),
         ],
     ),
-    // There is no generation behind the last, and the tape goes on.
+    // There is no generation after the last, and the tape goes on.
     (
         (&OWED, &LAST),
         &[
@@ -462,7 +462,7 @@ const SCRIPTS: &[(Octets, &[Opening])] = &[
         )],
     ),
     // A rotation is due above 65,536 octets: 11 debts, a Final, a Drop and 7,255 notes of 9 octets are one batch, and
-    // with the end gate as many.
+    // exactly that many octets with the end gate.
     (
         (&[], &[]),
         &[(
@@ -485,7 +485,7 @@ const SCRIPTS: &[(Octets, &[Opening])] = &[
         )],
     ),
     // And above four times what a rotation writes: 3,005 debts, 2,162 Finals, one Drop and 16 notes of 9 octets are
-    // two batches, and with the end gate 81,052 octets; what is owed then takes 20,263.
+    // two batches, and 81,052 octets with the end gate; what is owed then takes 20,263.
     (
         (&[], &[]),
         &[(
@@ -517,15 +517,15 @@ fn a_tape_is_rotated(rt: HostRuntime) -> Result<(), Fail> {
 
 #[test]
 fn a_segment_is_damaged(rt: HostRuntime) -> Result<(), Fail> {
-    // What lies on the disks, and the segment and the place in it that are told.
+    // What is on the disks, and the segment and the place in it that are reported.
     const ROWS: &[(Octets, u8, u64)] = &[
-        // The first record tells no generation.
+        // The first record has no generation.
         ((&OWED, &[0xa5, 0]), 1, 0),
         ((&[0xa5, 0], &[0xa5, 0]), 0, 0),
         ((&[0xa5, 0], &ROTATED), 0, 0),
         ((&OWED, &NEVER), 1, 0),
         ((&NEVER, &ROTATED), 0, 0),
-        // The segment that lives is no tape.
+        // The live segment is not a tape.
         ((&OWED, &MISCOUNTED), 1, 0),
         ((&OWED, &LAST_SOURCE), 1, 0),
         ((&OWED, &MISSING), 1, 54),
@@ -548,7 +548,7 @@ fn a_segment_is_damaged(rt: HostRuntime) -> Result<(), Fail> {
     Ok(())
 }
 
-// Whether this place is within a segment of so many octets, or at its end.
+// Whether this place is within a segment of this many octets, or at its end.
 fn is_place((first, second): (&[u8], &[u8]), segment: u8, at: u64) -> bool {
     match segment {
         0 => at <= first.len() as u64,
@@ -557,7 +557,7 @@ fn is_place((first, second): (&[u8], &[u8]), segment: u8, at: u64) -> bool {
     }
 }
 
-// The tape of these octets is read, or told as damaged and handed back as it was.
+// The tape of these octets is read, or reported as damaged and handed back as it was.
 fn assert_read_or_damaged<A: Abort>(
     rt: &A,
     alloc: Global,
@@ -574,7 +574,6 @@ fn assert_read_or_damaged<A: Abort>(
     }
 }
 
-// These octets, with another at this place.
 pub(crate) fn with_octet(
     alloc: Global,
     octets: &[u8],
@@ -615,10 +614,10 @@ fn a_changed_octet_is_read_or_told_as_damage(rt: HostRuntime) -> Result<(), Fail
     Ok(())
 }
 
-// No opening here makes as many calls of a disk, reads among them.
+// More calls of a disk, reads included, than any opening here makes.
 const OPENING_CALLS: u64 = 9;
 
-// An opening of this image of the disks is stopped behind each call of either: what is left is a prefix all the same.
+// An opening of this image of the disks is stopped after each call of either: what is left is still a prefix.
 fn assert_openings<A: Abort>(
     rt: &A,
     alloc: Global,
@@ -635,7 +634,7 @@ fn assert_openings<A: Abort>(
     Ok(())
 }
 
-// The same of some images that choices name, one of each fill among them.
+// The same for some images that choices name, one of each fill among them.
 fn assert_each_opening<A: Abort>(
     rt: &A,
     alloc: Global,
@@ -648,7 +647,7 @@ fn assert_each_opening<A: Abort>(
     Ok(())
 }
 
-// Two debts are acknowledged and a third pends when the ledger is written.
+// Two debts are acknowledged and a third is pending when the ledger is written.
 const STOPPED: &[Step] = &[
     Step::Note(Sample::Owe(2), Ok(())),
     Step::Flush(Ok(1)),
@@ -674,8 +673,8 @@ const SECOND: &[Step] = &[
     Step::Rotate(Ok(2)),
 ];
 
-// A rotation makes eight calls of the disk whose segment does not live: a cut, a sync, and then three writes, each
-// with a sync. The opening before makes one call of it, and two reads where something lies there.
+// A rotation makes eight calls of the disk whose segment is not live: a cut, a sync, and then three writes, each with
+// a sync. The opening before makes one call of it, and two reads if it has octets.
 const STOPS: &[(Octets, Calls, &[Step], Counts)] = &[
     ((&OWED, &[]), (u64::MAX, 1), STOPPED, (2, 3)),
     ((&OWED, &[]), (u64::MAX, 2), STOPPED, (2, 3)),

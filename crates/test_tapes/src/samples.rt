@@ -1,18 +1,18 @@
-// Notes as data. Ledgers, spellings and tapes take them alike.
+// Notes as data, which ledgers, spellings and tapes share.
 use funnel::{MsgId, Token};
 use ledger_core::{Cause, FinalCode, Key, Note};
 use std::alloc::Global;
 use std::test::Fail;
 
 // A note of a script as data. Its Owe is of the token `a/1` and the message-id `<x@y>`, its Final is a 239, and its
-// Drop is of what is missing.
+// Drop has the cause missing.
 #[derive(Clone, Copy)]
 pub(crate) enum Sample {
     Owe(u64),
     Final(u64),
     Drop(u64),
     Seen(u64),
-    // The same of a line of a backlog file: its source and its number.
+    // The same for a line of a backlog file: its source and its number.
     OweFrom(u32, u64),
     FinalFrom(u32, u64),
     DropFrom(u32, u64),
@@ -22,7 +22,6 @@ pub(crate) enum Sample {
 // A source and the number of a line in it.
 pub(crate) type Line = (u32, u64);
 
-// The key of a line of the funnel.
 pub(crate) fn line(number: u64) -> Key {
     Key::new(0, number)
 }
@@ -35,7 +34,6 @@ pub(crate) fn keys_of(alloc: Global, lines: &[Line]) -> Result<Vec<Key>, Fail> {
     Ok(keys)
 }
 
-// The keys of these lines of the funnel.
 pub(crate) fn lines(alloc: Global, numbers: &[u64]) -> Result<Vec<Key>, Fail> {
     let mut keys = Vec::with_capacity(alloc, numbers.len())?;
     for number in numbers {
@@ -47,7 +45,7 @@ pub(crate) fn lines(alloc: Global, numbers: &[u64]) -> Result<Vec<Key>, Fail> {
 // The octets of a token and of a message-id.
 pub(crate) type Texts<'a> = (&'a [u8], &'a [u8]);
 
-// Those of each debt of a script. With two octets more it has ten.
+// The texts of each debt of a script. With two more octets they have ten.
 pub(crate) const TEXTS: Texts<'static> = (b"a/1", b"<x@y>");
 
 pub(crate) fn token(alloc: Global) -> Result<Token, Fail> {
@@ -93,7 +91,6 @@ pub(crate) fn note_of(alloc: Global, sample: Sample) -> Result<Note, Fail> {
     }
 }
 
-// Whether this note is the sample.
 pub(crate) fn is_sample(note: &Note, want: Sample) -> bool {
     match (note, want) {
         (Note::Owe { key, token, id }, Sample::Owe(number)) => {

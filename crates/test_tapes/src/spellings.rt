@@ -1,4 +1,4 @@
-// How notes are spelled on a tape, and what stands in them.
+// How notes are spelled on a tape, and where their texts are.
 use crate::answers::assert_answer;
 use crate::samples::{Sample, TEXTS, id, is_sample, line, note_of, texts, token};
 use ledger_core::{
@@ -19,7 +19,7 @@ const DROP: [u8; 10] = [3, 0, 0, 0, 0, 0, 0, 0, 1, 3];
 
 const SEEN: [u8; 9] = [5, 0, 0, 0, 0, 0, 0, 0, 7];
 
-// The same of the line 1 of source 515, and that source closed.
+// The same for line 1 of source 515, and that source closed.
 const OWE_FROM: [u8; 23] = [
     6, 0, 0, 2, 3, 0, 0, 0, 0, 0, 0, 0, 1, 3, 97, 47, 49, 5, 60, 120, 64, 121, 62,
 ];
@@ -68,13 +68,13 @@ const OTHERS: &[&[u8]] = &[
     &[7, 0, 0, 2, 3, 0, 0, 0, 0, 0, 0, 0, 1, 0, 239, 0],
     &[8, 0, 0, 2, 3, 0, 0, 0, 0, 0, 0, 0, 1, 3, 0],
     &[9, 0, 0, 2, 3, 0],
-    // A line of the funnel told as one of a source.
+    // A line of the funnel spelled as one of a source.
     &[
         6, 0, 0, 0, 0, 0, 0, 0, 0, 0, 0, 0, 1, 3, 97, 47, 49, 5, 60, 120, 64, 121, 62,
     ],
     &[7, 0, 0, 0, 0, 0, 0, 0, 0, 0, 0, 0, 1, 0, 239],
     &[8, 0, 0, 0, 0, 0, 0, 0, 0, 0, 0, 0, 1, 3],
-    // Tags, codes and causes that are none, and texts that are.
+    // Tags, codes and causes that do not exist, and texts that do.
     &[4, 0, 0, 0, 0, 0, 0, 0, 7],
     &[6, 0, 0, 0, 0, 0, 0, 0, 7],
     &[2, 0, 0, 0, 0, 0, 0, 0, 1, 0, 236],
@@ -136,7 +136,6 @@ fn spelled(alloc: Global, sample: Sample) -> Result<Vec<u8>, Fail> {
     Ok(encode(alloc, &note_of(alloc, sample)?)?)
 }
 
-// Whether these octets are read as this note.
 fn reads_as(alloc: Global, octets: &[u8], want: Sample) -> Result<bool, Fail> {
     match decode(alloc, octets)? {
         Some(note) => Ok(is_sample(&note, want)),
@@ -165,7 +164,7 @@ fn reads_nothing_else(rt: HostRuntime) -> Result<(), Fail> {
     Ok(())
 }
 
-// A Base of other numbers in each place, and its spelling.
+// A Base with a different number in each place, and its spelling.
 const BASE: Base = Base {
     generation: 1,
     mark: 0x0203,
@@ -182,7 +181,7 @@ const SPELLED_BASE: [u8; 49] = [
     5, 0, 0, 0, 0, 0, 0, 0, 3, 1, 0, 0, 0, 0, 0, 0, 0,
 ];
 
-// One of a ledger that has taken in backlog files.
+// The Base of a ledger that has taken in backlog files.
 const IMPORTS: Base = Base {
     generation: 1,
     mark: 0x0203,
@@ -199,7 +198,7 @@ const SPELLED_IMPORTS: [u8; 61] = [
     0, 5, 0, 0, 0, 0, 0, 0, 0, 3, 0, 0, 0, 0, 0, 0, 0, 1, 0, 0, 6, 7, 0, 0, 0, 0, 0, 0, 8, 9,
 ];
 
-// The same octets, with nothing to tell of them.
+// The same octets, without anything about backlog files.
 const SPELLED_NO_IMPORTS: [u8; 61] = [
     10, 0, 0, 0, 0, 0, 0, 0, 1, 0, 0, 0, 0, 0, 0, 2, 3, 0, 0, 0, 0, 0, 0, 0, 9, 0, 0, 0, 0, 0, 0,
     0, 5, 0, 0, 0, 0, 0, 0, 0, 3, 0, 0, 0, 0, 0, 0, 0, 1, 0, 0, 0, 0, 0, 0, 0, 0, 0, 0, 0, 0,
@@ -223,7 +222,7 @@ fn nothing_else_is_a_base(rt: HostRuntime) -> Result<(), Fail> {
     for (at, (_, octets)) in SPELLINGS.iter().enumerate() {
         assert_answer(&rt, at, &decode_base(octets), &None);
     }
-    // One octet less, one more, and another tag.
+    // One octet fewer, one more, and another tag.
     assert_answer(&rt, 0, &decode_base(&SPELLED_BASE[..48]), &None);
     let mut longer = Vec::from_slice(alloc, &SPELLED_BASE)?;
     longer.push(0)?;
@@ -231,7 +230,8 @@ fn nothing_else_is_a_base(rt: HostRuntime) -> Result<(), Fail> {
     let mut other = SPELLED_BASE;
     other[0] = 5;
     assert_answer(&rt, 2, &decode_base(&other), &None);
-    // One octet less of the longer one, its octets under the other's tag, and nothing told under its own.
+    // The longer one without its last octet, its octets under the other's tag, and nothing about backlog files under
+    // its own.
     assert_answer(&rt, 3, &decode_base(&SPELLED_IMPORTS[..60]), &None);
     let mut other = SPELLED_IMPORTS;
     other[0] = 4;

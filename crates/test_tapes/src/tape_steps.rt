@@ -9,12 +9,12 @@ use std::alloc::Global;
 use std::process::Abort;
 use std::test::Fail;
 
-// What is done to a tape, or asked of it, and the answer that is wanted.
+// What is done to a tape, or asked of it, and the wanted answer.
 #[derive(Clone, Copy)]
 pub(crate) enum Step {
-    // A note that is refused has to be handed back.
+    // A note that is refused must be handed back.
     Note(Sample, Result<(), TapeFault>),
-    // Each funnel line from this number on, below that one, is told as seen.
+    // Each funnel line from this number on, below the second, is noted as seen.
     SeenEach(u64, u64),
     // Each is owed.
     OweEach(u64, u64),
@@ -22,16 +22,16 @@ pub(crate) enum Step {
     EndEach(u64, u64),
     DropAll(&'static [u64], Result<(), TapeFault>),
     Flush(Result<u64, TapeFault>),
-    // A flush names this place, and counts so many notes.
+    // A flush names this place, and counts this many notes.
     FlushOf(Option<usize>, u64),
     Flushed(u64),
     Placed(usize),
     Place(Option<usize>),
     Rotate(Result<u64, TapeFault>),
     RotateDue(bool),
-    // The debt of this number is told with it, where there is one.
+    // The debt of this number, if there is one, is returned with that number.
     Debt(u64, Result<Option<u64>, TapeFault>),
-    // The same of a line of a backlog file.
+    // The same for a line of a backlog file.
     DebtFrom(Line, Result<Option<Line>, TapeFault>),
     Octets(u64, Option<u64>),
     Owes(u64, bool),
@@ -124,7 +124,7 @@ pub(crate) fn rotate<D: Disk>(tape: &mut Tape<D>) -> Result<Result<u64, TapeFaul
     }
 }
 
-// The line of a debt, which has to be of the texts of each debt here.
+// The line of a debt, which must have the texts of each debt here.
 fn line_of(debt: &Debt) -> Result<Line, Fail> {
     if texts(debt.token(), debt.id()) == TEXTS {
         Ok((debt.key().source(), debt.key().number()))
@@ -133,7 +133,6 @@ fn line_of(debt: &Debt) -> Result<Line, Fail> {
     }
 }
 
-// The debt of this key.
 fn debt_of<D: Disk>(tape: &mut Tape<D>, key: Key) -> Result<Result<Option<Line>, TapeFault>, Fail> {
     match tape.debt(key) {
         Ok(Some(debt)) => Ok(Ok(Some(line_of(&debt)?))),
@@ -203,7 +202,7 @@ fn take<A: Abort, D: Disk>(
     Ok(())
 }
 
-// The tape of two disks, or the disks handed back and why.
+// The disks are handed back if the tape is refused.
 pub(crate) fn opened<D: Disk + Drop>(
     alloc: Global,
     (a, b): (D, D),
@@ -217,7 +216,7 @@ pub(crate) fn opened<D: Disk + Drop>(
     }
 }
 
-// Takes these steps, each of which has to answer as is wanted. Answers the disks that they leave.
+// Returns the disks that the steps leave.
 pub(crate) fn play<A: Abort, D: Disk + Drop>(
     rt: &A,
     alloc: Global,
@@ -230,7 +229,6 @@ pub(crate) fn play<A: Abort, D: Disk + Drop>(
     Ok(tape.into_disks())
 }
 
-// The same at the tape of these disks.
 pub(crate) fn run<A: Abort, D: Disk + Drop>(
     rt: &A,
     alloc: Global,
@@ -243,13 +241,12 @@ pub(crate) fn run<A: Abort, D: Disk + Drop>(
     }
 }
 
-// What lies on the first disk of a tape, and on the second.
+// What is on the first disk of a tape, and on the second.
 pub(crate) type Octets = (&'static [u8], &'static [u8]);
 
-// The steps at one opening of a tape, and what lies on the disks then where it is asked for.
+// The steps at one opening of a tape, and what is on the disks then, if that is compared.
 pub(crate) type Opening = (&'static [Step], Option<Octets>);
 
-// Opens the tape of two disks again and again.
 pub(crate) fn run_each<A: Abort, D: Disk + Drop>(
     rt: &A,
     alloc: Global,

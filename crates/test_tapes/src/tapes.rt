@@ -1,4 +1,4 @@
-// Tapes at which steps are taken, on disks that fail or that a stop leaves too.
+// Tapes at which steps are taken, on disks that fail and on what a stop leaves of disks.
 use crate::answers::assert_answer;
 use crate::disks::{assert_both, assert_faults, beside_empty, disk_of, disks_of};
 use crate::planned_file::{Plan, PlannedFile};
@@ -25,7 +25,7 @@ const ANSWERED: [u8; 41] = [
     0x3e, 0xa5, 0, 0, 0, 0x0b, 2, 0, 0, 0, 0, 0, 0, 0, 1, 0, 0xef, 0,
 ];
 
-// The record of that Owe, and what a write that a stop tore has left behind a closed gate.
+// The record of that Owe, and after it a closed gate with what a write that was torn by a stop has left.
 pub(crate) const TORN: [u8; 28] = [
     0xa5, 0, 0, 0, 0x13, 1, 0, 0, 0, 0, 0, 0, 0, 1, 3, 0x61, 0x2f, 0x31, 5, 0x3c, 0x78, 0x40, 0x79,
     0x3e, 0, 0xa5, 0xa5, 0xa5,
@@ -35,9 +35,9 @@ const NOT_OWED: TapeFault = TapeFault::Note(LedgerFault::NotOwed);
 
 pub(crate) const OLD_NUMBER: TapeFault = TapeFault::Note(LedgerFault::OldNumber);
 
-// What lies on the first disk, where the second is empty, and what is done at each opening of the tape.
+// What is on the first disk (the second is empty), and what is done at each opening of the tape.
 const SCRIPTS: &[(&[u8], &[Opening])] = &[
-    // Notes lie on the first disk, and nothing comes to lie on the other.
+    // Notes come on the first disk, and nothing comes on the other.
     (
         &[],
         &[
@@ -71,7 +71,7 @@ const SCRIPTS: &[(&[u8], &[Opening])] = &[
             (&[Step::Mark(1)], Some((&ANSWERED, &[]))),
         ],
     ),
-    // A tape that is opened has no place. From when it is given one each flush names it, and what pends still pends.
+    // A tape that is opened has no place. Once it is given one, each flush names it, and what was pending still is.
     (
         &[],
         &[
@@ -101,7 +101,7 @@ const SCRIPTS: &[(&[u8], &[Opening])] = &[
             ),
         ],
     ),
-    // A debt is told.
+    // A debt is read.
     (
         &OWED,
         &[(&[Step::Debt(1, Ok(Some(1))), Step::Debt(2, Ok(None))], None)],
@@ -200,7 +200,7 @@ const SCRIPTS: &[(&[u8], &[Opening])] = &[
     ),
     // What a torn write left is cut off.
     (&TORN, &[(&[], Some((&OWED, &[])))]),
-    // A gate that is the last octet ends a tape, whatever it is.
+    // A gate that is the last octet ends a tape, whatever its value.
     (&[0xa5], &[(&[Step::Mark(0)], Some((&[0], &[])))]),
 ];
 
@@ -213,7 +213,7 @@ fn steps_are_taken_at_a_tape(rt: HostRuntime) -> Result<(), Fail> {
     Ok(())
 }
 
-// The same on files whose calls go by this plan.
+// The same on files whose calls follow this plan.
 fn run_on_files<A: Abort>(rt: &A, alloc: Global, plan: Plan) -> Result<(), Fail> {
     for (octets, openings) in SCRIPTS {
         let first = FileDisk::new(PlannedFile::new(alloc, octets, plan)?);
@@ -225,15 +225,15 @@ fn run_on_files<A: Abort>(rt: &A, alloc: Global, plan: Plan) -> Result<(), Fail>
 
 #[test]
 fn steps_are_taken_at_a_tape_on_files(rt: HostRuntime) -> Result<(), Fail> {
-    // How many octets a call moves, and how many calls are interrupted first. Of one transfer a
-    // thousand may be.
+    // How many octets a call moves, and how many calls are interrupted first. One transfer may be interrupted a
+    // thousand times.
     for (piece, interruptions) in [(1, 900), (2, u64::MAX), (7, u64::MAX)] {
         run_on_files(&rt, rt.alloc(), Plan::sound(piece, interruptions))?;
     }
     Ok(())
 }
 
-// The mark of the tape of these disks, or why it is refused. No number but those owed was ever noted.
+// The mark of the tape of these disks, or why it is refused. No number was ever noted except those that are owed.
 pub(crate) fn prefix_of(
     alloc: Global,
     disks: (MemDisk, MemDisk),
@@ -261,7 +261,6 @@ fn refused<D: Disk + Drop>(alloc: Global, disks: (D, D)) -> Result<(TapeFault, (
     }
 }
 
-// Both disks tell so many faults.
 fn assert_each_faults<A: Abort, D: Disk>(
     rt: &A,
     at: usize,
@@ -277,7 +276,7 @@ fn read_only((a, b): (MemDisk, MemDisk)) -> (ReadOnly<MemDisk>, ReadOnly<MemDisk
 }
 
 // The tape of these octets is refused as damaged at this place of this segment, and its disks are handed back as they
-// were: where each call but a read would fail too, since none is made.
+// were: even if each call except a read would fail, since none is made.
 pub(crate) fn assert_damaged<A: Abort>(
     rt: &A,
     alloc: Global,
@@ -294,7 +293,7 @@ pub(crate) fn assert_damaged<A: Abort>(
     assert_both(rt, alloc, row, &mut disks, octets)
 }
 
-// The same of the first segment, where the second disk is empty.
+// The same for the first segment, with an empty second disk.
 fn assert_first_damaged<A: Abort>(
     rt: &A,
     alloc: Global,
@@ -320,9 +319,9 @@ fn what_is_cut_short_is_damaged(rt: HostRuntime) -> Result<(), Fail> {
 
 #[test]
 fn a_damaged_tape_is_left_as_it_was(rt: HostRuntime) -> Result<(), Fail> {
-    // What lies on a disk, and where it is damaged.
+    // What is on a disk, and where it is damaged.
     const ROWS: &[(&[u8], u64)] = &[
-        // No note, a Final of what is not owed, and an Owe twice.
+        // Not a note, a Final of what is not owed, and an Owe twice.
         (&[0xa5, 0, 0, 0, 0, 0], 0),
         (
             &[0xa5, 0, 0, 0, 0x0b, 2, 0, 0, 0, 0, 0, 0, 0, 1, 0, 0xef, 0],
@@ -336,9 +335,9 @@ fn a_damaged_tape_is_left_as_it_was(rt: HostRuntime) -> Result<(), Fail> {
             ],
             24,
         ),
-        // No note, and octets behind an end gate of another value.
+        // Not a note, and octets after an end gate of another value.
         (&[0xa5, 0, 0, 0, 0, 7, 1, 2, 3], 0),
-        // The same behind a note, with a record and its open gate behind the end gate.
+        // The same after a note, with a record and its open gate after the end gate.
         (
             &[
                 0xa5, 0, 0, 0, 0x13, 1, 0, 0, 0, 0, 0, 0, 0, 1, 3, 0x61, 0x2f, 0x31, 5, 0x3c, 0x78,
@@ -346,11 +345,11 @@ fn a_damaged_tape_is_left_as_it_was(rt: HostRuntime) -> Result<(), Fail> {
             ],
             24,
         ),
-        // No note, and no end behind it: the end is a gate, and has to be there.
+        // Not a note, and no end after it: the end is a gate, and must be there.
         (&[0xa5, 0, 0, 0, 1, 9], 6),
-        // No note, and a record behind it that is cut short: the segment's damage goes before.
+        // Not a note, and after it a record that is cut short: the segment's damage goes before.
         (&[0xa5, 0, 0, 0, 0, 0xa5, 0], 5),
-        // A length behind a note that passes the file's end.
+        // A length after a note that goes past the file's end.
         (
             &[
                 0xa5, 0, 0, 0, 0x13, 1, 0, 0, 0, 0, 0, 0, 0, 1, 3, 0x61, 0x2f, 0x31, 5, 0x3c, 0x78,
@@ -365,12 +364,12 @@ fn a_damaged_tape_is_left_as_it_was(rt: HostRuntime) -> Result<(), Fail> {
     Ok(())
 }
 
-// What is a tape is refused for the disks alone, at the first call that is no read: that of the disk whose segment
-// does not live, or of the other where that one's calls are let through.
+// What is a tape is refused only for the disks, at the first call that is not a read: that of the disk whose segment
+// is not live, or, if its calls pass, of the other.
 #[test]
 fn a_tape_is_repaired(rt: HostRuntime) -> Result<(), Fail> {
-    // What lies on the first disk, and how many reads of it an opening makes: two of the record that stands first, and
-    // then one of all that lies there.
+    // What is on the first disk, and how many reads of it an opening makes: two of the record that comes first, and
+    // then one of all that is there.
     const ROWS: &[(&[u8], u64)] = &[
         (&[], 0),
         (&[0xa5], 2),
@@ -406,8 +405,8 @@ fn assert_repaired<A: Abort>(
 #[test]
 fn a_failed_sync_breaks_the_tape(rt: HostRuntime) -> Result<(), Fail> {
     // The call of an empty first disk that fails, the last of the first flush, from 0; the steps, and those at the
-    // next opening: what was broken drops nothing, and what was written is owed still. Opening takes five calls of it,
-    // and a flush four, whether it is of one note or of a batch.
+    // next opening: what was broken drops nothing, and what was written is still owed. Opening takes five calls of
+    // it, and a flush four, whether of one note or of a batch.
     const ROWS: &[(u64, &[Step], &[Step])] = &[
         (
             8,
@@ -444,8 +443,9 @@ fn a_failed_sync_breaks_the_tape(rt: HostRuntime) -> Result<(), Fail> {
     Ok(())
 }
 
-// How many calls the first disk of a tape passes, and how many the second: those of it that fails, before that, and all
-// that are made of the other. Since a tape makes no call once one has failed, each stop is one of the two.
+// How many calls pass on the first disk of a tape, and how many on the second: on one, those before the call that
+// fails; on the other, all that are made. Since a tape makes no call once one has failed, each stop is one of the
+// two.
 pub(crate) type Calls = (u64, u64);
 
 pub(crate) fn fused(
@@ -466,8 +466,8 @@ pub(crate) fn flaky(
     (FlakyDisk::new(a, first), FlakyDisk::new(b, second))
 }
 
-// Opens the tape of disks that fail after so many calls, and takes these steps where it is opened. No other fault
-// than one of the disks is met here. Answers the disks as a stop finds them.
+// Opens the tape of disks that fail after this many calls, and takes these steps if it opens. No faults but those of
+// the disks come here. Returns the disks as a stop finds them.
 pub(crate) fn stopped<A: Abort>(
     rt: &A,
     alloc: Global,
@@ -485,13 +485,12 @@ pub(crate) fn stopped<A: Abort>(
 // How many debts there are, at least and at most.
 pub(crate) type Counts = (u64, u64);
 
-// What stands where a write did not happen, for each choice of what happened of three operations.
+// The octet that fills what was not written, for each choice of which of three operations happened.
 pub(crate) const FILLS: [u8; 24] = [
     0, 0, 0, 0, 0, 0, 0, 0, 0xa5, 0xa5, 0xa5, 0xa5, 0xa5, 0xa5, 0xa5, 0xa5, 0xff, 0xff, 0xff, 0xff,
     0xff, 0xff, 0xff, 0xff,
 ];
 
-// The image of both disks that a choice names.
 pub(crate) fn image(
     (a, b): &(MemDisk, MemDisk),
     happened: u64,
@@ -501,7 +500,7 @@ pub(crate) fn image(
     Ok((a.image(choice)?, b.image(choice)?))
 }
 
-// Each image of the disks that a choice names is the tape of so many of the first debts.
+// Each image of the disks that a choice names is the tape of this many of the first debts.
 pub(crate) fn assert_prefixes<A: Abort>(
     rt: &A,
     alloc: Global,
@@ -515,8 +514,8 @@ pub(crate) fn assert_prefixes<A: Abort>(
     Ok(())
 }
 
-// The same of what each stop leaves: on disks of which one, of these octets, fails after so many calls, with these
-// steps. The other is empty.
+// The same for what each stop leaves: one disk, of these octets, fails after a number of calls, with these steps. The
+// other is empty.
 fn assert_stops<A: Abort>(
     rt: &A,
     alloc: Global,
@@ -533,8 +532,8 @@ fn assert_stops<A: Abort>(
     Ok(())
 }
 
-// Opening makes five calls of an empty first disk, behind the sync of the second. A flush takes four, whether it is of
-// one note or of a batch: a write, a sync, a write for the gate and a sync.
+// Opening makes five calls of an empty first disk, after the sync of the second. A flush takes four, whether of one
+// note or of a batch: a write, a sync, a write for the gate and a sync.
 #[test]
 fn a_stop_leaves_a_prefix(rt: HostRuntime) -> Result<(), Fail> {
     const FIRST: &[Step] = &[
@@ -556,7 +555,7 @@ fn a_stop_leaves_a_prefix(rt: HostRuntime) -> Result<(), Fail> {
         Step::Note(Sample::Owe(3), Ok(())),
         Step::Flush(Ok(3)),
     ];
-    // What lies on the first disk, its stops from this call on, below that one, the steps, and how many debts are
+    // What is on the first disk, its stops from this call on, below the second, the steps, and how many debts are
     // left. The last is of an opening that cuts off what a torn write left, and reads three times first.
     const STOPS: &[(&[u8], u64, u64, &[Step], Counts)] = &[
         (&[], 0, 5, &[], (0, 0)),
@@ -571,7 +570,7 @@ fn a_stop_leaves_a_prefix(rt: HostRuntime) -> Result<(), Fail> {
     Ok(())
 }
 
-// The second disk is synced before the first is repaired: the one call of it.
+// The second disk is synced, by its only call, before the first is repaired.
 #[test]
 fn a_stop_before_the_repair_leaves_the_tape(rt: HostRuntime) -> Result<(), Fail> {
     const ROWS: &[(&[u8], Counts)] = &[(&[], (0, 0)), (&OWED, (1, 1)), (&TORN, (1, 1))];

@@ -1,4 +1,4 @@
-// Numbers that wait for a moment, and how long a place is let alone once it failed.
+// Numbers that wait for a moment, and how long a place is left alone after it failed.
 use crate::answers::assert_answer;
 use crate::samples::{Line, line};
 use deferral::{Backoff, Later};
@@ -8,21 +8,21 @@ use std::collections::BTreeMap;
 use std::process::Abort;
 use std::test::Fail;
 
-// What is done to the numbers that wait, or asked of them, and the answer that is wanted.
+// What is done to the numbers that wait, or asked of them, and the wanted answer.
 #[derive(Clone, Copy)]
 enum Step {
-    // This number waits for this moment from now on, unless it waits already.
+    // From now on this number waits for this moment, unless it waits already.
     Put(u64, u64),
-    // It waits for this moment or for none from now on, if it waits.
+    // From now on it waits for this moment or for none, if it waits.
     Set(u64, Option<u64>, bool),
     Remove(u64, bool),
     Contains(u64, bool),
-    // The least number that is due at this moment, and the least from the first on that is.
+    // The least number that is due at this moment, and the least that is due from the first on.
     DueLeast(u64, Option<u64>),
     DueFrom(u64, u64, Option<u64>),
 }
 
-// What a try of a place came to.
+// The result of trying a place.
 #[derive(Clone, Copy)]
 enum Try {
     Failed,
@@ -65,7 +65,6 @@ fn take<A: Abort>(rt: &A, later: &mut Later, at: usize, step: Step) -> Result<()
     Ok(())
 }
 
-// Takes these steps, each of which has to answer as is wanted.
 fn play<A: Abort>(rt: &A, later: &mut Later, steps: &[Step]) -> Result<(), Fail> {
     for (at, step) in steps.iter().enumerate() {
         take(rt, later, at, *step)?;
@@ -73,7 +72,7 @@ fn play<A: Abort>(rt: &A, later: &mut Later, steps: &[Step]) -> Result<(), Fail>
     Ok(())
 }
 
-// Takes these steps where nothing waits at first.
+// Nothing waits at first.
 fn run<A: Abort>(rt: &A, alloc: Global, steps: &[Step]) -> Result<(), Fail> {
     play(rt, &mut Later::new(alloc), steps)
 }
@@ -85,7 +84,7 @@ fn note(backoff: &mut Backoff, tried: Try) {
     }
 }
 
-// A place that is tried so waits no time at first, and after each try as long as is wanted.
+// A place with these results waits no time at first, and after each try as long as is wanted.
 fn assert_waits<A: Abort>(rt: &A, mut backoff: Backoff, tries: &[(Try, u64)]) {
     assert_answer(rt, 0, &backoff.wait(), &0);
     for (at, (tried, want)) in tries.iter().enumerate() {
@@ -114,7 +113,7 @@ fn numbers_wait_for_their_moments(rt: HostRuntime) -> Result<(), Fail> {
             Step::DueLeast(20, Some(3)),
             Step::DueLeast(15, Some(5)),
         ],
-        // It waits no more once it is removed.
+        // It no longer waits once it is removed.
         &[
             Step::Remove(5, false),
             Step::Put(5, 10),
@@ -209,8 +208,8 @@ fn plain_least(plain: &BTreeMap<u64, Option<u64>>, first: u64, now: u64) -> Opti
     None
 }
 
-/// Puts or removes a number in the plain map, or gives it another moment or none: as a step, with the answer of the
-/// plain map.
+/// Puts or removes a number in the plain map, or gives it another moment or none: returns the step, with the answer
+/// of the plain map.
 fn change(plain: &mut BTreeMap<u64, Option<u64>>, number: u64, random: u64) -> Result<Step, Fail> {
     let due = random >> 20 & 63;
     if random >> 8 & 3 == 0 {
@@ -225,7 +224,8 @@ fn change(plain: &mut BTreeMap<u64, Option<u64>>, number: u64, random: u64) -> R
     Ok(Step::Set(number, moment, true))
 }
 
-/// One step of the mix: a number is put, removed or given another moment or none, and the least due is asked.
+/// One step of the mix: a number is put, removed or given another moment or none, and the least number that is due is
+/// asked for.
 fn mix_once(
     rt: &impl Abort,
     later: &mut Later,
@@ -272,8 +272,8 @@ fn as_a_plain_map_that_is_searched(rt: HostRuntime) -> Result<(), Fail> {
 
 #[test]
 fn waits_double_up_to_the_most(rt: HostRuntime) {
-    // The first wait and the most, and what each try leaves. A first wait above the most is the most, and doubling
-    // stops at the greatest number.
+    // The first wait and the longest, and what each try leaves. A first wait above the longest counts as the longest,
+    // and doubling stops at the greatest number.
     const ROWS: &[(u64, u64, &[(Try, u64)])] = &[
         (
             30,

@@ -9,14 +9,14 @@ use funnel::Token;
 use std::alloc::{AllocError, Global};
 use std::test::Fail;
 
-// What is asked of a store about a token.
+// A call of a store with a token.
 #[derive(Clone, Copy)]
 enum Call {
     Insert(&'static [u8]),
     Remove,
     Fetch,
     HandOut,
-    // Of the store on the broken disk.
+    // `fetch` of the store on the broken disk.
     HandOutBroken,
 }
 
@@ -30,7 +30,7 @@ impl Articles for BrokenDisk {
     }
 }
 
-// The text under a token where it is handed out, by what any store promises.
+// The text under a token if it is handed out, by what any store promises.
 fn handed_out<A: Articles>(store: &mut A, token: &Token) -> Result<Option<Bytes>, StoreFault>
     ensures sendable { IfOk result (λ found. IfSome found IsSendable) }
     ensures said { IfOk result
@@ -86,7 +86,7 @@ fn put_answer(
     }
 }
 
-// What a store answers about this token; nothing where it takes a text in.
+// The answer of a store to this call; nothing if the call puts a text in.
 fn answer(
     alloc: Global,
     store: &mut MemArticles,
@@ -112,7 +112,7 @@ fn texts_stand_under_their_tokens(rt: HostRuntime) -> Result<(), Fail> {
         (b"a/2", Call::Fetch, b"gone|"),
         (b"a/1", Call::Remove, b"removed|"),
         (b"a/1", Call::Fetch, b"gone|"),
-        // Texts with no written form stay inside.
+        // Texts without a written form are not handed out.
         (b"a/1", Call::Insert(b""), b""),
         (b"a/1", Call::Fetch, b"unsendable|"),
         (b"a/1", Call::HandOut, b"none|"),

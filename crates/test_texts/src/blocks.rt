@@ -4,7 +4,7 @@ use dot_codec::{BlockFault, BlockRefusal, from_block, is_sendable, to_block};
 use std::alloc::{AllocError, Global};
 use std::test::Fail;
 
-// Whether a text is sendable, and its block or the refusal.
+// Whether a text can be sent, and its block or the refusal.
 fn block_told(alloc: Global, text: &[u8]) -> Result<Vec<u8>, AllocError> {
     let mut told = Vec::new(alloc);
     if is_sendable(text) {
@@ -35,7 +35,7 @@ fn texts_are_written_as_blocks(rt: HostRuntime) -> Result<(), Fail> {
     Ok(())
 }
 
-// Whether a text of so many letters is sendable, and refused as a block.
+// Whether a text of this many letters can be sent, and is refused as a block.
 #[test]
 fn texts_have_a_longest_length(rt: HostRuntime) -> Result<(), Fail> {
     for (len, want) in [(16_777_216, true), (16_777_217, false)] {
@@ -46,7 +46,7 @@ fn texts_have_a_longest_length(rt: HostRuntime) -> Result<(), Fail> {
     Ok(())
 }
 
-// The lines of a block and how many octets it has, or its fault.
+// The lines of a block and its length, or its fault.
 fn text_told(alloc: Global, octets: &[u8]) -> Result<Vec<u8>, AllocError> {
     let mut told = Vec::new(alloc);
     match from_block(alloc, octets) {

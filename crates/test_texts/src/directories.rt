@@ -4,7 +4,7 @@ use segments::{AddFault, Segments, name_of, read_name};
 use std::alloc::{AllocError, Global};
 use std::test::Fail;
 
-// The number that a name has, and the name of that number; or that it is no segment's, or its fault.
+// The number that a name has, and the name of that number; or that the name is not a segment's, or its fault.
 fn name_told(alloc: Global, name: &[u8]) -> Result<Vec<u8>, AllocError> {
     let mut told = Vec::new(alloc);
     match read_name(name) {
@@ -48,7 +48,7 @@ fn names_are_numbers(rt: HostRuntime) -> Result<(), Fail> {
     Ok(())
 }
 
-// The segments whose first lines have these numbers, taken in in this order.
+// The segments whose first lines have these numbers, added in this order.
 fn segments_of(alloc: Global, firsts: &[u64]) -> Result<Segments, AllocError> {
     let mut segments = Segments::new(alloc);
     for first in firsts {
@@ -130,7 +130,7 @@ fn segments_lie_before_and_after_one(rt: HostRuntime) -> Result<(), Fail> {
     Ok(())
 }
 
-// What is said of each name of a directory, and which segments there are then.
+// The answer for each name of a directory, and the segments that there are then.
 fn added_told(alloc: Global, names: &[&[u8]]) -> Result<Vec<u8>, AllocError> {
     let mut segments = Segments::new(alloc);
     let mut told = Vec::new(alloc);

@@ -1,12 +1,12 @@
-// The articles that are read from files: the crate article_store, over readers in memory.
+// Articles that are read from files: the crate article_store, over readers in memory.
 use crate::octets::{Long, assert_told, long, put};
 use article_store::{Found, read_article};
 use std::alloc::{AllocError, Global};
 use std::io::{self, ErrorKind, Read};
 use std::test::Fail;
 
-// A reader of a text, which gives a piece of so many octets at most, tells each other read as interrupted, and may fail
-// where the text ends.
+// A reader of a text. It gives pieces of at most this many octets, reports every other read as interrupted, and may
+// fail at the end of the text.
 #[derive(Drop)]
 struct Pieces<'a> {
     text: &'a [u8],
@@ -34,7 +34,7 @@ impl Read for Pieces<'_> {
     }
 }
 
-// Puts what was read; of a long text how many octets it has, of a fault of which kind it is.
+// Adds what was read: of a long text its length, of a fault its kind.
 fn put_read(told: &mut Vec<u8>, read: io::Result<Found>) -> Result<(), AllocError> {
     match read {
         Ok(Found::Article(text)) if text.len() < 100 => put(told, text.as_slice()),
@@ -61,7 +61,7 @@ fn put_count(told: &mut Vec<u8>, count: usize) -> Result<(), AllocError> {
     put(told, digits.as_bytes())
 }
 
-// What a text of a reader is as an article, and how many octets the reader has left.
+// The text of a reader as an article, and how many octets the reader has left.
 fn read_of(
     alloc: Global,
     buffer: &mut Vec<u8>,
@@ -86,14 +86,14 @@ fn read_of(
 fn whole_texts_are_articles(rt: HostRuntime) -> Result<(), Fail> {
     let mut buffer = Vec::new(rt.alloc());
     let rows: [(Long, usize, Option<ErrorKind>, &[u8]); 16] = [
-        // Short pieces, and the end is not taken for granted.
+        // Short pieces: a short read does not mean the end.
         ((b"a\r\nb\n", 0, 0, b""), 1, None, b"a\r\nb\n|0|"),
         ((b"", b'x', 65_536, b""), 70_000, None, b"65536|0|"),
         ((b"", b'x', 65_536, b"\n"), 70_000, None, b"65537|0|"),
         ((b"", b'x', 200_000, b""), 999, None, b"200000|0|"),
-        // What an earlier text left in the buffer is no part of a later one.
+        // What an earlier text left in the buffer is not part of a later one.
         ((b"x", 0, 0, b""), 9, None, b"x|0|"),
-        // The longest text, one octet more, and many: what is too long is not read on.
+        // The longest text, one octet more, and many more: a text that is too long is not read further.
         (
             (b"", b'x', 16_777_216, b""),
             1_000_000,
@@ -114,7 +114,7 @@ fn whole_texts_are_articles(rt: HostRuntime) -> Result<(), Fail> {
         ),
         ((b"a\0b\n", 0, 0, b""), 2, None, b"unsendable|0|"),
         ((b"", 0, 0, b""), 2, None, b"unsendable|0|"),
-        // Cut off behind a text, or at once.
+        // Cut off after a text, or at once.
         (
             (b"a\n", 0, 0, b""),
             1,

@@ -1,8 +1,8 @@
-//! Tests of the crates that read and write texts: lines and names, blocks, replies, configurations, stores of articles,
-//! segments of a funnel, status reports.
+//! Tests of the crates that read and write texts: lines and names, blocks, replies, configurations, stores of
+//! articles, segments of a funnel, status reports.
 //!
 //! Has no item of its own, and nothing stands on it. Each module asks the public calls of one crate about rows of
-//! texts: one small function a call tells its answer as octets, and a loop compares that with what the row has. The
+//! texts: one small function a call returns its answer as octets, and a loop compares that with what the row has. The
 //! answers are worked out by hand from RFC 3977 and innfeed.conf(5).
 #![tactic(auto)]
 

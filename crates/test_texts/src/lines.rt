@@ -41,7 +41,7 @@ fn lines_are_read(rt: HostRuntime) -> Result<(), Fail> {
     Ok(())
 }
 
-// Lines of 8,192 octets, a CR among them, and of one more; and a message-id of 251.
+// Lines of 8,192 octets, a CR among them, and of one octet more; and a message-id of 251.
 #[test]
 fn long_lines_are_read(rt: HostRuntime) -> Result<(), Fail> {
     let rows: [(Long, &[u8]); 6] = [
@@ -59,7 +59,7 @@ fn long_lines_are_read(rt: HostRuntime) -> Result<(), Fail> {
     Ok(())
 }
 
-// Whether a line names a peer; `None` where either cannot be read.
+// Whether a line names a peer; `None` if either cannot be read.
 fn names(alloc: Global, line: &[u8], peer: &[u8]) -> Option<bool> {
     let peer = PeerName::read(alloc, peer).ok()??;
     let line = read_line(alloc, line).ok()?;
@@ -81,7 +81,7 @@ enum Form {
     Peer,
 }
 
-// A copy of the name of this form that the octets are, or nothing where they are none.
+// A copy of the name of this form that the octets are; empty if they are not one.
 fn name_told(alloc: Global, form: Form, octets: &[u8]) -> Result<Vec<u8>, AllocError> {
     match form {
         Form::Id => match MsgId::read(alloc, octets)? {
@@ -115,7 +115,7 @@ fn names_are_read(rt: HostRuntime) -> Result<(), Fail> {
     Ok(())
 }
 
-// The words of a text, each with all that stands behind it.
+// The words of a text, each with everything after it.
 fn words_told(alloc: Global, text: &[u8]) -> Result<Vec<u8>, AllocError> {
     let mut told = Vec::new(alloc);
     let mut left = text;
@@ -154,7 +154,7 @@ fn lines_told(alloc: Global, cutter: &mut LineCutter) -> Result<Vec<u8>, AllocEr
     Ok(told)
 }
 
-// The lines of a text that is fed in a first piece of this length and then in pieces of that one.
+// The lines of a text that is fed in a first piece of `first` octets and then in pieces of `len` octets.
 fn cut(alloc: Global, text: &[u8], first: usize, len: usize) -> Result<Vec<u8>, AllocError> {
     let mut cutter = LineCutter::new(alloc);
     let (front, back) = text.split_at(first.min(text.len()));
@@ -185,7 +185,7 @@ fn the_same_lines_are_cut_from_any_pieces(rt: HostRuntime) -> Result<(), Fail> {
     Ok(())
 }
 
-// What is given before each piece is fed: as many `a` and an end, and so is the piece.
+// What is given before a piece is fed, and the piece: each as a number of `a` and an end.
 #[test]
 fn lines_are_given_once_they_end(rt: HostRuntime) -> Result<(), Fail> {
     let mut cutter = LineCutter::new(rt.alloc());

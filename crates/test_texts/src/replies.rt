@@ -4,7 +4,7 @@ use reply_reader::{Reply, ReplyFault, ReplyReader};
 use std::alloc::{AllocError, Global};
 use std::test::Fail;
 
-// Tells a reply: its code, its message-id or nothing, and its text.
+// Adds a reply: its code, its message-id or nothing, and its text.
 fn put_reply(told: &mut Vec<u8>, reply: &Reply) -> Result<(), AllocError> {
     put_printed(told, &reply.code)?;
     match &reply.id {
@@ -14,7 +14,7 @@ fn put_reply(told: &mut Vec<u8>, reply: &Reply) -> Result<(), AllocError> {
     put(told, &reply.text)
 }
 
-// Tells the replies that a reader has, and the fault behind them. Answers whether there was none.
+// Adds the replies that a reader has, and the fault after them. Returns whether there was none.
 fn tell(reader: &mut ReplyReader, told: &mut Vec<u8>) -> Result<bool, AllocError> {
     for _ in 0..9 {
         match reader.next() {
@@ -30,8 +30,8 @@ fn tell(reader: &mut ReplyReader, told: &mut Vec<u8>) -> Result<bool, AllocError
     Ok(true)
 }
 
-// What is told of octets that are fed in a first piece of this length and then in pieces of that one. Behind a fault
-// stands what is told of one more line.
+// The answer for octets that are fed in a first piece of `first` octets and then in pieces of `len` octets. If there
+// is a fault, the answer for one more line follows it.
 fn read(alloc: Global, octets: &[u8], first: usize, len: usize) -> Result<Vec<u8>, AllocError> {
     let mut reader = ReplyReader::new(alloc);
     let mut told = Vec::new(alloc);
@@ -78,7 +78,7 @@ fn replies_are_read(rt: HostRuntime) -> Result<(), Fail> {
     Ok(())
 }
 
-// The same of lines of 2,048 octets with their end, and of more.
+// The same for lines of 2,048 octets with their end, and for longer ones.
 #[test]
 fn long_replies_are_read(rt: HostRuntime) -> Result<(), Fail> {
     let rows: [(Long, Long); 6] = [

@@ -29,7 +29,8 @@ p                             3          1          1          1           10
 news.long-name.example.net 18446744073709551615 9999999999 10000000000          0 1000000000000
 ";
 
-// A writer that takes three octets at a time at most, tells each other write as interrupted, and fails once it is full.
+// A writer that takes at most three octets at a time, reports every other write as interrupted, and fails once it is
+// full.
 #[derive(Drop)]
 struct Narrow {
     out: Vec<u8>,
@@ -57,7 +58,7 @@ impl Write for Narrow {
     }
 }
 
-// What comes out of a report on so many of the two peers, with room for so many octets, and how it ended.
+// What is written of a report on these peers, with room for `room` octets, and how that ended.
 fn told(alloc: Global, peers: &[PeerStatus<'_>], room: usize) -> Result<Vec<u8>, AllocError> {
     let mut out = Narrow {
         out: Vec::new(alloc),
@@ -95,7 +96,7 @@ fn reports_are_laid_out_and_cut(rt: HostRuntime) -> Result<(), Fail> {
             totals: WIDE,
         },
     ];
-    // Lengths of the text for no peer, for one and for both.
+    // The length of the text for no peer, for one and for both.
     for (count, length) in [(0, 78), (1, 156), (2, 252)] {
         for room in [0, 1, 20, 77, 78, 100, 156, 157, 251, 252, 300] {
             let told = told(alloc, &peers[..count], room)?;

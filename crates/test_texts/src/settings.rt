@@ -20,10 +20,10 @@ peer three { colour: red }
 const QUOTES: &[u8] =
     b"peer p { ip-name:\"a #b\" status-file: }\nno-check-high: 100.009 max-connections: 0 no-check-filter: 1000.9";
 
-// The numbers of the peer of this name: its port, whether it streams (1), the most connections, the most articles of a
-// connection; the share from which on CHECK is left out, the one below which it is back, over how many answers; how
-// long an answer is waited for, the first wait and the longest; whether deferred articles are dropped (1); the limit
-// and the high water of its backlog. Nothing where no such peer is declared.
+// The numbers of the peer of this name: its port, whether it streams (1), the most connections, the most articles of
+// a connection; the share at which CHECK is left out, the share below which it is sent again, over how many answers;
+// how long to wait for an answer, the first wait and the longest; whether deferred articles are dropped (1); the
+// limit and the high water of its backlog. Nothing if no such peer is declared.
 fn numbers_told(alloc: Global, text: &[u8], name: &[u8]) -> Result<Vec<u8>, Fail> {
     let conf = read_conf(alloc, text)?;
     let name = PeerName::read(alloc, name)?.ok_or("a name")?;
@@ -113,7 +113,6 @@ fn peers_have_values(rt: HostRuntime) -> Result<(), Fail> {
     Ok(())
 }
 
-// Tells the texts of a file and the names and hosts of its peers.
 fn put_texts(told: &mut Vec<u8>, conf: &Conf) -> Result<(), AllocError> {
     put(told, conf.news_spool())?;
     put(told, conf.backlog_directory())?;
@@ -125,7 +124,7 @@ fn put_texts(told: &mut Vec<u8>, conf: &Conf) -> Result<(), AllocError> {
     Ok(())
 }
 
-// Tells each use that was ignored or limited, its line and its key.
+// Adds each use that was ignored or limited, with its line and its key.
 fn put_reports(told: &mut Vec<u8>, conf: &Conf) -> Result<(), AllocError> {
     for report in conf.ignored() {
         put(
@@ -142,7 +141,7 @@ fn put_reports(told: &mut Vec<u8>, conf: &Conf) -> Result<(), AllocError> {
     Ok(())
 }
 
-// Both of a configuration.
+// The texts of a configuration, then its reports.
 fn texts_told(alloc: Global, text: &[u8]) -> Result<Vec<u8>, Fail> {
     let conf = read_conf(alloc, text)?;
     let mut told = Vec::new(alloc);
@@ -170,7 +169,7 @@ fn texts_and_reports_are_told(rt: HostRuntime) -> Result<(), Fail> {
     Ok(())
 }
 
-// The names of the peers that a configuration gives away.
+// The names of the peers that a configuration hands over.
 fn names_given(alloc: Global, text: &[u8]) -> Result<Vec<u8>, Fail> {
     let mut told = Vec::new(alloc);
     for peer in &read_conf(alloc, text)?.into_peers() {
@@ -189,7 +188,7 @@ fn peers_are_given_away(rt: HostRuntime) -> Result<(), Fail> {
     Ok(())
 }
 
-// The fault of a configuration; nothing where it has none.
+// The fault of a configuration; nothing if it has none.
 fn fault_told(alloc: Global, text: &[u8]) -> Result<Vec<u8>, AllocError> {
     let mut told = Vec::new(alloc);
     if let Err(fault) = read_conf(alloc, text) {
@@ -209,13 +208,13 @@ fn the_first_fault_is_told(rt: HostRuntime) -> Result<(), Fail> {
         (b"streaming: maybe", b"line 1: BadBoolean|"),
         (b"peer .x { }", b"line 1: BadPeerName|"),
         (b"peer p { }\npeer p { }", b"line 2: SamePeer|"),
-        // The name stands before the place of the brace.
+        // The name is tested before the place of the brace.
         (b"peer p { }\npeer p", b"line 2: SamePeer|"),
         // The value of a key is the next word, whatever it is.
         (b"colour: streaming: true", b"line 1: NoValue|"),
-        // A brace is no word.
+        // A brace is not a word.
         (b"peer p { port-number: }", b"line 1: NoValue|"),
-        // The name is missing before the brace is.
+        // The missing name is found before the missing brace.
         (b"peer", b"line 1: BadPeerName|"),
         (b"no-check-filter: 0.9", b"line 1: Range|"),
         (b"ip-name: \"\"", b"line 1: Range|"),

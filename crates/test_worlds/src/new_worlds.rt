@@ -1,10 +1,9 @@
-// A world that is made of a peer alone.
+// A new world of one peer.
 use feed_conf::{PeerConf, read_conf};
 use std::alloc::{AllocError, Global};
 use std::test::Fail;
 use world_core::{Step, World};
 
-// The last peer of these settings.
 fn peer_of(alloc: Global, settings: &[u8]) -> Option<PeerConf> {
     match read_conf(alloc, settings) {
         Ok(conf) => conf.into_peers().pop(),
@@ -12,7 +11,6 @@ fn peer_of(alloc: Global, settings: &[u8]) -> Option<PeerConf> {
     }
 }
 
-// A line that names the peer p, and a flush.
 fn line_and_flush(alloc: Global) -> Result<Vec<Step>, AllocError> {
     let mut steps = Vec::new(alloc);
     steps.push(Step::Line(Vec::from_slice(alloc, b"a/1 <x@y> p")?))?;
@@ -20,7 +18,7 @@ fn line_and_flush(alloc: Global) -> Result<Vec<Step>, AllocError> {
     Ok(steps)
 }
 
-// What a world tells of these steps, in lines; nothing if it refuses one.
+// The lines that a world outputs for these steps; nothing if it refuses one.
 fn told_by(alloc: Global, world: &mut World, steps: &[Step]) -> Result<Vec<u8>, AllocError> {
     let mut out = Vec::new(alloc);
     if let Ok(report) = world.run(steps) {
@@ -33,7 +31,7 @@ fn told_by(alloc: Global, world: &mut World, steps: &[Step]) -> Result<Vec<u8>, 
     Ok(out)
 }
 
-// What a new world of this peer tells of a line and a flush; nothing if it is not made.
+// The lines that a new world of this peer outputs for a line and a flush; nothing if it is not made.
 fn told_of(alloc: Global, peer: PeerConf) -> Result<Vec<u8>, AllocError> {
     let mut peers = Vec::new(alloc);
     peers.push(peer)?;

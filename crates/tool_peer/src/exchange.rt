@@ -1,21 +1,19 @@
-// One connection's octets: what came in, and what is to go out.
+// The octets of one connection: what came in, and what is to be sent.
 use crate::history::{History, Wish};
 use anyhow::{Result, bail};
 use dot_codec::{BlockFault, from_block};
 use memchr::{memchr, memmem};
 use std::alloc::Global;
 
-// The longest line that is waited for.
+// The longest line that it waits for, in octets.
 const LONGEST_LINE: usize = 65_536;
 
-// The command that a block belongs to.
 #[derive(Clone, Copy)]
 enum Sender {
     Takethis,
     Ihave,
 }
 
-// A block that is awaited.
 #[derive(Drop)]
 struct Awaited {
     id: Vec<u8>,
@@ -27,19 +25,19 @@ struct Awaited {
 pub struct Exchange {
     alloc: Global,
     input: Vec<u8>,
-    // How many octets of the input are read, and up to where no block's end was found.
+    // How many octets of the input are read, and up to which index no end of a block was found.
     read: usize,
     searched: usize,
     awaited: Option<Awaited>,
     articles: u64,
-    /// What is to go out.
+    /// What is to be sent.
     pub output: Vec<u8>,
-    /// Nothing more is read, and the connection closes once the output is gone.
+    /// Nothing more is read, and the connection closes once the output is sent.
     pub ended: bool,
 }
 
 impl Exchange {
-    /// A connection just made: the greeting is to go out (RFC 3977, section 5.1).
+    /// A new connection: the greeting is to be sent (RFC 3977, section 5.1).
     pub fn new(alloc: Global) -> Result<Self> {
         Ok(Exchange {
             alloc,
@@ -53,7 +51,7 @@ impl Exchange {
         })
     }
 
-    /// Takes octets that came in, and puts out the replies to each whole command among them.
+    /// Takes octets that came in, and adds the reply to each whole command among them to the output.
     pub fn take_in(&mut self, octets: &[u8], history: &mut History) -> Result<()> {
         self.input.extend_from_slice(octets)?;
         for _ in 0..u64::MAX {
@@ -64,7 +62,6 @@ impl Exchange {
         self.forget_read()
     }
 
-    // Lets the octets go that are read.
     fn forget_read(&mut self) -> Result<()> {
         if self.read > 0 {
             let rest = Vec::from_slice(self.alloc, unread(&self.input, self.read))?;
@@ -75,7 +72,7 @@ impl Exchange {
         Ok(())
     }
 
-    // Reads one line or one block; false where the octets end before it does.
+    // Reads one line or one block; false if the octets end before it does.
     fn step(&mut self, history: &mut History) -> Result<bool> {
         match self.awaited.take() {
             Some(awaited) => self.read_block(awaited, history),
@@ -134,7 +131,7 @@ impl Exchange {
         Ok(())
     }
 
-    // Reads the block of an article, where all of it is there.
+    // Reads the block of an article, if all of it is there.
     fn read_block(&mut self, awaited: Awaited, history: &mut History) -> Result<bool> {
         if !self.has_end() {
             self.awaited = Some(awaited);
@@ -188,12 +185,11 @@ impl Exchange {
     }
 }
 
-// The octets from a place on.
 fn unread(octets: &[u8], from: usize) -> &[u8] {
     octets.get(from..).unwrap_or(b"")
 }
 
-// The first word of a line, and the rest behind the blanks.
+// The first word of a line, and the rest after the blanks.
 fn words_of(line: &[u8]) -> (&[u8], &[u8]) {
     match memchr(b' ', line) {
         Some(end) => (

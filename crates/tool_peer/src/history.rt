@@ -6,17 +6,17 @@ use std::fs::{self, File, OpenOptions};
 use std::io::{ErrorKind, Write};
 use std::rt::Files;
 
-/// How it answers where an ordinary server would accept; 0 is never.
+/// How it answers when an ordinary server would accept; 0 is never.
 #[derive(Clone, Copy)]
 pub struct Habits {
-    /// Each so many-th offer is put off.
+    /// Every `later`th offer is deferred.
     pub later: u64,
-    /// A connection ends behind so many articles.
+    /// A connection ends after this many articles.
     pub close: u64,
 }
 
 impl Habits {
-    /// Takes a word `later=N` or `close=N`.
+    /// Reads a word `later=N` or `close=N`.
     pub fn read(&mut self, word: &str) -> Result<()> {
         let Some((name, count)) = word.split_once('=') else {
             bail!("{word} is no option");
@@ -50,7 +50,8 @@ pub struct History {
 }
 
 impl History {
-    /// What the log has, which is made where it is missing: the first word of each line is an article's message-id.
+    /// The history in the log, which is created if it is missing: the first word of each line is an article's
+    /// message-id.
     pub fn open<R: AllocGlobal + Files<File = File>>(
         rt: &R,
         path: &str,
@@ -73,7 +74,6 @@ impl History {
         })
     }
 
-    /// Where it keeps its octets.
     pub fn alloc(&self) -> Global {
         self.alloc
     }
@@ -91,8 +91,8 @@ impl History {
         }
     }
 
-    /// Accepts an article, whose text has so many octets with LF at the end of each line. The line in the log is one
-    /// write, and is there before this returns. It answers false where it has the article already.
+    /// Accepts an article whose text has `length` octets with LF at the end of each line. The line in the log is one
+    /// write, and is there before this returns. Returns false if the article is there already.
     pub fn accept(&mut self, id: &[u8], length: usize) -> Result<bool> {
         if self.ids.contains(id) {
             return Ok(false);
@@ -104,13 +104,13 @@ impl History {
         Ok(true)
     }
 
-    /// Whether a connection that has taken so many articles is to end.
+    /// Whether a connection that has taken this many articles should end.
     pub fn is_enough(&self, articles: u64) -> bool {
         self.habits.close > 0 && articles >= self.habits.close
     }
 }
 
-// The first word of each line.
+// Adds the first word of each line.
 fn put_ids(alloc: Global, ids: &mut BTreeSet<Vec<u8>>, text: &[u8]) -> Result<()> {
     for line in text.split(|octet| *octet == b'\n') {
         if let Some(id) = line.split(|octet| *octet == b' ').next()

@@ -1,7 +1,7 @@
 //! A small news server that accepts articles: to try the feeder on, by hand and in tests (README.md).
 //!
-//! It may listen on 127.0.0.1, read and append to the log that it is given, and print. Nothing stands above this crate,
-//! and no proof says what it answers: each function is proved safe.
+//! It may listen on 127.0.0.1, read and append to the log that it is given, and print. Nothing stands above this
+//! crate, and no proof says what it answers: each function is proved safe.
 #![tactic(auto)]
 
 mod exchange;

@@ -17,7 +17,7 @@ const LISTENER: Token = Token(usize::MAX);
 struct Link {
     stream: TcpStream,
     exchange: Exchange,
-    // How much of the output is sent.
+    // How many octets of the output are sent.
     sent: usize,
 }
 
@@ -30,7 +30,7 @@ struct Server {
     buffer: Vec<u8>,
 }
 
-/// Listens on this port of 127.0.0.1, prints the port, and serves whoever connects.
+/// Listens on this port of 127.0.0.1, prints the port, and serves every client.
 pub fn serve<R: AllocGlobal + Net + Print>(rt: &R, port: u16, history: History) -> Result<()> {
     let alloc = rt.alloc();
     let mut listener = TcpListener::bind(rt, SocketAddr::from((Ipv4Addr::LOCALHOST, port)))?;
@@ -70,7 +70,6 @@ impl Server {
         Ok(())
     }
 
-    // Takes each connection that waits.
     fn accept_all(&mut self) -> Result<()> {
         for _ in 0..u64::MAX {
             match self.listener.accept() {
@@ -105,13 +104,13 @@ impl Server {
 }
 
 impl Link {
-    // Reads, answers and sends as far as can be; false where the connection is over.
+    // Reads, answers and sends as far as possible; false if the connection is over.
     fn drive(&mut self, buffer: &mut [u8], history: &mut History) -> Result<bool> {
         let open = self.receive(buffer, history)?;
         Ok(self.send() && open && !(self.exchange.ended && self.exchange.output.is_empty()))
     }
 
-    // False where the other end has closed, or the connection has failed.
+    // False if the other end has closed, or the connection has failed.
     fn receive(&mut self, buffer: &mut [u8], history: &mut History) -> Result<bool> {
         for _ in 0..u64::MAX {
             if self.exchange.ended {
@@ -132,7 +131,7 @@ impl Link {
         Ok(true)
     }
 
-    // False where the connection has failed.
+    // False if the connection has failed.
     fn send(&mut self) -> bool {
         for _ in 0..u64::MAX {
             if self.sent >= self.exchange.output.len() {

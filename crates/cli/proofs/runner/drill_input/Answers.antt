@@ -4,7 +4,7 @@ use Rattle.cli.specs.Ends.{DrillsInput, Runs}
 use Rattle.cli.proofs.Reporting.{comes_as}
 use Rattle.cli.proofs.runner.drill_input.Goals as goal
 
--- what was read after nothing is all that there was
+-- what was read from the first octet on is all that there was
 whole : (holds : Option (List ℕ)) (first read text : List ℕ) → first ≡ [] → text ≡ read
     → IfSome holds (λ octets. read ≡ first ++ octets) → IfSome holds (λ octets. text ≡ octets)
 whole None first read text none same is = tt

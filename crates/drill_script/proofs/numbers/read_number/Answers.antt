@@ -1,4 +1,4 @@
--- A number that was read has 64 bits.
+-- A number that was read fits into 64 bits.
 use Rattle.std.proofs.Common.{◌≡◌, ◌∙◌, ◌<◌, ◌^◌, ℕ, Some, ap, arith, refl, sym}
 use Rattle.std.proofs.lemmas.Bool.Decides.{nat_tests}
 use Rattle.feed_conf.specs.Values.{decimal}

@@ -1,4 +1,4 @@
--- What is said of the one line is what the reader of settings made of it.
+-- What is said of the only line is what the reader of settings made of it.
 use Rattle.std.proofs.Common.{◌≡◌, ℕ, List, sym, ◌∙◌, subst}
 use Rattle.feed_conf.specs.ConfView.{conf_view}
 use Rattle.feed_conf.specs.Reading.{HaveLexemes, lines_of}

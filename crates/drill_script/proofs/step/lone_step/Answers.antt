@@ -1,4 +1,4 @@
--- A word that names no step that stands alone.
+-- A word that names no step without a text.
 use Rattle.std.proofs.Common.{◌≡◌, arith}
 use Rattle.std.specs.Prelude.{codes}
 use Rattle.drill_script.proofs.Saying.{says_none_alone}

@@ -1,4 +1,4 @@
--- What is put out and what is left make up the whole.
+-- What was written so far and what is left make up the whole.
 use Rattle.std.proofs.Common.{◌≡◌, ◌++◌, map, drop}
 use Rattle.rnews.specs.Header.{folds}
 use Rattle.rnews.proofs.header.unfolded.Given as goal

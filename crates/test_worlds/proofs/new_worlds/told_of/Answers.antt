@@ -1,4 +1,4 @@
--- The name of one peer alone is distinct.
+-- The names of one peer alone are distinct.
 use Rattle.std.proofs.Common.{◌≡◌, sym, subst, ap, ◌∙◌, List, [], ◌∷◌, ◌++◌, map}
 use Rattle.std.specs.List.{IsDistinct}
 use Rattle.std.specs.Str.{bytes_eq}

@@ -1,4 +1,4 @@
--- What is kept for the message-id has one token more, and what is kept for another stays.
+-- What is kept for the message-id has one more token, and what is kept for another stays.
 use Rattle.std.proofs.Common.{◌≡◌, ◌++◌, ◌∷◌, [], ℕ, List, Some, true, false, refl, sym, ap, ◌∙◌, subst}
 use Rattle.std.proofs.lemmas.Bool.{false≢true}
 use Rattle.std.specs.BTreeMap.{get_by}
