@@ -7,7 +7,7 @@ ghost use Rattle.drill.specs.Printed.{totals_text};
 
 use ledger_core::Totals;
 use std::alloc::AllocError;
-use world_core::{Fault, PeerTotals, Output};
+use world_core::{Fault, Output, PeerTotals};
 
 pub fn add_steps(out: &mut Vec<u8>, lines: &[Vec<Output>]) -> Result<(), AllocError>
     ensures { OnOk result (out.new.items ≡ out.old.items ++ steps_text (said_by lines.now)) }

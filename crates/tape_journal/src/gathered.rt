@@ -1,12 +1,15 @@
 // Payloads that are to be written at once.
-ghost use Rattle.std.specs.Prelude.{◌≡◌, ◌+◌, ◌<◌, ◌↔◌, ◌∷◌, ◌++◌, [], ℕ, List, length};
-ghost use Rattle.std.specs.Prelude.{take, IfOk, IsErrOf, IsTrue, MatchResult, OnErr, OnOk};
+ghost use Rattle.std.specs.Prelude.{◌≡◌, ◌≢◌, ◌+◌, ◌<◌, ◌↔◌, ◌∷◌, ◌++◌, []};
+ghost use Rattle.std.specs.Prelude.{ℕ, List, length, map, take, vec_items, IfErr, IfOk, IsErrOf, IsTrue, MatchResult};
+ghost use Rattle.std.specs.Prelude.{OnErr, OnOk};
 ghost use Rattle.tape_journal.specs.Gathered.{Gathers, octets_in};
-ghost use Rattle.tape_journal.specs.Segment.{IsShort, at_rest, gated, longest_segment, open_gate};
+ghost use Rattle.tape_journal.specs.Segment.{AllShort, IsShort, at_rest, gated, longest_segment, open_gate};
+ghost use Rattle.tape_journal.specs.Segment.{records};
 
+use crate::append::{are_short, records_len};
 use crate::journal::LONGEST_SEGMENT;
 use crate::read::{LONGEST_PAYLOAD, OPEN};
-use crate::{GatherFault, RenewFault};
+use crate::{GatherFault, JournalFault, RenewFault};
 use std::alloc::{AllocError, Global};
 
 /// Payloads that are to be written at once, in the octets of their records, one behind another.
@@ -62,6 +65,34 @@ impl Gathered {
         ensures { IsTrue result ↔ octets_in self.now ≡ 0 }
     {
         self.octets.is_empty()
+    }
+
+    // These payloads, unless the segment of them is refused.
+    pub(crate) fn of(alloc: Global, payloads: &[Vec<u8>]) -> Result<Self, JournalFault>
+        ensures ok { IfOk result (λ gathered. Gathers gathered (map vec_items payloads.now)) }
+        ensures too_long { IsErrOf result JournalFault.PayloadTooLong
+            ↔ (AllShort (map vec_items payloads.now) → ⊥) }
+        ensures full { IsErrOf result JournalFault.TapeFull
+            ↔ (AllShort (map vec_items payloads.now)
+            × (longest_segment < 1 + length (records (map vec_items payloads.now)))) }
+        ensures kinds { IfErr result (λ e. (e ≢ JournalFault.Disk)
+            × ((at : ℕ) → e ≢ JournalFault.Damaged at)) }
+    {
+        if !are_short(payloads) {
+            return Err(JournalFault::PayloadTooLong);
+        }
+        let octets = records_len(payloads);
+        if octets >= LONGEST_SEGMENT {
+            return Err(JournalFault::TapeFull);
+        }
+        let mut gathered = Gathered::with_room(alloc, octets as usize)?;
+        for payload in payloads {
+            match gathered.push(payload) {
+                Ok(()) => {}
+                Err(_) => return Err(JournalFault::NoMemory),
+            }
+        }
+        Ok(gathered)
     }
 
     // The segment at rest of its payloads, and where the end gate stands, unless it is refused.

@@ -3,25 +3,26 @@ ghost use Rattle.std.specs.Prelude.{◌≡◌, ◌+◌, ◌-◌, ◌^◌, ◌<�
 ghost use Rattle.disk_model.specs.Disk.{content};
 ghost use Rattle.tape_journal.specs.Segment.{IsDamagedAt, Reads};
 ghost use Rattle.tape_journal.specs.Window.{held_by, shown_by, start_of};
-ghost use Rattle.tape_journal.specs.declared.fault.OpenFault.TheVariants.{Damaged};
+ghost use Rattle.tape_journal.specs.declared.fault.JournalFault.TheVariants.{Damaged};
 
 use crate::append::{add_records, are_short, records_len, staging_of};
+use crate::fault::refusal_of_reading;
 use crate::read::{part_of, payloads_of, record_at};
 use crate::window::Window;
-use crate::{AppendFault, OpenFault, ReadFault, Unrepaired};
+use crate::{AppendFault, JournalFault, OpenFault, ReadFault, Unrepaired};
 use disk_model::Disk;
 use std::alloc::{AllocError, Global};
 
 /// The longest segment, in octets, with its end gate.
 pub const LONGEST_SEGMENT: u64 = 4294967296;
 
-/// A disk on which no journal was opened, handed back as the call left it.
+/// A disk on which there is no journal, handed back as the call left it: it was not opened, or not renewed.
 #[derive(Drop)]
 pub struct Refused<D: Disk> {
     /// The disk.
     pub disk: D,
     /// Why it was refused.
-    pub fault: OpenFault,
+    pub fault: JournalFault,
     ghost damaged: { D.honest disk → (at : ℕ) → fault ≡ Damaged at → (payloads : List (List ℕ))
         → Reads (content (D.log disk)) payloads → ⊥ },
 }
@@ -79,9 +80,11 @@ impl<D: Disk> Journal<D> {
 
         // Each fault has its cause.
         ensures damaged { D.honest disk → IfErr result (λ e. (at : ℕ)
-            → e.fault ≡ OpenFault.Damaged at → IsDamagedAt (content (D.log disk)) at) }
-        ensures cause { D.honest disk → IfErr result (λ e. e.fault ≡ OpenFault.Disk
+            → e.fault ≡ JournalFault.Damaged at → IsDamagedAt (content (D.log disk)) at) }
+        ensures cause { D.honest disk → IfErr result (λ e. e.fault ≡ JournalFault.Disk
             → HasRisen (D.faults_of disk) (D.faults_of e.disk)) }
+        ensures kinds { IfErr result (λ e. (e.fault ≢ JournalFault.TapeFull)
+            × (e.fault ≢ JournalFault.PayloadTooLong)) }
 
         ensures honest { MatchResult result (λ r. D.honest disk ↔ D.honest (read_disk r.0))
             (λ e. D.honest disk ↔ D.honest e.disk) }
@@ -91,7 +94,10 @@ impl<D: Disk> Journal<D> {
     {
         match payloads_of(alloc, &mut disk) {
             Ok((payloads, end)) => Ok((Unrepaired { alloc, disk, end }, payloads)),
-            Err(fault) => Err(Refused { disk, fault }),
+            Err(fault) => Err(Refused {
+                disk,
+                fault: refusal_of_reading(fault),
+            }),
         }
     }
 

@@ -9,8 +9,8 @@ ghost use Rattle.tape_journal.specs.Segment.{Ends, IsRecord, IsCutShort, IsDamag
 ghost use Rattle.tape_journal.specs.Part.{IsPart};
 ghost use Rattle.tape_journal.specs.Window.{Shows, room_of};
 
-use crate::OpenFault;
 use crate::window::Window;
+use crate::{OpenFault, PeekFault};
 use disk_model::Disk;
 use std::alloc::Global;
 
@@ -231,7 +231,7 @@ pub(crate) fn payloads_of<D: Disk>(
 ///
 /// # Errors
 /// `Damaged` at 0 where an open record is cut short; `Disk`; `NoMemory`. The disk is as it was.
-pub fn peek_first<D: Disk>(alloc: Global, disk: &mut D) -> Result<Option<Vec<u8>>, OpenFault>
+pub fn peek_first<D: Disk>(alloc: Global, disk: &mut D) -> Result<Option<Vec<u8>>, PeekFault>
     ensures ok { D.honest disk.old → IfOk result (λ o. MatchOption o
         (Ends (content (D.log disk.old))) (λ p. IsRecord p.items (content (D.log disk.old)))) }
     ensures log { D.honest disk.old → D.log disk.new ≡ D.log disk.old }

@@ -6,7 +6,7 @@ ghost use Rattle.tape_journal.specs.Window.{held_by, room_of, shown_by, start_of
 
 use crate::read::{Head, RECORD_HEAD, head_at};
 use crate::window::Window;
-use crate::{OpenFault, Refused, Unrepaired};
+use crate::{JournalFault, OpenFault, Refused, Unrepaired};
 use disk_model::Disk;
 use std::alloc::Global;
 
@@ -67,7 +67,7 @@ impl<D: Disk> SegmentReader<D> {
     pub fn begin(alloc: Global, disk: D) -> Result<Self, Refused<D>>
         ensures ok { D.honest disk → IfOk result (λ reader. HasComeTo reader []) }
         ensures disk { MatchResult result (λ reader. reader_disk reader ≡ disk)
-            (λ e. (e.fault ≡ OpenFault.NoMemory) × (e.disk ≡ disk)) }
+            (λ e. (e.fault ≡ JournalFault.NoMemory) × (e.disk ≡ disk)) }
     {
         let len = disk.len();
         match Window::onto(alloc, len) {
@@ -80,7 +80,7 @@ impl<D: Disk> SegmentReader<D> {
             }),
             Err(_) => Err(Refused {
                 disk,
-                fault: OpenFault::NoMemory,
+                fault: JournalFault::NoMemory,
             }),
         }
     }

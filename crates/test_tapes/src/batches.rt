@@ -4,7 +4,7 @@ use crate::disks::disks_of;
 use crate::rotations::with_octet;
 use crate::samples::{Sample, is_sample, note_of};
 use crate::tape_steps::{Opening, Step, flush, opened, run, run_each};
-use crate::tapes::{FILLS, assert_damaged, prefix_of, fused, image, stopped};
+use crate::tapes::{FILLS, assert_damaged, fused, image, prefix_of, stopped};
 use disk_model::{Disk, FuseDisk, MemDisk};
 use funnel::{MsgId, Token};
 use ledger_core::{

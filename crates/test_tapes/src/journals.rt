@@ -7,8 +7,8 @@ use std::alloc::Global;
 use std::process::Abort;
 use std::test::Fail;
 use tape_journal::{
-    AppendFault, GatherFault, Gathered, Journal, NotRenewed, OpenFault, ReadFault, Refused,
-    RenewFault, peek_first,
+    AppendFault, GatherFault, Gathered, Journal, JournalFault, PeekFault, ReadFault, Refused,
+    peek_first,
 };
 
 // A payload of 19 octets, and the segments that have it once and twice.
@@ -46,7 +46,7 @@ enum Step {
 fn opened<D: Disk + Drop>(
     alloc: Global,
     disk: D,
-) -> Result<(Vec<Vec<u8>>, Journal<D>), (OpenFault, D)> {
+) -> Result<(Vec<Vec<u8>>, Journal<D>), (JournalFault, D)> {
     match Journal::open(alloc, disk) {
         Ok((journal, payloads)) => Ok((payloads, journal)),
         Err(refused) => {
@@ -176,7 +176,7 @@ fn a_segment_is_read(rt: HostRuntime) -> Result<(), Fail> {
     Ok(())
 }
 
-fn fault_of<D: Disk + Drop>(alloc: Global, disk: D) -> Result<(OpenFault, D), Fail> {
+fn fault_of<D: Disk + Drop>(alloc: Global, disk: D) -> Result<(JournalFault, D), Fail> {
     match opened(alloc, disk) {
         Ok(_) => Err(Fail::from("opened")),
         Err(refused) => Ok(refused),
@@ -199,7 +199,7 @@ fn damage_is_told_with_its_place(rt: HostRuntime) -> Result<(), Fail> {
     let alloc = rt.alloc();
     for (at, (segment, place)) in ROWS.iter().enumerate() {
         let (fault, mut disk) = fault_of(alloc, ReadOnly::new(disk_of(alloc, segment)?))?;
-        assert_answer(&rt, at, &fault, &OpenFault::Damaged { at: *place });
+        assert_answer(&rt, at, &fault, &JournalFault::Damaged { at: *place });
         assert_faults(&rt, at, &disk, 0);
         assert_octets(&rt, alloc, at, &mut disk, segment)?;
     }
@@ -322,7 +322,7 @@ fn steps_are_taken_at_a_journal(rt: HostRuntime) -> Result<(), Fail> {
 fn a_refused_disk_is_handed_back(rt: HostRuntime) -> Result<(), Fail> {
     let alloc = rt.alloc();
     let (fault, disk) = fault_of(alloc, FuseDisk::new(disk_of(alloc, &SEGMENT)?, 0))?;
-    assert_answer(&rt, 0, &fault, &OpenFault::Disk);
+    assert_answer(&rt, 0, &fault, &JournalFault::Disk);
     let Ok((payloads, _)) = opened(alloc, disk.into_inner()) else {
         return Err(Fail::from("a segment"));
     };
@@ -347,22 +347,20 @@ const RENEWED: [u8; 79] = [
 fn renewed<D: Disk + Drop>(
     alloc: Global,
     disk: D,
-    first: &[u8],
-    others: &[&[u8]],
-) -> Result<Result<Journal<D>, (RenewFault, D)>, Fail> {
-    let mut gathered = Gathered::with_room(alloc, 0)?;
-    gathered.push(first)?;
-    for payload in others {
-        gathered.push(payload)?;
+    payloads: &[&[u8]],
+) -> Result<Result<Journal<D>, (JournalFault, D)>, Fail> {
+    let mut copies = Vec::new(alloc);
+    for payload in payloads {
+        copies.push(payload.to_vec(alloc)?)?;
     }
-    if gathered.is_empty() {
+    if copies.is_empty() {
         return Err(Fail::from("a payload"));
     }
-    match Journal::renew(alloc, disk, gathered) {
+    match Journal::renew(alloc, disk, &copies) {
         Ok(journal) => Ok(Ok(journal)),
         Err(refused) => {
-            let NotRenewed { disk, fault, .. } = refused;
-            if fault == RenewFault::NoMemory {
+            let Refused { disk, fault, .. } = refused;
+            if fault == JournalFault::NoMemory {
                 return Err(Fail::from(fault));
             }
             Ok(Err((fault, disk)))
@@ -373,24 +371,24 @@ fn renewed<D: Disk + Drop>(
 #[test]
 fn a_whole_segment_is_written(rt: HostRuntime) -> Result<(), Fail> {
     // What the disk has first, the payloads, and the segment that they make.
-    const ROWS: &[(&[u8], &[u8], &[&[u8]], &[u8])] = &[
-        (&[], &PAYLOAD, &[], &SEGMENT),
-        (&SEGMENT, &BASE, &[&PAYLOAD], &RENEWED),
-        (&RENEWED, &PAYLOAD, &[&PAYLOAD], &TWICE),
-        (&[0xa5, 0x00], &[], &[], &[0xa5, 0, 0, 0, 0, 0]),
+    const ROWS: &[(&[u8], &[&[u8]], &[u8])] = &[
+        (&[], &[&PAYLOAD], &SEGMENT),
+        (&SEGMENT, &[&BASE, &PAYLOAD], &RENEWED),
+        (&RENEWED, &[&PAYLOAD, &PAYLOAD], &TWICE),
+        (&[0xa5, 0x00], &[&[]], &[0xa5, 0, 0, 0, 0, 0]),
     ];
     let alloc = rt.alloc();
-    for (at, (old, first, others, segment)) in ROWS.iter().enumerate() {
+    for (at, (old, payloads, segment)) in ROWS.iter().enumerate() {
         let disk = FuseDisk::new(disk_of(alloc, old)?, 8);
-        let Ok(journal) = renewed(alloc, disk, first, others)? else {
+        let Ok(journal) = renewed(alloc, disk, payloads)? else {
             return Err(Fail::from("eight calls"));
         };
         assert_answer(&rt, at, &journal.bytes(), &(segment.len() as u64));
         assert_answer(&rt, at, &journal.is_broken(), &false);
         let mut disk = journal.into_disk().into_inner();
         assert_octets(&rt, alloc, at, &mut disk, segment)?;
-        let (payloads, _) = read(alloc, disk)?;
-        assert_answer(&rt, at, &payloads.len(), &(1 + others.len()));
+        let (found, _) = read(alloc, disk)?;
+        assert_payloads(&rt, &found, payloads);
     }
     Ok(())
 }
@@ -416,12 +414,35 @@ fn no_whole_segment_is_written(rt: HostRuntime) -> Result<(), Fail> {
     let alloc = rt.alloc();
     for (at, (calls, left)) in ROWS.iter().enumerate() {
         let disk = FuseDisk::new(disk_of(alloc, &TWICE)?, *calls);
-        let Err((fault, disk)) = renewed(alloc, disk, &PAYLOAD, &[])? else {
+        let Err((fault, disk)) = renewed(alloc, disk, &[&PAYLOAD])? else {
             return Err(Fail::from("fewer than eight calls"));
         };
-        assert_answer(&rt, at, &fault, &RenewFault::Disk);
+        assert_answer(&rt, at, &fault, &JournalFault::Disk);
         assert_octets(&rt, alloc, at, &mut disk.into_inner(), left)?;
     }
+    Ok(())
+}
+
+#[test]
+fn no_payload_too_long_is_written(rt: HostRuntime) -> Result<(), Fail> {
+    // Its disk fails at the first call, and none is made.
+    let alloc = rt.alloc();
+    let long = vec![in alloc; 0u8; 16777217]?;
+    let rows: [&[&[u8]]; 3] = [&[&long], &[&long, &PAYLOAD], &[&PAYLOAD, &long]];
+    for (at, payloads) in rows.iter().enumerate() {
+        let disk = FuseDisk::new(disk_of(alloc, &TWICE)?, 0);
+        let Err((fault, disk)) = renewed(alloc, disk, payloads)? else {
+            return Err(Fail::from("too long"));
+        };
+        assert_answer(&rt, at, &fault, &JournalFault::PayloadTooLong);
+        assert_faults(&rt, at, &disk, 0);
+        assert_octets(&rt, alloc, at, &mut disk.into_inner(), &TWICE)?;
+    }
+    let disk = disk_of(alloc, &TWICE)?;
+    let Ok(journal) = renewed(alloc, disk, &[&long[1..]])? else {
+        return Err(Fail::from("the longest payload"));
+    };
+    assert_answer(&rt, 0, &journal.bytes(), &16777222);
     Ok(())
 }
 
@@ -443,11 +464,11 @@ fn peeked<D: Disk>(
     alloc: Global,
     disk: &mut D,
     want: &[u8],
-) -> Result<Result<Option<bool>, OpenFault>, Fail> {
+) -> Result<Result<Option<bool>, PeekFault>, Fail> {
     match peek_first(alloc, disk) {
         Ok(Some(payload)) => Ok(Ok(Some(payload.as_slice() == want))),
         Ok(None) => Ok(Ok(None)),
-        Err(OpenFault::NoMemory) => Err(Fail::from(OpenFault::NoMemory)),
+        Err(PeekFault::NoMemory) => Err(Fail::from(PeekFault::NoMemory)),
         Err(fault) => Ok(Err(fault)),
     }
 }
@@ -455,16 +476,16 @@ fn peeked<D: Disk>(
 #[test]
 fn the_first_payload_is_told(rt: HostRuntime) -> Result<(), Fail> {
     // A segment, its first payload, and whether it has one. What follows the first payload is not looked at.
-    const ROWS: &[(&[u8], &[u8], Result<Option<bool>, OpenFault>)] = &[
+    const ROWS: &[(&[u8], &[u8], Result<Option<bool>, PeekFault>)] = &[
         (&[], &[], Ok(None)),
         (&[0xa5], &[], Ok(None)),
         (&[0x00, 0xff, 0xff], &[], Ok(None)),
         (&[0x5a, 0, 0, 0, 0, 0], &[], Ok(None)),
-        (&[0xa5, 0x00], &[], Err(OpenFault::Damaged { at: 0 })),
+        (&[0xa5, 0x00], &[], Err(PeekFault::Damaged { at: 0 })),
         (
             &[0xa5, 0, 0, 0, 2, 7],
             &[],
-            Err(OpenFault::Damaged { at: 0 }),
+            Err(PeekFault::Damaged { at: 0 }),
         ),
         (&[0xa5, 0, 0, 0, 0], &[], Ok(Some(true))),
         (&[0xa5, 0, 0, 0, 0, 0xa5, 0], &[], Ok(Some(true))),
@@ -528,7 +549,7 @@ fn opened_at_last<A: Abort, D: Disk + Drop>(
     match opened(alloc, disk) {
         Ok(found) => Ok(found),
         Err((fault, disk)) => {
-            assert_answer(rt, 0, &fault, &OpenFault::Disk);
+            assert_answer(rt, 0, &fault, &JournalFault::Disk);
             match opened(alloc, disk) {
                 Ok(found) => Ok(found),
                 Err((fault, _)) => Err(Fail::from(fault)),
@@ -598,7 +619,7 @@ fn reading_of(alloc: Global, segment: &[u8]) -> Result<(usize, u64), Fail> {
         match Journal::read(alloc, FuseDisk::new(disk_of(alloc, segment)?, calls)) {
             Ok((_, payloads)) => return Ok((payloads.len(), calls)),
             Err(refused) => {
-                if refused.fault != OpenFault::Disk {
+                if refused.fault != JournalFault::Disk {
                     return Err(Fail::from(refused.fault));
                 }
             }
