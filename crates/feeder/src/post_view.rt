@@ -62,7 +62,7 @@ impl<D: Disk, N: Naming, P: Pace> PostView<'_, D, N, P> {
         if peer >= self.post.peers() {
             return Err((outcome, FeederFault::NoPeer));
         }
-        self.pace.turn(self.who, flusher::Point::BeforeSettle);
+        self.pace.turn(self.who, flusher::Place::BeforeSettle);
         let ended = if self.waits {
             self.post
                 .finish(rt, peer, connection, outcome, self.now, share)
@@ -70,7 +70,7 @@ impl<D: Disk, N: Naming, P: Pace> PostView<'_, D, N, P> {
             self.post
                 .try_finish(rt, peer, connection, outcome, self.now, share)
         };
-        self.pace.turn(self.who, flusher::Point::AfterSettle);
+        self.pace.turn(self.who, flusher::Place::AfterSettle);
         match ended {
             Ok(_) => Ok(()),
             Err((outcome, fault)) => Err((outcome, FeederFault::from(fault))),

@@ -5,7 +5,7 @@ ghost use Rattle.flusher.specs.Faults.{IsRotateAllFault, IsRoundFault, IsSealFau
 ghost use Rattle.flusher.specs.Sealed.{IsSealed};
 ghost use Rattle.recovery.specs.Words.{IsRotateFault};
 
-use crate::pace::{Pace, Point, Who};
+use crate::pace::{Pace, Place, Who};
 use crate::post::Intake;
 use crate::sealing::{Due, Sealing};
 use crate::tape_desk::Flush;
@@ -31,7 +31,7 @@ impl<D: Disk, N: Naming> Post<D, N> {
         let mut sealing = Sealing::begin(&self.last);
         for peer in 0..self.peers() {
             self.flush_next(rt, pace, peer, &mut sealing)?;
-            pace.turn(Who::Flusher, Point::AfterFlush);
+            pace.turn(Who::Flusher, Place::AfterFlush);
         }
         self.seal(rt, sealing)
     }
@@ -94,7 +94,7 @@ impl<D: Disk, N: Naming> Post<D, N> {
         let mut first = Ok(());
         for peer in 0..self.peers.len() {
             let flushed = self.flush_if_working(rt, pace, peer);
-            pace.turn(Who::Flusher, Point::AfterFlush);
+            pace.turn(Who::Flusher, Place::AfterFlush);
             first = first.and(flushed);
         }
         first

@@ -32,7 +32,7 @@ pub use closing::{CloseFault, Closed, ClosedPeer, Unclosed};
 pub use fault::PostFault;
 pub use flushes::Flusher;
 pub use naming::{Blanks, Naming};
-pub use pace::{Free, Pace, Point, Who};
+pub use pace::{Free, Pace, Place, Who};
 pub use peer::{Peer, Sums};
 pub use post::Post;
 pub use reported::Reported;

@@ -2,7 +2,7 @@
 ghost use Rattle.std.specs.Prelude.{◌≡◌, ◌<◌, ◌≤◌, ◌⊎◌, IfErr, IfOk, IfSome, length};
 ghost use Rattle.flusher.specs.Faults.{IsPartFault, IsRoundFault};
 
-use crate::pace::{Pace, Point, Who};
+use crate::pace::{Pace, Place, Who};
 use crate::sealing::Settlement;
 use crate::tape_desk::Flush;
 use crate::{Naming, Post, PostFault};
@@ -122,7 +122,7 @@ impl<D: Disk, N: Naming> Post<D, N> {
     {
         let mut desk = self.peers[peer].tape.lock(rt);
         if is_first {
-            pace.turn(Who::Flusher, Point::InFlush);
+            pace.turn(Who::Flusher, Place::InFlush);
         }
         match desk.flush() {
             Ok(flush) => Ok(flush),

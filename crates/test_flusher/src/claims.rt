@@ -7,7 +7,7 @@ ghost use Rattle.flusher.specs.Sealed.{IsFlushed};
 use crate::shared::{closed_sums, intake, peer_with_backlog};
 use conn_core::CxnId;
 use disk_model::{Disk, MemDisk};
-use flusher::{Blanks, Naming, Pace, Peer, Point, Post, PostFault, Who};
+use flusher::{Blanks, Naming, Pace, Peer, Place, Post, PostFault, Who};
 use recovery::Tape;
 use std::alloc::Global;
 use std::marker::Brand;
@@ -32,8 +32,8 @@ struct Asking<'a, D: Disk, N: Naming, R: Wait> {
 }
 
 impl<D: Disk, N: Naming, R: Wait> Pace for Asking<'_, D, N, R> {
-    fn turn(&self, _who: Who, point: Point) {
-        if point == Point::InFlush {
+    fn turn(&self, _who: Who, place: Place) {
+        if place == Place::InFlush {
             self.first
                 .store(claimed(self.rt, self.post), Ordering::SeqCst);
             self.second

@@ -1,5 +1,5 @@
 // A pace at which two workers meet.
-use flusher::{Pace, Point, Who};
+use flusher::{Pace, Place, Who};
 use std::sync::atomic::{AtomicBool, Ordering};
 use std::thread;
 
@@ -8,14 +8,14 @@ const MOST_TURNS: u32 = 10_000;
 
 const YIELDS: u32 = 1_000;
 
-// A worker at a point.
+// A worker at a place.
 #[derive(Clone, Copy, PartialEq, Eq)]
 pub(crate) struct At {
     pub(crate) who: Who,
-    pub(crate) point: Point,
+    pub(crate) place: Place,
 }
 
-// Who comes to the first point waits until one has come to the last, and who comes to the second until one has come to
+// Who comes to the first place waits until one has come to the last, and who comes to the second until one has come to
 // the first.
 #[derive(Drop)]
 pub(crate) struct Meeting {
@@ -58,8 +58,8 @@ impl Meeting {
 }
 
 impl Pace for Meeting {
-    fn turn(&self, who: Who, point: Point) {
-        let here = At { who, point };
+    fn turn(&self, who: Who, place: Place) {
+        let here = At { who, place };
         if here == self.last {
             self.came_last.store(true, Ordering::SeqCst);
         }

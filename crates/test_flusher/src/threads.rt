@@ -10,7 +10,7 @@ use conn_core::{CxnId, Outcome};
 use disk_model::{Disk, FuseDisk, MemDisk};
 use flusher::{
     Blanks, Closed, ClosedPeer, FeederShare, Flusher, IntakeShare, Naming, NoThread, Pace, Peer,
-    Point, Post, PostFault, Signals, Sums, Who, Work, run_threads,
+    Place, Post, PostFault, Signals, Sums, Who, Work, run_threads,
 };
 use ledger_core::FinalCode;
 use log::Log;
@@ -36,7 +36,7 @@ const UNLIMITED: Limits = Limits {
     drop_deferred: false,
 };
 
-// What a worker does between its two points.
+// What a worker does between its two places.
 #[derive(Clone, Copy)]
 enum Job {
     Nothing,
@@ -110,9 +110,9 @@ impl<D: Disk, N: Naming> Work<D, N> for Hand<N> {
         _signals: &Signals,
         pace: &P,
     ) {
-        pace.turn(self.who, Point::BeforeSettle);
+        pace.turn(self.who, Place::BeforeSettle);
         self.done(rt, post, pace);
-        pace.turn(self.who, Point::AfterSettle);
+        pace.turn(self.who, Place::AfterSettle);
     }
 }
 
@@ -156,7 +156,7 @@ impl<D: Disk, N: Naming> Work<D, N> for Taker<N> {
         signals: &Signals,
         pace: &P,
     ) {
-        pace.turn(Who::Intake, Point::BeforeSettle);
+        pace.turn(Who::Intake, Place::BeforeSettle);
         match self.turn {
             Turn::Nothing => {}
             Turn::Take => {
@@ -171,7 +171,7 @@ impl<D: Disk, N: Naming> Work<D, N> for Taker<N> {
                 }
             }
         }
-        pace.turn(Who::Intake, Point::AfterSettle);
+        pace.turn(Who::Intake, Place::AfterSettle);
         signals.begin_last_phase();
     }
 }
@@ -412,15 +412,15 @@ const ROWS: [Row; 7] = [
         turn: Turn::Order,
         first: At {
             who: Who::Feeder(0),
-            point: Point::BeforeSettle,
+            place: Place::BeforeSettle,
         },
         second: At {
             who: Who::Feeder(1),
-            point: Point::BeforeSettle,
+            place: Place::BeforeSettle,
         },
         last: At {
             who: Who::Feeder(1),
-            point: Point::BeforeSettle,
+            place: Place::BeforeSettle,
         },
         told: Told {
             first: Some(NOT_WANTED),
@@ -448,15 +448,15 @@ const ROWS: [Row; 7] = [
         turn: Turn::Nothing,
         first: At {
             who: Who::Flusher,
-            point: Point::InFlush,
+            place: Place::InFlush,
         },
         second: At {
             who: Who::Feeder(1),
-            point: Point::BeforeSettle,
+            place: Place::BeforeSettle,
         },
         last: At {
             who: Who::Feeder(1),
-            point: Point::AfterSettle,
+            place: Place::AfterSettle,
         },
         told: Told {
             first: None,
@@ -484,15 +484,15 @@ const ROWS: [Row; 7] = [
         turn: Turn::Nothing,
         first: At {
             who: Who::Flusher,
-            point: Point::InFlush,
+            place: Place::InFlush,
         },
         second: At {
             who: Who::Feeder(0),
-            point: Point::BeforeSettle,
+            place: Place::BeforeSettle,
         },
         last: At {
             who: Who::Feeder(0),
-            point: Point::AfterSettle,
+            place: Place::AfterSettle,
         },
         told: Told {
             first: Some(NOT_WANTED),
@@ -520,15 +520,15 @@ const ROWS: [Row; 7] = [
         turn: Turn::Nothing,
         first: At {
             who: Who::Flusher,
-            point: Point::InFlush,
+            place: Place::InFlush,
         },
         second: At {
             who: Who::Feeder(0),
-            point: Point::BeforeSettle,
+            place: Place::BeforeSettle,
         },
         last: At {
             who: Who::Feeder(0),
-            point: Point::AfterSettle,
+            place: Place::AfterSettle,
         },
         told: Told {
             first: None,
@@ -556,15 +556,15 @@ const ROWS: [Row; 7] = [
         turn: Turn::Take,
         first: At {
             who: Who::Flusher,
-            point: Point::AfterFlush,
+            place: Place::AfterFlush,
         },
         second: At {
             who: Who::Intake,
-            point: Point::BeforeSettle,
+            place: Place::BeforeSettle,
         },
         last: At {
             who: Who::Intake,
-            point: Point::AfterSettle,
+            place: Place::AfterSettle,
         },
         told: Told {
             first: None,
@@ -592,15 +592,15 @@ const ROWS: [Row; 7] = [
         turn: Turn::Order,
         first: At {
             who: Who::Feeder(0),
-            point: Point::BeforeSettle,
+            place: Place::BeforeSettle,
         },
         second: At {
             who: Who::Feeder(1),
-            point: Point::BeforeSettle,
+            place: Place::BeforeSettle,
         },
         last: At {
             who: Who::Intake,
-            point: Point::AfterSettle,
+            place: Place::AfterSettle,
         },
         told: Told {
             first: Some(NOT_WANTED),
@@ -631,15 +631,15 @@ const ROWS: [Row; 7] = [
         turn: Turn::Nothing,
         first: At {
             who: Who::Feeder(0),
-            point: Point::BeforeSettle,
+            place: Place::BeforeSettle,
         },
         second: At {
             who: Who::Feeder(1),
-            point: Point::BeforeSettle,
+            place: Place::BeforeSettle,
         },
         last: At {
             who: Who::Feeder(1),
-            point: Point::BeforeSettle,
+            place: Place::BeforeSettle,
         },
         told: Told {
             first: None,
