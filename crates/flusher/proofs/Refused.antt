@@ -11,7 +11,7 @@ use Rattle.recovery.specs.declared.fault.TapeFault.TheVariants.{Damaged, Disk, B
 use Rattle.recovery.specs.declared.fault.TapeFault.TheVariants.{GenerationFull, PendingFull}
 use Rattle.recovery.specs.declared.fault.TapeFault.TheVariants.{NoMemory as NoTapeMemory, Note as RefusedNote}
 use Rattle.flusher.specs.declared.fault.PostFault.{PostFault}
-use Rattle.flusher.specs.declared.fault.PostFault.TheVariants.{Station, Intake, CountFull, Stranger, Busy, NoMemory}
+use Rattle.flusher.specs.declared.fault.PostFault.TheVariants.{Station, Intake, CountFull, Stranger, NoMemory, Busy}
 use Rattle.flusher.specs.Faults.{IsLineFault, IsSealFault}
 
 -- a fault of these peers is one of those
@@ -21,8 +21,8 @@ line_fault_of P Q (Station at fault) along is = (along at is.0, is.1)
 line_fault_of P Q (Intake fault) along is = is
 line_fault_of P Q CountFull along is = is
 line_fault_of P Q (Stranger at) along is = along at is
-line_fault_of P Q (Busy at) along is = is
 line_fault_of P Q NoMemory along is = is
+line_fault_of P Q (Busy at) along is = is
 
 -- a ledger refuses no number above its mark that was seen
 pub seen_taken : (state : State) (number : ℕ) (fault : LedgerFault) → state.mark < number

@@ -23,12 +23,12 @@ pub enum PostFault {
     /// peer's. No run meets it.
     #[error("Stranger")]
     Stranger { peer: usize },
-    /// This peer's front is in use, or its tape, which alone has the texts of a debt, and the call waits for nobody.
-    #[error("Busy")]
-    Busy { peer: usize },
     /// Memory was refused.
     #[error("NoMemory")]
     NoMemory,
+    /// This peer's front is in use, or its tape, which alone has the texts of a debt, and the call waits for nobody.
+    #[error("Busy")]
+    Busy { peer: usize },
 }
 
 impl PostFault {
