@@ -39,4 +39,4 @@ pub use reported::Reported;
 pub use sealing::Receipt;
 pub use share::{FeederShare, IntakeShare};
 pub use signals::Signals;
-pub use threads::{NoThread, Work, run_threads};
+pub use threads::{NoThread, Work, run_feeders, run_threads};

@@ -25,10 +25,10 @@ pub trait Work<D: Disk, N: Naming> {
 pub struct NoThread;
 
 /// Runs two feeders and the flusher, each in a thread of its own, and the intake in this one, until all have ended, and
-/// gives the three back. The flusher is told to end once the feeders have ended.
+/// returns the three. The flusher is told to end once the feeders have ended.
 ///
 /// # Errors
-/// `NoThread` where a thread could not be started: all were stopped and have ended, and the three workers are lost.
+/// `NoThread` if a thread could not be started: all were stopped and have ended, and the three workers are lost.
 pub fn run_threads<
     D: Disk + Send,
     N: Naming + Send + Sync,
@@ -54,7 +54,7 @@ pub fn run_threads<
             let Ok(last) = scope.spawn(move || worked(rt, post, signals, flusher, pace)) else {
                 return Err(NoThread);
             };
-            let ended = run_feeders(rt, post, signals, first, second, intake, pace);
+            let ended = run_with_intake(rt, post, signals, first, second, intake, pace);
             signals.end_flusher();
             let flusher = last.join(rt);
             match ended {
@@ -65,8 +65,44 @@ pub fn run_threads<
     )
 }
 
-// Runs two feeders in threads of their own and the intake in this one. A scope starts one thread.
-fn run_feeders<
+/// Runs two workers, each in a thread of its own, until both have ended, and returns them. It starts no flusher and no
+/// intake: a receipt comes only if one of the two flushes.
+///
+/// # Errors
+/// `NoThread` if a thread could not be started: all were stopped and have ended, and both workers are lost.
+pub fn run_feeders<
+    D: Disk + Send,
+    N: Naming + Send + Sync,
+    W: Work<D, N> + Drop + Send,
+    P: Pace + Sync,
+    R: AllocGlobal + Threads + Wait + Clock + Log + Sync,
+>(
+    rt: &R,
+    post: &Post<D, N>,
+    signals: &Signals,
+    feeders: (W, W),
+    pace: &P,
+) -> Result<(W, W), NoThread> {
+    let (first, second) = feeders;
+    run_with_intake(rt, post, signals, first, second, &mut NoIntake, pace)
+}
+
+// In the place of an intake, where there is none.
+#[derive(Drop)]
+struct NoIntake;
+
+impl<D: Disk, N: Naming> Work<D, N> for NoIntake {
+    fn run<R: AllocGlobal + Wait + Clock + Log, P: Pace>(
+        &mut self,
+        _rt: &R,
+        _post: &Post<D, N>,
+        _signals: &Signals,
+        _pace: &P,
+    ) {}
+}
+
+// Runs two feeders in threads of their own and the intake in this one. Each thread has a scope of its own.
+fn run_with_intake<
     D: Disk + Send,
     N: Naming + Send + Sync,
     W: Work<D, N> + Drop + Send,
@@ -90,7 +126,7 @@ fn run_feeders<
                 signals.stop();
                 return Err(NoThread);
             };
-            let ended = run_feeder(rt, post, signals, second, intake, pace);
+            let ended = run_one_with_intake(rt, post, signals, second, intake, pace);
             let first = one.join(rt);
             match ended {
                 Ok(second) => Ok((first, second)),
@@ -101,7 +137,7 @@ fn run_feeders<
 }
 
 // Runs a feeder in a thread of its own and the intake in this one.
-fn run_feeder<
+fn run_one_with_intake<
     D: Disk + Send,
     N: Naming + Send + Sync,
     W: Work<D, N> + Drop + Send,

@@ -10,7 +10,7 @@ use conn_core::{CxnId, Outcome};
 use disk_model::{Disk, FuseDisk, MemDisk};
 use flusher::{
     Blanks, Closed, ClosedPeer, FeederShare, Flusher, IntakeShare, Naming, NoThread, Pace, Peer,
-    Place, Post, PostFault, Signals, Sums, Who, Work, run_threads,
+    Place, Post, PostFault, Signals, Sums, Who, Work, run_feeders, run_threads,
 };
 use ledger_core::FinalCode;
 use log::Log;
@@ -219,8 +219,8 @@ impl<D: Disk, N: Naming> Work<D, N> for Third<N> {
 struct Told {
     first: Option<Settled>,
     second: Option<Settled>,
-    // The numbers of the debts that the two claimed.
-    claimed: (u64, u64),
+    // What the two were told: the number of the debt that one claimed, or of the receipt.
+    numbers: (u64, u64),
     // For how many debts the two took room.
     room: u64,
     // The receipt of the third, where it is no flusher.
@@ -244,6 +244,8 @@ struct Row {
     calls: u64,
     feeders: (Job, Job),
     flushes: bool,
+    // The two feeders run alone.
+    alone: bool,
     turn: Turn,
     first: At,
     second: At,
@@ -282,7 +284,7 @@ fn hire<D: Disk, N: Naming, R: Wait>(
     })
 }
 
-// Runs the workers of a row, and gives them back.
+// Runs the workers of a row, or its two feeders alone, and returns all of them.
 fn run_all<
     D: Disk + Send,
     N: Naming + Send + Sync,
@@ -290,12 +292,17 @@ fn run_all<
 >(
     rt: &R,
     post: &Post<D, N>,
+    alone: bool,
     feeders: (Hand<N>, Hand<N>),
     third: Third<N>,
     taker: &mut Taker<N>,
     pace: &Meeting,
 ) -> Result<(Hand<N>, Hand<N>, Third<N>), NoThread> {
     let signals = Signals::new();
+    if alone {
+        let (first, second) = run_feeders(rt, post, &signals, feeders, pace)?;
+        return Ok((first, second, third));
+    }
     run_threads(rt, post, &signals, feeders, third, taker, pace)
 }
 
@@ -346,7 +353,8 @@ fn meet<N: Naming + Send + Sync, R: AllocGlobal + Clock + Log + Threads + Wait +
         number: 0,
     };
     let pace = Meeting::new(row.first, row.second, row.last);
-    let ended = run_all(rt, &post, (first, second), third, &mut taker, &pace);
+    let feeders = (first, second);
+    let ended = run_all(rt, &post, row.alone, feeders, third, &mut taker, &pace);
     let gave_up = pace.gave_up();
     let Ok((first, second, third)) = ended else {
         return Err(Fail::from("a thread"));
@@ -354,14 +362,14 @@ fn meet<N: Naming + Send + Sync, R: AllocGlobal + Clock + Log + Threads + Wait +
     let Hand {
         share: one,
         settled: first,
-        number: first_claimed,
+        number: first_number,
         room: first_room,
         ..
     } = first;
     let Hand {
         share: two,
         settled: second,
-        number: second_claimed,
+        number: second_number,
         room: second_room,
         ..
     } = second;
@@ -377,7 +385,7 @@ fn meet<N: Naming + Send + Sync, R: AllocGlobal + Clock + Log + Threads + Wait +
         ) => Ok(Told {
             first,
             second,
-            claimed: (first_claimed, second_claimed),
+            numbers: (first_number, second_number),
             room: first_room.saturating_add(second_room),
             receipt,
             intake: number,
@@ -403,12 +411,13 @@ fn on_disks<R: AllocGlobal + Clock + Log + Threads + Wait + Sync>(
     meet::<Brand, R>(rt, alloc, row, peers, fused_intake(alloc)?, blanks)
 }
 
-const ROWS: [Row; 7] = [
+const ROWS: [Row; 9] = [
     Row {
         name: "both feeders settle at once",
         calls: u64::MAX,
         feeders: (Job::Finish, Job::Finish),
         flushes: false,
+        alone: false,
         turn: Turn::Order,
         first: At {
             who: Who::Feeder(0),
@@ -425,7 +434,7 @@ const ROWS: [Row; 7] = [
         told: Told {
             first: Some(NOT_WANTED),
             second: Some(NOT_WANTED),
-            claimed: (0, 0),
+            numbers: (0, 0),
             room: 0,
             receipt: 0,
             intake: 1,
@@ -445,6 +454,7 @@ const ROWS: [Row; 7] = [
         calls: u64::MAX,
         feeders: (Job::Nothing, Job::Claim),
         flushes: true,
+        alone: false,
         turn: Turn::Nothing,
         first: At {
             who: Who::Flusher,
@@ -461,7 +471,7 @@ const ROWS: [Row; 7] = [
         told: Told {
             first: None,
             second: None,
-            claimed: (0, 1),
+            numbers: (0, 1),
             room: 0,
             receipt: 1,
             intake: 0,
@@ -481,6 +491,7 @@ const ROWS: [Row; 7] = [
         calls: u64::MAX,
         feeders: (Job::Finish, Job::Nothing),
         flushes: true,
+        alone: false,
         turn: Turn::Nothing,
         first: At {
             who: Who::Flusher,
@@ -497,7 +508,7 @@ const ROWS: [Row; 7] = [
         told: Told {
             first: Some(NOT_WANTED),
             second: None,
-            claimed: (0, 0),
+            numbers: (0, 0),
             room: 0,
             receipt: 1,
             intake: 0,
@@ -517,6 +528,7 @@ const ROWS: [Row; 7] = [
         calls: u64::MAX,
         feeders: (Job::Claim, Job::Nothing),
         flushes: true,
+        alone: false,
         turn: Turn::Nothing,
         first: At {
             who: Who::Flusher,
@@ -533,7 +545,7 @@ const ROWS: [Row; 7] = [
         told: Told {
             first: None,
             second: None,
-            claimed: (1, 0),
+            numbers: (1, 0),
             room: 0,
             receipt: 1,
             intake: 0,
@@ -553,6 +565,7 @@ const ROWS: [Row; 7] = [
         calls: u64::MAX,
         feeders: (Job::Nothing, Job::Nothing),
         flushes: true,
+        alone: false,
         turn: Turn::Take,
         first: At {
             who: Who::Flusher,
@@ -569,7 +582,7 @@ const ROWS: [Row; 7] = [
         told: Told {
             first: None,
             second: None,
-            claimed: (0, 0),
+            numbers: (0, 0),
             room: 0,
             receipt: 1,
             intake: 2,
@@ -589,6 +602,7 @@ const ROWS: [Row; 7] = [
         calls: 0,
         feeders: (Job::Finish, Job::Nothing),
         flushes: false,
+        alone: false,
         turn: Turn::Order,
         first: At {
             who: Who::Feeder(0),
@@ -605,7 +619,7 @@ const ROWS: [Row; 7] = [
         told: Told {
             first: Some(NOT_WANTED),
             second: None,
-            claimed: (0, 0),
+            numbers: (0, 0),
             room: 0,
             receipt: 0,
             intake: 0,
@@ -628,6 +642,7 @@ const ROWS: [Row; 7] = [
         calls: u64::MAX,
         feeders: (Job::TakeRoom, Job::TakeRoom),
         flushes: true,
+        alone: false,
         turn: Turn::Nothing,
         first: At {
             who: Who::Feeder(0),
@@ -644,9 +659,83 @@ const ROWS: [Row; 7] = [
         told: Told {
             first: None,
             second: None,
-            claimed: (0, 0),
+            numbers: (0, 0),
             room: 1,
             receipt: 1,
+            intake: 0,
+            gave_up: false,
+            mark: 1,
+            sums: Sums {
+                taken: 2,
+                answered: 0,
+                dropped: 0,
+            },
+            fault: None,
+            on_disks: (0, 0),
+        },
+    },
+    Row {
+        name: "two feeders alone settle at once",
+        calls: u64::MAX,
+        feeders: (Job::Finish, Job::Finish),
+        flushes: false,
+        alone: true,
+        turn: Turn::Nothing,
+        first: At {
+            who: Who::Feeder(0),
+            place: Place::BeforeSettle,
+        },
+        second: At {
+            who: Who::Feeder(1),
+            place: Place::BeforeSettle,
+        },
+        last: At {
+            who: Who::Feeder(1),
+            place: Place::BeforeSettle,
+        },
+        told: Told {
+            first: Some(NOT_WANTED),
+            second: Some(NOT_WANTED),
+            numbers: (0, 0),
+            room: 0,
+            receipt: 0,
+            intake: 0,
+            gave_up: false,
+            mark: 0,
+            sums: Sums {
+                taken: 2,
+                answered: 2,
+                dropped: 0,
+            },
+            fault: None,
+            on_disks: (0, 0),
+        },
+    },
+    Row {
+        name: "two feeders alone: in p's flush a claim at q is answered",
+        calls: u64::MAX,
+        feeders: (Job::Flush, Job::Claim),
+        flushes: false,
+        alone: true,
+        turn: Turn::Nothing,
+        first: At {
+            who: Who::Flusher,
+            place: Place::InFlush,
+        },
+        second: At {
+            who: Who::Feeder(1),
+            place: Place::BeforeSettle,
+        },
+        last: At {
+            who: Who::Feeder(1),
+            place: Place::AfterSettle,
+        },
+        told: Told {
+            first: None,
+            second: None,
+            numbers: (1, 1),
+            room: 0,
+            receipt: 0,
             intake: 0,
             gave_up: false,
             mark: 1,
@@ -666,7 +755,7 @@ fn workers_that_meet(rt: HostRuntime) -> Result<(), Fail> {
     let alloc = rt.alloc();
     for row in &ROWS {
         let told = on_disks(&rt, alloc, row)?;
-        assert_eq!(rt; told, row.faults_of, "{}", row.name);
+        assert_eq!(rt; told, row.told, "{}", row.name);
     }
     Ok(())
 }

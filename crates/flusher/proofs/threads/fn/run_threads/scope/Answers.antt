@@ -6,11 +6,11 @@ use Rattle.flusher.proofs.threads.fn.run_threads.scope.Goals as goal
 pub spawn-requires-send-F : goal.spawn-requires-send-F
 spawn-requires-send-F g c κs within = search (Post-sync, Signals-sync, sendable) depth 20
 
-pub run_feeders-ended-requires-send-D : goal.run_feeders-ended-requires-send-D
-run_feeders-ended-requires-send-D g c κs within = search (sendable, crosses) depth 20
+pub run_with_intake-ended-requires-send-D : goal.run_with_intake-ended-requires-send-D
+run_with_intake-ended-requires-send-D g c κs within = search (sendable, crosses) depth 20
 
-pub run_feeders-ended-requires-send-N : goal.run_feeders-ended-requires-send-N
-run_feeders-ended-requires-send-N g c = search (sendable, crosses) depth 20
+pub run_with_intake-ended-requires-send-N : goal.run_with_intake-ended-requires-send-N
+run_with_intake-ended-requires-send-N g c = search (sendable, crosses) depth 20
 
-pub run_feeders-ended-requires-send-W : goal.run_feeders-ended-requires-send-W
-run_feeders-ended-requires-send-W g c = search (sendable) depth 20
+pub run_with_intake-ended-requires-send-W : goal.run_with_intake-ended-requires-send-W
+run_with_intake-ended-requires-send-W g c = search (sendable) depth 20
